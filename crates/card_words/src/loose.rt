@@ -10,8 +10,8 @@ use crate::fault::Fault;
 use octet_core::{Octets, after_blanks, is_blank};
 use std::alloc::Global;
 
-/// The octets that a text gives in hexadecimal, two digits each, in groups that blanks part; none where the
-/// text is `none` alone, with blanks before and after. A text that is no hexadecimal is `Hex`.
+/// Reads octets from hexadecimal text: two digits each, with blanks between groups. The text `none`, with blanks
+/// before and after, gives no octets. Text that isn't hexadecimal is the fault `Hex`.
 pub fn loose_octets(alloc: Global, text: &[u8]) -> Result<Octets, Fault>
     ensures { UnlessMemory result (loose_octets text.now) }
 {

@@ -22,7 +22,7 @@ pub(crate) fn size(word: Option<&str>) -> Result<u8, Fault>
     }
 }
 
-/// The information size that is asked for, where there is a word.
+/// Reads the information size of the option, where the option is given.
 pub(crate) fn asked_size(word: Option<&str>) -> Result<Option<u8>, Fault>
     ensures read { result ≡ asked_size (option_map (λ word. word.now) word.entry) }
     ensures sized { IfOk result IsSize }

@@ -39,13 +39,13 @@ pub enum Ends {
     Both,
 }
 
-/// What of a trace is judged.
+/// Which blocks of a trace are judged, and how.
 #[derive(Clone, Copy, Debug, PartialEq, Eq)]
 pub struct Judging {
     pub ends: Ends,
-    /// The frequency of the card's clock in hertz, 1 to 1,000,000,000, where the times of its blocks are judged.
+    /// The frequency of the card's clock in hertz, 1 to 1,000,000,000. With it the times of the card's blocks are judged.
     pub clock: Option<u64>,
-    /// Whether it is counted how often each end kept each rule and broke it, and what was due.
+    /// Whether to count how often each end kept and broke each rule, and which block was due.
     pub rules: bool,
 }
 
@@ -68,27 +68,27 @@ pub enum Drawing {
     Picture,
 }
 
-/// What is told of the file of a recorded exchange.
+/// What to do with the file of a recorded exchange.
 #[derive(Clone, Copy, Debug, PartialEq, Eq)]
 pub enum FileTask {
-    /// Whether the engine of this end, or of each, does what the file says.
+    /// Replay it against the engine of this end, or of both.
     Replay(Ends),
-    /// The file in the newest version.
+    /// Write it in the newest version.
     Migrate,
-    /// Its commands and answers.
+    /// List its commands and answers.
     Apdus,
-    /// The file drawn so.
+    /// Draw it.
     Draw(Drawing),
 }
 
-/// What is told of octets.
+/// What to do with octets.
 #[derive(Clone, Copy, Debug, PartialEq, Eq)]
 pub enum Aim {
-    /// Whether they are a value of the kind, and how many of them it takes.
+    /// Check whether they are a value of the kind, and how many octets it takes.
     Check,
-    /// The value that they spell.
+    /// Show the value that they spell.
     Show,
-    /// The value that they spell, with notes after its lines.
+    /// Show the value that they spell, with notes after its lines.
     Note,
 }
 
@@ -101,7 +101,7 @@ pub enum Layout {
     Json,
 }
 
-/// What is told of octets, and what they are taken for.
+/// What to do with octets, and what they are taken for.
 #[derive(Clone, Copy, Debug, PartialEq, Eq)]
 pub struct Task {
     pub aim: Aim,
@@ -117,14 +117,14 @@ pub type Knowns = Listed<Known>;
 pub enum Asked {
     /// One text, after all of standard input was read that it needs.
     Once(Request),
-    /// What is told of each line of standard input, which is hexadecimal as a text of it is.
+    /// One answer for each line of standard input. Each line is hexadecimal, as a whole text is.
     Lines(Task),
 }
 
 /// What is answered by one text.
 #[derive(Debug, PartialEq, Eq, Drop)]
 pub enum Request {
-    /// What is told of these octets.
+    /// Check or show these octets.
     Tell(Task, OctetSource),
     /// The blocks of the chain into which a message of at most 131,072 octets is cut.
     BuildChain {
@@ -144,11 +144,11 @@ pub enum Request {
         /// the octets are a list.
         known: Result<Knowns, Fault>,
     },
-    /// What is told of the file of a recorded exchange on standard input.
+    /// Work on the file of a recorded exchange on standard input.
     File(FileTask),
     /// The exchange of a card with this answer to reset in which the blocks of standard input were seen.
     Record(Octets),
-    /// What of the blocks of standard input isn't permitted, at a card with this answer to reset.
+    /// Judge the blocks of standard input, at a card with this answer to reset.
     Judge {
         atr: Octets,
         judging: Judging,

@@ -59,7 +59,7 @@ fn asked(alloc: Global, matches: &ArgMatches) -> Result<Asked, Fault>
     }
 }
 
-/// What a subcommand asks for that tells nothing of octets.
+/// The request of a subcommand other than `check` and `show`.
 fn request(alloc: Global, name: &str, matches: &ArgMatches) -> Result<Request, Fault>
     ensures read { UnlessMemory result (request_by name.now (rows_of (found_of matches.now))) }
     ensures sized { IfOk result IsSized }
@@ -85,7 +85,7 @@ fn entered<'a, 'b>(matches: &'b ArgMatches<'a>) -> Option<(&'a str, &'b ArgMatch
     matches.subcommand()
 }
 
-/// Octets of which something is told, or lines of them.
+/// Octets to check or show, or lines of them.
 fn told(alloc: Global, aim: Aim, matches: &ArgMatches) -> Result<Asked, Fault>
     ensures read { UnlessMemory result (told_of aim (rows_of (found_of matches.now))) }
     ensures sized { IfOk result AreSized }
@@ -105,7 +105,7 @@ fn told(alloc: Global, aim: Aim, matches: &ArgMatches) -> Result<Asked, Fault>
     Ok(Asked::Once(Request::Tell(task, given)))
 }
 
-/// How what is told is laid out.
+/// How the answer is laid out.
 fn layout(matches: &ArgMatches) -> Layout
     ensures { result ≡ layout_of (rows_of (found_of matches.now)) }
 {
@@ -116,7 +116,7 @@ fn layout(matches: &ArgMatches) -> Layout
     }
 }
 
-/// What `show` tells: the value, with notes where these are asked for.
+/// What `show` does: with `--notes` it adds notes to the value.
 fn show_aim(matches: &ArgMatches) -> Aim
     ensures { result ≡ show_aim (rows_of (found_of matches.now)) }
 {
@@ -184,7 +184,7 @@ fn replay(matches: &ArgMatches) -> Result<Request, Fault>
     Ok(Request::File(FileTask::Replay(side)))
 }
 
-/// How recorded exchanges are drawn: as text, or as a picture where one is asked for.
+/// How a recorded exchange is drawn: as text, or with `--svg` as a picture.
 fn drawing(matches: &ArgMatches) -> Drawing
     ensures { result ≡ drawing_of (rows_of (found_of matches.now)) }
 {

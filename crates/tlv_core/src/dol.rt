@@ -28,22 +28,22 @@ impl Model for Dol {
 }
 
 impl Dol {
-    /// The list of these entries.
+    /// Makes a list from its entries.
     pub fn of(entries: Vec<(Tag, u8)>) -> Self
         ensures { result ≡ entries.items }
     {
         Self { entries }
     }
 
-    /// The entries, lent: each a tag and a length in octets.
+    /// Borrows the entries: each a tag and a length in octets.
     pub fn entries(&self) -> &[(Tag, u8)]
         ensures { result.now ≡ self.now }
     {
         self.entries.as_slice()
     }
 
-    /// The list that all the octets spell, or why they spell none: `Short` at their end where one goes
-    /// on, `At` the first octet after which none does, or lack of memory.
+    /// Decodes all the octets as one list. The error is `Short` at their end where a list goes on, `At` the
+    /// first octet after which no list goes on, or lack of memory.
     pub fn decode(alloc: Global, octets: &[u8]) -> Result<Self, Refused<DolReason>>
         ensures found { IfOk result
             (λ dol. Accepts whole IsDol octets.now dol (length octets.now)) }

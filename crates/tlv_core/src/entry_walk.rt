@@ -64,7 +64,7 @@ impl EntryWalk {
     }
 }
 
-/// The entry that begins at `from`, if octets are left there; or why there is none.
+/// Reads the entry that begins at `from`, if octets are left there, or says why no entry begins there.
 fn entry_at(octets: &[u8], from: usize) -> Result<Option<(Tag, u8)>, Stop<DolReason>>
     ensures inside { IfOk result
         (λ next. IfSome next (λ entry. place_after from entry ≤ length octets.now)) }

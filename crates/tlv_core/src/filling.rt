@@ -62,9 +62,9 @@ impl From<AllocError> for FillFault {
 /// `Duplicate` where two known values have one tag, also where the list doesn't name it; else the
 /// octets or `Memory`.
 ///
-/// With n known values and m entries it makes some (n + m) log n comparisons of tags, and it takes memory for a
-/// map of n places beside the octets. Where that is refused, all known values are compared pair by pair, which is
-/// n² comparisons, to tell `Duplicate` from `Memory`.
+/// With n known values and m entries it makes some (n + m) log n comparisons of tags, and it allocates a map of n
+/// places beside the octets. Where that allocation fails, it compares all known values pair by pair, n²
+/// comparisons, to choose between `Duplicate` and `Memory`.
 pub fn fill(alloc: Global, dol: &Dol, known: &[Known]) -> Result<Vec<u8>, FillFault>
     ensures filled { IfOk result (λ octets. octets.items ≡ filled known.now dol.now) }
     ensures unique { IfOk result (λ _. HasDuplicate known.now → ⊥) }

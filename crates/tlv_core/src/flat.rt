@@ -17,7 +17,7 @@ use std::fmt::{self, Debug, Formatter, Write};
 use std::marker::Model;
 
 /// The objects of a forest in the order of their headers, each before those inside it, without the
-/// fillers. Their values are lent from the octets of the forest.
+/// fillers. Their values are borrowed from the octets of the forest.
 ///
 /// Contracts see the list of parts, each with the octets of its value and their place.
 #[derive(Drop)]
@@ -35,9 +35,9 @@ impl<'a> Model for FlatForest<'a> {
 }
 
 impl<'a> FlatForest<'a> {
-    /// The parts of the forest that all the octets spell, at most `max` of them, itself at most
-    /// 1,048,576; or why they spell none: `Short` at their end where a forest goes on, `At` the first
-    /// octet after which none does, or lack of memory.
+    /// Reads all the octets as one forest of at most `max` octets; `max` is at most 1,048,576. The error is
+    /// `Short` at their end where a forest goes on, `At` the first octet after which no forest goes on, or lack of
+    /// memory.
     pub fn read(
         alloc: Global,
         octets: &'a [u8],
@@ -57,7 +57,7 @@ impl<'a> FlatForest<'a> {
         Ok(FlatForest { parts })
     }
 
-    /// The parts, lent.
+    /// Borrows the parts.
     pub fn parts(&self) -> &[Part<'a>]
         ensures { map part_seen result.now ≡ self.now }
     {

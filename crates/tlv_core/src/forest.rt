@@ -100,8 +100,8 @@ impl Forest {
     ghost use Rattle.tlv_core.specs.Forest.{HasSpelling, largest};
     ghost use Rattle.tlv_core.specs.Improper.{IsFirstImproper};
 
-    /// The forest of a list of nodes, which comes back with the first of these that holds anywhere in
-    /// it: `Depth`, `Tag`, `Form`, `Size`.
+    /// Makes a forest of a list of nodes. The error has the list, and the first of these reasons that holds
+    /// anywhere in it: `Depth`, `Tag`, `Form`, `Size`.
     pub fn new(nodes: Nodes) -> Result<Forest, (Nodes, Improper)>
         ensures forest { IfOk result (λ forest. (forest ≡ nodes) × HasSpelling largest forest) }
         ensures refused { IfErr result
@@ -130,7 +130,7 @@ impl Forest {
         Forest { nodes }
     }
 
-    /// The list of nodes, lent.
+    /// Borrows the list of nodes.
     pub fn nodes(&self) -> &Nodes
         ensures list { result.now ≡ self.now }
         ensures spelled { HasSpelling largest result.now }

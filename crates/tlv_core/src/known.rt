@@ -6,9 +6,9 @@ use octet_core::{Format, Octets};
 /// A value that is known for a tag.
 #[derive(Debug, PartialEq, Eq, Drop)]
 pub struct Known {
-    /// The tag that it is known for.
+    /// Its tag.
     pub tag: Tag,
-    /// How it is cut and padded to the length that is asked for.
+    /// How the value is cut or padded to the length in the list.
     pub format: Format,
     /// Its octets.
     pub value: Octets,

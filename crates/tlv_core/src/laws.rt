@@ -22,7 +22,7 @@ pub fn one_forest()
     ensures { OneForest }
 {}
 
-/// A forest begins with octets exactly where none of them meets a reason, and then zeros complete them.
+/// Octets begin a forest exactly where no octet meets a reason. Zeros then complete them.
 pub fn completion()
     ensures { (max : ℕ) (b : List ℕ) → AreOctets b → Completion max b }
 {}

@@ -1,5 +1,5 @@
-//! A check of a forest whose caller keeps what it keeps: some eighty octets, and none of the octets that came
-//! but those of a header under way.
+//! A check of a forest whose state the caller keeps: some eighty octets. Of the octets that came it holds only
+//! those of an unfinished header.
 
 ghost use Rattle.std.specs.Prelude.{◌≡◌, ℕ, ◌+◌, length, take, ◌≤◌, ◌<◌, ◌↔◌, List, [], ◌++◌, OnOk, IfErr, OnSome, MatchResult, IsTrue, true};
 ghost use Rattle.octet_core.specs.Grammar.{Refuses, RefusesAt, whole};
@@ -17,10 +17,10 @@ use crate::reason::TlvReason;
 use octet_core::Stop;
 use std::fmt::{self, Debug, Formatter, Write};
 
-/// What a check of a forest keeps, as plain numbers: a whole check, where its caller keeps it.
+/// The whole state of a check of a forest, as plain numbers that the caller keeps.
 ///
-/// [`LentCheck::begin`] makes one, and each call keeps it fit. Where something else may have written to it,
-/// [`LentCheck::fit`] says whether it still is one.
+/// [`LentCheck::begin`] makes a state, and each call keeps it valid. Where something else may have written to it,
+/// [`LentCheck::fit`] says whether it is still valid.
 #[derive(Clone, Copy)]
 pub struct LentCheck {
     /// The limit of the whole, in octets.
@@ -203,7 +203,7 @@ impl Debug for LentCheck {
     }
 }
 
-/// Whether each of these places is after the octets that came, and within the limit.
+/// Whether each place is after the octets that came, and within the limit.
 fn are_ends(max: u32, count: u32, ends: &[u32]) -> bool
     ensures yes { result ≡ true → AreEnds max count ends.now }
     ensures no { AreEnds max count ends.now → result ≡ true }

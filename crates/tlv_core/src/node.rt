@@ -45,7 +45,7 @@ impl Nodes {
         Self { list }
     }
 
-    /// The list, lent.
+    /// Borrows the list.
     pub fn get(&self) -> &[Node]
         ensures { tree_of result.now ≡ self.now }
     {

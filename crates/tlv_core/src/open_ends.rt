@@ -197,8 +197,8 @@ impl OpenEnds {
     }
 }
 
-/// How many of these places are after `count` octets; the spare one isn't. Objects end with no rule, so all the others
-/// are looked at, without a branch, and as signed numbers, of which a processor compares four in one step.
+/// Counts the places after `count` octets; the spare one isn't counted. The ends follow no order, so the loop compares
+/// all of them without a branch. They are signed numbers, since a processor compares four of those in one step.
 #[inline(always)]
 fn number_after(places: &[u32; PLACES], count: usize) -> usize
     requires count { count ≤ 1048576 }

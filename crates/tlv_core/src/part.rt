@@ -1,4 +1,4 @@
-//! Parts of forests, lent from their octets.
+//! Parts of forests, borrowed from their octets.
 
 ghost use Rattle.std.specs.Prelude.{◌≡◌, ◌<◌, ◌-◌, ◌^◌, ℕ, length};
 ghost use Rattle.tlv_core.specs.Form.{capacity};
@@ -20,7 +20,7 @@ pub struct Part<'a> {
     pub form: Form,
     /// The place of its value in the octets of the forest, counted from 0.
     pub place: usize,
-    /// The octets of its value: those that its nodes have, where it is constructed.
+    /// The octets of its value. For a constructed object they are those of its nodes.
     pub value: &'a [u8],
     ghost fits: { length value.now < capacity form },
 }

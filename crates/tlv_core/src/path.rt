@@ -9,9 +9,9 @@ use crate::forest::Forest;
 use crate::node::{Node, Nodes};
 use crate::tag::Tag;
 
-/// The first object on a path of tags: for a path of one tag, the first object of the forest that has
-/// it; for a longer one, the first that the rest of the path finds in the nodes of an object with the
-/// first tag, such objects tried in order. `None` where there is none, and for the empty path.
+/// Finds the first object on a path of tags. A path of one tag finds the first object of the forest with that
+/// tag. A longer path goes through the objects with its first tag in order, and looks for the rest of the path
+/// in their nodes. It returns `None` where no object is on the path, and for an empty path.
 pub fn first<'a>(forest: &'a Forest, path: &[Tag]) -> Option<&'a Node>
     ensures { option_copied result ≡ first_on path.now forest.now }
 {

@@ -106,7 +106,7 @@ impl Progress {
         self.ends.room()
     }
 
-    /// Whether some octet is refused next for this reason, where none of a value comes.
+    /// Whether some next octet would be refused for this reason, where no octet of a value is due.
     pub(crate) fn may_refuse(&self, reason: TlvReason) -> bool
         ensures yes { result ≡ true → (x : ℕ) × (x < 256)
             × IsFirst tlv_reasons (IsWrongAfter (kept_of self.now) x) reason }

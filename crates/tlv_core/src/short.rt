@@ -64,8 +64,8 @@ impl ShortHeader {
         usize::from(self.header) + usize::from(self.len)
     }
 
-    /// The octets of a primitive object's value, which follow its header at the front of these; none of a
-    /// constructed one.
+    /// The octets of the value of a primitive object, whose header is at the front of `octets`. A constructed
+    /// object has no such octets.
     pub(crate) fn value<'a>(&self, octets: &'a [u8]) -> &'a [u8]
         requires { taken_of self.now ≤ length octets.now }
         ensures { result.now ≡ value_in octets.now self.now }

@@ -64,9 +64,9 @@ impl Model for Tag {
 }
 
 impl Tag {
-    /// The tag of these octets, or `None` where they aren't one whole tag: where there are none, the
-    /// first is 00, a second one has its low seven bits all 0, octets are missing or left over, or a
-    /// fourth would follow.
+    /// Returns the tag that the octets spell, or `None` where they aren't one whole tag: they are empty, begin
+    /// with 00, have a second octet whose low seven bits are 0, end too early, go on after the tag, or announce
+    /// a fourth octet.
     pub fn new(octets: &[u8]) -> Option<Tag>
         ensures { MatchOption result (IsTag octets.now → ⊥)
             (λ tag. IsTag octets.now × (tag ≡ octets.now)) }
@@ -78,7 +78,7 @@ impl Tag {
         }
     }
 
-    /// The tag of these octets, which are one.
+    /// The tag that the octets spell.
     pub(crate) fn of(octets: &[u8]) -> Tag
         requires { IsTag octets.now }
         ensures { result ≡ octets.now }
@@ -100,7 +100,7 @@ impl Tag {
         }
     }
 
-    /// The tag that the first `count` of these octets are, made without a branch.
+    /// The tag of the first `count` octets, made without a branch.
     #[inline(always)]
     pub(crate) fn front(octets: [u8; 3], count: u8) -> Tag
         requires few { count ≤ 3 }

@@ -25,13 +25,13 @@ pub(crate) trait Keep<'a>: Copy {
     /// That of an object that is placed so in the octets of the forest.
     ghost seen_in: { List ℕ → Placed → Seen };
 
-    /// What is kept of an object of these octets.
+    /// What is kept of an object of the octets.
     fn kept(part: PlacedPart, octets: &'a [u8]) -> Self
         requires { IsInside octets.now part }
         ensures { seen result ≡ seen_in octets.now (placed_of part) };
 }
 
-/// Its value is lent. Where the octets end before it does, the part has those that there are.
+/// Borrows the value. Where the octets end before the value does, the part has the octets that are there.
 impl<'a> Keep<'a> for Part<'a> {
     ghost use Rattle.tlv_core.specs.Flat.{PartValue};
 

@@ -24,7 +24,7 @@ pub(crate) struct Follower {
     pub(crate) card_is: Standing,
     /// The numbers of the last I-blocks that were seen.
     pub(crate) numbers: Numbers,
-    /// The last moment, where no line tells it yet.
+    /// The last moment, where no line has it yet.
     pub(crate) held: Option<u64>,
     lines: Vec<Line>,
 }
@@ -70,7 +70,7 @@ impl Follower {
         Ok(())
     }
 
-    /// Writes the line of a turn, where there is one.
+    /// Writes the line of a turn, where the turn has a line.
     fn tell(&mut self, told: Option<Line>) -> Result<(), AllocError>
         ensures { OnOk result (self.new ≡ following.adds self.old (as_list told)) }
     {
@@ -80,7 +80,7 @@ impl Follower {
         Ok(())
     }
 
-    /// Writes the moment that no line tells yet.
+    /// Writes the last moment, where no line has it yet.
     #[tactic(auto, unfolding(crate::specs::Following::released))]
     pub(crate) fn release(&mut self) -> Result<(), AllocError>
         ensures { OnOk result (self.new ≡ released self.old) }
@@ -102,8 +102,8 @@ impl Follower {
         self.terminal_did(called)
     }
 
-    /// The terminal was called: a block that it sends is kept, and another turn has its line. A terminal that refuses
-    /// is followed no more.
+    /// Takes what a call of the terminal returned: keeps a block that it sends, and writes the line of another turn.
+    /// After a refusal the terminal isn't followed any more.
     fn terminal_did(
         &mut self,
         called: Result<TerminalTurn, TerminalFault>,
@@ -138,8 +138,8 @@ impl Follower {
         self.card_did(called)
     }
 
-    /// The card was called: a block that it sends is kept, and another turn has its line. A card that refuses is
-    /// followed no more.
+    /// Takes what a call of the card returned: keeps a block that it sends, and writes the line of another turn. After
+    /// a refusal the card isn't followed any more.
     fn card_did(&mut self, called: Result<CardTurn, CardFault>) -> Result<(), AllocError>
         ensures { OnOk result (self.new ≡ card_did self.old called) }
     {
@@ -161,7 +161,7 @@ impl Follower {
         }
     }
 
-    /// Notes the place of the next line, where nobody saw what it tells.
+    /// Adds the place of the next line, where nobody saw on the line what it says.
     pub(crate) fn note_if(&self, is_unseen: bool, unseen: &mut Vec<usize>) -> Result<(), AllocError>
         ensures { OnOk result
             (unseen.new.items ≡ noted is_unseen self.now unseen.old.items) }

@@ -11,7 +11,7 @@ use exchange_core::{Line, Side};
 use std::alloc::AllocError;
 
 impl Follower {
-    /// Follows both ends over these items, to the end. The places of the lines that tell what nobody saw are added.
+    /// Follows both ends over all items. It adds to `unseen` the places of the lines that nobody saw on the line.
     pub(crate) fn run(&mut self, items: &[Item], unseen: &mut Vec<usize>) -> Result<(), AllocError>
         ensures follows { OnOk result (self.new ≡ ended (after_items self.old items.now)) }
         ensures unseen { OnOk result (unseen.new.items

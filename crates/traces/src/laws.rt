@@ -14,23 +14,22 @@ pub fn seen_blocks_arrive()
         → arrived_of (noted_lines ifsc items) ≡ arrived_in items }
 {}
 
-/// An end that did as it should, to the last block of a trace, replays the exchange of the trace: it is followed to the
-/// end (`is_followed` in `specs/Followed.antt`), and what was added for it is what makes it send what was seen.
+/// An end that did what its table says, to the last block of a trace, replays the exchange of the trace. It is followed
+/// to the end (`is_followed` in `specs/Followed.antt`), and the lines that were added make it send what was seen.
 pub fn followed_end_replays()
     ensures { FollowedReplays }
 {}
 
-/// What a [`Recorder`](exchange_core::Recorder) recorded is made again from its line alone: the exchange of the trace of
-/// all that was on the line, the lost blocks and the waiting times that ended among it, is line for line the one that
-/// the recorder wrote, but for notes that the recording adds. Whatever happened between both ends, it holds where the blocks tell what the applications called
-/// (`AreTold` in `specs/Again.antt`): where each message was sent whole, and each request for a size or for time was
-/// sent.
+/// The file of a [`Recorder`](exchange_core::Recorder) is made again from what was on its line, lost blocks and ended
+/// waiting times included. The exchange of that trace is line for line the recorder's, but for notes that the recording
+/// adds. It holds whatever happened between both ends, where the blocks show what the applications called (`AreTold` in
+/// `specs/Again.antt`): each message was sent whole, and so was each request for a size or for time.
 pub fn recorded_is_made_again()
     ensures { MadeAgain }
 {}
 
-/// Where each message was seen to its end too (`AreSeenWhole` in `specs/Again.antt`), the recording adds no note: the
-/// file of that trace is line for line the one that the recorder wrote.
+/// Where each message was also seen to its end (`AreSeenWhole` in `specs/Again.antt`), the recording adds no note. The
+/// file of that trace is line for line the recorder's.
 pub fn recorded_gets_no_note()
     ensures { GetsNoNote }
 {}

@@ -19,14 +19,14 @@ use std::marker::Model;
 /// The word for a block that didn't get to its receiver, after its octets.
 const LOST: &str = "lost";
 
-/// The trace that a text says, or its first fault.
+/// Reads a trace from its text, or finds the first fault of the text.
 ///
 /// LF ends a line, and the last one needs no end; spaces, tabs and CR part words. A line is `t HEX` or `c HEX`, a block
 /// of the terminal or of the card in hexadecimal of either case, perhaps with the word `lost` after it, or `quiet`, or
 /// `at N`, microseconds with 1 to 15 digits that never fall. A line without a word says nothing.
 ///
-/// Of the first line that is wrong, counted from 1, `Word` where its words are none of these, then `Hex`, then `Falls`
-/// for a moment below an earlier one. `Memory` may be answered in place of any other answer.
+/// The error names the first wrong line, counted from 1: `Word` where its words are no such line, then `Hex`, then
+/// `Falls` for a moment below an earlier one. Where an allocation fails, `Memory` takes the place of any other answer.
 pub fn read_trace(alloc: Global, text: &[u8]) -> Result<Trace, ExchangeFault>
     ensures { UnlessMemory result (trace_of text.now) }
 {

@@ -54,15 +54,15 @@ impl From<AllocError> for RecordFault {
     }
 }
 
-/// The exchange of a trace, with the lines that both applications must have said. Before each line that tells what
-/// nobody saw is a line `note added`: a lost block that isn't in the trace, the end of a waiting time that isn't, and a
-/// command or a reply whose last octet 00 stands for the rest. It is of version 2 where the trace has a moment or a note
-/// is added.
+/// Makes the exchange of a trace, with the lines that both applications must have said. A line `note added` stands
+/// before each line that nobody saw: a lost block or the end of a waiting time that isn't in the trace, and a command or
+/// a reply whose last octet 00 stands for the rest. The version is 2 where the trace has a moment or a note is added.
 ///
-/// The call refuses an answer to reset that can't be used first, and then what can't be recorded ([`Unfit`]). `Memory`
-/// comes only where neither is wrong. A new terminal and a new card take what the trace has for them. A block that is no
-/// block, where its end was to send another one, counts as damaged on its way. An end that does otherwise than it should
-/// isn't called any more, and no line of its application is added from there on; replay of the exchange names that line.
+/// The call first refuses an answer to reset that can't be used, and then what can't be recorded ([`Unfit`]). `Memory`
+/// comes only where neither is wrong. A new terminal and a new card take what the trace has for them. Octets that are no
+/// block, where their end was to send a block, count as damaged on their way. An end that does something else than its
+/// table says isn't called any more, and no line of its application is added after that. Replay of the exchange names
+/// that line.
 pub fn record_trace(alloc: Global, atr: &[u8], trace: &Trace) -> Result<Exchange, RecordFault>
     ensures { IsRecorded atr.now trace.now result }
 {
@@ -81,7 +81,7 @@ pub fn record_trace(alloc: Global, atr: &[u8], trace: &Trace) -> Result<Exchange
     Ok(Exchange::proper(version, copied(alloc, atr)?, lines))
 }
 
-/// The lines of these items, and the places of those that tell what nobody saw.
+/// The lines of the items. The places of the lines that nobody saw are added to `unseen`.
 #[tactic(auto, unfolding(crate::specs::Recorded::lines_of, crate::specs::Unseen::unseen_in))]
 fn lines_of(
     alloc: Global,
@@ -98,7 +98,7 @@ fn lines_of(
     Ok(follower.lines())
 }
 
-/// The version of an exchange that is of this one without notes.
+/// The version of an exchange that has `version` without notes.
 fn version_with(unseen: &[usize], version: Version) -> Version
     ensures { result ≡ recorded.version_with unseen.now version }
 {
@@ -109,7 +109,7 @@ fn version_with(unseen: &[usize], version: Version) -> Version
     }
 }
 
-/// The version of an exchange of these items with no note.
+/// The version of an exchange of the items, with no note.
 fn version_of(items: &[Item]) -> Version
     ensures { result ≡ recorded.version_of items.now }
 {

@@ -16,11 +16,11 @@ use std::alloc::{AllocError, Global};
 /// How an end stands.
 #[derive(Drop)]
 pub(crate) enum Standing {
-    /// It did otherwise than it should, and isn't followed any more.
+    /// It did something else than its table says, and isn't followed any more.
     Left,
     /// It waits for a block or for its application.
     Waits,
-    /// It is about to send this block, which no line tells yet.
+    /// It is about to send this block, which no line has yet.
     Sends(Block),
 }
 

@@ -46,7 +46,7 @@ impl Trace {
     ghost use Rattle.std.specs.Prelude.{◌≡◌, ◌≢◌, MatchResult, true};
     ghost use Rattle.traces.specs.Rising.{rises};
 
-    /// The trace of these items, which come back where a moment falls or is too late.
+    /// Makes a trace of items. The error has the items, where a moment falls or is too late.
     pub fn of(items: Vec<Item>) -> Result<Trace, Vec<Item>>
         ensures { MatchResult result (λ trace. trace ≡ items.items)
             (λ back. (back ≡ items) × (rises 0 items.items ≢ true)) }
@@ -66,7 +66,7 @@ impl Trace {
         Trace { items }
     }
 
-    /// The items, lent.
+    /// Borrows the items.
     pub fn items(&self) -> &[Item]
         ensures items { result.now ≡ self.now }
         ensures rising { rises 0 self.now ≡ true }
