@@ -1,6 +1,6 @@
 // The page beside the program, on octets and texts that are spoiled.
 //
-// usage: node [--experimental-wasm-memory64] web/damaged.mjs PAGE PROGRAM
+// usage: node [--experimental-wasm-memory64] tests/web/damaged.mjs PAGE PROGRAM
 //
 // PAGE is what web/make made, PROGRAM the program scard. Octets of vectors/ are spoiled by a fixed sequence, 10,000
 // times in all, and what the page shows of each, with notes, is compared with what `show KIND --stdin lines --notes` of
@@ -20,7 +20,7 @@ const ATR = "3B808131204555";
 const LONGEST = 2048;
 const SHOWN = 10;
 
-const examples = new URL("../examples/", import.meta.url);
+const examples = new URL("../../examples/", import.meta.url);
 const [page, program] = process.argv.slice(2);
 const { scard, KINDS, finished } = await loaded(page);
 

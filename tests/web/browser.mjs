@@ -1,6 +1,6 @@
 // The page in headless Chromium and Firefox, where they are there; Firefox needs a node that has WebSocket.
 //
-// usage: node web/browser.mjs PAGE [PICTURES]
+// usage: node tests/web/browser.mjs PAGE [PICTURES]
 //
 // PAGE is what web/make made. On each line of vectors/ that the page has an answer to, what it says in the browser is
 // compared, character by character, with what the vectors give for the program. Then each example is chosen, and

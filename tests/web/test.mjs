@@ -1,6 +1,6 @@
 // The page's script over each of its modules, on each line of vectors/ of the kinds that the page has.
 //
-// usage: node [--experimental-wasm-memory64] web/test.mjs PAGE
+// usage: node [--experimental-wasm-memory64] tests/web/test.mjs PAGE
 //
 // PAGE is what web/make made. Its lines are compared, character by character, with those that the vectors give for the
 // program: of `check` and `show`, with notes and without, with octets as a word or in hexadecimal or as lines from
@@ -12,7 +12,7 @@ import { Checks } from "./checks.mjs";
 import { cases, loaded, modules } from "./loaded.mjs";
 import { answered, asked, wanted } from "./requests.mjs";
 
-const examples = new URL("../examples/", import.meta.url);
+const examples = new URL("../../examples/", import.meta.url);
 const checks = new Checks("page");
 
 // What the page calls what the program ends with, by its status.

@@ -1,6 +1,6 @@
 // How long the page's script takes, and how long at a time.
 //
-// usage: node [--experimental-wasm-memory64] web/times.mjs PAGE
+// usage: node [--experimental-wasm-memory64] tests/web/times.mjs PAGE
 //
 // PAGE is what web/make made. It prints, of texts of 64 KiB and of forests of 1 MiB, how many milliseconds the page's
 // script takes in all for what it shows, and for the longest piece of it, between which a browser has its turn. What

@@ -1,6 +1,6 @@
 // The page's form, in a document of a few lines: no browser is asked for.
 //
-// usage: node [--experimental-wasm-memory64] web/form.mjs PAGE
+// usage: node [--experimental-wasm-memory64] tests/web/form.mjs PAGE
 //
 // PAGE is what web/make made. Its whole script runs, each example is chosen, octets and a file are typed, and the
 // address is written and read again. What it looks like isn't tried. The last line is 'N passed, M failed'.

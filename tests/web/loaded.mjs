@@ -2,7 +2,7 @@
 import { readFileSync, readdirSync } from "node:fs";
 import vm from "node:vm";
 
-const vectors = new URL("../vectors/", import.meta.url);
+const vectors = new URL("../../vectors/", import.meta.url);
 
 // The modules of a page, by the names that they have there.
 export function modules(file) {
