@@ -1,6 +1,6 @@
 //! Blocks on their way, and the calls of the ends, as lines.
 
-ghost use Rattle.std.specs.Prelude.{◌≡◌, ◌++◌, ◌+◌, ◌≤◌, [], ◌∷◌, IfOk, IfErr, OnOk, OnErr, Ok, Err, vec_len, vec_capacity};
+ghost use Rattle.std.specs.Prelude.{◌≡◌, ◌++◌, ◌+◌, ◌≤◌, [], ◌∷◌, IfOk, IfErr, OnOk, OnErr, Ok, Err, bytes_eq, vec_len, vec_capacity};
 ghost use Rattle.octet_core.specs.Octets.{AreOctets};
 ghost use Rattle.block_core.specs.Block.{spelling};
 ghost use Rattle.t1_core.specs.Terminal.{terminal_turn, turn_of, state_after};
@@ -48,6 +48,13 @@ pub fn spelled(alloc: Global, block: &Block) -> Result<Octets, AllocError>
     ensures { IfOk result (λ octets. octets ≡ spelling block.now) }
 {
     copied(alloc, encode(block).as_slice())
+}
+
+/// Whether the octets are those of the block.
+pub fn is_spelled(block: &Block, octets: &[u8]) -> bool
+    ensures { result ≡ bytes_eq (spelling block.now) octets.now }
+{
+    encode(block).as_slice() == octets
 }
 
 /// A copy of octets.

@@ -14,7 +14,7 @@ pub mod params;
 pub mod recording;
 pub mod replaying;
 
-pub use carrying::{card_called, copied, spelled, terminal_called};
+pub use carrying::{card_called, copied, is_spelled, spelled, terminal_called};
 pub use event::{Event, EventFault, LastTurn, RecorderFault};
 pub use exchange_text::{
     Arrival, Exchange, ExchangeFault, Line, Lines, Version, migrate, read_exchange, write_exchange,

@@ -1,11 +1,11 @@
 //! What an end gives, as a line of a file.
 
-ghost use Rattle.std.specs.Prelude.{◌≡◌, IfOk, string_bytes, bytes_eq};
-ghost use Rattle.block_core.specs.Block.{spelling};
+ghost use Rattle.std.specs.Prelude.{◌≡◌, IfOk, string_bytes};
 ghost use Rattle.exchange_core.specs.Output.{line_of};
 ghost use Rattle.exchange_core.specs.Replay.{is_met};
 ghost use Rattle.exchange_text.specs.Text.{line_text};
 
+use crate::carrying::is_spelled;
 use block_core::{Block, encode};
 use exchange_text::{Line, Name, push_message};
 use std::alloc::{AllocError, Global};
@@ -82,11 +82,4 @@ impl Output<'_> {
         }
         Ok(text)
     }
-}
-
-/// Whether the octets are those of the block.
-fn is_spelled(block: &Block, octets: &[u8]) -> bool
-    ensures { result ≡ bytes_eq (spelling block.now) octets.now }
-{
-    encode(block).as_slice() == octets
 }

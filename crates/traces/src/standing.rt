@@ -8,8 +8,8 @@ ghost use Rattle.traces.specs.Unseen.{is_sending};
 
 use crate::said::is_resynch;
 use crate::seen::seen;
-use block_core::{Block, encode};
-use exchange_core::{Arrival, copied, spelled};
+use block_core::Block;
+use exchange_core::{Arrival, copied, is_spelled, spelled};
 use octet_core::Octets;
 use std::alloc::{AllocError, Global};
 
@@ -129,11 +129,4 @@ fn whole(lost: bool) -> Arrival
     ensures { result ≡ following.whole lost }
 {
     if lost { Arrival::Lost } else { Arrival::Whole }
-}
-
-/// Whether the octets are those of the block.
-fn is_spelled(block: &Block, octets: &[u8]) -> bool
-    ensures { result ≡ following.is_spelled block.now octets.now }
-{
-    encode(block).as_slice() == octets
 }
