@@ -13,6 +13,7 @@ pub mod chain;
 pub mod dol;
 pub mod filling;
 pub mod hexadecimal;
+mod judge_numbers;
 pub mod kept;
 pub mod kept_check;
 pub mod kept_judge;
