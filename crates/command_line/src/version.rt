@@ -1,18 +1,33 @@
 //! The version of the program, and the words that ask for it.
 
-ghost use Rattle.std.specs.Prelude.{◌≡◌};
-ghost use Rattle.command_line.specs.Version.{asks_for_version};
+ghost use Rattle.std.specs.Prelude.{◌≡◌, string_bytes};
+ghost use Rattle.command_line.specs.Version.{asks_for_version, is_json, is_version};
 ghost use Rattle.command_line.specs.Form.{texts};
 
 /// The line that the program prints for `--version`, with the version that `include/scard.h` has.
 pub const VERSION_LINE: &str = "scard 1.5.0\n";
 
-/// Whether there is one word after the program's name, `--version` or `-V`.
+/// Whether the words after the program's name are `--version` or `-V` alone, or one of these and `--json`.
 pub fn asks_for_version(words: &[String]) -> bool
     ensures { result ≡ asks_for_version (texts words.now) }
 {
     match words {
-        [_, word] => word.as_str() == "--version" || word.as_str() == "-V",
+        [_, word] => is_version(word),
+        [_, first, second] => {
+            is_version(first) && is_json(second) || is_json(first) && is_version(second)
+        }
         _ => false,
     }
+}
+
+fn is_version(word: &String) -> bool
+    ensures { result ≡ is_version (string_bytes word.now) }
+{
+    word.as_str() == "--version" || word.as_str() == "-V"
+}
+
+fn is_json(word: &String) -> bool
+    ensures { result ≡ is_json (string_bytes word.now) }
+{
+    word.as_str() == "--json"
 }
