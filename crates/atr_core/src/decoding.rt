@@ -28,6 +28,7 @@ pub fn decode(octets: &[u8]) -> Result<(Atr, usize), Stop<AtrReason>>
 
 /// How many octets the answer to reset takes with which the octets begin: the verdict of [`decode`], without
 /// the answer.
+#[inline]
 pub fn check(octets: &[u8]) -> Result<usize, Stop<AtrReason>>
     ensures found { IfOk result (λ count. (atr : AtrParts)
         × Accepts self_ended IsAtr octets.now atr count) }
