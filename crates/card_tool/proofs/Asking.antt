@@ -11,11 +11,12 @@ use Rattle.card_words.specs.declared.request.Task.{Task}
 use Rattle.card_words.specs.declared.fault.Fault.TheVariants.{Memory}
 use Rattle.card_words.specs.Texts.{fault_text}
 use Rattle.card_tool.specs.Answers.{IsReadFrom, IsWritten, Writes}
-use Rattle.card_tool.specs.Explained.{IsRightWith, silent}
+use Rattle.card_tool.specs.Explained.{IsRightWith}
 use Rattle.card_tool.specs.LineAnswers.{WritesLines, answered, wanting}
 use Rattle.card_tool.specs.declared.telling.Telling.{Telling}
 use Rattle.card_kinds.specs.declared.status.Status.{Status}
 use Rattle.card_kinds.specs.declared.status.Status.TheVariants as status
+use Rattle.card_tool.proofs.Explaining.{said-nothing}
 use Rattle.card_tool.proofs.Inputs.{Consumes-none}
 
 -- what was read, where it asks for this
@@ -77,11 +78,7 @@ module _ (held : Option (List ℕ)) (count : ℕ) (old new : Option (List ℕ)) 
     is_right = record {
       text = fault_text Memory;
       note = [];
-      is_said = record {
-        is_right = inr (refl, refl, refl);
-        is_noted = inl (inr (refl, refl, refl), silent refl);
-        unasked = λ _. refl;
-      };
+      is_said = said-nothing words held held count count (fault_text Memory) status.Fault (inr (refl, refl, refl));
       is_whole = sym (append-nil (fault_text Memory));
     };
     is_written = is;

@@ -1,5 +1,5 @@
 -- How lines are answered as they come.
-use Rattle.std.proofs.Common.{◌≡◌, ◌≤◌, ◌<◌, ◌⊎◌, ◌∙◌, inl, inr, ◌+◌, ◌++◌, ◌==◌, if◌then◌else◌, nat_le, ℕ, List, [], ◌∷◌, Bool, true, false, Option, Some, None, Result, Ok, Err, OnOk, OnErr, ap, append-nil, append_assoc, arith, length, refl, subst, sym, take, drop}
+use Rattle.std.proofs.Common.{◌≡◌, ◌≤◌, ◌<◌, ◌∙◌, inl, inr, ◌+◌, ◌++◌, ◌==◌, if◌then◌else◌, nat_le, ℕ, List, [], ◌∷◌, Bool, true, false, Option, Some, None, Result, Ok, Err, OnOk, OnErr, ap, append-nil, append_assoc, arith, length, refl, subst, sym, take, drop}
 use Rattle.std.proofs.lemmas.Bool.{cases_order}
 use Rattle.std.proofs.lemmas.Bool.Decides.{nat_tests}
 use Rattle.std.proofs.lemmas.List.{length-append, length-take, take_all, take-append-drop, take-append-le}
@@ -11,6 +11,7 @@ use Rattle.card_words.specs.declared.fault.Fault.{Fault}
 use Rattle.card_words.specs.declared.fault.Fault.TheVariants.{TooLarge}
 use Rattle.card_tool.specs.declared.telling.Telling.{Telling}
 use Rattle.card_tool.specs.Answers.{IsTold, IsToldOf, IsWritten, all, cut}
+use Rattle.card_tool.specs.Judged.{SaysIf}
 use Rattle.card_tool.specs.LineNotes.{AreLinesSaid, IsLineSaid, IsNoteOfLine}
 use Rattle.card_tool.specs.Files.{largest_file}
 use Rattle.card_tool.specs.Lines.{all_lines, ended_lines, last_line, line_octets, lines_after, rest_after, worse}
@@ -104,6 +105,25 @@ module _ (telling : Telling) where
         ∙ sym (too-long (loose_octets line) (length line) long)
   ]
 
+  -- and has the same note
+  kept-note : (line note : List ℕ) → SaysIf telling.explains (IsNoteOfLine telling.task (take (largest_file + 1) line)
+      (line_octets (take (largest_file + 1) line))) note
+      → SaysIf telling.explains (IsNoteOfLine telling.task line (line_octets line)) note
+  kept-note line note h = elim (cases_order (length line) largest_file) [
+    | inl same ↦ as-whole (take_all (largest_file + 1) line (omega (arith, same)))
+    | inr (inl small) ↦ as-whole (take_all (largest_file + 1) line (omega (arith, small)))
+    | inr (inr long) ↦
+        let kept : largest_file < length (take (largest_file + 1) line) =
+        omega (arith, long, length-take (largest_file + 1) line) in
+        rw (too-long (loose_octets line) (length line) long)
+        (rw (too-long (loose_octets (take (largest_file + 1) line)) (length (take (largest_file + 1) line)) kept) at h)
+  ]
+    where
+      as-whole : take (largest_file + 1) line ≡ line
+          → SaysIf telling.explains (IsNoteOfLine telling.task line (line_octets line)) note
+      as-whole same = subst (λ (l : List ℕ). SaysIf telling.explains (IsNoteOfLine telling.task l (line_octets l)) note)
+          same h
+
   kept-told : (line t : List ℕ) (s : Status) → IsLineSaid telling (take (largest_file + 1) line) t s
       → IsLineSaid telling line t s
   kept-told line t s h = record {
@@ -111,9 +131,7 @@ module _ (telling : Telling) where
     note = h.note;
     is_told = subst (λ (r : Result (List ℕ) Fault). IsToldOf (IsTold telling.task) r h.told s) (kept-octets line)
         h.is_told;
-    is_note = subst (λ (r : Result (List ℕ) Fault). (h.note ≡ []) ⊎ IsNoteOfLine telling.task r h.note)
-        (kept-octets line) h.is_note;
-    unasked = h.unasked;
+    is_note = kept-note line h.note h.is_note;
     is_text = h.is_text;
   }
 

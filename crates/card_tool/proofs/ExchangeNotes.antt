@@ -13,7 +13,7 @@ use Rattle.exchange_core.specs.declared.replaying.ReplayFault.TheVariants.{Diffe
 use Rattle.exchange_core.specs.declared.replaying.Side.{Side}
 use Rattle.exchange_core.specs.declared.replaying.Side.TheVariants as side
 use Rattle.card_tool.specs.Explained.{AreDifferenceNotes, IsDifferenceNote, IsFileNote, IsNoteSo}
-use Rattle.card_tool.specs.FileNotes.{line_of, IsLineNote}
+use Rattle.card_tool.specs.FileNotes.{fault_note}
 use Rattle.card_tool.specs.ExchangeTexts.{both_text, file_fault_text, AreReplayed, IsOutcome, IsReplayed, IsToldSo, TellsFile}
 use Rattle.card_tool.specs.Judged.{AreOf}
 use Rattle.card_tool.specs.Lines.{worse}
@@ -30,24 +30,24 @@ differs-at r e which fault line gives is same h =
 -- an answer and a note that are of an exchange are of the file that was read as it
 pub of-exchange : (task : FileTask) (file : List ℕ) (e : ExchangeParts) (made : WithNote)
     → UnlessMemory (Ok e) (exchange_said file)
-    → AreOf (IsToldSo task e) (IsNoteSo task e) made
+    → AreOf (IsToldSo task e) (IsNoteSo task file e) made
     → AreOf (TellsFile task file) (IsFileNote task file) made
 of-exchange task file e made (inl memory) h = absurd (cc memory)
 of-exchange task file e made (inr said) h =
     subst (λ (r : Result ExchangeParts ExchangeFault). MatchResult r
     (λ e. IsToldSo task e made.answer.text made.answer.status)
     (λ fault. (made.answer.text ≡ file_fault_text fault) × (made.answer.status ≡ status.Fault))
-    × IfOk made.note (λ note. MatchResult r (λ e. IsNoteSo task e (string_bytes note))
-    (λ fault. IsLineNote (line_of fault) (string_bytes note)))) said h
+    × IfOk made.note (λ note. MatchResult r (λ e. IsNoteSo task file e (string_bytes note))
+    (λ fault. string_bytes note ≡ fault_note file fault))) said h
 
-module _ (e : ExchangeParts) where
+module _ (file : List ℕ) (e : ExchangeParts) where
   -- the terminal's note and then the card's
   joined-notes : {E : Type 0} (note one other : Result (String Global) E)
-      → IfOk one (λ text. IsDifferenceNote e side.Terminal (string_bytes text))
-      → IfOk other (λ text. IsDifferenceNote e side.Card (string_bytes text))
+      → IfOk one (λ text. IsDifferenceNote file e side.Terminal (string_bytes text))
+      → IfOk other (λ text. IsDifferenceNote file e side.Card (string_bytes text))
       → IfOk note (λ text. IsOkAnd one (λ a. IsOkAnd other (λ b. string_bytes text ≡ string_bytes a
       ++ string_bytes b)))
-      → IfOk note (λ text. AreDifferenceNotes e (string_bytes text))
+      → IfOk note (λ text. AreDifferenceNotes file e (string_bytes text))
   joined-notes (Ok text) (Ok a) (Ok b) terminal card h = record {
     terminal = string_bytes a;
     card = string_bytes b;
@@ -79,13 +79,13 @@ module _ (e : ExchangeParts) where
 
   -- the same with their notes
   pub of-both : (terminal card made : WithNote)
-      → AreOf (IsReplayed e side.Terminal) (IsDifferenceNote e side.Terminal) terminal
-      → AreOf (IsReplayed e side.Card) (IsDifferenceNote e side.Card) card
+      → AreOf (IsReplayed e side.Terminal) (IsDifferenceNote file e side.Terminal) terminal
+      → AreOf (IsReplayed e side.Card) (IsDifferenceNote file e side.Card) card
       → made.answer.text ≡ both_text terminal.answer.text card.answer.text
       → made.answer.status ≡ worse terminal.answer.status card.answer.status
       → IfOk made.note (λ text. IsOkAnd terminal.note (λ a. IsOkAnd card.note (λ b. string_bytes text ≡ string_bytes a
       ++ string_bytes b)))
-      → AreOf (AreReplayed e) (AreDifferenceNotes e) made
+      → AreOf (AreReplayed e) (AreDifferenceNotes file e) made
   of-both terminal card made one other text ended notes = (
     record {
       terminal = terminal.answer.text;

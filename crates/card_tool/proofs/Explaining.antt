@@ -1,5 +1,5 @@
 -- How answers and the notes on them are those of a request, and of words.
-use Rattle.std.proofs.Common.{◌≡◌, ◌⊎◌, ◌∙◌, ◌++◌, inl, inr, ℕ, List, [], Option, Some, None, Result, Ok, Err, IfOk, IfErr, OnOk, IsOkAnd, String, length, string_bytes, Bool, true, false, ap, append-nil, refl, subst, sym}
+use Rattle.std.proofs.Common.{◌≡◌, ◌⊎◌, ◌∙◌, ◌++◌, inl, inr, ℕ, List, [], Option, Some, None, Result, Ok, Err, IfOk, IfErr, OnOk, IsOkAnd, String, length, string_bytes, Bool, true, false, ap, refl, subst, sym}
 use Rattle.std.specs.declared.alloc.Global.{Global}
 use Rattle.command_line.specs.Asked.{asks_to_explain}
 use Rattle.card_words.specs.Given.{octets_given, octets_in, IsFromReader}
@@ -14,23 +14,21 @@ use Rattle.card_words.specs.declared.given.OctetSource.{OctetSource}
 use Rattle.card_words.specs.declared.request.Asked.TheVariants.{Once}
 use Rattle.card_words.specs.declared.request.Request.{Request}
 use Rattle.card_tool.specs.Answers.{IsAnswerTo, IsRight, IsRightTo, IsToldOf}
-use Rattle.card_tool.specs.Explained.{differs, form_note, octets_of, said_of, text_note, AreNoted, Fits, IsDifferenceNote, IsFaulted, IsFaultNote, IsFillNote, IsNoted, IsNoteOn, IsNoteTo, IsReplyTo, IsRightWith, IsSaid, IsTakenWith, Replies, RepliesTo, on_fault, silent}
-use Rattle.card_tool.specs.FileNotes.{IsLineNote, Shows}
-use Rattle.card_tool.specs.TracePlaces.{trace_place, IsPlacedNote}
+use Rattle.card_tool.specs.Explained.{differs, form_note, octets_of, said_of, text_note, AreNoted, IsDifferenceNote, IsFaulted, IsFaultNote, IsFillNote, IsNoted, IsNoteOn, IsNoteTo, IsReplyTo, IsSaid, IsTakenWith, Replies, RepliesTo, on_fault, silent}
+use Rattle.card_tool.specs.FileNotes.{line_text, IsWhy}
+use Rattle.card_tool.specs.TracePlaces.{trace_place}
 use Rattle.card_tool.specs.Files.{ReadsWhole}
 use Rattle.card_tool.specs.declared.judged.WithNote.{WithNote}
 use Rattle.card_tool.specs.declared.replies.Taken.{Taken}
 use Rattle.card_tool.specs.ExchangeTexts.{IsOutcome}
 use Rattle.exchange_text.specs.Exchange.{ExchangeParts}
-use Rattle.exchange_text.specs.declared.line.Line.{Line}
 use Rattle.exchange_core.specs.Replay.{IfDiffers, Replays}
 use Rattle.exchange_core.specs.declared.replaying.ReplayFault.{ReplayFault}
 use Rattle.exchange_core.specs.declared.replaying.Side.{Side}
 use Rattle.octet_core.specs.declared.stop.Stop.{Stop}
 use Rattle.card_kinds.specs.Codec.{Codec, IsVerdict}
-use Rattle.explainer.specs.Notes.{line_note, IsVerdictNote}
-use Rattle.card_tool.specs.Judged.{IsNoteBy, SaysIf}
-use Rattle.card_kinds.specs.ListTexts.{list_codec}
+use Rattle.explainer.specs.Notes.{verdict_text}
+use Rattle.card_tool.specs.Judged.{IsListNote, IsNoteBy, SaysIf}
 use Rattle.tlv_core.specs.Fill.{HasDuplicate}
 use Rattle.tlv_core.specs.declared.known.Known.{Known}
 use Rattle.octet_core.proofs.Lists.{nil_of}
@@ -48,35 +46,13 @@ pub wanting : (request : Request) (held : Option (List ℕ)) (count : ℕ)
     → IsRightTo request held held count count (fault_text Memory) status.Fault
 wanting request held count = inr (refl, refl, refl)
 
--- a text that shows a line and says something of it
-pub says-line : {E : Type 0} (r : Result (String Global) E) (number : ℕ) (line what : List ℕ)
-    → IfOk r (λ text. string_bytes text ≡ line_note number line what)
-    → IfOk r (λ text. Shows number what (string_bytes text))
-says-line (Ok text) number line what h = (line, h)
-says-line (Err e) number line what h = tt
-
--- is the note on it
-pub shows-line : {E : Type 0} (r : Result (String Global) E) (number : ℕ) (what : List ℕ)
-    → IfOk r (λ text. Shows number what (string_bytes text)) → IfOk r (λ text. IsLineNote number (string_bytes text))
-shows-line (Ok text) number what h = (h.0, what, h.1)
-shows-line (Err e) number what h = tt
-
--- a note that says why, and where the line is
-pub placed-line : {E : Type 0} (r : Result (String Global) E) (number : ℕ) (what why place : List ℕ)
-    → what ≡ why ++ place → IfOk r (λ text. Shows number what (string_bytes text))
-    → IfOk r (λ text. IsPlacedNote number place (string_bytes text))
-placed-line (Ok text) number what why place is h = (h.0, why, h.1 ∙ ap (line_note number h.0) is)
-placed-line (Err e) number what why place is h = tt
-
--- and where an end does the line otherwise, it is the note on the exchange
-pub on-difference : {E : Type 0} (r : Result (String Global) E) (e : ExchangeParts) (which : Side)
-    (line : ℕ) (gives : List ℕ) (lines : List Line) → Replays e.atr e.lines which (Some (line, gives))
-    → lines ≡ e.lines → IfOk r (λ text. IsPlacedNote line (trace_place lines line) (string_bytes text))
-    → IfOk r (λ text. IsDifferenceNote e which (string_bytes text))
-on-difference (Ok text) e which line gives lines replays same h =
-    differs line gives replays
-    (subst (λ (l : List Line). IsPlacedNote line (trace_place l line) (string_bytes text)) same h)
-on-difference (Err fault) e which line gives lines replays same h = tt
+-- where an end does a line otherwise, the line with the reason and its place is the note on the exchange
+pub on-difference : {E : Type 0} (r : Result (String Global) E) (file : List ℕ) (e : ExchangeParts) (which : Side)
+    (line : ℕ) (gives why : List ℕ) → Replays e.atr e.lines which (Some (line, gives)) → IsWhy e line gives why
+    → IfOk r (λ text. string_bytes text ≡ line_text file line (why ++ trace_place e.lines line))
+    → IfOk r (λ text. IsDifferenceNote file e which (string_bytes text))
+on-difference (Ok text) file e which line gives why replays is h = differs line gives why replays is h
+on-difference (Err fault) file e which line gives why replays is h = tt
 
 -- what replay says of an exchange
 pub outcome : {A : Type 0} (r : Result A ReplayFault) (e : ExchangeParts) (which : Side)
@@ -86,31 +62,23 @@ pub outcome : {A : Type 0} (r : Result A ReplayFault) (e : ExchangeParts) (which
 outcome (Ok done) e which agrees other = agrees
 outcome (Err fault) e which agrees other = other
 
--- the note of a verdict is one by the codec that the verdict is of
-pub by-verdict : {V R E : Type 0} (c : Codec V R) (b : List ℕ) (verdict : Result ℕ (Stop R))
-    (r : Result (String Global) E)
-    → IsVerdict c b verdict → IfOk r (λ text. IsVerdictNote b verdict (string_bytes text))
-    → IfOk r (λ text. IsNoteBy c b (string_bytes text))
-by-verdict c b verdict (Ok text) is h = (verdict, is, h)
-by-verdict c b verdict (Err e) is h = tt
-
 -- where there is no note on a list, it is one on a known value
 pub on-known : {E : Type 0} (r : Result (String Global) E) (list : List ℕ) (known : Result (List Known) Fault)
-    (silence : List ℕ) → length silence ≡ 0 → IsNoteBy list_codec list silence → IfOk known HasDuplicate
+    (silence : List ℕ) → length silence ≡ 0 → IsListNote list silence → IfOk known HasDuplicate
     → IfOk r (λ text. IsFillNote list known (string_bytes text))
 on-known (Ok text) list known silence none h faults =
-    inr (subst (IsNoteBy list_codec list) (nil_of silence none) h, faults)
+    inr (subst (IsListNote list) (nil_of silence none) h, faults)
 on-known (Err e) list known silence none h faults = tt
 
 -- and where all words say known values, one on two of one tag, or none
 pub on-values : {E : Type 0} (r : Result (String Global) E) (list : List ℕ) (known : Result (List Known) Fault)
-    (values : List Known) (silence : List ℕ) → length silence ≡ 0 → IsNoteBy list_codec list silence
+    (values : List Known) (silence : List ℕ) → length silence ≡ 0 → IsListNote list silence
     → known ≡ Ok values → IfOk r (λ text. (string_bytes text ≡ []) ⊎ HasDuplicate values)
     → IfOk r (λ text. IsFillNote list known (string_bytes text))
 on-values (Ok text) list known values silence none h is (inl empty) =
-    inl (subst (IsNoteBy list_codec list) (nil_of silence none ∙ sym empty) h)
+    inl (subst (IsListNote list) (nil_of silence none ∙ sym empty) h)
 on-values (Ok text) list known values silence none h is (inr twice) = inr (
-  subst (IsNoteBy list_codec list) (nil_of silence none) h,
+  subst (IsListNote list) (nil_of silence none) h,
   subst (λ (k : Result (List Known) Fault). IfOk k HasDuplicate) (sym is) twice,
 )
 on-values (Err e) list known values silence none h is told = tt
@@ -131,12 +99,13 @@ says-nothing false Note note quiet h = h
 says-nothing true Note note quiet h = cc quiet
 
 -- the note of a verdict is one by the codec that the verdict is of
-pub says-by : {V R E : Type 0} (explains : Bool) (c : Codec V R) (b : List ℕ) (verdict : Result ℕ (Stop R))
-    (r : Result (String Global) E) → IsVerdict c b verdict
-    → IfOk r (λ text. SaysIf explains (IsVerdictNote b verdict) (string_bytes text))
-    → IfOk r (λ text. SaysIf explains (IsNoteBy c b) (string_bytes text))
-says-by true c b verdict r is h = by-verdict c b verdict r is h
-says-by false c b verdict r is h = h
+pub says-by : {V R E : Type 0} (explains : Bool) (c : Codec V R) (says : R → List ℕ) (least : Option ℕ) (b : List ℕ)
+    (verdict : Result ℕ (Stop R)) (r : Result (String Global) E) → IsVerdict c b verdict
+    → IfOk r (λ text. SaysIf explains (λ said. said ≡ verdict_text says b least verdict) (string_bytes text))
+    → IfOk r (λ text. SaysIf explains (IsNoteBy c says least b) (string_bytes text))
+says-by true c says least b verdict (Ok text) is h = (verdict, is, h)
+says-by true c says least b verdict (Err e) is h = tt
+says-by false c says least b verdict r is h = h
 
 -- the line of a fault with a note on it
 pub faulted : (fault : Fault) (made : WithNote) → made.answer.text ≡ fault_text fault
@@ -369,23 +338,3 @@ module _ (words : List (List ℕ)) (held left : Option (List ℕ)) (before after
       → IsSaid words held left before after alone.answer.text (said_of alone.note) alone.answer.status
   said-alone made alone h same none = rw (same, none) (said-nothing made.answer.text made.answer.status
       (right-noted made.answer.text (said_of made.note) made.answer.status h))
-
-  -- ---- as lines
-
-  -- a note after the text, or nothing where memory for that was refused
-  pub printed : (text note added whole : List ℕ) (ended : Status) → IsSaid words held left before after text note ended
-      → whole ≡ text ++ added → (added ≡ []) ⊎ (added ≡ note) → IsRightWith words held left before after whole ended
-  printed text note added whole ended h is (inl none) = record {
-    text = text;
-    note = [];
-    is_said = said-nothing text ended h.is_right;
-    is_whole = is ∙ ap (λ (l : List ℕ). text ++ l) none;
-  }
-  printed text note added whole ended h is (inr same) =
-      record { text = text; note = note; is_said = h; is_whole = is ∙ ap (λ (l : List ℕ). text ++ l) same }
-
-  -- the line of a fault
-  pub printed-fault : (fault : Fault) → IsSaid words held left before after (fault_text fault) [] status.Fault
-      → IsRightWith words held left before after (fault_text fault) status.Fault
-  printed-fault fault h =
-      record { text = fault_text fault; note = []; is_said = h; is_whole = sym (append-nil (fault_text fault)) }

@@ -1,5 +1,5 @@
 -- Answers as objects of JSON, and as lines.
-use Rattle.std.proofs.Common.{◌≡◌, ℕ, List, [], Bool, true, false, Option, Result, Ok, Err, refl}
+use Rattle.std.proofs.Common.{◌≡◌, ℕ, List, [], Bool, true, false, Option, Result, Ok, Err, append-nil, refl, sym}
 use Rattle.command_line.specs.Asked.{asks_for_json}
 use Rattle.card_words.specs.Texts.{fault_text}
 use Rattle.card_words.specs.declared.fault.Fault.{Fault}
@@ -7,24 +7,34 @@ use Rattle.card_words.specs.declared.fault.Fault.TheVariants.{Memory}
 use Rattle.card_kinds.specs.declared.answer.Answer.{Answer}
 use Rattle.card_kinds.specs.declared.status.Status.{Status}
 use Rattle.card_kinds.specs.declared.status.Status.TheVariants as status
-use Rattle.card_tool.specs.Answers.{Gives, IsWritten, Writes}
-use Rattle.card_tool.specs.Explained.{said_of, IsRightWith, IsSaid}
+use Rattle.card_tool.specs.Answers.{IsWritten, Writes}
+use Rattle.card_tool.specs.Explained.{said_of, Gives, IsSaid, Replies}
 use Rattle.card_tool.specs.InJson.{IsRightAsked, IsRightJson, in_json, in_lines, unmade}
 use Rattle.card_tool.specs.declared.judged.WithNote.{WithNote}
 use Rattle.card_tool.proofs.Asking.{no-words}
 
 module _ (words : List (List ℕ)) (held left : Option (List ℕ)) (before after : ℕ) where
   -- what is right in JSON is right where JSON is asked for
-  pub json-asked : (r : Result Answer Fault) → asks_for_json words ≡ true
+  pub json-asked : (r : Result WithNote Fault) → asks_for_json words ≡ true
       → Gives (IsRightJson words held left before after) r → Gives (IsRightAsked words held left before after) r
-  json-asked (Ok answer) ask h = in_json ask h
+  json-asked (Ok made) ask h = in_json ask h
   json-asked (Err fault) ask h = in_json ask h
 
   -- and what is right in lines where it isn't
-  pub lines-asked : (r : Result Answer Fault) → asks_for_json words ≡ false
-      → Gives (IsRightWith words held left before after) r → Gives (IsRightAsked words held left before after) r
-  lines-asked (Ok answer) ask h = in_lines ask h
-  lines-asked (Err fault) ask h = in_lines ask h
+  pub lines-asked : (r : Result WithNote Fault) → asks_for_json words ≡ false
+      → Replies words held left before after r → Gives (IsRightAsked words held left before after) r
+  lines-asked (Ok made) ask h = in_lines ask (record {
+    text = made.answer.text;
+    note = said_of made.note;
+    is_said = h;
+    is_whole = refl;
+  })
+  lines-asked (Err fault) ask h = in_lines ask (record {
+    text = fault_text fault;
+    note = [];
+    is_said = h;
+    is_whole = sym (append-nil (fault_text fault));
+  })
 
 -- the line of a fault that is right is so as an answer of which nothing is said
 pub right-line : (words : List (List ℕ)) (held left : Option (List ℕ)) (before after : ℕ) (fault : Fault)

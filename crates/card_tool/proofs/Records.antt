@@ -21,9 +21,9 @@ use Rattle.card_kinds.specs.declared.status.Status.TheVariants as status
 use Rattle.card_kinds.proofs.OneOf.{OneText, ended-by}
 use Rattle.card_tool.specs.ExchangeTexts.{file_fault_text}
 use Rattle.card_tool.specs.Files.{largest_file}
-use Rattle.card_tool.specs.FileNotes.{line_of, IsLineNote}
+use Rattle.card_tool.specs.FileNotes.{trace_note}
 use Rattle.card_tool.specs.Judged.{AreOf}
-use Rattle.card_tool.specs.RecordTexts.{IsItemsNote, IsRecordNote, Records, RecordsItems, line_with, refused, unfit, unfit_text, whole}
+use Rattle.card_tool.specs.RecordTexts.{IsItemsNote, IsRecordNote, Records, RecordsItems, expected_words, line_with, refused, unfit, unfit_text, whole}
 use Rattle.card_tool.specs.SimulationTexts.{IsFile}
 use Rattle.card_tool.specs.declared.judged.WithNote.{WithNote}
 use Rattle.card_tool.proofs.Simulations.{apart, one-file, same-name, same-size, some-file}
@@ -104,4 +104,4 @@ of-items atr file items made (inr said) h =
     (λ items. RecordsItems atr file items made.answer.text made.answer.status)
     (λ fault. (made.answer.text ≡ file_fault_text fault) × (made.answer.status ≡ status.Fault))
     × IfOk made.note (λ note. MatchResult r (λ items. IsItemsNote atr file items (string_bytes note))
-    (λ fault. IsLineNote (line_of fault) (string_bytes note)))) said h
+    (λ fault. string_bytes note ≡ trace_note expected_words file fault))) said h

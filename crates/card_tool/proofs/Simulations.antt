@@ -17,6 +17,7 @@ use Rattle.simulator.specs.Simulation.{EndsAs, IsSimulated, exchange_of, new_rec
 use Rattle.simulator.proofs.Long.{one-end, too-long}
 use Rattle.card_tool.specs.Files.{largest_file}
 use Rattle.card_tool.specs.Judged.{AreOf}
+use Rattle.explainer.specs.Pairs.{pairs_note}
 use Rattle.card_tool.specs.SimulationTexts.{IsExchangeNote, IsFile, IsLinesNote, IsSimulationNote, Simulates, SimulatesLines, fits, over, recorded, too_large, unusable, whole}
 use Rattle.card_tool.specs.declared.judged.WithNote.{WithNote}
 use Rattle.card_words.specs.PairLines.{pairs_in}
@@ -200,4 +201,4 @@ of-lines s b pairs r (inl memory) h = absurd (cc memory)
 of-lines s b pairs r (inr is) h = subst (λ (p : Result (List Pair) Fault). IfOk r (AreOf
     (λ text ended. MatchResult p (λ q. Simulates (record s { pairs = q }) text ended)
     (λ fault. (text ≡ fault_text fault) × (ended ≡ status.Fault)))
-    (λ note. MatchResult p (λ q. IsSimulationNote (record s { pairs = q }) note) (λ _. Unit {0})))) is h
+    (λ note. MatchResult p (λ q. IsSimulationNote (record s { pairs = q }) note) (λ _. note ≡ pairs_note b)))) is h

@@ -1,5 +1,5 @@
 -- What the program answers: one text and one status.
-use Rattle.std.specs.Prelude.{◌≡◌, ◌<◌, ◌++◌, ℕ, ◌⊎◌, List, Option, codes, drop, length, take, Result, Ok, Err, MatchResult}
+use Rattle.std.specs.Prelude.{◌≡◌, ◌<◌, ◌++◌, ℕ, ◌⊎◌, List, Option, codes, drop, length, take, Result, Err, MatchResult}
 use Rattle.std.specs.Io.KnownBytes.{Appends}
 use Rattle.octet_core.specs.Failures.{HasFailed}
 use Rattle.card_kinds.specs.Verdicts.{Checks, Shows, Tidies, IsFilled, kind_name}
@@ -24,7 +24,6 @@ use Rattle.card_kinds.specs.declared.status.Status.{Status}
 use Rattle.card_kinds.specs.declared.status.Status.TheVariants as status
 use Rattle.card_words.specs.declared.fault.Fault.{Fault}
 use Rattle.card_words.specs.declared.fault.Fault.TheVariants.{Memory}
-use Rattle.card_kinds.specs.declared.answer.Answer.{Answer}
 use Rattle.card_words.specs.declared.request.Aim.{Aim}
 use Rattle.card_words.specs.declared.request.Aim.TheVariants.{Check, Show, Note}
 use Rattle.card_words.specs.declared.request.Layout.{Layout}
@@ -227,8 +226,3 @@ pub record Writes (Right : List ℕ → Status → Type 0) (old new : Option (Li
   pub right : Status
   pub is_right : Right text right
   pub is_written : IsWritten text right old new before after ended
-
--- what makes an answer: the answer itself, or a fault
-abbrev pub Gives : (List ℕ → Status → Type 0) → Result Answer Fault → Type 0
-Gives Right (Ok answer) = Right answer.text answer.status
-Gives Right (Err fault) = Right (fault_text fault) status.Fault

@@ -21,8 +21,6 @@ use Rattle.card_words.specs.declared.request.FileTask.{FileTask}
 use Rattle.card_words.specs.declared.request.FileTask.TheVariants.{Replay}
 use Rattle.card_words.specs.declared.request.Request.{Request}
 use Rattle.card_words.specs.declared.request.Request.TheVariants.{BuildTidy, BuildFill, Tell, File, Record, Judge, Simulate, SimulateLines}
-use Rattle.card_kinds.specs.ForestTexts.{forest_codec}
-use Rattle.card_kinds.specs.ListTexts.{list_codec}
 use Rattle.card_kinds.specs.declared.status.Status.{Status}
 use Rattle.card_kinds.specs.declared.status.Status.TheVariants as status
 use Rattle.exchange_text.specs.Exchange.{ExchangeParts}
@@ -32,14 +30,15 @@ use Rattle.exchange_core.specs.declared.replaying.Side.{Side}
 use Rattle.exchange_core.specs.declared.replaying.Side.TheVariants as side
 use Rattle.tlv_core.specs.Fill.{HasDuplicate}
 use Rattle.tlv_core.specs.declared.known.Known.{Known}
-use Rattle.explainer.specs.Notes.{large_note, offsets_note}
+use Rattle.explainer.specs.Notes.{large_note}
+use Rattle.explainer.specs.Texts.{offsets_note}
 use Rattle.card_tool.specs.Answers.{IsAnswerTo, IsRight, IsRightTo}
 use Rattle.card_tool.specs.Files.{largest_file, IsTaken, ReadsWhole}
-use Rattle.card_tool.specs.Judged.{IsKindNote, IsNoteBy, SaysIf}
+use Rattle.card_tool.specs.Judged.{IsForestNote, IsKindNote, IsListNote, SaysIf}
 use Rattle.card_tool.specs.declared.judged.WithNote.{WithNote}
 use Rattle.card_tool.specs.declared.replies.Taken.{Taken}
-use Rattle.card_tool.specs.FileNotes.{line_of, IsLineNote}
-use Rattle.card_tool.specs.TracePlaces.{trace_place, IsPlacedNote}
+use Rattle.card_tool.specs.FileNotes.{fault_note, line_text, IsWhy}
+use Rattle.card_tool.specs.TracePlaces.{trace_place}
 use Rattle.card_tool.specs.RecordTexts.{IsRecordNote}
 use Rattle.card_tool.specs.JudgeTexts.{IsJudgeNote}
 use Rattle.card_tool.specs.SimulationTexts.{IsLinesNote, IsSimulationNote}
@@ -48,33 +47,34 @@ use Rattle.card_tool.specs.SimulationTexts.{IsLinesNote, IsSimulationNote}
 
 -- the note on an exchange that is replayed: on the first line that the end does otherwise, and where that is in the trace
 -- of which the exchange was recorded
-pub data IsDifferenceNote (e : ExchangeParts) (which : Side) (note : List ℕ) : Type 0 where
-  agrees : replay.Replays e.atr e.lines which None → note ≡ [] → IsDifferenceNote e which note
-  differs : (line : ℕ) (gives : List ℕ) → replay.Replays e.atr e.lines which (Some (line, gives))
-      → IsPlacedNote line (trace_place e.lines line) note → IsDifferenceNote e which note
+pub data IsDifferenceNote (file : List ℕ) (e : ExchangeParts) (which : Side) (note : List ℕ) : Type 0 where
+  agrees : replay.Replays e.atr e.lines which None → note ≡ [] → IsDifferenceNote file e which note
+  differs : (line : ℕ) (gives why : List ℕ) → replay.Replays e.atr e.lines which (Some (line, gives))
+      → IsWhy e line gives why → note ≡ line_text file line (why ++ trace_place e.lines line)
+      → IsDifferenceNote file e which note
 
 -- the notes on one that is replayed at both ends: the terminal's, and then the card's
-pub record AreDifferenceNotes (e : ExchangeParts) (note : List ℕ) : Type 0 where
+pub record AreDifferenceNotes (file : List ℕ) (e : ExchangeParts) (note : List ℕ) : Type 0 where
   pub terminal : List ℕ
   pub card : List ℕ
-  pub is_terminal : IsDifferenceNote e side.Terminal terminal
-  pub is_card : IsDifferenceNote e side.Card card
+  pub is_terminal : IsDifferenceNote file e side.Terminal terminal
+  pub is_card : IsDifferenceNote file e side.Card card
   pub is_note : note ≡ terminal ++ card
 
-abbrev pub IsNoteAt : Ends → ExchangeParts → List ℕ → Type 0
-IsNoteAt end.Terminal e = IsDifferenceNote e side.Terminal
-IsNoteAt end.Card e = IsDifferenceNote e side.Card
-IsNoteAt end.Both e = AreDifferenceNotes e
+abbrev pub IsNoteAt : Ends → List ℕ → ExchangeParts → List ℕ → Type 0
+IsNoteAt end.Terminal file e = IsDifferenceNote file e side.Terminal
+IsNoteAt end.Card file e = IsDifferenceNote file e side.Card
+IsNoteAt end.Both file e = AreDifferenceNotes file e
 
 -- the note on what is told of an exchange: only one that is replayed has any
-abbrev pub IsNoteSo : FileTask → ExchangeParts → List ℕ → Type 0
-IsNoteSo (Replay end) e = IsNoteAt end e
-IsNoteSo _ e = λ note. note ≡ []
+abbrev pub IsNoteSo : FileTask → List ℕ → ExchangeParts → List ℕ → Type 0
+IsNoteSo (Replay end) file e = IsNoteAt end file e
+IsNoteSo _ file e = λ note. note ≡ []
 
 -- the note on a text that is to be a file: that on its exchange, or on the line with its first fault
 abbrev pub IsFileNote : FileTask → List ℕ → List ℕ → Type 0
-IsFileNote task text note = MatchResult (exchange_said text) (λ e. IsNoteSo task e note)
-    (λ fault. IsLineNote (line_of fault) note)
+IsFileNote task text note = MatchResult (exchange_said text) (λ e. IsNoteSo task text e note)
+    (λ fault. note ≡ fault_note text fault)
 
 -- ---- notes on what a request is about
 
@@ -82,7 +82,7 @@ IsFileNote task text note = MatchResult (exchange_said text) (λ e. IsNoteSo tas
 -- value that is none, or on two of one tag, which is open.
 abbrev pub IsFillNote : List ℕ → Result (List Known) Fault → List ℕ → Type 0
 IsFillNote list known note =
-    IsNoteBy list_codec list note ⊎ (IsNoteBy list_codec list [] × IfOk known HasDuplicate)
+    IsListNote list note ⊎ (IsListNote list [] × IfOk known HasDuplicate)
 
 -- what is said of a text in this form: of one in hexadecimal, that it is a dump too
 abbrev pub text_note : Form → List ℕ → List ℕ
@@ -102,7 +102,7 @@ IsNoteOn given file Note note = IsOkAnd (octets_given given file)
 -- The note on what a request was given, with what reading standard input gave.
 abbrev pub IsNoteTo : Request → Result (List ℕ) Fault → List ℕ → Type 0
 IsNoteTo (Tell task given) file note = IsNoteOn given file (IsKindNote task.expected.kind task.expected) note
-IsNoteTo (BuildTidy given) file note = IsNoteOn given file (IsNoteBy forest_codec) note
+IsNoteTo (BuildTidy given) file note = IsNoteOn given file IsForestNote note
 IsNoteTo (BuildFill list known) file note = IsFillNote list known note
 IsNoteTo (File task) file note = IsOkAnd file (λ text. IsFileNote task text note)
 IsNoteTo (Record atr) file note = IsOkAnd file (λ text. IsRecordNote atr text note)
@@ -207,3 +207,8 @@ pub record IsRightWith (words : List (List ℕ)) (held left : Option (List ℕ))
   pub note : List ℕ
   pub is_said : IsSaid words held left before after text note ended
   pub is_whole : whole ≡ text ++ note
+
+-- what makes an answer with what comes after it, or a fault
+abbrev pub Gives : (List ℕ → Status → Type 0) → Result WithNote Fault → Type 0
+Gives Right (Ok made) = Right (made.answer.text ++ said_of made.note) made.answer.status
+Gives Right (Err fault) = Right (fault_text fault) status.Fault

@@ -1,5 +1,5 @@
 -- What the program says of a trace that is judged.
-use Rattle.std.specs.Prelude.{◌≡◌, ◌≢◌, ℕ, List, [], Bool, true, false, Option, Some, None, Ok, Err}
+use Rattle.std.specs.Prelude.{◌≡◌, ◌≢◌, ℕ, List, [], codes, Bool, true, false, Option, Some, None, Ok, Err}
 use Rattle.card_kinds.specs.Texts.{refused_as_text}
 use Rattle.card_kinds.specs.declared.status.Status.{Status}
 use Rattle.card_kinds.specs.declared.status.Status.TheVariants as status
@@ -18,7 +18,7 @@ use Rattle.trace_judge.specs.declared.standing.Judgment.{Judgment}
 use Rattle.trace_judge.specs.declared.standing.Scope.{Scope}
 use Rattle.trace_judge.specs.Waiting.{rates_before, Offered}
 use Rattle.explainer.specs.Notes.{IsSessionNote}
-use Rattle.card_tool.specs.FileNotes.{line_of, IsLineNote}
+use Rattle.card_tool.specs.FileNotes.{trace_note}
 use Rattle.card_tool.specs.ExchangeTexts.{file_fault_text}
 
 -- the end that is judged alone, if one is
@@ -58,12 +58,17 @@ pub data JudgesTrace (atr : List ℕ) (judging : Judging) (file text : List ℕ)
 
 -- ---- notes
 
+-- what is expected where the words of a line are wrong
+abbrev pub expected_words : List ℕ
+expected_words =
+    codes "expected: t HEX or c HEX, with lost or as HEX after it or not, quiet, reset, or at N"
+
 -- The note on a text: none on its judgment, or that on the line with its first fault.
 pub data IsTextNote (offered : Offered) (judging : Judging) (file note : List ℕ) : Type 0 where
   silent : (judgment : Judgment) → Judges offered (scope_of judging) file (Ok judgment) → note ≡ []
       → IsTextNote offered judging file note
   at_line : (fault : ExchangeFault) → Judges offered (scope_of judging) file (Err fault) → fault ≢ Memory
-      → IsLineNote (line_of fault) note → IsTextNote offered judging file note
+      → note ≡ trace_note expected_words file fault → IsTextNote offered judging file note
 
 -- The note on a trace: on an answer to reset that can't be used, or on its text.
 pub data IsJudgeNote (atr : List ℕ) (judging : Judging) (file note : List ℕ) : Type 0 where

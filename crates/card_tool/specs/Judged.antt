@@ -1,21 +1,45 @@
 -- Answers that have a note of the same verdict.
-use Rattle.std.specs.Prelude.{◌≡◌, ℕ, List, [], Bool, true, false, Result, IfOk, string_bytes}
+use Rattle.std.specs.Prelude.{◌≡◌, ℕ, List, [], Bool, true, false, Option, None, Result, IfOk, string_bytes}
 use Rattle.octet_core.specs.declared.stop.Stop.{Stop}
 use Rattle.card_words.specs.declared.request.Expected.{Expected}
 use Rattle.card_words.specs.declared.request.Kind.{Kind}
+use Rattle.card_words.specs.declared.request.Kind.TheVariants as kind
 use Rattle.card_kinds.specs.Codec.{Codec, IsVerdict}
-use Rattle.card_kinds.specs.Verdicts.{codec_of}
+use Rattle.card_kinds.specs.AtrTexts.{atr_codec}
+use Rattle.card_kinds.specs.BlockTexts.{block_codec}
+use Rattle.card_kinds.specs.ChainTexts.{chain_codec}
+use Rattle.card_kinds.specs.CommandTexts.{command_codec}
+use Rattle.card_kinds.specs.ResponseTexts.{response_codec}
+use Rattle.card_kinds.specs.ForestTexts.{forest_codec}
+use Rattle.card_kinds.specs.ListTexts.{list_codec}
 use Rattle.card_kinds.specs.declared.status.Status.{Status}
-use Rattle.explainer.specs.Notes.{IsVerdictNote}
+use Rattle.explainer.specs.Notes.{least_of, verdict_text}
+use Rattle.explainer.specs.Sentences.{atr_sentence, block_sentence, chain_sentence, command_sentence, dol_sentence, response_sentence, tlv_sentence}
 use Rattle.card_tool.specs.declared.judged.WithNote.{WithNote}
 
--- the note on octets by the verdict of a codec on them
-abbrev pub IsNoteBy : {V R : Type 0} → Codec V R → List ℕ → List ℕ → Type 0
-IsNoteBy {V} {R} c b note = (verdict : Result ℕ (Stop R)) × IsVerdict c b verdict × IsVerdictNote b verdict note
+-- the note on octets by the verdict of a codec on them, with the sentence of each reason, and how many octets must still
+-- come at least, where that is known
+abbrev pub IsNoteBy : {V R : Type 0} → Codec V R → (R → List ℕ) → Option ℕ → List ℕ → List ℕ → Type 0
+IsNoteBy {V} {R} c says least b note =
+    (verdict : Result ℕ (Stop R)) × IsVerdict c b verdict × (note ≡ verdict_text says b least verdict)
+
+abbrev pub IsForestNote : List ℕ → List ℕ → Type 0
+IsForestNote b = IsNoteBy forest_codec tlv_sentence None b
+
+-- a list that is to be filled has no number of octets that must come
+abbrev pub IsListNote : List ℕ → List ℕ → Type 0
+IsListNote b = IsNoteBy list_codec dol_sentence None b
 
 -- the same by what they are taken for
 abbrev pub IsKindNote : Kind → Expected → List ℕ → List ℕ → Type 0
-IsKindNote kind expected b note = IsNoteBy (codec_of kind expected).codec b note
+IsKindNote kind.Atr expected b = IsNoteBy atr_codec atr_sentence (least_of kind.Atr b) b
+IsKindNote kind.Block expected b = IsNoteBy (block_codec expected.ifs) block_sentence (least_of kind.Block b) b
+IsKindNote kind.Chain expected b =
+    IsNoteBy (chain_codec expected.ifs expected.number) chain_sentence (least_of kind.Chain b) b
+IsKindNote kind.Command expected b = IsNoteBy command_codec command_sentence (least_of kind.Command b) b
+IsKindNote kind.Response expected b = IsNoteBy response_codec response_sentence (least_of kind.Response b) b
+IsKindNote kind.Tlv expected b = IsForestNote b
+IsKindNote kind.Dol expected b = IsNoteBy list_codec dol_sentence (least_of kind.Dol b) b
 
 -- a note is said where it is asked for, and nothing where it isn't
 abbrev pub SaysIf : Bool → (List ℕ → Type 0) → List ℕ → Type 0

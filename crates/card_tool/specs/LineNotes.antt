@@ -1,16 +1,19 @@
 -- What is said of each line of standard input, with an explanation after its answer where one is asked for.
-use Rattle.std.specs.Prelude.{◌≡◌, ◌==◌, ◌⊎◌, ◌++◌, ℕ, List, [], ◌∷◌, Bool, true, false, if◌then◌else◌, codes, Result, Ok, Err}
+use Rattle.std.specs.Prelude.{◌≡◌, ◌==◌, ◌++◌, ℕ, List, [], ◌∷◌, Bool, true, if◌then◌else◌, codes, Result, Ok, Err}
 use Rattle.command_line.specs.Asked.{asks_to_explain}
 use Rattle.card_words.specs.declared.fault.Fault.{Fault}
+use Rattle.card_words.specs.declared.fault.Fault.TheVariants as fault
 use Rattle.card_words.specs.declared.request.Layout.{Layout}
 use Rattle.card_words.specs.declared.request.Layout.TheVariants as layout
 use Rattle.card_words.specs.declared.request.Task.{Task}
 use Rattle.card_kinds.specs.declared.status.Status.{Status}
 use Rattle.card_tool.specs.Answers.{lines_text, object_of, IsTold, IsToldOf}
-use Rattle.card_tool.specs.Explained.{IsFaultNote}
 use Rattle.card_tool.specs.InJson.{with_explanation}
-use Rattle.card_tool.specs.Judged.{IsKindNote}
+use Rattle.card_tool.specs.Judged.{IsKindNote, SaysIf}
+use Rattle.card_tool.specs.Files.{largest_file}
 use Rattle.card_tool.specs.Lines.{line_octets, AreTold}
+use Rattle.explainer.specs.Notes.{large_note}
+use Rattle.explainer.specs.Texts.{column_note, hex_stop}
 use Rattle.card_tool.specs.declared.telling.Telling.{Telling}
 
 -- what is told of lines by these words, which ask for them
@@ -25,10 +28,16 @@ indented_from begins (x ∷ text) = (if begins then codes "  " else []) ++ (x �
 abbrev pub indented : List ℕ → List ℕ
 indented text = indented_from true text
 
--- The note on the octets of a line, or on their fault, of which it may be silent.
-abbrev pub IsNoteOfLine : Task → Result (List ℕ) Fault → List ℕ → Type 0
-IsNoteOfLine task (Ok b) note = IsKindNote task.expected.kind task.expected b note
-IsNoteOfLine task (Err fault) note = (note ≡ []) ⊎ IsFaultNote fault note
+-- the note on a line that gives no octets
+abbrev pub fault_note : List ℕ → Fault → List ℕ
+fault_note line fault.Hex = column_note (hex_stop line)
+fault_note line fault.TooLarge = large_note largest_file
+fault_note line _ = []
+
+-- the note on a line by its octets, or by the fault for which it has none
+abbrev pub IsNoteOfLine : Task → List ℕ → Result (List ℕ) Fault → List ℕ → Type 0
+IsNoteOfLine task line (Ok b) = IsKindNote task.expected.kind task.expected b
+IsNoteOfLine task line (Err fault) = λ note. note ≡ fault_note line fault
 
 -- how a line is answered by what is told of it and a note, which may be empty
 abbrev pub said_in : Layout → Task → Status → List ℕ → List ℕ → List ℕ
@@ -43,8 +52,7 @@ pub record IsLineSaid (telling : Telling) (line text : List ℕ) (ended : Status
   pub told : List ℕ
   pub note : List ℕ
   pub is_told : IsToldOf (IsTold telling.task) (line_octets line) told ended
-  pub is_note : (note ≡ []) ⊎ IsNoteOfLine telling.task (line_octets line) note
-  pub unasked : telling.explains ≡ false → note ≡ []
+  pub is_note : SaysIf telling.explains (IsNoteOfLine telling.task line (line_octets line)) note
   pub is_text : text ≡ said_text telling.task ended told note
 
 abbrev pub AreLinesSaid : Telling → List (List ℕ) → List ℕ → Status → Type 0

@@ -15,7 +15,7 @@ use Rattle.traces.specs.declared.trace.Item.{Item}
 use Rattle.traces.specs.declared.unfit.Unfit.{Unfit}
 use Rattle.traces.specs.declared.unfit.Unfit.TheVariants.{Pps, NodeAddress, Silence}
 use Rattle.explainer.specs.Notes.{IsSessionNote, large_note}
-use Rattle.card_tool.specs.FileNotes.{line_of, IsLineNote, Shows}
+use Rattle.card_tool.specs.FileNotes.{line_text, trace_note}
 use Rattle.card_tool.specs.ExchangeTexts.{file_fault_text}
 use Rattle.card_tool.specs.Files.{largest_file}
 use Rattle.card_tool.specs.SimulationTexts.{IsFile}
@@ -53,8 +53,12 @@ unfit_words NodeAddress = codes "both ends use a node address other than 00, whi
 unfit_words Silence =
     codes "the terminal sends again after its own block: write quiet before this line where nothing came in between"
 
-abbrev pub IsUnfitNote : ℕ → Unfit → List ℕ → Type 0
-IsUnfitNote line why note = Shows line (unfit_words why) note
+abbrev pub unfit_note : List ℕ → ℕ → Unfit → List ℕ
+unfit_note file line why = line_text file line (unfit_words why)
+
+-- what is expected where the words of a line are wrong
+abbrev pub expected_words : List ℕ
+expected_words = codes "expected: t HEX or c HEX, with lost after it or not, quiet, or at N"
 
 -- the note on the text of an exchange: none where it fits a file, else how large that may be
 pub data IsSizeNote (e : ExchangeParts) (note : List ℕ) : Type 0 where
@@ -66,11 +70,11 @@ pub data IsSizeNote (e : ExchangeParts) (note : List ℕ) : Type 0 where
 pub data IsItemsNote (atr file : List ℕ) (items : List Item) (note : List ℕ) : Type 0 where
   unusable : (name : List ℕ) → IsFound atr (Err name) → IsSessionNote atr note → IsItemsNote atr file items note
   unfit_line : (place : ℕ) (why : Unfit) → unfit_in items ≡ Some (place, why)
-      → IsUnfitNote (line_with file place) why note → IsItemsNote atr file items note
+      → note ≡ unfit_note file (line_with file place) why → IsItemsNote atr file items note
   of_text : (ifsc : ℕ) → IsFound atr (Ok ifsc) → unfit_in items ≡ None
       → IsSizeNote (exchange_of ifsc atr items) note → IsItemsNote atr file items note
 
 -- the note on a text: that on its items, or on the line with its first fault
 abbrev pub IsRecordNote : List ℕ → List ℕ → List ℕ → Type 0
 IsRecordNote atr file note = MatchResult (trace_of file) (λ items. IsItemsNote atr file items note)
-    (λ fault. IsLineNote (line_of fault) note)
+    (λ fault. note ≡ trace_note expected_words file fault)

@@ -12,6 +12,7 @@ use Rattle.exchange_text.specs.Text.{exchange_text}
 use Rattle.exchange_text.specs.declared.line.Line.{Line}
 use Rattle.exchange_text.specs.declared.line.Line.TheVariants.{FromTerminal, FromCard}
 use Rattle.explainer.specs.Notes.{large_note, AreUnsentNotes, IsSessionNote}
+use Rattle.explainer.specs.Pairs.{pairs_note}
 use Rattle.simulator.specs.Simulation.{EndsAs, exchange_of}
 use Rattle.card_tool.specs.Files.{largest_file}
 use Rattle.card_kinds.specs.Texts.{refused_as_text}
@@ -70,7 +71,7 @@ pub data IsSimulationNote (s : Session) (note : List ℕ) : Type 0 where
       → ((r : Recording) → EndsAs s ifsc r → largest_file < length (exchange_text (exchange_of r)))
       → note ≡ large_note largest_file → IsSimulationNote s note
 
--- the same with the pairs that the lines of a text say, of which the note is open where they say none
+-- the same with the pairs that the lines of a text say, or the note on one that isn't one
 abbrev pub IsLinesNote : Session → List ℕ → List ℕ → Type 0
 IsLinesNote s b note = MatchResult (pairs_in b) (λ pairs. IsSimulationNote (record s { pairs = pairs }) note)
-    (λ _. Unit {0})
+    (λ _. note ≡ pairs_note b)

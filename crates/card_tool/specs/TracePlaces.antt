@@ -1,10 +1,9 @@
 -- Where the lines of a file are in the trace that it was recorded of. A line after `note added` tells what nobody saw, so a
 -- block there is none of the trace.
-use Rattle.std.specs.Prelude.{◌≡◌, ℕ, ◌+◌, ◌-◌, ◌==◌, ◌&&◌, not, nat_lt, List, [], ◌∷◌, ◌++◌, take, codes, decimal, Bool, true, false, if◌then◌else◌}
+use Rattle.std.specs.Prelude.{ℕ, ◌+◌, ◌-◌, ◌==◌, ◌&&◌, not, nat_lt, List, [], ◌∷◌, ◌++◌, take, codes, decimal, Bool, true, false, if◌then◌else◌}
 use Rattle.exchange_text.specs.Exchange.{is_added}
 use Rattle.exchange_text.specs.declared.line.Line.{Line}
 use Rattle.exchange_text.specs.declared.line.Line.TheVariants.{FromTerminal, FromCard}
-use Rattle.explainer.specs.Notes.{line_note}
 
 -- whether a line has a block of the trace, where the line before it is `note added` or not
 abbrev pub is_seen : Bool → Line → Bool
@@ -46,7 +45,3 @@ trace_place lines number =
     if is_placed lines number
     then place_text (seen_over 0 false (take (number - 3) lines)) (seen_over 0 false (take (number - 2) lines))
     else []
-
--- A note that shows the line with this number, says of it what is open, and then this.
-abbrev pub IsPlacedNote : ℕ → List ℕ → List ℕ → Type 0
-IsPlacedNote number place note = (shown : List ℕ) × (why : List ℕ) × (note ≡ line_note number shown (why ++ place))

@@ -6,7 +6,7 @@ ghost use Rattle.exchange_text.specs.Text.{exchange_text};
 ghost use Rattle.exchange_text.specs.declared.fault.ExchangeFault.TheVariants.{Memory};
 ghost use Rattle.card_tool.specs.ExchangeTexts.{both_text, drawn, file_fault_text, IsOutcome, IsReplayed, IsReplayedAt, IsToldSo, TellsFile};
 ghost use Rattle.card_tool.specs.Explained.{IsDifferenceNote, IsFileNote, IsNoteAt, IsNoteSo};
-ghost use Rattle.card_tool.specs.FileNotes.{line_of, IsLineNote};
+ghost use Rattle.card_tool.specs.FileNotes.{fault_note};
 ghost use Rattle.card_tool.specs.Judged.{AreOf};
 ghost use Rattle.card_tool.specs.Lines.{worse};
 ghost use Rattle.card_kinds.specs.declared.status.Status.TheVariants as ended;
@@ -41,7 +41,8 @@ fn told_of(
     exchange: Exchange,
     task: FileTask,
 ) -> Result<WithNote, AllocError>
-    ensures { IfOk result (AreOf (IsToldSo task exchange) (IsNoteSo task exchange)) }
+    ensures { IfOk result (AreOf (IsToldSo task exchange)
+        (IsNoteSo task file.now exchange)) }
 {
     let answer = match task {
         FileTask::Replay(end) => return replayed_at(alloc, file, &exchange, end),
@@ -59,7 +60,8 @@ fn replayed_at(
     exchange: &Exchange,
     end: Ends,
 ) -> Result<WithNote, AllocError>
-    ensures { IfOk result (AreOf (IsReplayedAt end exchange.now) (IsNoteAt end exchange.now)) }
+    ensures { IfOk result (AreOf (IsReplayedAt end exchange.now)
+        (IsNoteAt end file.now exchange.now)) }
 {
     match end {
         Ends::Terminal => replayed_by(alloc, file, exchange, Side::Terminal),
@@ -82,7 +84,7 @@ fn replayed_by(
     side: Side,
 ) -> Result<WithNote, AllocError>
     ensures { IfOk result (AreOf (IsReplayed exchange.now side)
-        (IsDifferenceNote exchange.now side)) }
+        (IsDifferenceNote file.now exchange.now side)) }
 {
     let outcome = replay(alloc, exchange, side);
     let answer = agreement(alloc, exchange, side, &outcome)?;
@@ -116,7 +118,7 @@ fn refused_with_note(
     ensures other { IfOk result (λ _. fault ≢ Memory) }
     ensures made { IfOk result (AreOf
         (λ text status. (text ≡ file_fault_text fault) × (status ≡ ended.Fault))
-        (IsLineNote (line_of fault))) }
+        (λ note. note ≡ fault_note file.now fault)) }
 {
     let answer = refused(alloc, fault)?;
     let note = fault_note(alloc, file, fault);

@@ -1,23 +1,24 @@
 //! Notes on the file of a recorded exchange: the line that is wrong, with its text, and what is expected there.
 
-ghost use Rattle.std.specs.Prelude.{◌≡◌, ◌≢◌, IfOk, string_bytes};
-ghost use Rattle.card_tool.specs.TracePlaces.{trace_place, IsPlacedNote};
+ghost use Rattle.std.specs.Prelude.{◌≡◌, ◌≢◌, ℕ, List, IfOk, string_bytes, take};
+ghost use Rattle.std.specs.Str.{trim_end};
 ghost use Rattle.card_tool.specs.ExchangeTexts.{IsOutcome};
 ghost use Rattle.card_tool.specs.Explained.{IsDifferenceNote};
-ghost use Rattle.card_tool.specs.FileNotes.{line_of, IsLineNote, Shows};
+ghost use Rattle.card_tool.specs.FileNotes.{fault_note, line_from, line_shown, line_text, lines_left, reason, trace_note, IsWhy};
 ghost use Rattle.exchange_text.specs.declared.fault.ExchangeFault.TheVariants.{Memory};
-ghost use Rattle.explainer.specs.Notes.{line_note};
+ghost use Rattle.explainer.specs.Notes.{line_note, IsSessionNote};
 
+use crate::expected::{form_at, header_at, octets_at};
 use crate::trace_place::push_place;
-use exchange_core::{Exchange, ExchangeFault, Line, ReplayFault, Side};
-use explainer::session_note;
+use exchange_core::{Exchange, ExchangeFault, ReplayFault, Side};
+use explainer::{character, session_note};
 use std::alloc::{AllocError, Global};
 
 /// How many characters of a line are shown, at most.
 const SHOWN: usize = 80;
 
 /// The number of the line with the answer to reset.
-const ATR_LINE: usize = 2;
+pub(crate) const ATR_LINE: usize = 2;
 
 /// A line of a file by its number, with its text, and what is to be said of it.
 fn line_said(alloc: Global, number: usize, line: &str, what: &str) -> Result<String, AllocError>
@@ -32,20 +33,20 @@ pub(crate) fn fault_note(
     text: &[u8],
     fault: ExchangeFault,
 ) -> Result<String, AllocError>
-    ensures line { IfOk result (λ note. IsLineNote (line_of fault) (string_bytes note)) }
+    ensures line { IfOk result (λ note. string_bytes note ≡ fault_note text.now fault) }
     ensures other { IfOk result (λ _. fault ≢ Memory) }
 {
     match fault {
-        ExchangeFault::Header => noted(alloc, text, 1, header_at(text)),
+        ExchangeFault::Header => shown_at(alloc, text, 1, header_at(text)),
         ExchangeFault::End { line } => {
             let what = "expected: a line feed at its end, and a line atr OCTETS after the header";
-            noted(alloc, text, line, what)
+            shown_at(alloc, text, line, what)
         }
-        ExchangeFault::Word { line } => noted(alloc, text, line, form_at(text, line)),
-        ExchangeFault::Hex { line } => noted(alloc, text, line, octets_at(text, line)),
+        ExchangeFault::Word { line } => shown_at(alloc, text, line, form_at(text, line)),
+        ExchangeFault::Hex { line } => shown_at(alloc, text, line, octets_at(text, line)),
         ExchangeFault::Falls { line } => {
             let what = "expected: a number that isn't below that of an earlier line at N";
-            noted(alloc, text, line, what)
+            shown_at(alloc, text, line, what)
         }
         ExchangeFault::Memory => Err(AllocError),
     }
@@ -59,14 +60,15 @@ pub(crate) fn trace_note(
     fault: ExchangeFault,
     expected: &str,
 ) -> Result<String, AllocError>
-    ensures line { IfOk result (λ note. IsLineNote (line_of fault) (string_bytes note)) }
+    ensures line { IfOk result (λ note.
+        string_bytes note ≡ trace_note expected.now text.now fault) }
     ensures other { IfOk result (λ _. fault ≢ Memory) }
 {
     match fault {
-        ExchangeFault::Word { line } => noted(alloc, text, line, expected),
+        ExchangeFault::Word { line } => shown_at(alloc, text, line, expected),
         ExchangeFault::Hex { line } => {
             let what = "expected: an even number of hexadecimal digits";
-            noted(alloc, text, line, what)
+            shown_at(alloc, text, line, what)
         }
         other => fault_note(alloc, text, other),
     }
@@ -82,46 +84,44 @@ pub(crate) fn difference_note(
     outcome: &Result<(), ReplayFault>,
 ) -> Result<String, AllocError>
     requires { IsOutcome exchange.now _side outcome.now }
-    ensures { IfOk result (λ note. IsDifferenceNote exchange.now _side (string_bytes note)) }
+    ensures { IfOk result (λ note.
+        IsDifferenceNote text.now exchange.now _side (string_bytes note)) }
 {
     match outcome {
         Ok(()) => Ok(String::new(alloc)),
         Err(ReplayFault::Differs { line, gives }) => {
-            let said = why(alloc, exchange, *line, gives.get())?;
-            placed(alloc, text, *line, said, exchange.lines().get())
+            let mut what = why(alloc, exchange, *line, gives.get())?;
+            push_place(alloc, &mut what, exchange.lines().get(), *line)?;
+            shown_at(alloc, text, *line, what.as_str())
         }
         Err(ReplayFault::Memory) => Err(AllocError),
     }
 }
 
 /// Why an end differs from a line, by what it gives there.
-fn why(alloc: Global, exchange: &Exchange, line: usize, gives: &str) -> Result<String, AllocError> {
+fn why(alloc: Global, exchange: &Exchange, line: usize, gives: &str) -> Result<String, AllocError>
+    ensures { IfOk result (λ what. IsWhy exchange.now line gives.now (string_bytes what)) }
+{
     if line == ATR_LINE {
-        let note = session_note(alloc, exchange.atr())?;
-        return String::from_str(alloc, note.as_str().trim_end());
+        return atr_why(alloc, exchange);
     }
-    let lines = exchange.lines().get().len().saturating_add(ATR_LINE);
+    let lines = exchange.lines().get().len() + ATR_LINE;
     String::from_str(alloc, reason(gives, line > lines))
 }
 
-/// A line of a text, what is to be said of it, and where in the trace it is that these lines were recorded of.
-fn placed(
-    alloc: Global,
-    text: &[u8],
-    number: usize,
-    why: String,
-    lines: &[Line],
-) -> Result<String, AllocError>
-    ensures { IfOk result (λ note.
-        IsPlacedNote number (trace_place lines.now number) (string_bytes note)) }
+/// Why no end begins from an answer to reset.
+fn atr_why(alloc: Global, exchange: &Exchange) -> Result<String, AllocError>
+    ensures { IfOk result (λ what. (note : List ℕ) × IsSessionNote exchange.now.atr note
+        × (string_bytes what ≡ trim_end note)) }
 {
-    let mut what = why;
-    push_place(alloc, &mut what, lines, number)?;
-    shown_at(alloc, text, number, what.as_str())
+    let note = session_note(alloc, exchange.atr())?;
+    String::from_str(alloc, note.as_str().trim_end())
 }
 
 /// Why an end differs from a line after that of the answer to reset, by what it gives there.
-fn reason(gives: &str, is_past: bool) -> &'static str {
+fn reason(gives: &str, is_past: bool) -> &'static str
+    ensures { result.now ≡ reason gives.now is_past }
+{
     if gives.starts_with("refused ") {
         "the end refuses this call in the state that it is in"
     } else if gives == "nothing" {
@@ -133,13 +133,6 @@ fn reason(gives: &str, is_past: bool) -> &'static str {
     }
 }
 
-/// A line of a text, and what is to be said of it.
-fn noted(alloc: Global, text: &[u8], number: usize, what: &str) -> Result<String, AllocError>
-    ensures { IfOk result (λ note. IsLineNote number (string_bytes note)) }
-{
-    shown_at(alloc, text, number, what)
-}
-
 /// A line of a text, as far as it is shown, and what is to be said of it.
 pub(crate) fn shown_at(
     alloc: Global,
@@ -147,126 +140,61 @@ pub(crate) fn shown_at(
     number: usize,
     what: &str,
 ) -> Result<String, AllocError>
-    ensures { IfOk result (λ note. Shows number what.now (string_bytes note)) }
+    ensures { IfOk result (λ note. string_bytes note ≡ line_text text.now number what.now) }
 {
-    let line = shown(alloc, line_at(text, number))?;
+    let rest = line_from(text, number);
+    let line = shown(alloc, front(rest))?;
     line_said(alloc, number, line.as_str(), what)
 }
 
-/// The line with a number, counted from 1, without its line feed; empty where there is none.
-fn line_at(text: &[u8], number: usize) -> &[u8] {
+/// As many octets as are shown of a line, or all where there are fewer.
+fn front(text: &[u8]) -> &[u8]
+    ensures { result.now ≡ take 80 text.now }
+{
+    if SHOWN < text.len() {
+        &text[..SHOWN]
+    } else {
+        text
+    }
+}
+
+/// A text from the line with this number on, counted from 1; empty where there is none.
+pub(crate) fn line_from(text: &[u8], number: usize) -> &[u8]
+    ensures { result.now ≡ line_from number text.now }
+{
     let mut left = number;
-    for line in text.split(|octet| *octet == b'\n') {
-        if left == 1 {
-            return line;
+    let mut rest = text;
+    while let [octet, more @ ..] = rest {
+        if left <= 1 {
+            return rest;
         }
-        left = left.saturating_sub(1);
+        left = lines_left(left, *octet);
+        rest = more;
     }
-    &[]
+    rest
 }
 
-/// The front of a line, with a question mark for each octet that is no printable character.
-fn shown(alloc: Global, line: &[u8]) -> Result<String, AllocError> {
-    let mut text = String::new(alloc);
-    for octet in &line[..line.len().min(SHOWN)] {
-        if b' ' <= *octet && *octet <= b'~' {
-            text.push(char::from(*octet))?;
-        } else {
-            text.push('?')?;
+/// How many lines are left after an octet, which may end one.
+fn lines_left(left: usize, octet: u8) -> usize
+    ensures { result ≡ lines_left left octet }
+{
+    if octet == b'\n' {
+        left.saturating_sub(1)
+    } else {
+        left
+    }
+}
+
+/// The line at the front of a text, with a question mark for each octet that is no printable character.
+fn shown(alloc: Global, text: &[u8]) -> Result<String, AllocError>
+    ensures { IfOk result (λ line. string_bytes line ≡ line_shown text.now) }
+{
+    let mut line = String::new(alloc);
+    for octet in text {
+        if *octet == b'\n' {
+            return Ok(line);
         }
+        line.push(character(*octet))?;
     }
-    Ok(text)
-}
-
-/// What is said of a line that ends with a carriage return.
-const RETURN: &str = "it ends with a carriage return; expected: a line feed alone";
-
-/// Whether a line ends with a carriage return.
-fn has_return(text: &[u8], number: usize) -> bool {
-    line_at(text, number).ends_with(b"\r")
-}
-
-/// What is wrong with a first line that isn't the header.
-fn header_at(text: &[u8]) -> &'static str {
-    if text.starts_with(b"\xEF\xBB\xBF") {
-        return "it begins with a byte order mark; expected: scard-exchange 1 or scard-exchange 2, and a line feed";
-    }
-    if has_return(text, 1) {
-        return RETURN;
-    }
-    "expected: scard-exchange 1 or scard-exchange 2, and a line feed"
-}
-
-/// What is wrong with a line that has no octets where they should be.
-fn octets_at(text: &[u8], number: usize) -> &'static str {
-    if has_return(text, number) {
-        return RETURN;
-    }
-    "expected: OCTETS in upper-case hexadecimal, two digits each, or none; HH is one octet"
-}
-
-/// The first words of lines, and what comes after each.
-static FORMS: [(&str, &str); 16] = [
-    ("command", "expected: this word and OCTETS"),
-    ("answer", "expected: this word and OCTETS"),
-    ("reply", "expected: this word and OCTETS"),
-    ("asked", "expected: this word and OCTETS"),
-    ("ifsd", "expected: this word and HH"),
-    ("time", "expected: this word and HH"),
-    ("ifsc", "expected: this word and HH"),
-    (
-        "t",
-        "expected: t OCTETS, t OCTETS lost or t OCTETS as OCTETS",
-    ),
-    (
-        "c",
-        "expected: c OCTETS, c OCTETS lost or c OCTETS as OCTETS",
-    ),
-    ("quiet", "expected: this word alone"),
-    ("ifs-set", "expected: this word alone"),
-    ("given-up", "expected: this word alone"),
-    ("dead", "expected: this word alone"),
-    (
-        "at",
-        "expected: at N, N in 1 to 15 decimal digits, in version 2",
-    ),
-    (
-        "note",
-        "expected: note TEXT, TEXT of 1 to 200 printable characters, in version 2",
-    ),
-    (
-        "",
-        "expected: a first word that a line can have, as command, t, c, asked, reply, answer or quiet",
-    ),
-];
-
-/// The form of a line, by its first word.
-fn form_at(text: &[u8], number: usize) -> &'static str {
-    if has_return(text, number) {
-        return RETURN;
-    }
-    if number == ATR_LINE {
-        return "expected: atr OCTETS";
-    }
-    form_of(first_word(line_at(text, number)))
-}
-
-/// What comes after a first word; of all other words, what is one.
-fn form_of(word: &[u8]) -> &'static str {
-    let mut form = "";
-    for &(first, after) in &FORMS {
-        form = after;
-        if first.as_bytes() == word {
-            break;
-        }
-    }
-    form
-}
-
-/// What is before the first space of a line.
-fn first_word(line: &[u8]) -> &[u8] {
-    match line.iter().position(|octet| *octet == b' ') {
-        Some(end) => &line[..end],
-        None => line,
-    }
+    Ok(line)
 }

@@ -2,14 +2,13 @@
 
 ghost use Rattle.std.specs.Prelude.{◌≡◌, ◌≤◌, ◌++◌, [], IfOk, IsOkAnd, string_bytes};
 ghost use Rattle.card_kinds.specs.Codec.{IsVerdict};
-ghost use Rattle.card_kinds.specs.ForestTexts.{forest_codec};
 ghost use Rattle.card_kinds.specs.ListTexts.{list_codec};
 ghost use Rattle.card_kinds.specs.Verdicts.{Checks, ChecksBy, IsFilled, Shows, ShowsBy, Tidies};
 ghost use Rattle.card_tool.specs.Answers.{IsTold, ShowsNoted, Tells};
 ghost use Rattle.card_words.specs.declared.request.Aim.TheVariants as aim;
 ghost use Rattle.card_tool.specs.Explained.{said_of, IsFillNote};
-ghost use Rattle.explainer.specs.Notes.{IsVerdictNote};
-ghost use Rattle.card_tool.specs.Judged.{AreOf, IsKindNote, IsNoteBy, SaysIf};
+ghost use Rattle.explainer.specs.Notes.{least_of, verdict_text};
+ghost use Rattle.card_tool.specs.Judged.{AreOf, IsForestNote, IsKindNote, IsNoteBy, SaysIf};
 ghost use Rattle.card_words.specs.declared.request.Layout.TheVariants as layout;
 
 use crate::annotated::{annotated, notes_on};
@@ -182,7 +181,8 @@ where
     requires most { telling.task.expected.ifs ≤ 254 }
     ensures { IfOk result (AreOf (ChecksBy telling.task.layout telling.task.expected.kind
         (C.codec telling.task.expected) octets.now)
-        (SaysIf telling.explains (IsNoteBy (C.codec telling.task.expected) octets.now))) }
+        (SaysIf telling.explains (IsNoteBy (C.codec telling.task.expected) C.Reason.says
+        (least_of telling.task.expected.kind octets.now) octets.now))) }
 {
     let Task {
         layout,
@@ -194,13 +194,7 @@ where
         verdict,
         ..
     } = check_with_verdict::<C>(alloc, layout, octets, expected)?;
-    let note = asked_note(
-        alloc,
-        telling.explains,
-        Some(expected.kind),
-        octets,
-        verdict,
-    );
+    let note = asked_note(alloc, telling.explains, expected.kind, octets, verdict);
     Ok(WithNote { answer, note })
 }
 
@@ -218,7 +212,8 @@ where
     requires most { telling.task.expected.ifs ≤ 254 }
     ensures { IfOk result (λ made. AreOf (ShowsBy telling.task.layout telling.task.expected.kind
         (C.codec telling.task.expected) octets.now)
-        (SaysIf telling.explains (IsNoteBy (C.codec telling.task.expected) octets.now)) made.said) }
+        (SaysIf telling.explains (IsNoteBy (C.codec telling.task.expected) C.Reason.says
+        (least_of telling.task.expected.kind octets.now) octets.now)) made.said) }
 {
     let Task {
         layout,
@@ -230,13 +225,7 @@ where
         verdict,
         notes,
     } = show_with_verdict::<C>(alloc, layout, noted, octets, expected)?;
-    let note = asked_note(
-        alloc,
-        telling.explains,
-        Some(expected.kind),
-        octets,
-        verdict,
-    );
+    let note = asked_note(alloc, telling.explains, expected.kind, octets, verdict);
     let notes = notes_on(alloc, verdict, least_wanting(expected.kind, octets), notes)?;
     Ok(Annotatable {
         said: WithNote { answer, note },
@@ -244,39 +233,35 @@ where
     })
 }
 
-/// What is to be said of octets by the verdict on them, where it `explains`. `kind` is what they are taken for, where
-/// that tells how many octets must still come at least.
+/// What is to be said of octets by the verdict on them, where it `explains`. `kind` is what they are taken for, which may
+/// tell how many octets must still come at least.
 fn asked_note<R: Explained + Copy>(
     alloc: Global,
     explains: bool,
-    kind: Option<Kind>,
+    kind: Kind,
     octets: &[u8],
     verdict: Verdict<R>,
 ) -> Result<String, AllocError>
-    ensures { IfOk result (λ note.
-        SaysIf explains (IsVerdictNote octets.now verdict) (string_bytes note)) }
+    ensures { IfOk result (λ note. SaysIf explains (λ said. said
+        ≡ verdict_text R.says octets.now (least_of kind octets.now) verdict) (string_bytes note)) }
 {
     if !explains {
         return Ok(String::new(alloc));
     }
-    let least = match kind {
-        Some(kind) => least_wanting(kind, octets),
-        None => None,
-    };
-    verdict_note(alloc, octets, verdict, least)
+    verdict_note(alloc, octets, verdict, least_wanting(kind, octets))
 }
 
 /// A forest in the shortest octets that say the same, with a note where it `explains`.
 pub(crate) fn tidied(alloc: Global, explains: bool, octets: &[u8]) -> Result<WithNote, AllocError>
     ensures { IfOk result (AreOf (Tidies octets.now)
-        (SaysIf explains (IsNoteBy forest_codec octets.now))) }
+        (SaysIf explains (IsForestNote octets.now))) }
 {
     let Judged {
         answer,
         verdict,
         ..
     } = tidy_with_verdict(alloc, octets)?;
-    let note = asked_note(alloc, explains, None, octets, verdict);
+    let note = asked_note(alloc, explains, Kind::Tlv, octets, verdict);
     Ok(WithNote { answer, note })
 }
 

@@ -5,10 +5,10 @@ ghost use Rattle.exchange_core.specs.Faults.{atr_fault_name};
 ghost use Rattle.exchange_core.specs.Replay.{IsFound};
 ghost use Rattle.exchange_text.specs.declared.fault.ExchangeFault.TheVariants.{Memory};
 ghost use Rattle.card_tool.specs.ExchangeTexts.{file_fault_text};
-ghost use Rattle.card_tool.specs.FileNotes.{line_of, IsLineNote};
+ghost use Rattle.card_tool.specs.FileNotes.{trace_note};
 ghost use Rattle.card_kinds.specs.declared.status.Status.TheVariants as ended;
 ghost use Rattle.card_tool.specs.Judged.{AreOf};
-ghost use Rattle.card_tool.specs.JudgeTexts.{judged_status, only_of, scope_of, IsJudgeNote, IsOffer, IsTextNote, JudgesText, JudgesTrace};
+ghost use Rattle.card_tool.specs.JudgeTexts.{expected_words, judged_status, only_of, scope_of, IsJudgeNote, IsOffer, IsTextNote, JudgesText, JudgesTrace};
 
 use crate::exchange::refused;
 use crate::file_notes::trace_note;
@@ -124,7 +124,7 @@ fn fault_with_note(alloc: Global, text: &[u8], fault: ExchangeFault) -> Result<W
     ensures other { IfOk result (λ _. fault ≢ Memory) }
     ensures made { IfOk result (AreOf
         (λ text status. (text ≡ file_fault_text fault) × (status ≡ ended.Fault))
-        (IsLineNote (line_of fault))) }
+        (λ note. note ≡ trace_note expected_words text.now fault)) }
 {
     let answer = refused(alloc, fault)?;
     let note = trace_note(alloc, text, fault, EXPECTED);

@@ -11,6 +11,7 @@
 mod annotated;
 pub mod conversation;
 mod exchange;
+mod expected;
 pub mod file;
 mod file_notes;
 pub mod host;

@@ -1,8 +1,7 @@
 //! Lines of octets, each of which is answered as it comes.
 
-ghost use Rattle.std.specs.Prelude.{◌≡◌, ◌≤◌, ◌⊎◌, ◌++◌, ◌∷◌, [], ℕ, List, IfOk, IfErr, OnOk, OnErr};
+ghost use Rattle.std.specs.Prelude.{◌≡◌, ◌≤◌, ◌⊎◌, ◌++◌, ◌∷◌, [], ℕ, List, IfOk, IfErr, OnOk, OnErr, string_bytes};
 ghost use Rattle.card_tool.specs.Answers.{lines_text};
-ghost use Rattle.card_tool.specs.Explained.{said_of};
 ghost use Rattle.card_tool.specs.Conversations.{Event, Happens, told, untold};
 ghost use Rattle.card_tool.specs.LineAnswers.{AreTelling, HasAnswered, HasBegun, HasSaid, IsRest, Tells, WritesLines};
 ghost use Rattle.card_tool.specs.LineNotes.{said_text, AreLinesSaid, IsLineSaid};
@@ -241,24 +240,24 @@ fn line_answer(alloc: Global, telling: Telling, line: &[u8]) -> Result<Answer, A
     requires most { telling.task.expected.ifs ≤ 254 }
     ensures { IfOk result (λ answer. IsLineSaid telling line.now answer.text answer.status) }
 {
-    let made = line_told(alloc, telling, line)?;
-    let status = made.answer.status;
-    let text = said_text(alloc, telling.task, made)?;
+    let WithNote { answer, note } = line_told(alloc, telling, line)?;
+    let note = note?;
+    let status = answer.status;
+    let text = said_text(alloc, telling.task, answer, note)?;
     Ok(Answer { text, status })
 }
 
 /// How a line is answered by its text and a note on it: the note comes after the lines of the text, or as a member of
 /// the object of JSON. An empty line comes after a value, which has several lines, and none after an object.
-fn said_text(alloc: Global, task: Task, made: WithNote) -> Result<Octets, AllocError>
-    ensures { IfOk result (λ text. (text ≡ said_text task made.answer.status made.answer.text [])
-        ⊎ (text ≡ said_text task made.answer.status made.answer.text (said_of made.note))) }
+fn said_text(alloc: Global, task: Task, answer: Answer, note: String) -> Result<Octets, AllocError>
+    ensures { IfOk result (λ text.
+        text ≡ said_text task answer.status answer.text (string_bytes note)) }
 {
-    let WithNote { answer, note } = made;
     match task.layout {
-        Layout::Lines => lines_text(task, with_indented(alloc, answer.text, note)),
+        Layout::Lines => lines_text(task, with_indented(alloc, answer.text, note.as_str())?),
         Layout::Json => {
             let object = object_told(alloc, task.expected.kind, answer.status, answer.text)?;
-            explained(alloc, object, note)
+            explained(alloc, object, Ok(note))
         }
     }
 }

@@ -1,8 +1,8 @@
 //! The program: from its words to the text that it writes.
 
-ghost use Rattle.std.specs.Prelude.{◌≡◌, ◌⊎◌, ◌++◌, ℕ, List, [], IfOk};
-ghost use Rattle.card_tool.specs.Answers.{Gives, IsReadFrom, IsWritten, Writes};
-ghost use Rattle.card_tool.specs.Explained.{said_of, IsRightWith, IsSaid};
+ghost use Rattle.std.specs.Prelude.{◌≡◌, ◌++◌, IfOk};
+ghost use Rattle.card_tool.specs.Answers.{IsReadFrom, IsWritten, Writes};
+ghost use Rattle.card_tool.specs.Explained.{said_of, Gives, IsSaid};
 ghost use Rattle.card_tool.specs.InJson.{IsRightAsked, IsRightJson};
 ghost use Rattle.card_tool.specs.Files.{IsBegun};
 ghost use Rattle.card_tool.specs.LineAnswers.{AskForNoLines, WritesLines};
@@ -21,7 +21,7 @@ use crate::telling::Telling;
 use card_kinds::{Answer, Status};
 use card_words::{Asked, Fault, Request};
 use command_line::{asks_for_json, asks_to_explain};
-use octet_core::{Octets, Sink, Source, write_octets};
+use octet_core::{Sink, Source, write_octets};
 use std::alloc::{AllocError, Global};
 
 /// Does what the words ask for, of which the first is the program's name, and writes one text: as lines, or as an object
@@ -85,7 +85,7 @@ fn one_text<R: Source, W: Sink>(
     ensures few { IsBegun (R.remaining reader.old) (R.remaining reader.new) 4194305 }
 {
     match answer_as_asked(alloc, words, read, reader) {
-        Ok(answer) => write(answer.text.get(), answer.status, writer),
+        Ok(made) => write_made(&made, writer),
         Err(fault) => report(fault, writer),
     }
 }
@@ -109,13 +109,35 @@ fn write<W: Sink>(text: &[u8], status: Status, writer: &mut W) -> Status
     }
 }
 
-/// The text and the status of what the words ask for, as an object of JSON or as lines.
+/// What is said of an answer, nothing where memory for that was refused.
+fn said(made: &WithNote) -> &[u8]
+    ensures { result.now ≡ said_of made.now.note }
+{
+    match &made.note {
+        Ok(note) => note.as_bytes(),
+        Err(_) => &[],
+    }
+}
+
+/// Writes an answer and what is said of it: the status, unless the writer fails.
+fn write_made<W: Sink>(made: &WithNote, writer: &mut W) -> Status
+    ensures { IsWritten (made.now.answer.text ++ said_of made.now.note) made.now.answer.status
+        (W.contents writer.old) (W.contents writer.new) (W.failures writer.old)
+        (W.failures writer.new) result }
+{
+    match write_octets(writer, made.answer.text.get()) {
+        Ok(()) => write(said(made), made.answer.status, writer),
+        Err(_fault) => Status::Fault,
+    }
+}
+
+/// What the words ask for, as an object of JSON, or as lines with an explanation where they ask for one.
 fn answer_as_asked<R: Source>(
     alloc: Global,
     words: &[String],
     read: Result<Request, Fault>,
     reader: &mut R,
-) -> Result<Answer, Fault>
+) -> Result<WithNote, Fault>
     requires read { IsReadFrom (texts words.now) read }
     requires sized { IfOk read IsSized }
     ensures told { Gives (IsRightAsked (texts words.now) (R.remaining reader.old)
@@ -126,17 +148,17 @@ fn answer_as_asked<R: Source>(
     if asks_for_json(words) {
         answer_in_json(alloc, words, read, reader)
     } else {
-        answer_in_lines(alloc, words, read, reader)
+        reply(alloc, words, read, reader)
     }
 }
 
-/// The text and the status of what the words ask for, as an object of JSON.
+/// What the words ask for as an object of JSON, in which the explanation is a member.
 fn answer_in_json<R: Source>(
     alloc: Global,
     words: &[String],
     read: Result<Request, Fault>,
     reader: &mut R,
-) -> Result<Answer, Fault>
+) -> Result<WithNote, Fault>
     requires read { IsReadFrom (texts words.now) read }
     requires sized { IfOk read IsSized }
     ensures told { Gives (IsRightJson (texts words.now) (R.remaining reader.old)
@@ -148,7 +170,7 @@ fn answer_in_json<R: Source>(
     let made = whole_reply(alloc, words, read, reader)?;
     let status = made.answer.status;
     let text = in_json(alloc, object, made)?;
-    Ok(Answer { text, status })
+    Ok(WithNote::alone(alloc, Answer { text, status }))
 }
 
 /// The answer to what the words ask for, or the line of a fault.
@@ -169,40 +191,5 @@ fn whole_reply<R: Source>(
     match reply(alloc, words, read, reader) {
         Ok(made) => Ok(made),
         Err(fault) => Ok(WithNote::alone(alloc, Answer::faulted(alloc, fault)?)),
-    }
-}
-
-/// The text and the status of what the words ask for, as lines, with an explanation after them where they ask for one.
-fn answer_in_lines<R: Source>(
-    alloc: Global,
-    words: &[String],
-    read: Result<Request, Fault>,
-    reader: &mut R,
-) -> Result<Answer, Fault>
-    requires read { IsReadFrom (texts words.now) read }
-    requires sized { IfOk read IsSized }
-    ensures told { Gives (IsRightWith (texts words.now) (R.remaining reader.old)
-        (R.remaining reader.new) (R.failures reader.old) (R.failures reader.new)) result }
-    ensures unread { (AskForFile (texts words.now) → ⊥) → reader.new ≡ reader.old }
-    ensures few { IsBegun (R.remaining reader.old) (R.remaining reader.new) 4194305 }
-{
-    let made = reply(alloc, words, read, reader)?;
-    Ok(in_lines(made))
-}
-
-/// An answer with its explanation after its lines, or without one where memory for that is refused.
-fn in_lines(made: WithNote) -> Answer
-    ensures text { (added : List ℕ) × (result.text ≡ made.answer.text ++ added)
-        × ((added ≡ []) ⊎ (added ≡ said_of made.note)) }
-    ensures status { result.status ≡ made.answer.status }
-{
-    let status = made.answer.status;
-    let mut text = made.answer.text.into_inner();
-    if let Ok(note) = made.note {
-        let _ = text.extend_from_slice(note.as_bytes());
-    }
-    Answer {
-        text: Octets::of(text),
-        status,
     }
 }

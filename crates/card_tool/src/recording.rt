@@ -3,11 +3,10 @@
 ghost use Rattle.std.specs.Prelude.{◌≡◌, ◌≢◌, ◌<◌, ◌≤◌, length, IfOk, string_bytes};
 ghost use Rattle.exchange_text.specs.Text.{exchange_text};
 ghost use Rattle.exchange_text.specs.declared.fault.ExchangeFault.TheVariants.{Memory};
-ghost use Rattle.card_tool.specs.FileNotes.{line_of, IsLineNote};
 ghost use Rattle.card_tool.specs.Files.{largest_file};
 ghost use Rattle.card_tool.specs.Judged.{AreOf};
 ghost use Rattle.card_tool.specs.RecordTexts as texts;
-ghost use Rattle.card_tool.specs.RecordTexts.{IsItemsNote, IsRecordNote, IsSizeNote, IsUnfitNote, Records, RecordsItems, unfit_text};
+ghost use Rattle.card_tool.specs.RecordTexts.{IsItemsNote, IsRecordNote, IsSizeNote, Records, RecordsItems, unfit_note, unfit_text};
 ghost use Rattle.card_kinds.specs.declared.status.Status.TheVariants as ended;
 
 use crate::exchange::refused;
@@ -94,7 +93,7 @@ fn size_note(alloc: Global, _exchange: &Exchange, status: Status) -> Result<Stri
 
 /// The line of a text that can't be recorded, and what is to be said of it.
 fn unfit_note(alloc: Global, text: &[u8], line: usize, why: Unfit) -> Result<String, AllocError>
-    ensures { IfOk result (λ note. IsUnfitNote line why (string_bytes note)) }
+    ensures { IfOk result (λ note. string_bytes note ≡ unfit_note text.now line why) }
 {
     shown_at(alloc, text, line, unfit_words(why))
 }

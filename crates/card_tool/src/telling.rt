@@ -1,11 +1,10 @@
 //! What is said of a line of octets, with an explanation where one is asked for.
 
 ghost use Rattle.card_words.specs.declared.fault.Fault.TheVariants.{Memory};
-ghost use Rattle.std.specs.Prelude.{◌≡◌, ◌≢◌, ◌==◌, ◌≤◌, ◌⊎◌, ◌++◌, ◌∷◌, [], ℕ, List, Bool, IfOk};
+ghost use Rattle.std.specs.Prelude.{◌≡◌, ◌≢◌, ◌==◌, ◌≤◌, ◌++◌, ◌∷◌, ℕ, List, Bool, IfOk};
 ghost use Rattle.card_tool.specs.Answers.{IsTold, IsToldOf};
-ghost use Rattle.card_tool.specs.Explained.{said_of, IsFaultNote};
 ghost use Rattle.card_tool.specs.Judged.{AreOf, SaysIf};
-ghost use Rattle.card_tool.specs.LineNotes.{indented, indented_from, IsNoteOfLine};
+ghost use Rattle.card_tool.specs.LineNotes.{fault_note, indented, indented_from, IsNoteOfLine};
 ghost use Rattle.card_tool.specs.Lines.{line_octets};
 ghost use Rattle.card_words.specs.Texts.{fault_text};
 ghost use Rattle.card_kinds.specs.declared.status.Status.TheVariants as status;
@@ -36,7 +35,7 @@ pub(crate) fn line_told(
     requires least { 1 ≤ telling.task.expected.ifs }
     requires most { telling.task.expected.ifs ≤ 254 }
     ensures { IfOk result (AreOf (IsToldOf (IsTold telling.task) (line_octets line.now))
-        (SaysIf telling.explains (IsNoteOfLine telling.task (line_octets line.now)))) }
+        (SaysIf telling.explains (IsNoteOfLine telling.task line.now (line_octets line.now)))) }
 {
     if line.len() > LARGEST_FILE {
         return fault_told(alloc, telling.explains, Fault::TooLarge, line);
@@ -57,7 +56,7 @@ fn fault_told(
     ensures other { IfOk result (λ _. fault ≢ Memory) }
     ensures told { IfOk result (AreOf
         (λ text ended. (text ≡ fault_text fault) × (ended ≡ status.Fault))
-        (SaysIf explains (λ note. (note ≡ []) ⊎ IsFaultNote fault note))) }
+        (SaysIf explains (λ note. note ≡ fault_note line.now fault))) }
 {
     if let Fault::Memory = fault {
         return Err(AllocError);
@@ -74,18 +73,13 @@ fn fault_told(
     Ok(WithNote { answer, note })
 }
 
-/// A text with a note after it, each line of the note after two blanks, or without it where it couldn't be made.
-pub(crate) fn with_indented(alloc: Global, told: Octets, note: Result<String, AllocError>) -> Octets
-    ensures { (added : List ℕ) × (result ≡ told ++ added)
-        × ((added ≡ []) ⊎ (added ≡ indented (said_of note))) }
+/// A text with a note after it, each line of the note after two blanks.
+pub(crate) fn with_indented(alloc: Global, told: Octets, note: &str) -> Result<Octets, AllocError>
+    ensures { IfOk result (λ text. text ≡ told ++ indented note.now) }
 {
     let mut text = told.into_inner();
-    if let Ok(note) = note {
-        if let Ok(added) = indented(alloc, note.as_bytes()) {
-            let _ = text.extend_from_slice(added.as_slice());
-        }
-    }
-    Octets::of(text)
+    text.extend_from_slice(indented(alloc, note.as_bytes())?.as_slice())?;
+    Ok(Octets::of(text))
 }
 
 /// A text with two blanks before each line.

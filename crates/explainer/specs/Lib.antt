@@ -1,2 +1,4 @@
 pub mod Sentences
 pub mod Notes
+pub mod Texts
+pub mod Pairs

@@ -1,5 +1,5 @@
 -- What is said of octets after the line of their verdict.
-use Rattle.std.specs.Prelude.{◌≡◌, ℕ, nat_le, nat_lt, max, not, Bool, true, false, ◌&&◌, ◌||◌, ◌<◌, ◌+◌, ◌-◌, ◌*◌, List, ◌++◌, [], ◌∷◌, codes, decimal, drop, encode_utf8, length, take, ◌==◌, Option, Some, None, if◌then◌else◌, Result, Ok, Err}
+use Rattle.std.specs.Prelude.{◌≡◌, ℕ, nat_le, nat_lt, true, false, ◌+◌, ◌-◌, ◌*◌, List, ◌++◌, [], ◌∷◌, codes, decimal, drop, encode_utf8, length, take, ◌==◌, Option, Some, None, if◌then◌else◌, Result, Ok, Err}
 use Rattle.std.specs.List.{list_any, repeat}
 use Rattle.hex.specs.Hex.{encode_upper}
 use Rattle.octet_core.specs.declared.stop.Stop.{Stop}
@@ -10,17 +10,10 @@ use Rattle.atr_core.specs.T1.{t1_params_of, T1Values}
 use Rattle.atr_core.specs.declared.params.ParamFault.{ParamFault}
 use Rattle.atr_core.specs.declared.reason.AtrReason.{AtrReason}
 use Rattle.tlv_core.specs.Tag.{is_tag}
-use Rattle.card_words.specs.Given.{octets_in}
-use Rattle.card_words.specs.declared.fault.Fault.{Fault}
-use Rattle.card_words.specs.declared.given.Form.{Form}
-use Rattle.card_words.specs.declared.given.Form.TheVariants as form
+use Rattle.card_words.specs.declared.request.Kind.{Kind}
+use Rattle.card_words.specs.declared.request.Kind.TheVariants as kind
 use Rattle.card_words.specs.declared.session.Session.{Session}
-use Rattle.dumps.specs.Dump.{begins_with_offset}
-use Rattle.dumps.specs.OctalWords.{is_octal_words}
-use Rattle.dumps.specs.SourceStop.{source_stop}
-use Rattle.dumps.specs.declared.no_source.SourceWrong.{SourceWrong}
-use Rattle.dumps.specs.declared.no_source.SourceWrong.TheVariants as source
-use Rattle.explainer.specs.Sentences.{atr_sentence, form_text, lack_sentence, source_sentence}
+use Rattle.explainer.specs.Sentences.{atr_sentence, lack_sentence}
 
 -- the place of the first octet that is shown: at most 16 octets stand before the one that is marked
 abbrev pub first_shown : ℕ → ℕ
@@ -72,6 +65,14 @@ begun_after tag (x ∷ more) = begun_after (if is_tag tag then [] else tag ++ x 
 abbrev pub list_wants : List ℕ → ℕ
 list_wants b = if is_tag (begun_after [] b) then 1 else 2
 
+-- how many octets must still come at least, where octets are short that are taken for this kind, and it is known
+abbrev pub least_of : Kind → List ℕ → Option ℕ
+least_of kind.Block b = Some (block_has b - length b)
+least_of kind.Command b = Some (command_has b - length b)
+least_of kind.Response b = Some (2 - length b)
+least_of kind.Dol b = Some (list_wants b)
+least_of _ b = None
+
 -- how many octets are left after a value that ends by itself
 abbrev pub left_note : ℕ → List ℕ
 left_note count = if count == 0 then [] else (codes "octets after the value: " ++ (decimal count ++ codes "\n"))
@@ -85,20 +86,6 @@ stop_text says b least (Short place) = short_note (length b) least
 abbrev pub verdict_text : {R : Type 0} → (R → List ℕ) → List ℕ → Option ℕ → Result ℕ (Stop R) → List ℕ
 verdict_text says b least (Ok n) = left_note (length b - n)
 verdict_text says b least (Err stop) = stop_text says b least stop
-
--- The note of a refusal. Which words the sentence has, and how many octets are known to be wanting, is open here:
--- `stop_text` has both.
-pub data IsStopNote {R : Type 0} (b : List ℕ) (stop : Stop R) (note : List ℕ) : Type 0 where
-  refused : (place : ℕ) (reason : R) (sentence : List ℕ) → stop ≡ At place reason → note ≡ refused_note b place sentence
-      → IsStopNote b stop note
-  short : (place : ℕ) (least : Option ℕ) → stop ≡ Short place → note ≡ short_note (length b) least
-      → IsStopNote b stop note
-
--- The note on octets by a verdict on them: how many are left after a value that takes so many, or the note of the
--- refusal.
-abbrev pub IsVerdictNote : {R : Type 0} → List ℕ → Result ℕ (Stop R) → List ℕ → Type 0
-IsVerdictNote b (Ok n) note = note ≡ left_note (length b - n)
-IsVerdictNote b (Err stop) note = IsStopNote b stop note
 
 -- ---- sessions
 
@@ -190,125 +177,6 @@ digit_note number character place = codes "word "
 abbrev pub odd_note : ℕ → ℕ → List ℕ
 odd_note number count = codes "word " ++ (decimal number
     ++ (codes ": the number of digits must be even, and is " ++ (decimal count ++ codes "\n")))
-
--- ---- texts of standard input
-
--- a place of a text by its line and column, what is wrong there, its line, and a mark under the place
-abbrev pub place_note : ℕ → ℕ → List ℕ → List ℕ → ℕ → List ℕ
-place_note number column what line before =
-    codes "line " ++ (decimal number ++ (codes ", column " ++ (decimal column
-    ++ (codes ": " ++ (what ++ (codes "\n" ++ (line ++ (codes "\n"
-    ++ (repeat before (codes " ") ++ codes "^\n")))))))))
-
--- the number of the line that has a place, from 1, and where it begins: after the octets up to here it was this line
-abbrev pub line_from : ℕ → ℕ × ℕ → ℕ → List ℕ → ℕ × ℕ
-line_from at line place [] = line
-line_from at line place (x ∷ more) =
-    line_from (at + 1) (if x == 10 && nat_lt at place then (line.0 + 1, at + 1) else line) place more
-
--- an octet as a character, a question mark where it isn't printable
-abbrev pub character : ℕ → ℕ
-character x = if nat_le 32 x && nat_le x 126 then x else 63
-
--- the characters of a line up to its end
-abbrev pub line_shown : List ℕ → List ℕ
-line_shown [] = []
-line_shown (x ∷ more) = if x == 10 || x == 13 then [] else encode_utf8 (character x) ++ line_shown more
-
--- of a line that begins here, at most 40 characters before a place are shown
-abbrev pub shown_from : ℕ → ℕ → ℕ
-shown_from start place = max start (place - 40)
-
--- a place of a text, in this line, with what is said of it
-abbrev pub marked_in : List ℕ → ℕ → List ℕ → ℕ × ℕ → List ℕ
-marked_in text place what (number, start) = place_note number (place - start + 1) what
-    (line_shown (take 60 (drop (shown_from start place) text))) (place - shown_from start place)
-
-abbrev pub marked_text : List ℕ → ℕ → List ℕ → List ℕ
-marked_text text place what = marked_in text place what (line_from 0 (1, 0) place text)
-
--- a place of a text with what is said of it; of its end, one after its last character that isn't blank
-pub record IsPlaceNote (text : List ℕ) (place : ℕ) (what note : List ℕ) : Type 0 where
-  pub at : ℕ
-  pub here : place < length text → at ≡ place
-  pub is : note ≡ marked_text text at what
-
--- the note on a text by where it stops being a source: which words tell a character that may not be there is open
-abbrev pub IsSourceNote : List ℕ → Option (ℕ × SourceWrong) → List ℕ → Type 0
-IsSourceNote text None note = note ≡ []
-IsSourceNote text (Some (place, source.Character)) note = (what : List ℕ) × (note ≡ marked_text text place what)
-IsSourceNote text (Some (place, wrong)) note = IsPlaceNote text place (source_sentence wrong) note
-
--- what is said first of a text that isn't in its form: of hexadecimal and of a dump it is open
-abbrev pub IsFirstNote : Form → List ℕ → List ℕ → Type 0
-IsFirstNote form.Hex text note = Unit {0}
-IsFirstNote form.Octets text note = note ≡ []
-IsFirstNote form.Dump text note = Unit {0}
-IsFirstNote form.Source text note = IsSourceNote text (source_stop text) note
-
-abbrev pub is_form : Form → Form → Bool
-is_form form.Hex form.Hex = true
-is_form form.Octets form.Octets = true
-is_form form.Dump form.Dump = true
-is_form form.Source form.Source = true
-is_form _ _ = false
-
--- a text is in a form
-abbrev pub is_taken : Result (List ℕ) Fault → Bool
-is_taken (Ok octets) = true
-is_taken (Err fault) = false
-
-abbrev pub takes : Form → List ℕ → Bool
-takes other text = is_taken (octets_in other text)
-
--- a byte order mark of UTF-8 or UTF-16
-abbrev pub begins_with_mark : List ℕ → Bool
-begins_with_mark (a ∷ b ∷ c ∷ more) = (a == 239 && (b == 187 && c == 191))
-    || ((a == 254 && b == 255) || (a == 255 && b == 254))
-begins_with_mark (a ∷ b ∷ []) = (a == 254 && b == 255) || (a == 255 && b == 254)
-begins_with_mark _ = false
-
-abbrev pub mark_said : List ℕ → List ℕ
-mark_said text = if begins_with_mark text
-    then codes "standard input: this text begins with a byte order mark, which no form allows\n" else []
-
--- the offsets or the words of a text would be taken for other octets in hexadecimal
-abbrev pub has_other_octets : List ℕ → Bool
-has_other_octets text = begins_with_offset text || is_octal_words text
-
--- The option for another form that takes a text, as a line. Hexadecimal has no offsets, nor octal words: it would take
--- them for other octets.
-abbrev pub other_text : Form → List ℕ → List ℕ
-other_text given text =
-    if not (is_form given form.Hex) && (not (has_other_octets text) && takes form.Hex text)
-    then codes "--stdin hex reads this text\n"
-    else (if not (is_form given form.Dump) && takes form.Dump text then codes "--stdin dump reads this text\n"
-    else (if not (is_form given form.Source) && takes form.Source text then codes "--stdin source reads this text\n"
-    else []))
-
--- that first, a byte order mark, what the form is, and which other one takes the text
-pub record IsTextNote (given : Form) (text note : List ℕ) : Type 0 where
-  pub first : List ℕ
-  pub says : IsFirstNote given text first
-  pub is : note ≡ first ++ (mark_said text ++ (form_text given ++ other_text given text))
-
--- that a text which is taken for hexadecimal is a dump of some octets too
-abbrev pub offsets_said : Result (List ℕ) Fault → List ℕ
-offsets_said (Ok octets) = if length octets == 0 then [] else codes
-    "standard input: this text is also a dump, and --stdin hex reads its offsets as octets; --stdin dump skips them\n"
-offsets_said (Err fault) = []
-
--- that a text which is taken for hexadecimal is words of od
-abbrev pub words_said : List ℕ
-words_said = codes
-    "standard input: od wrote two octets as six octal digits, which --stdin hex reads as three octets; use od -tx1\n"
-
--- a dump without offsets has no others in hexadecimal
-abbrev pub offsets_note : List ℕ → List ℕ
-offsets_note text =
-    if is_octal_words text then words_said
-    else (if begins_with_offset text then offsets_said (octets_in form.Dump text)
-    else [])
 
 -- ---- files
 

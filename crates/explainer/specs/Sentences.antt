@@ -18,8 +18,6 @@ use Rattle.card_words.specs.declared.given.Form.{Form}
 use Rattle.card_words.specs.declared.given.Form.TheVariants as form
 use Rattle.dumps.specs.declared.no_dump.DumpWrong.{DumpWrong}
 use Rattle.dumps.specs.declared.no_dump.DumpWrong.TheVariants as dump
-use Rattle.dumps.specs.declared.no_source.SourceWrong.{SourceWrong}
-use Rattle.dumps.specs.declared.no_source.SourceWrong.TheVariants as source
 use Rattle.atr_core.specs.declared.params.ParamFault.{ParamFault}
 use Rattle.atr_core.specs.declared.params.ParamFault.TheVariants as param
 
@@ -82,13 +80,6 @@ dump_sentence dump.Row = codes "expected octets in hexadecimal, or the character
 dump_sentence dump.End = codes "the last offset is missing, or the dump has too many octets"
 dump_sentence dump.TwoWays =
     codes "these offsets fit two bases, which give different numbers of octets; od -v writes no *"
-
--- of a text that is no source
-abbrev pub source_sentence : SourceWrong → List ℕ
-source_sentence source.Character = codes "this character isn't allowed here"
-source_sentence source.Word = codes "this isn't an octet, or it is written in another way than those before"
-source_sentence source.Open = codes "a string, a comment or a declaration isn't closed"
-source_sentence source.TwoWays = codes "these octets can be read in two ways"
 
 -- of an answer to reset from which no session begins: what it lacks
 abbrev pub lack_sentence : ParamFault → List ℕ

@@ -10,11 +10,14 @@
 #![tactic(auto)]
 
 pub mod blocks;
+pub mod hexadecimal;
 mod known;
+pub mod line;
 mod mark;
 mod message;
 mod misread;
 pub mod octets;
+mod pairs;
 mod place;
 pub mod reason;
 pub mod session;
@@ -23,9 +26,12 @@ mod word;
 mod words;
 
 pub use blocks::unsent_note;
+pub use hexadecimal::digits_note;
 pub use known::{duplicate_note, known_note};
+pub use line::character;
 pub use octets::{least_wanting, verdict_note};
+pub use pairs::pairs_note;
 pub use reason::Explained;
 pub use session::{large_note, session_note};
-pub use text::{digits_note, offsets_note, pairs_note, text_note};
+pub use text::{offsets_note, text_note};
 pub use words::words_note;

@@ -1,18 +1,23 @@
 //! The notes on texts that are no dump, or no source.
 
-ghost use Rattle.std.specs.Prelude.{◌≡◌, ℕ, List, IfOk, string_bytes};
+ghost use Rattle.std.specs.Prelude.{◌≡◌, IfOk, string_bytes};
+ghost use Rattle.dumps.specs.DumpStop.{dump_stop};
 ghost use Rattle.dumps.specs.SourceStop.{source_stop};
-ghost use Rattle.explainer.specs.Notes.{marked_text, IsPlaceNote, IsSourceNote};
-ghost use Rattle.explainer.specs.Sentences.{dump_sentence, source_sentence};
+ghost use Rattle.explainer.specs.Sentences.{dump_sentence};
+ghost use Rattle.explainer.specs.Texts.{dump_note, source_note, source_said};
 
-use crate::text::{is_printable, marked_place};
+use crate::line::{marked_place, octet_at, octet_named, shown_place};
 use dumps::{DumpWrong, SourceWrong, dump_stop, source_stop};
 use std::alloc::{AllocError, Global};
 
 /// The first place of a text that is wrong in a dump.
-pub(crate) fn dump_note(alloc: Global, text: &[u8]) -> Result<String, AllocError> {
+pub(crate) fn dump_note(alloc: Global, text: &[u8]) -> Result<String, AllocError>
+    ensures { IfOk result (λ note. string_bytes note ≡ dump_note text.now (dump_stop text.now)) }
+{
     match dump_stop(alloc, text)? {
-        Some((place, wrong)) => at_place(alloc, text, place, dump_sentence(wrong)),
+        Some((place, wrong)) => {
+            marked_place(alloc, text, shown_place(text, place), dump_sentence(wrong))
+        }
         None => Ok(String::new(alloc)),
     }
 }
@@ -35,49 +40,37 @@ fn dump_sentence(wrong: DumpWrong) -> &'static str
 /// The first place of a text that is wrong in a source.
 pub(crate) fn source_note(alloc: Global, text: &[u8]) -> Result<String, AllocError>
     ensures { IfOk result (λ note.
-        IsSourceNote text.now (source_stop text.now) (string_bytes note)) }
+        string_bytes note ≡ source_note text.now (source_stop text.now)) }
 {
     match source_stop(text) {
-        Some((place, SourceWrong::Character)) => stray_note(alloc, text, place),
-        Some((place, wrong)) => at_place(alloc, text, place, source_sentence(wrong)),
+        Some((place, wrong)) => {
+            let what = source_said(alloc, text, place, wrong)?;
+            marked_place(alloc, text, shown_place(text, place), what.as_str())
+        }
         None => Ok(String::new(alloc)),
     }
 }
 
-fn source_sentence(wrong: SourceWrong) -> &'static str
-    ensures { result.now ≡ source_sentence wrong }
+fn source_said(
+    alloc: Global,
+    text: &[u8],
+    place: usize,
+    wrong: SourceWrong,
+) -> Result<String, AllocError>
+    ensures { IfOk result (λ what. string_bytes what ≡ source_said text.now place wrong) }
 {
     match wrong {
-        SourceWrong::Character => "this character isn't allowed here",
-        SourceWrong::Word =>
-            "this isn't an octet, or it is written in another way than those before",
-        SourceWrong::Open => "a string, a comment or a declaration isn't closed",
-        SourceWrong::TwoWays => "these octets can be read in two ways",
+        SourceWrong::Character => {
+            let named = octet_named(alloc, octet_at(text, place))?;
+            format!(in alloc; "{named} isn't allowed here")
+        }
+        SourceWrong::Word => {
+            let what = "this isn't an octet, or it is written in another way than those before";
+            String::from_str(alloc, what)
+        }
+        SourceWrong::Open => {
+            String::from_str(alloc, "a string, a comment or a declaration isn't closed")
+        }
+        SourceWrong::TwoWays => String::from_str(alloc, "these octets can be read in two ways"),
     }
-}
-
-/// A character that may not be where it is.
-fn stray_note(alloc: Global, text: &[u8], place: usize) -> Result<String, AllocError>
-    ensures { IfOk result (λ note. (what : List ℕ)
-        × (string_bytes note ≡ marked_text text.now place what)) }
-{
-    let octet = text.get(place).copied().unwrap_or(0);
-    let what = if is_printable(octet) {
-        format!(in alloc; "'{}' isn't allowed here", char::from(octet))?
-    } else {
-        format!(in alloc; "the octet {octet:02X} isn't allowed here")?
-    };
-    marked_place(alloc, text, place, what.as_str())
-}
-
-/// A place of a text, or for its end the one after its last character that isn't blank.
-fn at_place(alloc: Global, text: &[u8], place: usize, what: &str) -> Result<String, AllocError>
-    ensures { IfOk result (λ note. IsPlaceNote text.now place what.now (string_bytes note)) }
-{
-    let place = if place < text.len() {
-        place
-    } else {
-        text.trim_ascii_end().len()
-    };
-    marked_place(alloc, text, place, what)
 }

@@ -1,9 +1,8 @@
 //! Notes on octets, by the verdict on them.
 
-ghost use Rattle.std.specs.Prelude.{◌≡◌, ◌-◌, None, Some, length, IfOk, string_bytes};
-ghost use Rattle.card_words.specs.declared.request.Kind.TheVariants.{Atr, Block, Chain, Command, Dol, Response, Tlv};
+ghost use Rattle.std.specs.Prelude.{◌≡◌, ◌-◌, length, IfOk, string_bytes};
 ghost use Rattle.tlv_core.specs.Tag.{is_tag};
-ghost use Rattle.explainer.specs.Notes.{block_has, command_has, list_wants, verdict_text, IsVerdictNote};
+ghost use Rattle.explainer.specs.Notes.{block_has, command_has, least_of, list_wants, verdict_text};
 
 use crate::mark::{left, stop_note};
 use crate::reason::Explained;
@@ -22,19 +21,6 @@ pub fn verdict_note<R: Explained>(
     verdict: Result<usize, Stop<R>>,
     least: Option<usize>,
 ) -> Result<String, AllocError>
-    ensures text { IfOk result (λ note.
-        string_bytes note ≡ verdict_text R.says octets.now least verdict) }
-    ensures note { IfOk result (λ note. IsVerdictNote octets.now verdict (string_bytes note)) }
-{
-    verdict_said(alloc, octets, verdict, least)
-}
-
-fn verdict_said<R: Explained>(
-    alloc: Global,
-    octets: &[u8],
-    verdict: Result<usize, Stop<R>>,
-    least: Option<usize>,
-) -> Result<String, AllocError>
     ensures { IfOk result (λ note.
         string_bytes note ≡ verdict_text R.says octets.now least verdict) }
 {
@@ -46,13 +32,7 @@ fn verdict_said<R: Explained>(
 
 /// How many octets must still come at least, where octets are short that are taken for this kind, and it is known.
 pub fn least_wanting(kind: Kind, octets: &[u8]) -> Option<usize>
-    ensures block { kind ≡ Block → result ≡ Some (block_has octets.now - length octets.now) }
-    ensures command { kind ≡ Command → result ≡ Some (command_has octets.now - length octets.now) }
-    ensures response { kind ≡ Response → result ≡ Some (2 - length octets.now) }
-    ensures list { kind ≡ Dol → result ≡ Some (list_wants octets.now) }
-    ensures atr { kind ≡ Atr → result ≡ None }
-    ensures chain { kind ≡ Chain → result ≡ None }
-    ensures forest { kind ≡ Tlv → result ≡ None }
+    ensures { result ≡ least_of kind octets.now }
 {
     match kind {
         Kind::Block => Some(wanting_of_block(octets)),

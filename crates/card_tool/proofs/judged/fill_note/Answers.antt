@@ -8,7 +8,7 @@ use Rattle.card_tool.proofs.Explaining.{on-known, on-values}
 use Rattle.card_tool.proofs.judged.fill_note.Goals as goal
 
 pub returns-then-not-is_empty : goal.returns-then-not-is_empty
-returns-then-not-is_empty c = inl (c.args.verdict, c.requires, c.in_ok-note.ensures.note)
+returns-then-not-is_empty c = inl (c.args.verdict, c.requires, c.in_ok-note.ensures)
 
 pub returns-in-Ok : goal.returns-in-Ok
 returns-in-Ok c =
@@ -17,7 +17,7 @@ returns-in-Ok c =
       | inr h ↦ absurd (let bad : true ≡ false = sym c.if-not-is_empty.false ∙ c.is_empty.ensures ∙ h.0 in cc)
     ] in
     on-values c.duplicate_note.result c.args.list.now c.args.known.now c.get.result.now
-    (string_bytes c.in_ok-note.note) none (c.args.verdict, c.requires, c.in_ok-note.ensures.note)
+    (string_bytes c.in_ok-note.note) none (c.args.verdict, c.requires, c.in_ok-note.ensures)
     (c.in-Ok.is ∙ ap (λ (v : List Known). Ok v) (sym c.get.ensures)) c.duplicate_note.ensures
 
 pub returns : goal.returns
@@ -27,5 +27,5 @@ returns c =
       | inr h ↦ absurd (let bad : true ≡ false = sym c.if-not-is_empty.false ∙ c.is_empty.ensures ∙ h.0 in cc)
     ] in
     on-known c.known_note.result c.args.list.now c.args.known.now (string_bytes c.in_ok-note.note) none
-    (c.args.verdict, c.requires, c.in_ok-note.ensures.note)
+    (c.args.verdict, c.requires, c.in_ok-note.ensures)
     (subst (λ (r : Result (List Known) Fault). IfOk r HasDuplicate) (sym c.in-Err.is) tt)

@@ -11,6 +11,6 @@ returns-then-asks_for_json-clause-told g c = json-asked (texts c.args.words.now)
 
 pub returns-else-asks_for_json-clause-told : goal.returns-else-asks_for_json-clause-told
 returns-else-asks_for_json-clause-told g c = lines-asked (texts c.args.words.now)
-    (g.R.Source.remaining c.args.reader.now) (g.R.Source.remaining c.answer_in_lines.new.reader)
-    (g.R.Source.failures c.args.reader.now) (g.R.Source.failures c.answer_in_lines.new.reader)
-    c.answer_in_lines.result (sym c.asks_for_json.ensures ∙ c.if-asks_for_json.false) c.answer_in_lines.ensures.told
+    (g.R.Source.remaining c.args.reader.now) (g.R.Source.remaining c.reply.new.reader)
+    (g.R.Source.failures c.args.reader.now) (g.R.Source.failures c.reply.new.reader)
+    c.reply.result (sym c.asks_for_json.ensures ∙ c.if-asks_for_json.false) c.reply.ensures.told

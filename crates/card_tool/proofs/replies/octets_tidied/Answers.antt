@@ -1,8 +1,7 @@
 use Rattle.std.proofs.lemmas.Result.{err_from_is_err_and}
 use Rattle.card_words.specs.declared.request.Request.TheVariants.{BuildTidy}
-use Rattle.card_kinds.specs.ForestTexts.{forest_codec}
 use Rattle.card_kinds.specs.Verdicts.{Tidies}
-use Rattle.card_tool.specs.Judged.{IsNoteBy}
+use Rattle.card_tool.specs.Judged.{IsForestNote}
 use Rattle.card_tool.proofs.Answering.{told-fault, told-wanting}
 use Rattle.card_tool.proofs.Explaining.{noted-given}
 use Rattle.card_tool.proofs.replies.octets_tidied.Goals as goal
@@ -29,7 +28,7 @@ pub returns-clause-told : goal.returns-clause-told
 returns-clause-told g c =
     let made = rw c.get.ensures at c.in_ok-made.ensures in
     noted-given c.args.explains (BuildTidy c.args.given) c.args.given Tidies
-    (IsNoteBy forest_codec) (g.R.Source.remaining c.args.reader.now)
+    IsForestNote (g.R.Source.remaining c.args.reader.now)
     (g.R.Source.remaining c.octets_taken.new.reader) (g.R.Source.failures c.args.reader.now)
     (g.R.Source.failures c.octets_taken.new.reader) (λ need. need) (λ file text ended h. h)
     (λ file note h. h) c.in_ok-taken.taken c.in_ok-taken.ensures.taken

@@ -2,7 +2,7 @@ use Rattle.card_tool.proofs.LineNoted.{line-fault, long-line, told-fault, told-o
 use Rattle.card_tool.proofs.telling.line_told.Goals as goal
 
 pub returns-then-line-gt-LARGEST_FILE : goal.returns-then-line-gt-LARGEST_FILE
-returns-then-line-gt-LARGEST_FILE c = line-fault c.args.telling _ _ c.fault_told.result
+returns-then-line-gt-LARGEST_FILE c = line-fault c.args.telling c.args.line.now _ _ c.fault_told.result
     (long-line c.args.line.now c.if-line-gt-LARGEST_FILE.true) c.fault_told.ensures.told
 
 pub returns-in-Ok : goal.returns-in-Ok

@@ -1,0 +1,8 @@
+use Rattle.std.proofs.Common.{◌≡◌, ◌++◌, drop, string_bytes}
+use Rattle.explainer.specs.Texts.{line_shown}
+use Rattle.explainer.proofs.line.shown.Given as goal
+
+-- the characters so far, with those that are left, are those of the line
+abbrev pub invariant-loop-octet : goal.invariant-loop-octet
+invariant-loop-octet l =
+    string_bytes l.line ++ line_shown (drop l.octet-index l.octets) ≡ line_shown l.octets
