@@ -5,5 +5,6 @@ pub mod Forests
 pub mod Duplicates
 pub mod OneVerdict
 pub mod NoSign
+pub mod Noting
 pub mod Tds
 pub mod Pushes

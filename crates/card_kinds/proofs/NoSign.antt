@@ -1,9 +1,7 @@
 -- That no text of a value or of a refusal has a number sign.
-use Rattle.std.proofs.Common.{◌≡◌, ◌≢◌, ◌==◌, ◌+◌, ◌-◌, ◌/◌, ◌%◌, ◌++◌, ℕ, zero, suc, nat_lt, List, [], ◌∷◌, Bool, true, false, if◌then◌else◌, Option, Some, None, Result, Ok, Err, codes, length, slice_index, refl, arith}
+use Rattle.std.proofs.Common.{◌≡◌, ◌≢◌, ◌==◌, ◌<◌, ◌+◌, ◌-◌, ◌/◌, ◌%◌, ◌++◌, ℕ, zero, suc, List, [], ◌∷◌, Bool, true, false, if◌then◌else◌, Option, Some, None, Result, Ok, Err, codes, length, slice_index, refl, arith}
 use Rattle.std.specs.List.{All, repeat}
-use Rattle.std.specs.Fmt.{decimal, digit_glyph, digits, digits_onto}
-use Rattle.std.proofs.lemmas.Bool.Decides.{nat_tests}
-use Rattle.std.proofs.lemmas.List.Elements.{All-cons, All-nil}
+use Rattle.std.specs.Fmt.{decimal}
 use Rattle.hex.specs.Hex.{encode_upper, encode_with, upper_digits}
 use Rattle.octet_core.specs.declared.stop.Stop.{Stop}
 use Rattle.octet_core.specs.declared.stop.Stop.TheVariants.{Short, At}
@@ -47,8 +45,9 @@ use Rattle.tlv_core.specs.declared.reason.TlvReason.{TlvReason}
 use Rattle.tlv_core.specs.declared.reason.TlvReason.TheVariants as tlv
 use Rattle.tlv_core.specs.declared.reason.DolReason.{DolReason}
 use Rattle.tlv_core.specs.declared.reason.DolReason.TheVariants as dol
+use Rattle.notes.proofs.Lacking as lacking
 use Rattle.card_kinds.specs.AtrTexts as atr_texts
-use Rattle.card_kinds.specs.AtrTexts.{atr_codec, atr_text, byte_text, bytes_text, convention_text, interface_text, meaning_text, rate_or, t1_text, tck_text, td_text, tds_text}
+use Rattle.card_kinds.specs.AtrTexts.{atr_codec, atr_text, byte_text, bytes_text, convention_text, interface_text, meaning_text, rate_or, t1_text, ta_text, tck_text, td_text, tds_text}
 use Rattle.card_kinds.specs.BlockTexts as block_texts
 use Rattle.card_kinds.specs.BlockTexts.{block_codec, block_text, more_number, pcb_text, supervisory_text}
 use Rattle.card_kinds.specs.ChainTexts as chain_texts
@@ -74,36 +73,25 @@ use Rattle.card_words.specs.declared.request.Kind.TheVariants as kind
 
 -- whether no octet is a number sign
 abbrev lacks : List ℕ → Bool
-lacks [] = true
-lacks (x ∷ text) = if x == 35 then false else lacks text
+lacks text = lacking.lacks 35 text
 
-abbrev is-other : ℕ → Type 0
-is-other x = x ≢ 35
-
-first-and-rest : (x : ℕ) (r t : Bool) → (x == 35) ≡ t → (if t then false else r) ≡ true → (x ≢ 35) × (r ≡ true)
-first-and-rest x r true e h = absurd (cc h)
-first-and-rest x r false e h = (λ is. grind (arith, nat_tests), h)
-
-passed : (text : List ℕ) → lacks text ≡ true → All is-other text
-passed [] h = All-nil is-other
-passed (x ∷ text) h =
-    let both = first-and-rest x (lacks text) (x == 35) refl h in
-    All-cons is-other x text both.0 (passed text both.1)
+low : 35 < 48
+low = omega arith
 
 one-more : (x : ℕ) (text : List ℕ) → x ≢ 35 → lacks text ≡ true → lacks (x ∷ text) ≡ true
-one-more x text other h = let e : (x == 35) ≡ false = grind (arith, nat_tests) in rw e h
+one-more x text other h = lacking.one-more 35 x text other h
 
 more : (a b : List ℕ) → lacks a ≡ true → lacks b ≡ true → lacks (a ++ b) ≡ true
-more [] b h g = g
-more (x ∷ a) b h g =
-    let both = first-and-rest x (lacks a) (x == 35) refl h in
-    one-more x (a ++ b) both.0 (more a b both.1 g)
+more a b h g = lacking.more 35 a b h g
+
+either : (t : Bool) (a b : List ℕ) → lacks a ≡ true → lacks b ≡ true → lacks (if t then a else b) ≡ true
+either t a b h g = lacking.either 35 t a b h g
 
 index-other : (text : List ℕ) (k : ℕ) → lacks text ≡ true → slice_index text k ≢ 35
 index-other [] zero h e = omega (arith, e)
 index-other [] (suc k) h e = omega (arith, e)
-index-other (x ∷ text) zero h e = (first-and-rest x (lacks text) (x == 35) refl h).0 e
-index-other (x ∷ text) (suc k) h e = index-other text k (first-and-rest x (lacks text) (x == 35) refl h).1 e
+index-other (x ∷ text) zero h e = (lacking.first-and-rest 35 x (lacks text) (x == 35) refl h).0 e
+index-other (x ∷ text) (suc k) h e = index-other text k (lacking.first-and-rest 35 x (lacks text) (x == 35) refl h).1 e
 
 hex-lacks : (b : List ℕ) → lacks (encode_upper b) ≡ true
 unfolding encode_with
@@ -114,29 +102,8 @@ hex-lacks (x ∷ b) =
     (one-more (slice_index upper_digits (x % 16)) (encode_upper b) (index-other upper_digits (x % 16) refl)
     (hex-lacks b))
 
-glyph-other : (d : ℕ) → digit_glyph false d ≢ 35
-glyph-other d = go (nat_lt d 10)
-  where
-    go : (t : Bool) → (if t then 48 + d else 87 + d) ≢ 35
-    go true e = omega (arith, e)
-    go false e = omega (arith, e)
-
-either : (t : Bool) (a b : List ℕ) → lacks a ≡ true → lacks b ≡ true → lacks (if t then a else b) ≡ true
-either true a b h g = h
-either false a b h g = g
-
-digits-lack : (k n : ℕ) (text : List ℕ) → lacks text ≡ true → lacks (digits_onto k 10 false n text) ≡ true
-digits-lack zero n text h = h
-digits-lack (suc k) n text h =
-    let longer : lacks (digit_glyph false (n % 10) ∷ text) ≡ true =
-    one-more (digit_glyph false (n % 10)) text (glyph-other (n % 10)) h in
-    either (n / 10 == 0) (digit_glyph false (n % 10) ∷ text)
-    (digits_onto k 10 false (n / 10) (digit_glyph false (n % 10) ∷ text)) longer
-    (digits-lack k (n / 10) (digit_glyph false (n % 10) ∷ text) longer)
-
 decimal-lacks : (n : ℕ) → lacks (decimal n) ≡ true
-unfolding digits
-decimal-lacks n = digits-lack 64 n [] refl
+decimal-lacks n = lacking.decimal-lacks 35 n low
 
 octets-lack : (b : List ℕ) → lacks (octets_text b) ≡ true
 octets-lack [] = refl
@@ -144,7 +111,7 @@ octets-lack (x ∷ b) = hex-lacks (x ∷ b)
 
 -- a number, and octets, with a text after them
 number-then : (n : ℕ) (b : List ℕ) → lacks b ≡ true → lacks (decimal n ++ b) ≡ true
-number-then n b h = more (decimal n) b (decimal-lacks n) h
+number-then n b h = lacking.number-then 35 n b low h
 
 hex-then : (octets b : List ℕ) → lacks b ≡ true → lacks (encode_upper octets ++ b) ≡ true
 hex-then octets b h = more (encode_upper octets) b (hex-lacks octets) h
@@ -159,18 +126,22 @@ byte-lacks : (name : List ℕ) (number : ℕ) (byte : Option ℕ) → lacks name
 byte-lacks name number None h = refl
 byte-lacks name number (Some byte) h = more name _ h (number-then number _ (hex-then (byte ∷ []) _ refl))
 
-bytes-lack : (number : ℕ) (bytes : Interface) → lacks (bytes_text number bytes) ≡ true
+ta-lacks : (number : ℕ) (ta : Option ℕ) → lacks (ta_text false number ta) ≡ true
+ta-lacks number None = refl
+ta-lacks number (Some ta) = byte-lacks (codes "TA") number (Some ta) refl
+
+bytes-lack : (number : ℕ) (bytes : Interface) → lacks (bytes_text false number bytes) ≡ true
 bytes-lack number bytes =
-    more (byte_text (codes "TA") number bytes.ta) _ (byte-lacks (codes "TA") number bytes.ta refl)
+    more (ta_text false number bytes.ta) _ (ta-lacks number bytes.ta)
     (more (byte_text (codes "TB") number bytes.tb) _ (byte-lacks (codes "TB") number bytes.tb refl)
     (byte-lacks (codes "TC") number bytes.tc refl))
 
-tds-lack : (number : ℕ) (xs : List Indicated) → lacks (tds_text number xs) ≡ true
+tds-lack : (number : ℕ) (xs : List Indicated) → lacks (tds_text false number xs) ≡ true
 tds-lack number [] = refl
 tds-lack number (x ∷ xs) =
     let octet : ℕ = announcing x.bytes (goes_on xs) x.protocol in
-    more (td_text number x.bytes octet) (tds_text (number + 1) xs)
-    (more (byte_text (codes "TD") number (Some octet)) (bytes_text (number + 1) x.bytes)
+    more (td_text false number x.bytes octet) (tds_text false (number + 1) xs)
+    (more (byte_text (codes "TD") number (Some octet)) (bytes_text false (number + 1) x.bytes)
     (byte-lacks (codes "TD") number (Some octet) refl) (bytes-lack (number + 1) x.bytes))
     (tds-lack (number + 1) xs)
 
@@ -192,18 +163,18 @@ t1-lacks (Err param.NoT1) = refl
 t1-lacks (Err param.ReservedIfsc) = refl
 t1-lacks (Err param.Crc) = refl
 
-meaning-lacks : (a : AtrParts) → lacks (meaning_text a) ≡ true
+meaning-lacks : (a : AtrParts) → lacks (meaning_text false a) ≡ true
 meaning-lacks a =
     more (rate_or (codes "reserved") (rates_of a).0) _ (rate-lacks (rates_of a).0)
     (more (rate_or (codes "reserved") (rates_of a).1) _ (rate-lacks (rates_of a).1)
     (more (t1_text (t1_params_of a)) _ (t1-lacks (t1_params_of a)) refl))
 
-atr-lacks : (a : AtrParts) → lacks (atr_text a) ≡ true
+atr-lacks : (a : AtrParts) → lacks (atr_text false a) ≡ true
 atr-lacks a =
-    let interface : lacks (interface_text a) ≡ true =
-    more (bytes_text 1 a.first) (tds_text 1 a.indicated) (bytes-lack 1 a.first) (tds-lack 1 a.indicated) in
+    let interface : lacks (interface_text false a) ≡ true =
+    more (bytes_text false 1 a.first) (tds_text false 1 a.indicated) (bytes-lack 1 a.first) (tds-lack 1 a.indicated) in
     more (convention_text a.convention) _ (convention-lacks a.convention)
-    (more (interface_text a) _ interface
+    (more (interface_text false a) _ interface
     (octets-then a.historical _ (more (tck_text (tck_of a)) _ (tck-lacks (tck_of a)) (meaning-lacks a))))
 
 atr-reason : (reason : AtrReason) → lacks (atr_texts.reason_text reason) ≡ true
@@ -225,7 +196,7 @@ pcb-lacks (Ready number fault) = number-then (number_bit number 1) _ (decimal-la
 pcb-lacks (Request said) = about-lacks said
 pcb-lacks (Response said) = about-lacks said
 
-block-lacks : (v : Parts) → lacks (block_text v) ≡ true
+block-lacks : (v : Parts) → lacks (block_text false v) ≡ true
 block-lacks v = hex-then (v.nad ∷ []) _ (more (pcb_text v.pcb) _ (pcb-lacks v.pcb)
     (octets-then v.inf _ (hex-then (xor_of (front_of v) ∷ []) _ refl)))
 
@@ -236,7 +207,7 @@ block-reason block.OverIfs = refl
 block-reason block.BadIfs = refl
 block-reason block.BadLrc = refl
 
-chain-lacks : (fields : List (List ℕ)) → lacks (chain_text fields) ≡ true
+chain-lacks : (fields : List (List ℕ)) → lacks (chain_text false fields) ≡ true
 chain-lacks fields = number-then (length fields) _ (octets-then (message_of fields) _ refl)
 
 chain-reason : (reason : ChainReason) → lacks (chain_texts.reason_text reason) ≡ true
@@ -265,7 +236,7 @@ le-lacks : (le : Option ℕ) → lacks (le_or (codes "none") le) ≡ true
 le-lacks None = refl
 le-lacks (Some le) = decimal-lacks le
 
-command-lacks : (c : CommandParts) → lacks (command_text c) ≡ true
+command-lacks : (c : CommandParts) → lacks (command_text false c) ≡ true
 command-lacks c = more (shape_text (shape_of c.body)) _ (shape-lacks (shape_of c.body)) (hex-then c.header _
     (octets-then (part_of c.body) _ (more (le_or (codes "none") (le_of c.body)) _ (le-lacks (le_of c.body)) refl)))
 
@@ -280,7 +251,7 @@ class-lacks status.Checking = refl
 class-lacks status.Proprietary = refl
 class-lacks status.Invalid = refl
 
-response-lacks : (r : ResponseParts) → lacks (response_text r) ≡ true
+response-lacks : (r : ResponseParts) → lacks (response_text false r) ≡ true
 response-lacks r = octets-then r.part _ (hex-then (r.sw1 ∷ r.sw2 ∷ []) _
     (more (class_text r.sw1 r.sw2) _ (class-lacks (class_of r.sw1 r.sw2)) refl))
 
@@ -297,16 +268,16 @@ value-lacks : (p : PartValue) → lacks (value_text p) ≡ true
 value-lacks p =
     either (constructed_bit p.tag == 1) (codes "constructed") (octets_text p.value) refl (octets-lack p.value)
 
-part-lacks : (p : PartValue) → lacks (part_text p) ≡ true
+part-lacks : (p : PartValue) → lacks (part_text false p) ≡ true
 part-lacks p = more (repeat (p.depth - 1) (codes "  ")) _ (indent-lacks (p.depth - 1))
     (hex-then p.tag _ (hex-then (length_field p.form (length p.value)) _
     (more (value_text p) _ (value-lacks p) refl)))
 
-lines-lack : (parts : List PartValue) → lacks (lines_text parts) ≡ true
+lines-lack : (parts : List PartValue) → lacks (lines_text false parts) ≡ true
 lines-lack [] = refl
-lines-lack (p ∷ parts) = more (part_text p) (lines_text parts) (part-lacks p) (lines-lack parts)
+lines-lack (p ∷ parts) = more (part_text false p) (lines_text false parts) (part-lacks p) (lines-lack parts)
 
-forest-lacks : (t : Tree) → lacks (forest_text t) ≡ true
+forest-lacks : (t : Tree) → lacks (forest_text false t) ≡ true
 forest-lacks t = number-then (length (parts_of 1 0 t)) _ (lines-lack (parts_of 1 0 t))
 
 tlv-reason : (reason : TlvReason) → lacks (forest_texts.reason_text reason) ≡ true
@@ -322,7 +293,7 @@ entries-lack [] = refl
 entries-lack (e ∷ entries) = more (encode_upper e.0 ++ (codes " " ++ (decimal e.1 ++ codes "\n"))) _
     (hex-then e.0 _ (number-then e.1 _ refl)) (entries-lack entries)
 
-dol-lacks : (entries : List (List ℕ × ℕ)) → lacks (dol_text entries) ≡ true
+dol-lacks : (entries : List (List ℕ × ℕ)) → lacks (dol_text false entries) ≡ true
 dol-lacks entries = number-then (length entries) _ (entries-lack entries)
 
 dol-reason : (reason : DolReason) → lacks (list_texts.reason_text reason) ≡ true
@@ -337,9 +308,9 @@ refused-lacks : {R : Type 0} (name : R → List ℕ) (stop : Stop R) → ((reaso
 refused-lacks name (Short place) h = number-then place _ refl
 refused-lacks name (At place reason) h = number-then place _ (more (name reason) _ (h reason) refl)
 
-told-lacks : {V R : Type 0} (c : Codec V R) → ((v : V) → lacks (c.lines v) ≡ true)
+told-lacks : {V R : Type 0} (c : Codec V R) → ((v : V) → lacks (c.lines false v) ≡ true)
     → ((reason : R) → lacks (c.name reason) ≡ true) → (b text : List ℕ) (ended : Status)
-    → Tells c (λ v n. c.lines v) b text ended → lacks text ≡ true
+    → Tells c (λ v n. c.lines false v) b text ended → lacks text ≡ true
 told-lacks c lines names b text ended (accepted v n h is e) = rw is (lines v)
 told-lacks c lines names b text ended (refused stop h is e) = rw is (refused-lacks c.name stop names)
 
@@ -359,4 +330,4 @@ shown-lacks kind.Dol expected b text ended h = told-lacks list_codec dol-lacks d
 -- no octet of the lines of `show` is a number sign
 pub no-sign : (k : Kind) (expected : Expected) (b text : List ℕ) (ended : Status) → Shows Lines k expected b text ended
     → All (λ x. x ≢ 35) text
-no-sign k expected b text ended h = passed text (shown-lacks k expected b text ended h)
+no-sign k expected b text ended h = lacking.passed 35 text (shown-lacks k expected b text ended h)

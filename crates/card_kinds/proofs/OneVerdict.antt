@@ -1,5 +1,5 @@
 -- That the octets of a kind have one text and one status.
-use Rattle.std.proofs.Common.{◌≡◌, ◌≤◌, ◌∙◌, inl, inr, ℕ, List, Result, Ok, Err, ap, length, subst, sym, refl}
+use Rattle.std.proofs.Common.{◌≡◌, ◌≤◌, ◌∙◌, inl, inr, false, ℕ, List, Result, Ok, Err, ap, length, subst, sym, refl}
 use Rattle.octet_core.specs.Octets.{AreOctets}
 use Rattle.octet_core.specs.declared.stop.Stop.{Stop}
 use Rattle.octet_core.specs.Grammar.{OneVerdict}
@@ -81,7 +81,7 @@ pub shown : (layout : Layout) (kind : Kind) (expected : Expected) (b : List ℕ)
     → OneText (Shows layout kind expected b)
 shown layout kind expected b small octets =
     let c = (codec_of kind expected).codec in
-    told-once c (shown_in layout kind c) (refused_in layout kind c.name) b (judged kind expected b small octets)
+    told-once c (shown_in false layout kind c) (refused_in layout kind c.name) b (judged kind expected b small octets)
 
 pub tidied : (b : List ℕ) → AreOctets b → OneText (Tidies b)
 tidied b octets = told-once forest_codec (λ v n. tidied_text v) (refused_text forest_codec.name) b

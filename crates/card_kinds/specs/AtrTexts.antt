@@ -1,5 +1,5 @@
 -- What the program says of an answer to reset.
-use Rattle.std.specs.Prelude.{ℕ, ◌+◌, List, [], ◌∷◌, ◌++◌, codes, decimal, Option, Some, None, Result, Ok, Err}
+use Rattle.std.specs.Prelude.{ℕ, ◌+◌, ◌%◌, List, [], ◌∷◌, ◌++◌, codes, decimal, Bool, Option, Some, None, Result, Ok, Err}
 use Rattle.hex.specs.Hex.{encode_upper}
 use Rattle.atr_core.specs.Atr.{AtrParts, IsAtr, IsReason, announcing, goes_on, tck_of}
 use Rattle.atr_core.specs.Rates.{rates_of}
@@ -11,6 +11,8 @@ use Rattle.atr_core.specs.declared.atr.Indicated.{Indicated}
 use Rattle.atr_core.specs.declared.params.ParamFault.{ParamFault}
 pub use Rattle.atr_core.specs.Names.{reason_name as reason_text}
 use Rattle.atr_core.specs.Names.{param_fault_name}
+use Rattle.notes.specs.Noted.{where_noted}
+use Rattle.notes.specs.Says.{note_of, t1_says, ta_says, tck_says, td_says, text_note}
 use Rattle.card_kinds.specs.Texts.{octets_text}
 use Rattle.card_kinds.specs.Json.{with_item}
 use Rattle.octet_core.specs.Grammar.{self_ended}
@@ -21,23 +23,35 @@ abbrev pub convention_text : Convention → List ℕ
 convention_text Direct = codes "direct"
 convention_text Inverse = codes "inverse"
 
--- the line of an interface byte, where it stands
+-- an interface byte by its name, and the note on it
+abbrev pub value_text : List ℕ → ℕ → ℕ → List ℕ → List ℕ
+value_text name number byte note =
+    name ++ (decimal number ++ (codes " " ++ (encode_upper (byte ∷ []) ++ (note ++ codes "\n"))))
+
+-- the line of one that has no note, where it stands
 abbrev pub byte_text : List ℕ → ℕ → Option ℕ → List ℕ
 byte_text name number None = []
-byte_text name number (Some byte) = name ++ (decimal number ++ (codes " " ++ (encode_upper (byte ∷ []) ++ codes "\n")))
+byte_text name number (Some byte) = value_text name number byte []
 
-abbrev pub bytes_text : ℕ → Interface → List ℕ
-bytes_text number bytes = byte_text (codes "TA") number bytes.ta
+-- the line of a TA, where it stands
+abbrev pub ta_text : Bool → ℕ → Option ℕ → List ℕ
+ta_text noted number None = []
+ta_text noted number (Some ta) = value_text (codes "TA") number ta (where_noted noted (note_of (ta_says number ta)))
+
+abbrev pub bytes_text : Bool → ℕ → Interface → List ℕ
+bytes_text noted number bytes = ta_text noted number bytes.ta
     ++ (byte_text (codes "TB") number bytes.tb ++ byte_text (codes "TC") number bytes.tc)
 
 -- a TD and the bytes that it announces
-abbrev pub td_text : ℕ → Interface → ℕ → List ℕ
-td_text number bytes octet = byte_text (codes "TD") number (Some octet) ++ bytes_text (number + 1) bytes
+abbrev pub td_text : Bool → ℕ → Interface → ℕ → List ℕ
+td_text noted number bytes octet =
+    value_text (codes "TD") number octet (where_noted noted (note_of (td_says (octet % 16))))
+    ++ bytes_text noted (number + 1) bytes
 
-abbrev pub tds_text : ℕ → List Indicated → List ℕ
-tds_text number [] = []
-tds_text number (x ∷ xs) = td_text number x.bytes (announcing x.bytes (goes_on xs) x.protocol)
-    ++ tds_text (number + 1) xs
+abbrev pub tds_text : Bool → ℕ → List Indicated → List ℕ
+tds_text noted number [] = []
+tds_text noted number (x ∷ xs) = td_text noted number x.bytes (announcing x.bytes (goes_on xs) x.protocol)
+    ++ tds_text noted (number + 1) xs
 
 abbrev pub tck_text : Option ℕ → List ℕ
 tck_text None = codes "absent"
@@ -54,24 +68,33 @@ t1_text (Ok values) = codes "ifsc " ++ (decimal values.ifsc
 t1_text (Err fault) = param_fault_name fault
 
 -- each interface byte that stands, in its order
-abbrev pub interface_text : AtrParts → List ℕ
-interface_text a = bytes_text 1 a.first ++ tds_text 1 a.indicated
+abbrev pub interface_text : Bool → AtrParts → List ℕ
+interface_text noted a = bytes_text noted 1 a.first ++ tds_text noted 1 a.indicated
 
--- the rates, and the parameters of T=1
-abbrev pub meaning_text : AtrParts → List ℕ
-meaning_text a = codes "F " ++ (rate_or (codes "reserved") (rates_of a).0
-    ++ (codes "\nD " ++ (rate_or (codes "reserved") (rates_of a).1
-    ++ (codes "\nt1 " ++ (t1_text (t1_params_of a) ++ codes "\n")))))
+-- the parameters of T=1
+abbrev pub t1_line : Bool → AtrParts → List ℕ
+t1_line noted a = codes "\nt1 " ++ (t1_text (t1_params_of a)
+    ++ (where_noted noted (note_of (t1_says (t1_params_of a) a.indicated)) ++ codes "\n"))
+
+-- the rates, and these
+abbrev pub meaning_text : Bool → AtrParts → List ℕ
+meaning_text noted a = codes "\nF " ++ (rate_or (codes "reserved") (rates_of a).0
+    ++ (codes "\nD " ++ (rate_or (codes "reserved") (rates_of a).1 ++ t1_line noted a)))
+
+-- TCK, and what comes after it
+abbrev pub tck_lines : Bool → AtrParts → List ℕ
+tck_lines noted a = codes "\ntck " ++ (tck_text (tck_of a)
+    ++ (where_noted noted (note_of (tck_says (tck_of a))) ++ meaning_text noted a))
 
 -- what comes after the interface bytes
-abbrev pub tail_text : AtrParts → List ℕ
-tail_text a = codes "historical " ++ (octets_text a.historical
-    ++ (codes "\ntck " ++ (tck_text (tck_of a) ++ (codes "\n" ++ meaning_text a))))
+abbrev pub tail_text : Bool → AtrParts → List ℕ
+tail_text noted a = codes "historical " ++ (octets_text a.historical
+    ++ (where_noted noted (text_note a.historical) ++ tck_lines noted a))
 
--- an answer to reset, line by line
-abbrev pub atr_text : AtrParts → List ℕ
-atr_text a = codes "convention " ++ (convention_text a.convention
-    ++ (codes "\n" ++ (interface_text a ++ tail_text a)))
+-- an answer to reset, line by line, with notes where it is noted
+abbrev pub atr_text : Bool → AtrParts → List ℕ
+atr_text noted a = codes "convention " ++ (convention_text a.convention
+    ++ (codes "\n" ++ (interface_text noted a ++ tail_text noted a)))
 
 -- ---- as members of an object
 

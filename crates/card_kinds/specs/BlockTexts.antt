@@ -1,13 +1,15 @@
 -- What the program says of a block.
-use Rattle.std.specs.Prelude.{ℕ, List, [], ◌∷◌, ◌++◌, Bool, true, false, codes, decimal}
+use Rattle.std.specs.Prelude.{ℕ, List, [], ◌∷◌, ◌++◌, length, slice_index, Bool, true, false, codes, decimal}
 use Rattle.hex.specs.Hex.{encode_upper}
 use Rattle.octet_core.specs.Octets.{xor_of}
-use Rattle.block_core.specs.Block.{Parts, IsBlock, IsReason, front_of, number_bit, fault_code}
+use Rattle.block_core.specs.Block.{Parts, IsBlock, IsReason, front_of, number_bit, fault_code, pcb_octet}
 use Rattle.block_core.specs.declared.pcb.Pcb.{Pcb}
 use Rattle.block_core.specs.declared.pcb.Pcb.TheVariants.{Info, Ready, Request, Response}
 use Rattle.block_core.specs.declared.pcb.S.{S}
 use Rattle.block_core.specs.declared.pcb.S.TheVariants.{Resynch, Ifs, Abort, Wtx}
 pub use Rattle.block_core.specs.Names.{reason_name as reason_text}
+use Rattle.notes.specs.Noted.{where_noted}
+use Rattle.notes.specs.Says.{count_note, lrc_says, nad_says, note_of, pcb_says}
 use Rattle.card_kinds.specs.Texts.{octets_text}
 use Rattle.octet_core.specs.Grammar.{self_ended}
 use Rattle.block_core.specs.declared.reason.BlockReason.{BlockReason}
@@ -31,16 +33,24 @@ pcb_text (Ready number fault) = codes "R number "
 pcb_text (Request about) = codes "S request " ++ supervisory_text about
 pcb_text (Response about) = codes "S response " ++ supervisory_text about
 
+-- the lines of this field and of this LRC, with notes where they are noted
+abbrev pub rest_lines : Bool → List ℕ → ℕ → List ℕ
+rest_lines noted inf lrc = codes "\ninf " ++ (octets_text inf ++ (where_noted noted (count_note (length inf))
+    ++ (codes "\nlrc " ++ (encode_upper (lrc ∷ []) ++ (where_noted noted (note_of lrc_says) ++ codes "\n")))))
+
+-- the line of what a block is before these
+abbrev pub field_lines : Bool → Parts → ℕ → List ℕ
+field_lines noted v lrc = codes "\npcb " ++ (pcb_text v.pcb
+    ++ (where_noted noted (note_of (pcb_says (pcb_octet v.pcb) (slice_index v.inf 0))) ++ rest_lines noted v.inf lrc))
+
 -- a block with this LRC, line by line
-abbrev pub block_lines : Parts → ℕ → List ℕ
-block_lines v lrc = codes "nad " ++ (encode_upper (v.nad ∷ [])
-    ++ (codes "\npcb " ++ (pcb_text v.pcb
-    ++ (codes "\ninf " ++ (octets_text v.inf
-    ++ (codes "\nlrc " ++ (encode_upper (lrc ∷ []) ++ codes "\n")))))))
+abbrev pub block_lines : Bool → Parts → ℕ → List ℕ
+block_lines noted v lrc = codes "nad " ++ (encode_upper (v.nad ∷ [])
+    ++ (where_noted noted (note_of (nad_says v.nad)) ++ field_lines noted v lrc))
 
 -- a block, line by line
-abbrev pub block_text : Parts → List ℕ
-block_text v = block_lines v (xor_of (front_of v))
+abbrev pub block_text : Bool → Parts → List ℕ
+block_text noted v = block_lines noted v (xor_of (front_of v))
 
 -- what a PCB says, as an object
 abbrev pub pcb_object : Pcb → List ℕ

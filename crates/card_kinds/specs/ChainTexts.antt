@@ -1,5 +1,5 @@
 -- What the program says of a chain.
-use Rattle.std.specs.Prelude.{◌≡◌, ℕ, List, [], ◌∷◌, ◌++◌, length, codes, decimal, true, None}
+use Rattle.std.specs.Prelude.{◌≡◌, ℕ, List, [], ◌∷◌, ◌++◌, length, codes, decimal, Bool, true, None}
 use Rattle.hex.specs.Hex.{encode_upper}
 use Rattle.octet_core.specs.Grammar.{Accepts, self_ended}
 use Rattle.block_core.specs.Block.{Parts, spelling}
@@ -8,6 +8,8 @@ pub use Rattle.chain_core.specs.Chain.{longest_message}
 use Rattle.chain_core.specs.Chain.{IsChain, IsReason, message_of}
 use Rattle.chain_core.specs.Taking.{Taking}
 pub use Rattle.chain_core.specs.Names.{reason_name as reason_text}
+use Rattle.notes.specs.Noted.{where_noted}
+use Rattle.notes.specs.Says.{count_note}
 use Rattle.card_kinds.specs.Texts.{octets_text}
 use Rattle.chain_core.specs.declared.reason.ChainReason.{ChainReason}
 use Rattle.card_kinds.specs.Codec.{Codec}
@@ -17,14 +19,14 @@ abbrev pub blocks_text : List Parts → List ℕ
 blocks_text [] = []
 blocks_text (b ∷ blocks) = encode_upper (spelling b) ++ (codes "\n" ++ blocks_text blocks)
 
--- so many blocks and their message, line by line
-abbrev pub joined_text : ℕ → List ℕ → List ℕ
-joined_text blocks message = codes "blocks " ++ (decimal blocks
-    ++ (codes "\nmessage " ++ (octets_text message ++ codes "\n")))
+-- so many blocks and their message, line by line, with notes where it is noted
+abbrev pub joined_text : Bool → ℕ → List ℕ → List ℕ
+joined_text noted blocks message = codes "blocks " ++ (decimal blocks ++ (codes "\nmessage "
+    ++ (octets_text message ++ (where_noted noted (count_note (length message)) ++ codes "\n"))))
 
 -- a chain with these fields, line by line
-abbrev pub chain_text : List (List ℕ) → List ℕ
-chain_text fields = joined_text (length fields) (message_of fields)
+abbrev pub chain_text : Bool → List (List ℕ) → List ℕ
+chain_text noted fields = joined_text noted (length fields) (message_of fields)
 
 -- so many blocks and their message as members of an object
 abbrev pub joined_members : ℕ → List ℕ → List ℕ

@@ -1,5 +1,5 @@
 -- What the octets of a kind are to the program.
-use Rattle.std.specs.Prelude.{ℕ, List, Result, Ok, Err}
+use Rattle.std.specs.Prelude.{ℕ, List, Bool, Result, Ok, Err}
 use Rattle.octet_core.specs.Grammar.{Ending, Accepts, Refuses, RefusesUnlessMemory}
 use Rattle.octet_core.specs.declared.stop.Refused.{Refused}
 use Rattle.octet_core.specs.declared.stop.Stop.{Stop}
@@ -7,13 +7,13 @@ use Rattle.card_words.specs.declared.request.Layout.{Layout}
 use Rattle.card_words.specs.declared.request.Layout.TheVariants.{Lines, Json}
 
 -- where a value V ends, which octets spell it, why octets are refused, the names of these reasons R, the lines that a
--- value is shown by, and the members of an object of JSON that say it, each after a comma
+-- value is shown by, with notes or without, and the members of an object of JSON that say it, each after a comma
 pub record Codec (V R : Type 0) : Type 1 where
   pub ending : Ending
   pub Spells : V → List ℕ → Type 0
   pub IsReason : R → List ℕ → Type 0
   pub name : R → List ℕ
-  pub lines : V → List ℕ
+  pub lines : Bool → V → List ℕ
   pub members : V → List ℕ
 
 -- lines, or members of an object
@@ -21,9 +21,9 @@ abbrev pub said_by : Layout → List ℕ → List ℕ → List ℕ
 said_by Lines lines members = lines
 said_by Json lines members = members
 
--- a value as lines, or as members of an object
-abbrev pub said_in : {V R : Type 0} → Layout → Codec V R → V → List ℕ
-said_in layout c v = said_by layout (c.lines v) (c.members v)
+-- a value as lines, with notes where it is noted, or as members of an object
+abbrev pub said_in : {V R : Type 0} → Bool → Layout → Codec V R → V → List ℕ
+said_in noted layout c v = said_by layout (c.lines noted v) (c.members v)
 
 -- the first n octets of b spell v
 abbrev pub Takes : {V R : Type 0} → Codec V R → List ℕ → V → ℕ → Type 0

@@ -1,10 +1,12 @@
 -- What the program says of a command.
-use Rattle.std.specs.Prelude.{ℕ, List, ◌++◌, Option, Some, None, codes, decimal}
+use Rattle.std.specs.Prelude.{ℕ, List, ◌++◌, Bool, Option, Some, None, codes, decimal, length, slice_index}
 use Rattle.hex.specs.Hex.{encode_upper}
 use Rattle.apdu_core.specs.Command.{CommandParts, IsCommand, IsReason, le_of, part_of, shape_of}
 use Rattle.apdu_core.specs.declared.command.Shape.{Shape}
 use Rattle.apdu_core.specs.declared.command.Shape.TheVariants.{Empty, ShortLe, ShortPart, ShortBoth, LongLe, LongPart, LongBoth}
 pub use Rattle.apdu_core.specs.Names.{command_reason_name as reason_text}
+use Rattle.notes.specs.Noted.{where_noted}
+use Rattle.notes.specs.Says.{header_note, le_says, note_of, part_note}
 use Rattle.card_kinds.specs.Texts.{octets_text}
 use Rattle.octet_core.specs.Grammar.{whole}
 use Rattle.apdu_core.specs.declared.reason.CommandReason.{CommandReason}
@@ -25,12 +27,17 @@ abbrev pub le_or : List ℕ → Option ℕ → List ℕ
 le_or absent None = absent
 le_or absent (Some le) = decimal le
 
+-- the lines of the data field and of Le, with notes where they are noted
+abbrev pub body_text : Bool → CommandParts → List ℕ
+body_text noted c = codes "\npart " ++ (octets_text (part_of c.body)
+    ++ (where_noted noted (part_note (length (part_of c.body)))
+    ++ (codes "\nle " ++ (le_or (codes "none") (le_of c.body)
+    ++ (where_noted noted (note_of (le_says (le_of c.body))) ++ codes "\n")))))
+
 -- a command, line by line
-abbrev pub command_text : CommandParts → List ℕ
-command_text c =
-    shape_text (shape_of c.body) ++ (codes "\nheader "
-    ++ (encode_upper c.header ++ (codes "\npart "
-    ++ (octets_text (part_of c.body) ++ (codes "\nle " ++ (le_or (codes "none") (le_of c.body) ++ codes "\n"))))))
+abbrev pub command_text : Bool → CommandParts → List ℕ
+command_text noted c = shape_text (shape_of c.body) ++ (codes "\nheader " ++ (encode_upper c.header
+    ++ (where_noted noted (header_note (slice_index c.header 0) (slice_index c.header 1)) ++ body_text noted c)))
 
 -- the case that a shape is of, and its kind of length fields
 abbrev pub shape_members : Shape → List ℕ

@@ -1,5 +1,5 @@
 -- What the program says of a forest of data objects.
-use Rattle.std.specs.Prelude.{ℕ, List, [], ◌∷◌, ◌++◌, ◌+◌, ◌-◌, ◌==◌, length, codes, decimal, if◌then◌else◌}
+use Rattle.std.specs.Prelude.{ℕ, List, [], ◌∷◌, ◌++◌, ◌-◌, ◌==◌, length, Bool, codes, decimal, if◌then◌else◌}
 use Rattle.std.specs.List.{repeat}
 use Rattle.hex.specs.Hex.{encode_upper}
 use Rattle.tlv_core.specs.Tag.{constructed_bit, length_field}
@@ -8,6 +8,8 @@ use Rattle.tlv_core.specs.Tree.{Tree}
 use Rattle.tlv_core.specs.Forest.{largest, spelling, IsForest}
 use Rattle.tlv_core.specs.Tidy.{tidy}
 pub use Rattle.tlv_core.specs.Names.{reason_name as reason_text}
+use Rattle.notes.specs.Noted.{where_noted}
+use Rattle.notes.specs.Says.{header_place, object_note}
 use Rattle.card_kinds.specs.Texts.{octets_text}
 use Rattle.card_kinds.specs.Json.{with_item}
 use Rattle.octet_core.specs.Grammar.{whole}
@@ -23,23 +25,19 @@ tidied_text t = octets_text (spelling (tidy t)) ++ codes "\n"
 abbrev pub value_text : PartValue → List ℕ
 value_text p = if constructed_bit p.tag == 1 then codes "constructed" else octets_text p.value
 
--- an object, behind two spaces for each depth above 1
-abbrev pub part_text : PartValue → List ℕ
-part_text p = repeat (p.depth - 1) (codes "  ")
-    ++ (encode_upper p.tag ++ (codes " " ++
-    (encode_upper (length_field p.form (length p.value)) ++ (codes " " ++ (value_text p ++ codes "\n")))))
+-- an object, behind two spaces for each depth above 1, with its note where it is noted
+abbrev pub part_text : Bool → PartValue → List ℕ
+part_text noted p = repeat (p.depth - 1) (codes "  ")
+    ++ (encode_upper p.tag ++ (codes " " ++ (encode_upper (length_field p.form (length p.value)) ++ (codes " "
+    ++ (value_text p ++ (where_noted noted (object_note p) ++ codes "\n"))))))
 
-abbrev pub lines_text : List PartValue → List ℕ
-lines_text [] = []
-lines_text (p ∷ parts) = part_text p ++ lines_text parts
+abbrev pub lines_text : Bool → List PartValue → List ℕ
+lines_text noted [] = []
+lines_text noted (p ∷ parts) = part_text noted p ++ lines_text noted parts
 
 -- the count of objects, and each of them
-abbrev pub parts_text : List PartValue → List ℕ
-parts_text parts = codes "objects " ++ (decimal (length parts) ++ (codes "\n" ++ lines_text parts))
-
--- the place of the header of an object
-abbrev pub header_place : PartValue → ℕ
-header_place p = p.place - (length p.tag + length (length_field p.form (length p.value)))
+abbrev pub parts_text : Bool → List PartValue → List ℕ
+parts_text noted parts = codes "objects " ++ (decimal (length parts) ++ (codes "\n" ++ lines_text noted parts))
 
 -- that an object is constructed, or the octets of its value
 abbrev pub value_member : PartValue → List ℕ
@@ -77,8 +75,8 @@ abbrev pub forest_members : Tree → List ℕ
 forest_members t = parts_members (parts_of 1 0 t)
 
 -- the objects of a forest, each before those inside it
-abbrev pub forest_text : Tree → List ℕ
-forest_text t = parts_text (parts_of 1 0 t)
+abbrev pub forest_text : Bool → Tree → List ℕ
+forest_text noted t = parts_text noted (parts_of 1 0 t)
 
 abbrev pub forest_codec : Codec Tree TlvReason
 forest_codec = record {

@@ -10,4 +10,3 @@ pub mod ForestTexts
 pub mod ListTexts
 pub mod BlockTexts
 pub mod Verdicts
-pub mod Notes

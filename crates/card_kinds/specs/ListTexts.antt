@@ -1,7 +1,9 @@
 -- What the program says of a data object list.
-use Rattle.std.specs.Prelude.{ℕ, List, [], ◌∷◌, ◌++◌, length, codes, decimal}
+use Rattle.std.specs.Prelude.{ℕ, List, [], ◌∷◌, ◌++◌, length, Bool, codes, decimal}
 use Rattle.hex.specs.Hex.{encode_upper}
 pub use Rattle.tlv_core.specs.Names.{dol_reason_name as reason_text}
+use Rattle.notes.specs.Noted.{where_noted}
+use Rattle.notes.specs.Says.{list_note}
 use Rattle.card_kinds.specs.Texts.{octets_text}
 use Rattle.card_kinds.specs.Json.{with_item}
 use Rattle.octet_core.specs.Grammar.{whole}
@@ -17,9 +19,10 @@ abbrev pub entries_text : List (List ℕ × ℕ) → List ℕ
 entries_text [] = []
 entries_text (e ∷ entries) = entry_text e ++ entries_text entries
 
--- a list, line by line
-abbrev pub dol_text : List (List ℕ × ℕ) → List ℕ
-dol_text entries = codes "entries " ++ (decimal (length entries) ++ (codes "\n" ++ entries_text entries))
+-- a list, line by line, with a note where it is noted
+abbrev pub dol_text : Bool → List (List ℕ × ℕ) → List ℕ
+dol_text noted entries = codes "entries " ++ (decimal (length entries)
+    ++ (where_noted noted (list_note entries) ++ (codes "\n" ++ entries_text entries)))
 
 -- an entry as an object
 abbrev pub entry_object : List ℕ × ℕ → List ℕ

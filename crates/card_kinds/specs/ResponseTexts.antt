@@ -1,11 +1,13 @@
 -- What the program says of a response.
-use Rattle.std.specs.Prelude.{ℕ, List, [], ◌∷◌, ◌++◌, codes}
+use Rattle.std.specs.Prelude.{ℕ, List, [], ◌∷◌, ◌++◌, Bool, codes}
 use Rattle.hex.specs.Hex.{encode_upper}
 use Rattle.apdu_core.specs.Response.{ResponseParts, IsResponse, IsReason}
 pub use Rattle.apdu_core.specs.Names.{response_reason_name as reason_text}
 use Rattle.apdu_core.specs.Status.{class_of}
 use Rattle.apdu_core.specs.declared.status.StatusClass.{StatusClass}
 use Rattle.apdu_core.specs.declared.status.StatusClass.TheVariants.{Normal, Warning, Execution, Checking, Proprietary, Invalid}
+use Rattle.notes.specs.Noted.{where_noted}
+use Rattle.notes.specs.Says.{note_of, status_says}
 use Rattle.card_kinds.specs.Texts.{octets_text}
 use Rattle.octet_core.specs.Grammar.{whole}
 use Rattle.apdu_core.specs.declared.reason.ResponseReason.{ResponseReason}
@@ -22,12 +24,11 @@ name_of Invalid = codes "invalid"
 abbrev pub class_text : ℕ → ℕ → List ℕ
 class_text sw1 sw2 = name_of (class_of sw1 sw2)
 
--- a response, line by line
-abbrev pub response_text : ResponseParts → List ℕ
-response_text r =
-    codes "part " ++ (octets_text r.part ++
-    (codes "\nstatus " ++ (encode_upper (r.sw1 ∷ r.sw2 ∷ [])
-    ++ (codes " " ++ (class_text r.sw1 r.sw2 ++ codes "\n")))))
+-- a response, line by line, with notes where it is noted
+abbrev pub response_text : Bool → ResponseParts → List ℕ
+response_text noted r = codes "part " ++ (octets_text r.part ++ (codes "\nstatus "
+    ++ (encode_upper (r.sw1 ∷ r.sw2 ∷ []) ++ (codes " " ++ (class_text r.sw1 r.sw2
+    ++ (where_noted noted (note_of (status_says r.sw1 r.sw2)) ++ codes "\n"))))))
 
 -- two status bytes and their class as members of an object
 abbrev pub status_members : ℕ → ℕ → List ℕ

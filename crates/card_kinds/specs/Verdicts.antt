@@ -1,5 +1,5 @@
 -- What the program says of octets: the verdict on them as a text and a status.
-use Rattle.std.specs.Prelude.{◌≡◌, ◌++◌, ℕ, List, Result, Ok, Err, codes}
+use Rattle.std.specs.Prelude.{◌≡◌, ◌++◌, ℕ, List, Bool, true, false, Result, Ok, Err, codes}
 use Rattle.octet_core.specs.declared.stop.Stop.{Stop}
 use Rattle.octet_core.specs.Grammar.{whole, Refuses}
 use Rattle.card_kinds.specs.Texts.{accepted_text, duplicate_text, refused_text}
@@ -14,6 +14,7 @@ use Rattle.card_kinds.specs.ForestTexts.{forest_codec, tidied_text}
 use Rattle.card_kinds.specs.ListTexts.{list_codec, filled_text}
 use Rattle.card_kinds.specs.ListTexts as list_texts
 use Rattle.card_words.specs.Texts.{fault_text}
+use Rattle.notes.specs.Noted.{noted_line}
 use Rattle.tlv_core.specs.Dol.{IsDol, IsDolReason}
 use Rattle.tlv_core.specs.Fill.{filled, HasDuplicate}
 use Rattle.tlv_core.specs.declared.known.Known.{Known}
@@ -80,8 +81,8 @@ abbrev pub laid_out : Layout → Kind → List ℕ → ℕ → List ℕ
 laid_out Lines kind said n = said
 laid_out Json kind said n = object_line (kind_name kind) (accepted_members n ++ said)
 
-abbrev pub shown_in : {V R : Type 0} → Layout → Kind → Codec V R → V → ℕ → List ℕ
-shown_in layout kind c v n = laid_out layout kind (said_in layout c v) n
+abbrev pub shown_in : {V R : Type 0} → Bool → Layout → Kind → Codec V R → V → ℕ → List ℕ
+shown_in noted layout kind c v n = laid_out layout kind (said_in noted layout c v) n
 
 -- a refusal
 abbrev pub refused_in : {R : Type 0} → Layout → Kind → (R → List ℕ) → Stop R → List ℕ
@@ -92,16 +93,23 @@ refused_in Json kind name stop = object_line (kind_name kind) (refused_members n
 abbrev pub ChecksBy : {V R : Type 0} → Layout → Kind → Codec V R → List ℕ → List ℕ → Status → Type 0
 ChecksBy layout kind c b = TellsBy c (λ v n. accepted_in layout kind n) (refused_in layout kind c.name) b
 
--- the value itself
-abbrev pub ShowsBy : {V R : Type 0} → Layout → Kind → Codec V R → List ℕ → List ℕ → Status → Type 0
-ShowsBy layout kind c b = TellsBy c (shown_in layout kind c) (refused_in layout kind c.name) b
+-- the value itself, with notes on its lines where it is noted
+abbrev pub ShowsBy : {V R : Type 0} → Bool → Layout → Kind → Codec V R → List ℕ → List ℕ → Status → Type 0
+ShowsBy noted layout kind c b = TellsBy c (shown_in noted layout kind c) (refused_in layout kind c.name) b
+
+-- the value as lines with notes, or a refusal with these words as a note
+abbrev pub NotesBy : {V R : Type 0} → Codec V R → List ℕ → List ℕ → List ℕ → Status → Type 0
+NotesBy c words b = TellsBy c (λ v n. c.lines true v) (λ stop. noted_line (refused_text c.name stop) words) b
 
 -- and both by a kind
 abbrev pub Checks : Layout → Kind → Expected → List ℕ → List ℕ → Status → Type 0
 Checks layout kind expected b = ChecksBy layout kind (codec_of kind expected).codec b
 
+abbrev pub ShowsWhere : Bool → Layout → Kind → Expected → List ℕ → List ℕ → Status → Type 0
+ShowsWhere noted layout kind expected b = ShowsBy noted layout kind (codec_of kind expected).codec b
+
 abbrev pub Shows : Layout → Kind → Expected → List ℕ → List ℕ → Status → Type 0
-Shows layout kind expected b = ShowsBy layout kind (codec_of kind expected).codec b
+Shows layout kind expected b = ShowsWhere false layout kind expected b
 
 -- the forest in the fewest octets that say the same
 abbrev pub Tidies : List ℕ → List ℕ → Status → Type 0

@@ -6,11 +6,11 @@ ghost use Rattle.card_kinds.specs.AtrTexts.{atr_codec, atr_members, atr_text, co
 
 use crate::atr_lines::push_lines;
 use crate::atr_members::push_members;
-use crate::codec::{Codec, Outcome, on_line};
+use crate::codec::{Codec, Outcome};
 use crate::shown::{Showable, Shown};
 use atr_core::{Atr, AtrReason, Convention, check, decode};
 use card_words::{Expected, Layout};
-use notes::{atr_notes, atr_refusal_note};
+use notes::atr_refusal_note;
 use octet_core::Stop;
 use std::alloc::{AllocError, Global};
 
@@ -38,13 +38,13 @@ impl Codec for Atr {
         Ok(Shown::of(alloc, &atr, taken, expected.kind, layout, noted)?)
     }
 
-    fn refusal_notes(
+    fn refusal_note(
         alloc: Global,
         octets: &[u8],
         stop: Stop<AtrReason>,
         _expected: Expected,
-    ) -> Result<Vec<String>, AllocError> {
-        on_line(alloc, atr_refusal_note(alloc, octets, stop))
+    ) -> Result<String, AllocError> {
+        atr_refusal_note(alloc, octets, stop)
     }
 }
 
@@ -53,18 +53,12 @@ impl Showable for Atr {
 
     ghost members = { atr_members };
 
-    ghost are_notes = { λ _ _. Unit {0} };
-
-    fn push_lines(&self, _alloc: Global, text: &mut String) -> Result<(), AllocError> {
-        push_lines(text, self)
+    fn push_lines(&self, _alloc: Global, text: &mut String, noted: bool) -> Result<(), AllocError> {
+        push_lines(text, self, noted)
     }
 
     fn push_members(&self, alloc: Global, text: &mut String) -> Result<(), AllocError> {
         push_members(alloc, text, self)
-    }
-
-    fn notes(&self, alloc: Global) -> Result<Vec<String>, AllocError> {
-        atr_notes(alloc, self)
     }
 }
 

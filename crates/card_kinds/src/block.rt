@@ -1,16 +1,18 @@
 //! What the program says of a block.
 
-ghost use Rattle.std.specs.Prelude.{◌≡◌, ◌++◌, OnOk, refl, string_bytes};
-ghost use Rattle.block_core.specs.Block.{fault_code, front_of, number_bit, spelling, Parts};
+ghost use Rattle.std.specs.Prelude.{◌≡◌, ◌++◌, OnOk, refl, slice_index, string_bytes};
+ghost use Rattle.block_core.specs.Block.{fault_code, front_of, number_bit, pcb_octet, spelling, Parts};
+ghost use Rattle.notes.specs.Noted.{where_noted};
+ghost use Rattle.notes.specs.Says.{note_of, pcb_says};
 ghost use Rattle.octet_core.specs.Octets.{xor_of};
-ghost use Rattle.card_kinds.specs.BlockTexts.{block_codec, block_lines, lrc_members, more_number, pcb_object, pcb_text, supervisory_text};
+ghost use Rattle.card_kinds.specs.BlockTexts.{block_codec, block_lines, field_lines, lrc_members, more_number, pcb_object, pcb_text, rest_lines, supervisory_text};
 
-use crate::codec::{Codec, Outcome, on_line};
+use crate::codec::{Codec, Outcome};
 use crate::shown::{Showable, Shown};
 use crate::text::{push_hex, push_octet, push_word};
 use block_core::{Block, BlockReason, BlockRef, Fault, Number, Pcb, S};
 use card_words::{Expected, Layout};
-use notes::{block_notes, block_refusal_note};
+use notes::{block_refusal_note, lrc_note, nad_note, pcb_note, push_count_note, push_note};
 use octet_core::Stop;
 use std::alloc::{AllocError, Global};
 
@@ -41,13 +43,13 @@ impl Codec for Block {
         Ok(Shown::of(alloc, &checked, taken, expected.kind, layout, noted)?)
     }
 
-    fn refusal_notes(
+    fn refusal_note(
         alloc: Global,
         octets: &[u8],
         stop: Stop<BlockReason>,
         _expected: Expected,
-    ) -> Result<Vec<String>, AllocError> {
-        on_line(alloc, block_refusal_note(alloc, octets, stop))
+    ) -> Result<String, AllocError> {
+        block_refusal_note(alloc, octets, stop)
     }
 }
 
@@ -59,22 +61,16 @@ struct Checked<'a> {
 }
 
 impl Showable for Checked<'_> {
-    ghost lines = { λ checked. block_lines checked.block checked.lrc };
+    ghost lines = { λ noted checked. block_lines noted checked.block checked.lrc };
 
     ghost members = { λ checked. lrc_members checked.block checked.lrc };
 
-    ghost are_notes = { λ _ _. Unit {0} };
-
-    fn push_lines(&self, _alloc: Global, text: &mut String) -> Result<(), AllocError> {
-        push_lines(text, &self.block, self.lrc)
+    fn push_lines(&self, _alloc: Global, text: &mut String, noted: bool) -> Result<(), AllocError> {
+        push_lines(text, &self.block, self.lrc, noted)
     }
 
     fn push_members(&self, _alloc: Global, text: &mut String) -> Result<(), AllocError> {
         push_members(text, &self.block, self.lrc)
-    }
-
-    fn notes(&self, alloc: Global) -> Result<Vec<String>, AllocError> {
-        block_notes(alloc, &self.block)
     }
 }
 
@@ -86,20 +82,77 @@ fn last(block: &BlockRef<'_>, octets: &[u8]) -> u8
     octets[octets.len() - 1]
 }
 
-/// Adds a block, line by line: its node address, what it is, its information field and its LRC.
-fn push_lines(text: &mut String, block: &BlockRef<'_>, lrc: u8) -> Result<(), AllocError>
+/// Adds a block, line by line: its node address, what it is, its information field and its LRC, with notes where it is
+/// `noted`.
+fn push_lines(
+    text: &mut String,
+    block: &BlockRef<'_>,
+    lrc: u8,
+    noted: bool,
+) -> Result<(), AllocError>
     ensures { OnOk result (string_bytes text.new
-        ≡ string_bytes text.old ++ block_lines block.now lrc) }
+        ≡ string_bytes text.old ++ block_lines noted block.now lrc) }
 {
     text.push_str("nad ")?;
     push_octet(text, block.nad())?;
+    push_note(text, noted, nad_note(block.nad()))?;
+    push_field(text, block, lrc, noted)
+}
+
+/// Adds the lines of what a block is, of its information field and of its LRC.
+fn push_field(
+    text: &mut String,
+    block: &BlockRef<'_>,
+    lrc: u8,
+    noted: bool,
+) -> Result<(), AllocError>
+    ensures { OnOk result (string_bytes text.new
+        ≡ string_bytes text.old ++ field_lines noted block.now lrc) }
+{
+    let inf = block.inf();
     text.push_str("\npcb ")?;
     push_pcb(text, block.pcb())?;
+    push_pcb_note(text, block, noted)?;
+    push_rest(text, inf, lrc, noted)
+}
+
+/// Adds the note on what a block is, where it is `noted`.
+fn push_pcb_note(text: &mut String, block: &BlockRef<'_>, noted: bool) -> Result<(), AllocError>
+    ensures { OnOk result (string_bytes text.new ≡ string_bytes text.old ++ where_noted noted
+        (note_of (pcb_says (pcb_octet block.now.pcb) (slice_index block.now.inf 0)))) }
+{
+    if !noted {
+        return Ok(());
+    }
+    push_note(
+        text,
+        noted,
+        pcb_note(block.pcb().octet(), first(block.inf())),
+    )
+}
+
+/// Adds the lines of an information field and of an LRC.
+fn push_rest(text: &mut String, inf: &[u8], lrc: u8, noted: bool) -> Result<(), AllocError>
+    ensures { OnOk result (string_bytes text.new
+        ≡ string_bytes text.old ++ rest_lines noted inf.now lrc) }
+{
     text.push_str("\ninf ")?;
-    push_word(text, block.inf())?;
+    push_word(text, inf)?;
+    push_count_note(text, noted, inf.len())?;
     text.push_str("\nlrc ")?;
     push_octet(text, lrc)?;
+    push_note(text, noted, lrc_note())?;
     text.push_str("\n")
+}
+
+/// The first of some octets, or 0.
+fn first(octets: &[u8]) -> u8
+    ensures { result ≡ slice_index octets.now 0 }
+{
+    match octets {
+        [] => 0,
+        [first, ..] => *first,
+    }
 }
 
 /// Adds a block as members of an object.

@@ -8,13 +8,13 @@ ghost use Rattle.hex.specs.Hex.{encode_upper};
 ghost use Rattle.block_core.specs.Block.{spelling};
 ghost use Rattle.card_kinds.specs.ChainTexts.{blocks_text, chain_codec, joined_members, joined_text, longest_message, IsReceived};
 
-use crate::codec::{Codec, Outcome, on_line};
+use crate::codec::{Codec, Outcome};
 use crate::shown::{Showable, Shown};
 use crate::text::{push_hex, push_word};
 use block_core::{Block, Number, encode};
 use card_words::{Expected, Layout};
 use chain_core::{ChainReason, LONGEST_MESSAGE, Receiver, cut};
-use notes::{chain_notes, chain_refusal_note};
+use notes::{chain_refusal_note, push_count_note};
 use octet_core::{Refused, Stop};
 use std::alloc::{AllocError, Global};
 
@@ -44,15 +44,15 @@ impl Codec for Receiver {
         Ok(Shown::of(alloc, &joined, taken, expected.kind, layout, noted)?)
     }
 
-    fn refusal_notes(
+    fn refusal_note(
         alloc: Global,
         octets: &[u8],
         stop: Stop<ChainReason>,
         expected: Expected,
-    ) -> Result<Vec<String>, AllocError> {
+    ) -> Result<String, AllocError> {
         match expected.ifs {
-            ifs @ 1..=254 => on_line(alloc, chain_refusal_note(alloc, octets, stop, ifs)),
-            _ => Ok(Vec::new(alloc)),
+            ifs @ 1..=254 => chain_refusal_note(alloc, octets, stop, ifs),
+            _ => Ok(String::new(alloc)),
         }
     }
 }
@@ -65,15 +65,14 @@ struct Joined<'a> {
 }
 
 impl Showable for Joined<'_> {
-    ghost lines = { λ joined. joined_text joined.blocks joined.message.now };
+    ghost lines = { λ noted joined. joined_text noted joined.blocks joined.message.now };
 
     ghost members = { λ joined. joined_members joined.blocks joined.message.now };
 
-    ghost are_notes = { λ _ _. Unit {0} };
-
-    fn push_lines(&self, _alloc: Global, text: &mut String) -> Result<(), AllocError> {
+    fn push_lines(&self, _alloc: Global, text: &mut String, noted: bool) -> Result<(), AllocError> {
         write!(text, "blocks {}\nmessage ", self.blocks)?;
         push_word(text, self.message)?;
+        push_count_note(text, noted, self.message.len())?;
         text.push_str("\n")
     }
 
@@ -81,10 +80,6 @@ impl Showable for Joined<'_> {
         write!(text, ",\"blocks\":{},\"message\":\"", self.blocks)?;
         push_hex(text, self.message)?;
         text.push_str("\"")
-    }
-
-    fn notes(&self, alloc: Global) -> Result<Vec<String>, AllocError> {
-        chain_notes(alloc, self.message)
     }
 }
 

@@ -1,6 +1,6 @@
 //! The codecs of the kinds, and what the program says of octets by each.
 
-ghost use Rattle.std.specs.Prelude.{◌≡◌, ◌≤◌, ℕ, IfOk, IfErr, length, string_bytes};
+ghost use Rattle.std.specs.Prelude.{◌≡◌, ◌≤◌, ℕ, false, IfOk, IfErr, string_bytes};
 ghost use Rattle.card_words.specs.declared.request.Expected.{Expected as AnyExpected};
 ghost use Rattle.card_kinds.specs.Verdicts.{ChecksBy, ShowsBy, shown_in};
 ghost use Rattle.card_kinds.specs.Codec.{Codec as AnyCodec, IsVerdict, StopsUnlessMemory, Takes};
@@ -22,8 +22,8 @@ pub type Verdict<R> = Result<usize, Stop<R>>;
 pub struct Judged<R> {
     pub answer: Answer,
     pub verdict: Verdict<R>,
-    /// Where they are asked for, the notes on the lines of the answer.
-    pub notes: Vec<String>,
+    /// The words of a note on the line of a refusal, where one is asked for and there are some.
+    pub note: String,
 }
 
 /// The codec of a kind of octets.
@@ -44,7 +44,7 @@ pub trait Codec {
         ensures found { IfOk result (λ n. (v : Value) × Takes (codec expected) octets.now v n) }
         ensures refused { IfErr result (StopsUnlessMemory (codec expected) octets.now) };
 
-    /// The value as lines, or as the line of an object of JSON, and the notes on its lines where it is `noted`.
+    /// The value as lines, with notes where it is `noted`, or as the line of an object of JSON.
     fn shown(
         alloc: Global,
         octets: &[u8],
@@ -56,16 +56,17 @@ pub trait Codec {
         requires most { expected.ifs ≤ 254 }
         ensures found { IfOk result
             (λ x. (v : Value) × Takes (codec expected) octets.now v x.taken
-            × (string_bytes x.text ≡ shown_in layout expected.kind (codec expected) v x.taken)) }
+            × (string_bytes x.text ≡ shown_in noted layout expected.kind (codec expected) v
+            x.taken)) }
         ensures refused { IfErr result (StopsUnlessMemory (codec expected) octets.now) };
 
-    /// The note on the line of a refusal, if there is one.
-    fn refusal_notes(
+    /// The words of a note on the line of a refusal, if there are some.
+    fn refusal_note(
         alloc: Global,
         octets: &[u8],
         stop: Stop<Self::Reason>,
         expected: Expected,
-    ) -> Result<Vec<String>, AllocError>;
+    ) -> Result<String, AllocError>;
 
     /// A reason is called by its name.
     ghost named: { (expected : AnyExpected) → (codec expected).name ≡ Self.Reason.text };
@@ -91,7 +92,7 @@ pub fn check_with_verdict<C: Codec>(
             Ok(Judged {
                 answer,
                 verdict: Ok(taken),
-                notes: Vec::new(alloc),
+                note: String::new(alloc),
             })
         }
         Err(Refused::Stop(stop)) => {
@@ -99,15 +100,15 @@ pub fn check_with_verdict<C: Codec>(
             Ok(Judged {
                 answer,
                 verdict: Err(stop),
-                notes: Vec::new(alloc),
+                note: String::new(alloc),
             })
         }
         Err(Refused::Memory) => Err(AllocError),
     }
 }
 
-/// What `show` says of octets, and the verdict on them, with the notes on its lines where it is `noted`. The octets are
-/// decoded once.
+/// What `show` says of octets, and the verdict on them, where it is `noted` with notes on the lines of a value and the
+/// words of a note on that of a refusal. The octets are decoded once.
 pub fn show_with_verdict<C: Codec>(
     alloc: Global,
     layout: Layout,
@@ -117,53 +118,43 @@ pub fn show_with_verdict<C: Codec>(
 ) -> Result<Judged<C::Reason>, AllocError>
     requires least { 1 ≤ expected.ifs }
     requires most { expected.ifs ≤ 254 }
-    ensures told { IfOk result (λ judged. ShowsBy layout expected.kind (C.codec expected)
+    ensures told { IfOk result (λ judged. ShowsBy noted layout expected.kind (C.codec expected)
         octets.now judged.answer.text judged.answer.status) }
     ensures verdict { IfOk result (λ judged.
         IsVerdict (C.codec expected) octets.now judged.verdict) }
 {
     match C::shown(alloc, octets, expected, layout, noted) {
-        Ok(Shown { text, taken, notes }) => Ok(Judged {
+        Ok(Shown { text, taken }) => Ok(Judged {
             answer: Answer::told(text),
             verdict: Ok(taken),
-            notes,
+            note: String::new(alloc),
         }),
         Err(Refused::Stop(stop)) => {
-            let notes = refusal_notes::<C>(alloc, noted, octets, stop, expected)?;
+            let note = refusal_note::<C>(alloc, noted, octets, stop, expected)?;
             let answer = Answer::refused_in(alloc, layout, expected.kind, stop)?;
             Ok(Judged {
                 answer,
                 verdict: Err(stop),
-                notes,
+                note,
             })
         }
         Err(Refused::Memory) => Err(AllocError),
     }
 }
 
-/// The note on the line of a refusal, if there is one and it is asked for.
-fn refusal_notes<C: Codec>(
+/// The words of a note on the line of a refusal, where it is asked for.
+fn refusal_note<C: Codec>(
     alloc: Global,
     noted: bool,
     octets: &[u8],
     stop: Stop<C::Reason>,
     expected: Expected,
-) -> Result<Vec<String>, AllocError> {
+) -> Result<String, AllocError> {
     if noted {
-        C::refusal_notes(alloc, octets, stop, expected)
+        C::refusal_note(alloc, octets, stop, expected)
     } else {
-        Ok(Vec::new(alloc))
+        Ok(String::new(alloc))
     }
-}
-
-/// The note on a text of one line.
-pub(crate) fn on_line(
-    alloc: Global,
-    note: Result<String, AllocError>,
-) -> Result<Vec<String>, AllocError>
-    ensures { IfOk result (λ notes. length notes.items ≡ 1) }
-{
-    Ok(vec![in alloc; note?]?)
 }
 
 /// How many octets the value takes.
@@ -191,8 +182,8 @@ pub(crate) fn show<C: Codec>(
 ) -> Result<Answer, AllocError>
     requires least { 1 ≤ expected.ifs }
     requires most { expected.ifs ≤ 254 }
-    ensures { IfOk result (λ answer. ShowsBy layout expected.kind (C.codec expected) octets.now
-        answer.text answer.status) }
+    ensures { IfOk result (λ answer. ShowsBy false layout expected.kind (C.codec expected)
+        octets.now answer.text answer.status) }
 {
     let judged = show_with_verdict::<C>(alloc, layout, false, octets, expected)?;
     Ok(judged.answer)

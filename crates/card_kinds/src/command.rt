@@ -2,14 +2,14 @@
 
 ghost use Rattle.std.specs.Prelude.{◌≡◌, ◌++◌, OnOk, refl, string_bytes};
 ghost use Rattle.apdu_core.specs.Command.{CommandParts};
-ghost use Rattle.card_kinds.specs.CommandTexts.{command_codec, command_members, command_text, le_or, shape_members, shape_text};
+ghost use Rattle.card_kinds.specs.CommandTexts.{body_text, command_codec, command_members, command_text, le_or, shape_members, shape_text};
 
 use crate::codec::{Codec, Outcome};
 use crate::shown::{Showable, Shown};
 use crate::text::{push_hex, push_word};
 use apdu_core::{Command, CommandReason, CommandRef, Shape};
 use card_words::{Expected, Layout};
-use notes::command_notes;
+use notes::{le_note, push_header_note, push_note, push_part_note};
 use octet_core::Stop;
 use std::alloc::{AllocError, Global};
 
@@ -38,13 +38,13 @@ impl Codec for Command {
         Ok(Shown::of(alloc, &command, octets.len(), expected.kind, layout, noted)?)
     }
 
-    fn refusal_notes(
+    fn refusal_note(
         alloc: Global,
         _octets: &[u8],
         _stop: Stop<CommandReason>,
         _expected: Expected,
-    ) -> Result<Vec<String>, AllocError> {
-        Ok(Vec::new(alloc))
+    ) -> Result<String, AllocError> {
+        Ok(String::new(alloc))
     }
 }
 
@@ -53,33 +53,40 @@ impl Showable for CommandRef<'_> {
 
     ghost members = { command_members };
 
-    ghost are_notes = { λ _ _. Unit {0} };
-
-    fn push_lines(&self, _alloc: Global, text: &mut String) -> Result<(), AllocError> {
-        push_lines(text, self)
+    fn push_lines(&self, _alloc: Global, text: &mut String, noted: bool) -> Result<(), AllocError> {
+        push_lines(text, self, noted)
     }
 
     fn push_members(&self, _alloc: Global, text: &mut String) -> Result<(), AllocError> {
         push_members(text, self)
     }
-
-    fn notes(&self, alloc: Global) -> Result<Vec<String>, AllocError> {
-        command_notes(alloc, self)
-    }
 }
 
-/// Adds a command, line by line: its case, its header, its data field and Le.
-fn push_lines(text: &mut String, command: &CommandRef<'_>) -> Result<(), AllocError>
+/// Adds a command, line by line: its case, its header, its data field and Le, with notes where it is `noted`.
+fn push_lines(text: &mut String, command: &CommandRef<'_>, noted: bool) -> Result<(), AllocError>
     ensures { OnOk result (string_bytes text.new
-        ≡ string_bytes text.old ++ command_text command.now) }
+        ≡ string_bytes text.old ++ command_text noted command.now) }
 {
+    let header = command.header();
     text.push_str(shape_name(command.shape()))?;
     text.push_str("\nheader ")?;
-    push_hex(text, &command.header())?;
+    push_hex(text, &header)?;
+    push_header_note(text, noted, header[0], header[1])?;
+    push_body(text, command, noted)
+}
+
+/// Adds the lines of the data field and of Le.
+fn push_body(text: &mut String, command: &CommandRef<'_>, noted: bool) -> Result<(), AllocError>
+    ensures { OnOk result (string_bytes text.new
+        ≡ string_bytes text.old ++ body_text noted command.now) }
+{
+    let part = command.part();
     text.push_str("\npart ")?;
-    push_word(text, command.part())?;
+    push_word(text, part)?;
+    push_part_note(text, noted, part.len())?;
     text.push_str("\nle ")?;
     push_le(text, command.le(), "none")?;
+    push_note(text, noted, le_note(command.le()))?;
     text.push_str("\n")
 }
 

@@ -8,16 +8,17 @@ ghost use Rattle.tlv_core.specs.Reasons.{IsReason};
 ghost use Rattle.tlv_core.specs.Flat.{part_seen};
 ghost use Rattle.card_kinds.specs.Codec.{IsVerdict};
 ghost use Rattle.card_kinds.specs.Verdicts.{Tells};
-ghost use Rattle.card_kinds.specs.ForestTexts.{forest_codec, header_members, header_place, lines_text, objects_head, part_object, part_text, parts_members, parts_text, place_members, tidied_text, value_member, value_text, with_objects};
+ghost use Rattle.card_kinds.specs.ForestTexts.{forest_codec, header_members, lines_text, objects_head, part_object, part_text, parts_members, parts_text, place_members, tidied_text, value_member, value_text, with_objects};
+ghost use Rattle.notes.specs.Says.{header_place};
 ghost use Rattle.card_kinds.specs.Json.{with_item};
 
 use crate::answer::Answer;
-use crate::codec::{Codec, Judged, Outcome, on_line};
+use crate::codec::{Codec, Judged, Outcome};
 use crate::json::push_separator;
 use crate::shown::{Showable, Shown};
 use crate::text::{octets_word, push_hex, push_word};
 use card_words::{Expected, Layout};
-use notes::{forest_notes, forest_refusal_note};
+use notes::{forest_refusal_note, push_object_note};
 use octet_core::{Refused, Stop};
 use std::alloc::{AllocError, Global};
 use tlv_core::{FlatForest, Forest, ForestCheck, LARGEST_FOREST, Part, TlvReason, decode, encode};
@@ -47,16 +48,13 @@ impl Codec for Forest {
         Ok(Shown::of(alloc, &forest, octets.len(), expected.kind, layout, noted)?)
     }
 
-    fn refusal_notes(
+    fn refusal_note(
         alloc: Global,
         octets: &[u8],
         stop: Stop<TlvReason>,
         _expected: Expected,
-    ) -> Result<Vec<String>, AllocError> {
-        on_line(
-            alloc,
-            forest_refusal_note(alloc, octets, stop, LARGEST_FOREST),
-        )
+    ) -> Result<String, AllocError> {
+        forest_refusal_note(alloc, octets, stop, LARGEST_FOREST)
     }
 }
 
@@ -65,18 +63,12 @@ impl Showable for FlatForest<'_> {
 
     ghost members = { parts_members };
 
-    ghost are_notes = { λ _ _. Unit {0} };
-
-    fn push_lines(&self, alloc: Global, text: &mut String) -> Result<(), AllocError> {
-        push_lines(alloc, text, self.parts())
+    fn push_lines(&self, alloc: Global, text: &mut String, noted: bool) -> Result<(), AllocError> {
+        push_lines(alloc, text, self.parts(), noted)
     }
 
     fn push_members(&self, alloc: Global, text: &mut String) -> Result<(), AllocError> {
         push_members(alloc, text, self.parts())
-    }
-
-    fn notes(&self, alloc: Global) -> Result<Vec<String>, AllocError> {
-        forest_notes(alloc, self.parts())
     }
 }
 
@@ -99,14 +91,14 @@ pub fn tidy_with_verdict(alloc: Global, octets: &[u8]) -> Result<Judged<TlvReaso
         Ok(forest) => Ok(Judged {
             answer: Answer::told(tidied(alloc, &forest)?),
             verdict: Ok(octets.len()),
-            notes: Vec::new(alloc),
+            note: String::new(alloc),
         }),
         Err(Refused::Stop(stop)) => {
             let answer = Answer::refused(alloc, stop)?;
             Ok(Judged {
                 answer,
                 verdict: Err(stop),
-                notes: Vec::new(alloc),
+                note: String::new(alloc),
             })
         }
         Err(Refused::Memory) => Err(AllocError),
@@ -229,29 +221,44 @@ fn push_value_member(text: &mut String, part: &Part<'_>) -> Result<(), AllocErro
     }
 }
 
-/// Adds the count of objects, and each of them.
-fn push_lines(alloc: Global, text: &mut String, parts: &[Part<'_>]) -> Result<(), AllocError>
+/// Adds the count of objects, and each of them, with notes where they are `noted`.
+fn push_lines(
+    alloc: Global,
+    text: &mut String,
+    parts: &[Part<'_>],
+    noted: bool,
+) -> Result<(), AllocError>
     ensures { OnOk result (string_bytes text.new
-        ≡ string_bytes text.old ++ parts_text (map part_seen parts.now)) }
+        ≡ string_bytes text.old ++ parts_text noted (map part_seen parts.now)) }
 {
     write!(text, "objects {}\n", parts.len())?;
-    push_parts(alloc, text, parts)
+    push_parts(alloc, text, parts, noted)
 }
 
-fn push_parts(alloc: Global, text: &mut String, parts: &[Part<'_>]) -> Result<(), AllocError>
+fn push_parts(
+    alloc: Global,
+    text: &mut String,
+    parts: &[Part<'_>],
+    noted: bool,
+) -> Result<(), AllocError>
     ensures { OnOk result (string_bytes text.new
-        ≡ string_bytes text.old ++ lines_text (map part_seen parts.now)) }
+        ≡ string_bytes text.old ++ lines_text noted (map part_seen parts.now)) }
 {
     for part in parts {
-        push_part(alloc, text, part)?;
+        push_part(alloc, text, part, noted)?;
     }
     Ok(())
 }
 
 /// Adds an object, after two spaces for each depth above 1: its tag, its length field and its value.
-fn push_part(alloc: Global, text: &mut String, part: &Part<'_>) -> Result<(), AllocError>
+fn push_part(
+    alloc: Global,
+    text: &mut String,
+    part: &Part<'_>,
+    noted: bool,
+) -> Result<(), AllocError>
     ensures { OnOk result (string_bytes text.new
-        ≡ string_bytes text.old ++ part_text (part_seen part.now)) }
+        ≡ string_bytes text.old ++ part_text noted (part_seen part.now)) }
 {
     let indent = "  ".repeat(alloc, part.depth.saturating_sub(1))?;
     text.push_str(indent.as_str())?;
@@ -260,6 +267,7 @@ fn push_part(alloc: Global, text: &mut String, part: &Part<'_>) -> Result<(), Al
     push_hex(text, part.length_field().as_slice())?;
     text.push_str(" ")?;
     push_value(text, part)?;
+    push_object_note(text, noted, part)?;
     text.push_str("\n")
 }
 

@@ -13,7 +13,7 @@ use crate::json::push_separator;
 use crate::shown::{Showable, Shown};
 use crate::text::{octets_word, push_hex};
 use card_words::{Expected, Fault, Knowns, Layout};
-use notes::dol_notes;
+use notes::push_list_note;
 use octet_core::{Refused, Stop};
 use std::alloc::{AllocError, Global};
 use tlv_core::{Dol, DolReason, FillFault, Tag};
@@ -43,13 +43,13 @@ impl Codec for Dol {
         Ok(Shown::of(alloc, &dol, octets.len(), expected.kind, layout, noted)?)
     }
 
-    fn refusal_notes(
+    fn refusal_note(
         alloc: Global,
         _octets: &[u8],
         _stop: Stop<DolReason>,
         _expected: Expected,
-    ) -> Result<Vec<String>, AllocError> {
-        Ok(Vec::new(alloc))
+    ) -> Result<String, AllocError> {
+        Ok(String::new(alloc))
     }
 }
 
@@ -58,18 +58,12 @@ impl Showable for Dol {
 
     ghost members = { dol_members };
 
-    ghost are_notes = { λ _ _. Unit {0} };
-
-    fn push_lines(&self, _alloc: Global, text: &mut String) -> Result<(), AllocError> {
-        push_lines(text, self.entries())
+    fn push_lines(&self, _alloc: Global, text: &mut String, noted: bool) -> Result<(), AllocError> {
+        push_lines(text, self.entries(), noted)
     }
 
     fn push_members(&self, alloc: Global, text: &mut String) -> Result<(), AllocError> {
         push_members(alloc, text, self.entries())
-    }
-
-    fn notes(&self, alloc: Global) -> Result<Vec<String>, AllocError> {
-        dol_notes(alloc, self)
     }
 }
 
@@ -100,14 +94,14 @@ pub fn fill_with_verdict(
         Ok(dol) => Ok(Judged {
             answer: fill_by(alloc, &dol, known)?,
             verdict: Ok(octets.len()),
-            notes: Vec::new(alloc),
+            note: String::new(alloc),
         }),
         Err(Refused::Stop(stop)) => {
             let answer = Answer::refused(alloc, stop)?;
             Ok(Judged {
                 answer,
                 verdict: Err(stop),
-                notes: Vec::new(alloc),
+                note: String::new(alloc),
             })
         }
         Err(Refused::Memory) => Err(AllocError),
@@ -183,11 +177,15 @@ fn push_object(text: &mut String, tag: &Tag, length: u8) -> Result<(), AllocErro
     write!(text, "\",\"length\":{length}}}")
 }
 
-/// Adds a list, line by line: the count of its entries, and the tag and the length of each.
-fn push_lines(text: &mut String, entries: &[(Tag, u8)]) -> Result<(), AllocError>
-    ensures { OnOk result (string_bytes text.new ≡ string_bytes text.old ++ dol_text entries.now) }
+/// Adds a list, line by line: the count of its entries, with a note where it is `noted`, and the tag and the length of
+/// each.
+fn push_lines(text: &mut String, entries: &[(Tag, u8)], noted: bool) -> Result<(), AllocError>
+    ensures { OnOk result (string_bytes text.new
+        ≡ string_bytes text.old ++ dol_text noted entries.now) }
 {
-    write!(text, "entries {}\n", entries.len())?;
+    write!(text, "entries {}", entries.len())?;
+    push_list_note(text, noted, entries)?;
+    text.push_str("\n")?;
     push_entries(text, entries)
 }
 

@@ -9,7 +9,7 @@ use crate::shown::{Showable, Shown};
 use crate::text::{push_hex, push_word};
 use apdu_core::{Response, ResponseReason, ResponseRef, StatusClass, status_class};
 use card_words::{Expected, Layout};
-use notes::response_notes;
+use notes::push_status_note;
 use octet_core::Stop;
 use std::alloc::{AllocError, Global};
 
@@ -38,13 +38,13 @@ impl Codec for Response {
         Ok(Shown::of(alloc, &response, octets.len(), expected.kind, layout, noted)?)
     }
 
-    fn refusal_notes(
+    fn refusal_note(
         alloc: Global,
         _octets: &[u8],
         _stop: Stop<ResponseReason>,
         _expected: Expected,
-    ) -> Result<Vec<String>, AllocError> {
-        Ok(Vec::new(alloc))
+    ) -> Result<String, AllocError> {
+        Ok(String::new(alloc))
     }
 }
 
@@ -53,25 +53,19 @@ impl Showable for ResponseRef<'_> {
 
     ghost members = { response_members };
 
-    ghost are_notes = { λ _ _. Unit {0} };
-
-    fn push_lines(&self, _alloc: Global, text: &mut String) -> Result<(), AllocError> {
-        push_lines(text, self)
+    fn push_lines(&self, _alloc: Global, text: &mut String, noted: bool) -> Result<(), AllocError> {
+        push_lines(text, self, noted)
     }
 
     fn push_members(&self, _alloc: Global, text: &mut String) -> Result<(), AllocError> {
         push_members(text, self)
     }
-
-    fn notes(&self, alloc: Global) -> Result<Vec<String>, AllocError> {
-        response_notes(alloc, self)
-    }
 }
 
-/// Adds a response, line by line: its data field, its status bytes and their class.
-fn push_lines(text: &mut String, response: &ResponseRef<'_>) -> Result<(), AllocError>
+/// Adds a response, line by line: its data field, its status bytes and their class, with a note where it is `noted`.
+fn push_lines(text: &mut String, response: &ResponseRef<'_>, noted: bool) -> Result<(), AllocError>
     ensures { OnOk result (string_bytes text.new
-        ≡ string_bytes text.old ++ response_text response.now) }
+        ≡ string_bytes text.old ++ response_text noted response.now) }
 {
     let sw1 = response.sw1();
     let sw2 = response.sw2();
@@ -81,6 +75,7 @@ fn push_lines(text: &mut String, response: &ResponseRef<'_>) -> Result<(), Alloc
     push_hex(text, &[sw1, sw2])?;
     text.push_str(" ")?;
     text.push_str(class_name(sw1, sw2))?;
+    push_status_note(text, noted, sw1, sw2)?;
     text.push_str("\n")
 }
 

@@ -12,7 +12,7 @@ use Rattle.card_tool.proofs.Simulations.{simulated-once, lines-once}
 use Rattle.card_tool.specs.SimulationTexts.{SimulatesLines}
 use Rattle.card_tool.specs.Answers.{answer_text, line_text, plain_aim, plain_asked, plain_request, plain_task, plain_text, plain_told, AreLinesTold, IsAnswerAsked, IsAnswerTo, IsLineTold, IsTold, IsToldOf, Tells}
 use Rattle.card_kinds.specs.Verdicts.{Shows, Tidies}
-use Rattle.card_tool.proofs.Annotating.{none-noted}
+use Rattle.card_tool.proofs.Annotating.{some-noted}
 use Rattle.notes.proofs.Cutting.{cut-apart}
 use Rattle.notes.specs.Noted.{without_notes}
 use Rattle.card_words.specs.Texts.{fault_text}
@@ -163,63 +163,59 @@ one-asked (Lines task) file sized octets as_read =
 
 -- ---- with notes
 
--- what is told without notes is right with them too, where none is put
+-- what is told without notes is told with them too
 noted-too : (aim : Aim) (how : Layout) (expected : Expected) (b text : List ℕ) (ended : Status)
-    → Tells (plain_aim aim) how expected b text ended → Tells aim how expected b text ended
-noted-too Check how expected b text ended h = h
-noted-too Show how expected b text ended h = h
-noted-too Note layout.Lines expected b text ended h = none-noted expected b text ended h
-noted-too Note layout.Json expected b text ended h = h
+    → Tells (plain_aim aim) how expected b text ended → (t : List ℕ) × Tells aim how expected b t ended
+noted-too Check how expected b text ended h = (text, h)
+noted-too Show how expected b text ended h = (text, h)
+noted-too Note layout.Lines expected b text ended h = some-noted expected b text ended h
+noted-too Note layout.Json expected b text ended h = (text, h)
 
 told-too : (task : Task) (r : Result (List ℕ) Fault) (text : List ℕ) (ended : Status)
-    → IsToldOf (IsTold (plain_task task)) r text ended → IsToldOf (IsTold task) r text ended
+    → IsToldOf (IsTold (plain_task task)) r text ended → (t : List ℕ) × IsToldOf (IsTold task) r t ended
 told-too task (Ok b) text ended h = noted-too task.aim task.layout task.expected b text ended h
-told-too task (Err fault) text ended h = h
-
-same-line : (aim : Aim) (how : Layout) (kind : Kind) (ended : Status) (told : List ℕ)
-    → line_text (plain_aim aim) how kind ended told ≡ line_text aim how kind ended told
-same-line Check how kind ended told = refl
-same-line Show how kind ended told = refl
-same-line Note layout.Lines kind ended told = refl
-same-line Note layout.Json kind ended told = refl
+told-too task (Err fault) text ended h = (text, h)
 
 line-too : (task : Task) (line text : List ℕ) (ended : Status) → IsLineTold (plain_task task) line text ended
-    → IsLineTold task line text ended
-line-too task line text ended h = record {
-  told = h.told;
-  is_told = told-too task (line_octets line) h.told ended h.is_told;
-  is_text = h.is_text ∙ same-line task.aim task.layout task.expected.kind ended h.told;
-}
+    → (t : List ℕ) × IsLineTold task line t ended
+line-too task line text ended h =
+    let told = told-too task (line_octets line) h.told ended h.is_told in
+    (answer_text task ended told.0, record { told = told.0; is_told = told.1; is_text = refl })
 
 lines-too : (task : Task) (lines : List (List ℕ)) (text : List ℕ) (ended : Status)
-    → AreLinesTold (plain_task task) lines text ended → AreLinesTold task lines text ended
-lines-too task [] text ended h = h
-lines-too task (line ∷ lines) text ended h = record {
-  first = h.first;
-  one = h.one;
-  more = h.more;
-  others = h.others;
-  is_first = line-too task line h.first h.one h.is_first;
-  is_more = lines-too task lines h.more h.others h.is_more;
-  is_text = h.is_text;
-  is_ended = h.is_ended;
-}
+    → AreLinesTold (plain_task task) lines text ended → (t : List ℕ) × AreLinesTold task lines t ended
+lines-too task [] text ended h = (text, h)
+lines-too task (line ∷ lines) text ended h =
+    let first = line-too task line h.first h.one h.is_first in
+    let more = lines-too task lines h.more h.others h.is_more in (
+      first.0 ++ more.0,
+      record {
+        first = first.0;
+        one = h.one;
+        more = more.0;
+        others = h.others;
+        is_first = first.1;
+        is_more = more.1;
+        is_text = refl;
+        is_ended = h.is_ended;
+      },
+    )
 
 asked-too : (asked : Asked) (file : Result (List ℕ) Fault) (text : List ℕ) (ended : Status)
-    → IsAnswerAsked (plain_asked asked) file text ended → IsAnswerAsked asked file text ended
+    → IsAnswerAsked (plain_asked asked) file text ended → (t : List ℕ) × IsAnswerAsked asked file t ended
 asked-too (Once (Tell task given)) file text ended h = told-too task (octets_given given file) text ended h
-asked-too (Once (BuildChain ifs number message)) file text ended h = h
-asked-too (Once (BuildTidy given)) file text ended h = h
-asked-too (Once (BuildFill list known)) file text ended h = h
-asked-too (Once (File task)) file text ended h = h
-asked-too (Once (Record atr)) file text ended h = h
-asked-too (Once (Judge atr judging)) file text ended h = h
-asked-too (Once (Simulate session)) file text ended h = h
-asked-too (Once (SimulateLines session)) file text ended h = h
-asked-too (Once (Help help)) file text ended h = h
-asked-too (Once Version) file text ended h = h
+asked-too (Once (BuildChain ifs number message)) file text ended h = (text, h)
+asked-too (Once (BuildTidy given)) file text ended h = (text, h)
+asked-too (Once (BuildFill list known)) file text ended h = (text, h)
+asked-too (Once (File task)) file text ended h = (text, h)
+asked-too (Once (Record atr)) file text ended h = (text, h)
+asked-too (Once (Judge atr judging)) file text ended h = (text, h)
+asked-too (Once (Simulate session)) file text ended h = (text, h)
+asked-too (Once (SimulateLines session)) file text ended h = (text, h)
+asked-too (Once (Help help)) file text ended h = (text, h)
+asked-too (Once Version) file text ended h = (text, h)
 asked-too (Lines task) (Ok b) text ended h = lines-too task (all_lines b) text ended h
-asked-too (Lines task) (Err fault) text ended h = h
+asked-too (Lines task) (Err fault) text ended h = (text, h)
 
 -- ---- cut at the notes
 
@@ -321,4 +317,5 @@ pub some-asked : (asked : Asked) (file : Result (List ℕ) Fault) → AreSized a
     → (IsOnce NeedsOctets asked → IfOk file AreOctets) → (t : List ℕ) × (s : Status) × IsAnswerAsked asked file t s
 some-asked asked file sized octets as_read =
     let plain = (one-asked asked file sized octets as_read).some in
-    (plain.0, plain.1, asked-too asked file plain.0 plain.1 plain.2)
+    let noted = asked-too asked file plain.0 plain.1 plain.2 in
+    (noted.0, plain.1, noted.1)

@@ -2,7 +2,7 @@
 use Rattle.std.specs.Prelude.{◌≡◌, ◌<◌, ◌++◌, ℕ, ◌⊎◌, List, Option, codes, drop, length, take, Result, Err, MatchResult}
 use Rattle.std.specs.Io.KnownBytes.{Appends}
 use Rattle.octet_core.specs.Failures.{HasFailed}
-use Rattle.card_kinds.specs.Verdicts.{Checks, Shows, Tidies, IsFilled, kind_name}
+use Rattle.card_kinds.specs.Verdicts.{Checks, NotesBy, Shows, Tidies, IsFilled, codec_of, kind_name}
 use Rattle.chain_core.specs.Chain.{chain_blocks}
 use Rattle.card_kinds.specs.ChainTexts.{blocks_text}
 use Rattle.card_words.specs.Texts.{fault_text}
@@ -42,9 +42,11 @@ abbrev pub IsToldOf : (List ℕ → List ℕ → Status → Type 0) → Result (
 IsToldOf Told octets text ended = MatchResult octets (λ b. Told b text ended)
     (λ fault. (text ≡ fault_text fault) × (ended ≡ status.Fault))
 
--- The value with notes after its lines, or a refusal with one. Cut at its notes the text is what `show` says without
--- them, and a fault has none. Which words the notes have is open.
+-- The value with the notes on its lines, or a refusal with some words as a note. Cut at its notes the text is what `show`
+-- says without them, and a fault has none. Which words a refusal has is open.
 pub record ShowsNoted (kind : Kind) (expected : Expected) (b text : List ℕ) (ended : Status) : Type 0 where
+  pub words : List ℕ
+  pub has_notes : NotesBy (codec_of kind expected).codec words b text ended
   pub plain : List ℕ
   pub is_shown : Shows layout.Lines kind expected b plain ended
   pub is_noted : IsNoted plain text

@@ -3,7 +3,7 @@
 ghost use Rattle.std.specs.Prelude.{◌≡◌, ◌≤◌, ◌++◌, [], IfOk, IsOkAnd, string_bytes};
 ghost use Rattle.card_kinds.specs.Codec.{IsVerdict};
 ghost use Rattle.card_kinds.specs.ListTexts.{list_codec};
-ghost use Rattle.card_kinds.specs.Verdicts.{Checks, ChecksBy, IsFilled, Shows, ShowsBy, Tidies};
+ghost use Rattle.card_kinds.specs.Verdicts.{Checks, ChecksBy, IsFilled, ShowsBy, ShowsWhere, Tidies};
 ghost use Rattle.card_tool.specs.Answers.{IsTold, ShowsNoted, Tells};
 ghost use Rattle.card_words.specs.declared.request.Aim.TheVariants as aim;
 ghost use Rattle.card_tool.specs.Explained.{said_of, IsFillNote};
@@ -11,7 +11,7 @@ ghost use Rattle.explainer.specs.Notes.{least_of, verdict_text};
 ghost use Rattle.card_tool.specs.Judged.{AreOf, IsForestNote, IsKindNote, IsNoteBy, SaysIf};
 ghost use Rattle.card_words.specs.declared.request.Layout.TheVariants as layout;
 
-use crate::annotated::{annotated, notes_on};
+use crate::annotated::{annotated, words_on};
 use crate::telling::Telling;
 use apdu_core::{Command, Response};
 use atr_core::Atr;
@@ -33,11 +33,11 @@ pub(crate) struct WithNote {
     pub(crate) note: Result<String, AllocError>,
 }
 
-/// An answer with what is to be said after its text, and the notes on its lines, an empty one on a line without any.
+/// An answer with what is to be said after its text, and the words of a note on the line of a refusal.
 #[derive(Drop)]
 struct Annotatable {
     said: WithNote,
-    notes: Vec<String>,
+    words: String,
 }
 
 impl WithNote {
@@ -119,9 +119,9 @@ fn noted_value(alloc: Global, telling: Telling, octets: &[u8]) -> Result<WithNot
         octets.now)
         (SaysIf telling.explains (IsKindNote telling.task.expected.kind telling.task.expected octets.now))) }
 {
-    let Annotatable { said, notes } = shown(alloc, telling, true, octets)?;
+    let Annotatable { said, words } = shown(alloc, telling, true, octets)?;
     let WithNote { answer, note } = said;
-    let answer = annotated(alloc, answer, notes.as_slice())?;
+    let answer = annotated(alloc, answer, words.as_str())?;
     Ok(WithNote { answer, note })
 }
 
@@ -144,7 +144,7 @@ fn checked(alloc: Global, telling: Telling, octets: &[u8]) -> Result<WithNote, A
     }
 }
 
-/// The value itself with a note where it is asked for, and the notes on its lines where it is `noted`.
+/// The value itself, with notes on its lines where it is `noted`, and a note where it is asked for.
 fn shown(
     alloc: Global,
     telling: Telling,
@@ -154,7 +154,8 @@ fn shown(
     requires least { 1 ≤ telling.task.expected.ifs }
     requires most { telling.task.expected.ifs ≤ 254 }
     ensures { IfOk result (λ made. AreOf
-        (Shows telling.task.layout telling.task.expected.kind telling.task.expected octets.now)
+        (ShowsWhere noted telling.task.layout telling.task.expected.kind telling.task.expected
+        octets.now)
         (SaysIf telling.explains (IsKindNote telling.task.expected.kind telling.task.expected octets.now))
         made.said) }
 {
@@ -198,8 +199,8 @@ where
     Ok(WithNote { answer, note })
 }
 
-/// The value of a codec with a note where it is asked for, and the notes on its lines where it is `noted`. The octets
-/// are decoded once.
+/// The value of a codec, with notes on its lines where it is `noted`, and a note where it is asked for. The octets are
+/// decoded once.
 fn shown_by<C: Codec>(
     alloc: Global,
     telling: Telling,
@@ -210,8 +211,8 @@ where
     C::Reason: Explained,
     requires least { 1 ≤ telling.task.expected.ifs }
     requires most { telling.task.expected.ifs ≤ 254 }
-    ensures { IfOk result (λ made. AreOf (ShowsBy telling.task.layout telling.task.expected.kind
-        (C.codec telling.task.expected) octets.now)
+    ensures { IfOk result (λ made. AreOf (ShowsBy noted telling.task.layout
+        telling.task.expected.kind (C.codec telling.task.expected) octets.now)
         (SaysIf telling.explains (IsNoteBy (C.codec telling.task.expected) C.Reason.says
         (least_of telling.task.expected.kind octets.now) octets.now)) made.said) }
 {
@@ -223,13 +224,13 @@ where
     let Judged {
         answer,
         verdict,
-        notes,
+        note: words,
     } = show_with_verdict::<C>(alloc, layout, noted, octets, expected)?;
     let note = asked_note(alloc, telling.explains, expected.kind, octets, verdict);
-    let notes = notes_on(alloc, verdict, least_wanting(expected.kind, octets), notes)?;
+    let words = words_on(alloc, noted, expected.kind, octets, verdict, words)?;
     Ok(Annotatable {
         said: WithNote { answer, note },
-        notes,
+        words,
     })
 }
 

@@ -1,10 +1,16 @@
--- How a text with notes is made, one octet after another.
-use Rattle.std.proofs.Common.{◌≡◌, ◌∙◌, ◌<◌, ◌+◌, ◌++◌, ℕ, List, [], ◌∷◌, ap, append_assoc, refl, sym, take, length, get_or}
-use Rattle.std.proofs.lemmas.List.{take_more}
-use Rattle.notes.specs.Noted.{IsAdded, IsNote, IsNoted, mark, note}
+-- Texts with notes in a row.
+use Rattle.std.proofs.Common.{◌≡◌, ◌∙◌, ◌++◌, ℕ, List, [], ◌∷◌, Option, ap, append_assoc, refl}
+use Rattle.notes.specs.Noted.{IsAdded, IsNoted}
+use Rattle.notes.specs.Says.{NoteText, note_of, said, words_marked}
+use Rattle.notes.proofs.Cutting.{noted-by-none}
+
+-- the note of words and a number is that of what they are
+pub as-said : (before : List ℕ) (number : Option ℕ) (after : List ℕ) (says : NoteText) → said before number after ≡ says
+    → words_marked before number after ≡ note_of says
+as-said before number after says is = ap note_of is
 
 -- two texts with notes in a row are one
-pub noted-append : (a b s t : List ℕ) → IsNoted a s → IsNoted b t → IsNoted (a ++ b) (s ++ t)
+noted-append : (a b s t : List ℕ) → IsNoted a s → IsNoted b t → IsNoted (a ++ b) (s ++ t)
 noted-append [] b s t h g = rw h g
 noted-append (x ∷ a) b s t h g = (
   h.0,
@@ -14,21 +20,19 @@ noted-append (x ∷ a) b s t h g = (
   noted-append a b h.1 t h.4 g,
 )
 
--- one octet more
-pub noted-one : (plain text longer added : List ℕ) (x i : ℕ) → i < length plain → x ≡ get_or plain i 0
-    → IsNoted (take i plain) text → IsAdded x added → longer ≡ text ++ (added ++ (x ∷ []))
-    → IsNoted (take (i + 1) plain) longer
-noted-one plain text longer added x i inside is h adds e =
-    let more : take (i + 1) plain ≡ take i plain ++ (x ∷ []) =
-    take_more plain i 0 inside ∙ ap (λ (y : ℕ). take i plain ++ (y ∷ [])) (sym is) in
-    rw (more, e) (noted-append (take i plain) (x ∷ []) text (added ++ (x ∷ [])) h (added, [], adds, refl, refl))
+-- the same as a word of its own
+pub record HasNotes (plain noted : List ℕ) : Type 0 where
+  pub is : IsNoted plain noted
 
--- a line end with a note
-pub note-added : (text marked with_note longer said : List ℕ) → marked ≡ text ++ mark → with_note ≡ marked ++ said
-    → IsNote said → longer ≡ with_note ++ (10 ∷ [])
-    → (added : List ℕ) × IsAdded 10 added × (longer ≡ text ++ (added ++ (10 ∷ [])))
-note-added text marked with_note longer said marks says is_note is = (
-  mark ++ said,
-  note said refl is_note refl,
-  is ∙ rw (says, marks) (append_assoc (text ++ mark) said (10 ∷ []) ∙ append_assoc text mark (said ++ (10 ∷ []))),
-)
+pub same : (a : List ℕ) → HasNotes a a
+same a = record { is = noted-by-none a }
+
+-- octets before a text, and a line end with a note before it
+pub same-then : (a s t : List ℕ) → HasNotes s t → HasNotes (a ++ s) (a ++ t)
+same-then a s t h = record { is = noted-append a s a t (noted-by-none a) h.is }
+
+pub end-then : (added s t : List ℕ) → IsAdded 10 added → HasNotes s t → HasNotes (10 ∷ s) (added ++ (10 ∷ t))
+end-then added s t h g = record { is = (added, t, h, refl, g.is) }
+
+pub in-row : (a b s t : List ℕ) → HasNotes a s → HasNotes b t → HasNotes (a ++ b) (s ++ t)
+in-row a b s t h g = record { is = noted-append a b s t h.is g.is }

@@ -1,9 +1,20 @@
 -- Lines with notes, and how the notes are cut off again.
-use Rattle.std.specs.Prelude.{◌≡◌, ◌≢◌, ◌==◌, ◌++◌, ℕ, List, [], ◌∷◌, All, codes, Bool, true, false, if◌then◌else◌}
+use Rattle.std.specs.Prelude.{◌≡◌, ◌≢◌, ◌==◌, ◌++◌, ◌-◌, not, ℕ, List, [], ◌∷◌, All, codes, drop, length, take, Bool, true, false, if◌then◌else◌}
+use Rattle.std.specs.List.{list_all}
 
 -- what begins a note
 abbrev pub mark : List ℕ
 mark = codes "  # "
+
+-- words as a note: none where they are empty
+abbrev pub marked : List ℕ → List ℕ
+marked [] = []
+marked (x ∷ words) = mark ++ (x ∷ words)
+
+-- a note, where notes are asked for
+abbrev pub where_noted : Bool → List ℕ → List ℕ
+where_noted true note = note
+where_noted false note = []
 
 -- a note has no line end
 abbrev pub IsNote : List ℕ → Type 0
@@ -19,6 +30,14 @@ abbrev pub IsNoted : List ℕ → List ℕ → Type 0
 IsNoted [] noted = noted ≡ []
 IsNoted (x ∷ plain) noted =
     (added : List ℕ) × (more : List ℕ) × IsAdded x added × (noted ≡ added ++ (x ∷ more)) × IsNoted plain more
+
+-- words without a line end
+abbrev pub kept : List ℕ → List ℕ
+kept words = if list_all (λ x. not (x == 10)) words then words else []
+
+-- a line with words as a note before its end, its last octet
+abbrev pub noted_line : List ℕ → List ℕ → List ℕ
+noted_line line words = take (length line - 1) line ++ (marked (kept words) ++ drop (length line - 1) line)
 
 -- a text without a number sign
 abbrev pub LacksSign : List ℕ → Type 0

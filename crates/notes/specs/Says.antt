@@ -1,6 +1,12 @@
 -- What octets say in words, by the tables of the standards.
-use Rattle.std.specs.Prelude.{◌==◌, ◌||◌, ◌&&◌, ◌+◌, ◌-◌, ◌*◌, ◌/◌, ◌%◌, nat_le, ℕ, List, [], ◌∷◌, ◌++◌, length, codes, decimal, Option, Some, None, Bool, if◌then◌else◌}
+use Rattle.std.specs.Prelude.{◌==◌, ◌||◌, ◌&&◌, ◌+◌, ◌-◌, ◌*◌, ◌/◌, ◌%◌, ◌^◌, min, nat_le, ℕ, List, [], ◌∷◌, ◌++◌, length, slice_index, codes, decimal, Option, Some, None, Result, Ok, Err, Bool, if◌then◌else◌}
 use Rattle.std.specs.List.{list_all}
+use Rattle.atr_core.specs.T1.{T1Values}
+use Rattle.atr_core.specs.declared.atr.Indicated.{Indicated}
+use Rattle.atr_core.specs.declared.params.ParamFault.{ParamFault}
+use Rattle.tlv_core.specs.Flat.{PartValue}
+use Rattle.tlv_core.specs.Tag.{constructed_bit, length_field}
+use Rattle.notes.specs.Noted.{mark, marked}
 use Rattle.notes.specs.Tables.{instructions, statuses}
 
 -- words, a number after them, if any, and the words after that
@@ -16,6 +22,14 @@ said before number after = record { before = before; number = number; after = af
 abbrev pub note_text : List ℕ → Option ℕ → List ℕ → List ℕ
 note_text before None after = before
 note_text before (Some number) after = before ++ (decimal number ++ after)
+
+-- the note of them: none where there are neither words nor a number
+abbrev pub words_marked : List ℕ → Option ℕ → List ℕ → List ℕ
+words_marked before None after = marked before
+words_marked before (Some number) after = mark ++ (before ++ (decimal number ++ after))
+
+abbrev pub note_of : NoteText → List ℕ
+note_of said = words_marked said.before said.number said.after
 
 -- words alone
 abbrev pub words : List ℕ → NoteText
@@ -61,6 +75,26 @@ instruction_says class instruction =
     then codes "invalid instruction"
     else if is_standard class then named (λ row. row.0 == instruction) (λ row. row.1) instructions
     else []
+
+-- the name of an instruction before what its class says
+abbrev pub name_then : List ℕ → List ℕ
+name_then [] = []
+name_then (x ∷ name) = (x ∷ name) ++ codes ", "
+
+abbrev pub header_note : ℕ → ℕ → List ℕ
+header_note class instruction = mark ++ (name_then (instruction_says class instruction)
+    ++ note_text (class_says class).before (class_says class).number (class_says class).after)
+
+-- a data field of so many octets
+abbrev pub part_note : ℕ → List ℕ
+part_note len = if len == 0 then [] else mark ++ (codes "Lc " ++ decimal len)
+
+-- Le
+abbrev pub le_says : Option ℕ → NoteText
+le_says None = words []
+le_says (Some le) =
+    if le == 1 then words (codes "at most 1 octet of response data")
+    else said (codes "at most ") (Some le) (codes " octets of response data")
 
 -- ---- responses (ISO/IEC 7816-4:2005, 5.1.3)
 
@@ -123,6 +157,10 @@ pcb_says pcb first =
     then said (codes "another error, asks for block ") (Some (pcb / 16 % 2)) (codes " again")
     else supervisory_says pcb first
 
+-- an LRC
+abbrev pub lrc_says : NoteText
+lrc_says = words (codes "exclusive-or of the octets before it")
+
 -- ---- answers to reset (ISO/IEC 7816-3, 8.2.3 and 8.3)
 
 -- the protocol that a TD indicates
@@ -133,6 +171,37 @@ td_says protocol =
 -- TA2
 abbrev pub mode_says : ℕ → NoteText
 mode_says ta2 = said (codes "specific mode, T=") (Some (ta2 % 16)) []
+
+-- a TA by its number
+abbrev pub ta_says : ℕ → ℕ → NoteText
+ta_says number ta = if number == 2 then mode_says ta else words []
+
+abbrev pub tck_says : Option ℕ → NoteText
+tck_says None = words []
+tck_says (Some tck) = words (codes "exclusive-or of T0 to TCK is 00")
+
+-- the parameters of T=1, and the TDs
+abbrev pub t1_says : Result T1Values ParamFault → List Indicated → NoteText
+t1_says (Ok values) indicated = words (codes "error detection by LRC")
+t1_says (Err fault) indicated = if length indicated == 0 then words (codes "offers only T=0") else words []
+
+-- ---- numbers of octets
+
+abbrev pub counted : ℕ → List ℕ
+counted n = if n == 1 then codes "1 octet" else decimal n ++ codes " octets"
+
+-- the note on so many: none on none
+abbrev pub count_note : ℕ → List ℕ
+count_note n = if n == 0 then [] else mark ++ counted n
+
+-- how many octets the entries of a list ask for, at most 2 ^ 64 - 1, where the ones before ask for so many
+abbrev pub asked_from : ℕ → List (List ℕ × ℕ) → ℕ
+asked_from before [] = before
+asked_from before (entry ∷ entries) =
+    asked_from (min (before + entry.1) (2 ^ 64 - 1)) entries
+
+abbrev pub list_note : List (List ℕ × ℕ) → List ℕ
+list_note entries = mark ++ (codes "asks for " ++ counted (asked_from 0 entries))
 
 -- ---- data objects (ISO/IEC 7816-4:2005, 5.2.2.1)
 
@@ -152,3 +221,29 @@ is_printable c = nat_le 0x20 c && nat_le c 0x7E
 -- octets that are shown as text too
 abbrev pub is_text : List ℕ → Bool
 is_text octets = nat_le 1 (length octets) && nat_le (length octets) 40 && list_all is_printable octets
+
+abbrev pub quoted : List ℕ → List ℕ
+quoted octets = codes "\"" ++ (octets ++ codes "\"")
+
+-- the note on octets that are text
+abbrev pub text_note : List ℕ → List ℕ
+text_note octets = if is_text octets then mark ++ quoted octets else []
+
+-- ---- objects of a forest
+
+-- the place of the header
+abbrev pub header_place : PartValue → ℕ
+header_place p = p.place - (length p.tag + length (length_field p.form (length p.value)))
+
+-- the value as text, if it is one, after what parts it from the class
+abbrev pub value_quoted : PartValue → List ℕ
+value_quoted p =
+    if constructed_bit p.tag == 1 then [] else if is_text p.value then codes ", " ++ quoted p.value else []
+
+-- how many octets the value has, its class, and its text
+abbrev pub value_note : PartValue → List ℕ
+value_note p = counted (length p.value) ++ (codes ", " ++ (tag_says (slice_index p.tag 0) ++ value_quoted p))
+
+abbrev pub object_note : PartValue → List ℕ
+object_note p = mark ++ (codes "at " ++ (decimal (header_place p) ++ (codes ", value at "
+    ++ (decimal p.place ++ (codes ", " ++ value_note p)))))

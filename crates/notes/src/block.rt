@@ -1,24 +1,15 @@
 //! Notes on blocks.
 
-ghost use Rattle.std.specs.Prelude.{◌≡◌, IfOk, length};
-ghost use Rattle.notes.specs.Says.{nad_says, pcb_says, said, supervisory_says, target};
+ghost use Rattle.std.specs.Prelude.{◌≡◌};
+ghost use Rattle.notes.specs.Says.{lrc_says, nad_says, pcb_says, said, supervisory_says, target};
 
 use crate::note::Note;
-use crate::text::some_counted;
-use block_core::BlockRef;
-use std::alloc::{AllocError, Global};
 
-/// The notes of a block, one a line: the addresses in its NAD where it has some, what its PCB says (ISO/IEC 7816-3,
-/// 11.3.2.1 and 11.3.2.2), how many octets its field has, and what its LRC is.
-pub fn block_notes(alloc: Global, block: &BlockRef) -> Result<Vec<String>, AllocError>
-    ensures { IfOk result (λ notes. length notes.items ≡ 4) }
+/// What an LRC is.
+pub fn lrc_note() -> Note
+    ensures { said result.before.now result.number result.after.now ≡ lrc_says }
 {
-    let nad = nad_note(block.nad()).text(alloc)?;
-    let first = block.inf().first().copied().unwrap_or(0);
-    let pcb = pcb_note(block.pcb().octet(), first).text(alloc)?;
-    let inf = some_counted(alloc, block.inf().len())?;
-    let lrc = String::from_str(alloc, "exclusive-or of the octets before it")?;
-    Ok(vec![in alloc; nad, pcb, inf, lrc]?)
+    Note::of("exclusive-or of the octets before it")
 }
 
 /// The addresses of a block, where NAD has some (ISO/IEC 7816-3, 11.3.2.1): from which to which.

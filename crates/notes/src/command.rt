@@ -1,12 +1,13 @@
 //! Notes on commands.
 
-ghost use Rattle.std.specs.Prelude.{◌≡◌, ◌==◌, IfOk, length};
-ghost use Rattle.notes.specs.Says.{chained, class_says, instruction_says, named, said, secured};
+ghost use Rattle.std.specs.Prelude.{◌≡◌, ◌==◌, ◌++◌, OnOk, string_bytes};
+ghost use Rattle.notes.specs.Noted.{where_noted};
+ghost use Rattle.notes.specs.Says.{chained, class_says, header_note, instruction_says, le_says, name_then, named, note_text, part_note, said, secured};
 ghost use Rattle.notes.specs.Tables.{instructions};
 
-use crate::note::Note;
-use apdu_core::CommandRef;
-use std::alloc::{AllocError, Global};
+use crate::joining::MARK;
+use crate::note::{Note, push_text};
+use std::alloc::AllocError;
 
 /// What instruction codes say (ISO/IEC 7816-4:2005, 5.1.2, table 4.2).
 const INSTRUCTIONS: [(u8, &str); 51] = [
@@ -63,26 +64,42 @@ const INSTRUCTIONS: [(u8, &str); 51] = [
     (0xFE, "TERMINATE CARD USAGE"),
 ];
 
-/// The notes of a command, one a line: its class and instruction, how many octets its data field has, and how many an
-/// answer may have.
-pub fn command_notes(alloc: Global, command: &CommandRef<'_>) -> Result<Vec<String>, AllocError>
-    ensures { IfOk result (λ notes. length notes.items ≡ 4) }
+/// Adds the note on a header, where it is `noted`: the instruction by its name, where it has one in this class, and the
+/// class in words.
+pub fn push_header_note(
+    text: &mut String,
+    noted: bool,
+    class: u8,
+    instruction: u8,
+) -> Result<(), AllocError>
+    ensures { OnOk result (string_bytes text.new ≡ string_bytes text.old
+        ++ where_noted noted (header_note class instruction)) }
 {
-    let [class, instruction, ..] = command.header();
-    let case = String::new(alloc);
-    let header = header_note(alloc, class, instruction)?;
-    let part = part_note(alloc, command.part().len())?;
-    let le = le_note(alloc, command.le())?;
-    Ok(vec![in alloc; case, header, part, le]?)
+    if !noted {
+        return Ok(());
+    }
+    text.push_str(MARK)?;
+    push_name(text, instruction_name(class, instruction))?;
+    push_class(text, class)
 }
 
-/// The instruction by its name, where it has one in this class, and the class in words.
-fn header_note(alloc: Global, class: u8, instruction: u8) -> Result<String, AllocError> {
-    let class_says = class_note(class).text(alloc)?;
-    match instruction_name(class, instruction) {
-        "" => Ok(class_says),
-        name => format!(in alloc; "{name}, {class_says}"),
+/// Adds a name, and what parts it from what comes after it.
+fn push_name(text: &mut String, name: &str) -> Result<(), AllocError>
+    ensures { OnOk result (string_bytes text.new ≡ string_bytes text.old ++ name_then name.now) }
+{
+    if name.is_empty() {
+        return Ok(());
     }
+    text.push_str(name)?;
+    text.push_str(", ")
+}
+
+/// Adds a class in words.
+fn push_class(text: &mut String, class: u8) -> Result<(), AllocError>
+    ensures { OnOk result (string_bytes text.new ≡ string_bytes text.old
+        ++ note_text (class_says class).before (class_says class).number (class_says class).after) }
+{
+    push_text(text, class_note(class))
 }
 
 /// A class in words (ISO/IEC 7816-4:2005, 5.1.1, tables 2 and 3): its secure messaging, its channel, and whether more
@@ -157,17 +174,31 @@ fn named(rows: &'static [(u8, &'static str)], instruction: u8) -> &'static str
     ""
 }
 
-fn part_note(alloc: Global, len: usize) -> Result<String, AllocError> {
-    if len == 0 {
-        return Ok(String::new(alloc));
+/// Adds the note on a data field, where it is `noted` and has octets: how many.
+pub fn push_part_note(text: &mut String, noted: bool, len: usize) -> Result<(), AllocError>
+    ensures { OnOk result (string_bytes text.new ≡ string_bytes text.old
+        ++ where_noted noted (part_note len)) }
+{
+    if !noted {
+        return Ok(());
     }
-    format!(in alloc; "Lc {len}")
+    match len {
+        0 => Ok(()),
+        _ => write!(text, "  # Lc {len}"),
+    }
 }
 
-fn le_note(alloc: Global, le: Option<u32>) -> Result<String, AllocError> {
+/// How many octets an answer may have by Le.
+pub fn le_note(le: Option<u32>) -> Note
+    ensures { said result.before.now result.number result.after.now ≡ le_says le }
+{
     match le {
-        Some(1) => String::from_str(alloc, "at most 1 octet of response data"),
-        Some(le) => format!(in alloc; "at most {le} octets of response data"),
-        None => Ok(String::new(alloc)),
+        Some(1) => Note::of("at most 1 octet of response data"),
+        Some(_) => Note {
+            before: "at most ",
+            number: le,
+            after: " octets of response data",
+        },
+        None => Note::of(""),
     }
 }

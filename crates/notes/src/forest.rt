@@ -1,31 +1,53 @@
 //! Notes on data objects.
 
-ghost use Rattle.std.specs.Prelude.{◌≡◌, ℕ, ◌-◌, ◌+◌, length};
+ghost use Rattle.std.specs.Prelude.{◌≡◌, ℕ, ◌-◌, ◌+◌, ◌++◌, OnOk, length, string_bytes};
+ghost use Rattle.tlv_core.specs.Flat.{part_seen};
 ghost use Rattle.tlv_core.specs.Tag.{length_field};
-ghost use Rattle.notes.specs.Says.{tag_says};
+ghost use Rattle.notes.specs.Noted.{where_noted};
+ghost use Rattle.notes.specs.Says.{object_note, tag_says, value_note, value_quoted};
 
-use crate::text::{octets_counted, quoted};
-use std::alloc::{AllocError, Global};
+use crate::text::{as_text, push_counted};
+use std::alloc::AllocError;
 use tlv_core::{Form, Part, Tag};
 
-/// The notes of data objects, one a line: of their count none; of each the places of its header and of its value, how
-/// many octets that has, its class, and its value as text where it is one (ISO/IEC 7816-4:2005, 5.2.2).
-pub fn forest_notes(alloc: Global, parts: &[Part<'_>]) -> Result<Vec<String>, AllocError> {
-    let mut notes = Vec::new(alloc);
-    notes.push(String::new(alloc))?;
-    for part in parts {
-        notes.push(part_note(alloc, part)?)?;
+/// Adds the note on a data object, where it is `noted`: the places of its header and of its value, how many octets that
+/// has, its class, and its value as text where it is one (ISO/IEC 7816-4:2005, 5.2.2).
+pub fn push_object_note(text: &mut String, noted: bool, part: &Part<'_>) -> Result<(), AllocError>
+    ensures { OnOk result (string_bytes text.new ≡ string_bytes text.old
+        ++ where_noted noted (object_note (part_seen part.now))) }
+{
+    if !noted {
+        return Ok(());
     }
-    Ok(notes)
-}
-
-fn part_note(alloc: Global, part: &Part<'_>) -> Result<String, AllocError> {
-    let count = octets_counted(alloc, part.value.len())?;
-    let class = class_name(part.tag.octets().first().copied().unwrap_or(0));
-    let text = text_note(alloc, part)?;
     let place = part.place;
     let header = header_at(part.tag, part.form, place);
-    format!(in alloc; "at {header}, value at {place}, {count}, {class}{text}")
+    write!(text, "  # at {header}, value at {place}, ")?;
+    push_value(text, part)
+}
+
+/// Adds how many octets the value of an object has, its class, and its value as text where it is one.
+fn push_value(text: &mut String, part: &Part<'_>) -> Result<(), AllocError>
+    ensures { OnOk result (string_bytes text.new ≡ string_bytes text.old
+        ++ value_note (part_seen part.now)) }
+{
+    push_counted(text, part.value.len())?;
+    text.push_str(", ")?;
+    text.push_str(class_name(part.tag.octets()[0]))?;
+    push_quoted(text, part)
+}
+
+/// Adds the value of an object as text, after what parts it from the class.
+fn push_quoted(text: &mut String, part: &Part<'_>) -> Result<(), AllocError>
+    ensures { OnOk result (string_bytes text.new ≡ string_bytes text.old
+        ++ value_quoted (part_seen part.now)) }
+{
+    if part.tag.is_constructed() {
+        return Ok(());
+    }
+    match as_text(part.value) {
+        Some(words) => write!(text, ", \"{words}\""),
+        None => Ok(()),
+    }
 }
 
 /// The place of the header of an object, whose value is at this place.
@@ -33,15 +55,6 @@ pub(crate) fn header_at(tag: Tag, form: Form, place: usize) -> usize
     ensures { (len : ℕ) → result ≡ place - (length tag + length (length_field form len)) }
 {
     place.saturating_sub(tag.octets().len() + form.octets())
-}
-
-/// The value as text, after what parts it from the class.
-fn text_note(alloc: Global, part: &Part<'_>) -> Result<String, AllocError> {
-    let text = quoted(alloc, part.value)?;
-    if part.tag.is_constructed() || text.is_empty() {
-        return Ok(String::new(alloc));
-    }
-    format!(in alloc; ", {text}")
 }
 
 /// The class of a tag by its first octet (ISO/IEC 7816-4:2005, 5.2.2.1).

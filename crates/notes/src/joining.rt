@@ -1,55 +1,52 @@
-//! Lines with notes.
+//! A line with a note.
 
-ghost use Rattle.std.specs.Prelude.{◌≡◌, ◌++◌, ◌∷◌, [], ℕ, List, IfOk, OnOk, IsTrue};
-ghost use Rattle.notes.specs.Noted.{IsAdded, IsNote, IsNoted};
+ghost use Rattle.std.specs.Prelude.{◌≡◌, ◌≢◌, ◌==◌, ◌++◌, not, [], IfOk, OnOk};
+ghost use Rattle.std.specs.List.{list_all};
+ghost use Rattle.notes.specs.Noted.{kept, mark, marked, noted_line};
 
 use octet_core::Octets;
 use std::alloc::{AllocError, Global};
 
 /// What parts a line and its note.
-const MARK: &[u8] = b"  # ";
+pub(crate) const MARK: &str = "  # ";
 
-/// The text with notes: the first after the first line, and so on. An empty note is none, and one with a line end is
-/// left out, as are those of lines that the text doesn't have.
-pub fn noted(alloc: Global, plain: &[u8], notes: &[String]) -> Result<Octets, AllocError>
-    ensures { IfOk result (λ text. IsNoted plain.now text) }
+/// A line with words as a note before its end. No words are no note, and words with a line end are left out.
+pub fn noted_line(alloc: Global, line: &[u8], words: &str) -> Result<Octets, AllocError>
+    ensures { IfOk result (λ text. text ≡ noted_line line.now words.now) }
 {
+    let end = line.len().saturating_sub(1);
     let mut text = Vec::new(alloc);
-    let mut notes = notes.iter();
-    for octet in plain {
-        let note = if *octet == b'\n' { notes.next() } else { None };
-        add_octet(&mut text, note, *octet)?;
-    }
+    text.extend_from_slice(&line[..end])?;
+    push_kept(&mut text, words.as_bytes())?;
+    text.extend_from_slice(&line[end..])?;
     Ok(Octets::of(text))
 }
 
-/// Adds an octet to a text, and where it ends a line the note before it.
-fn add_octet(text: &mut Vec<u8>, note: Option<&String>, octet: u8) -> Result<(), AllocError>
-    ensures { OnOk result ((added : List ℕ) × IsAdded octet added
-        × (text.new.items ≡ text.old.items ++ (added ++ (octet ∷ [])))) }
+/// Adds words without a line end as a note.
+fn push_kept(text: &mut Vec<u8>, words: &[u8]) -> Result<(), AllocError>
+    ensures { OnOk result (text.new.items ≡ text.old.items ++ marked (kept words.now)) }
 {
-    match note {
-        Some(note) if octet == b'\n' => add_line_end(text, note.as_bytes()),
-        _ => Ok(text.push(octet)?),
+    if is_line(words) {
+        push_octets(text, words)
+    } else {
+        Ok(())
     }
 }
 
-/// Adds the note of a line to its text, and the line end.
-fn add_line_end(text: &mut Vec<u8>, note: &[u8]) -> Result<(), AllocError>
-    ensures { OnOk result ((added : List ℕ) × IsAdded 10 added
-        × (text.new.items ≡ text.old.items ++ (added ++ (10 ∷ [])))) }
+/// Adds words as a note.
+fn push_octets(text: &mut Vec<u8>, words: &[u8]) -> Result<(), AllocError>
+    ensures { OnOk result (text.new.items ≡ text.old.items ++ marked words.now) }
 {
-    if note.is_empty() || !is_note(note) {
-        return Ok(text.push(b'\n')?);
+    if words.is_empty() {
+        return Ok(());
     }
-    text.extend_from_slice(MARK)?;
-    text.extend_from_slice(note)?;
-    Ok(text.push(b'\n')?)
+    text.extend_from_slice(MARK.as_bytes())?;
+    text.extend_from_slice(words)
 }
 
-/// Whether a text has no line end.
-fn is_note(text: &[u8]) -> bool
-    ensures { IsTrue result → IsNote text.now }
+/// Whether words have no line end.
+fn is_line(words: &[u8]) -> bool
+    ensures { result ≡ list_all (λ x. not (x == 10)) words.now }
 {
-    text.iter().all(|&octet| octet != b'\n')
+    words.iter().all(|&octet| octet != b'\n')
 }

@@ -1,28 +1,36 @@
-//! Notes on data object lists and on messages that came in chains.
+//! Notes on data object lists.
 
-ghost use Rattle.std.specs.Prelude.{◌≡◌, IfOk, length};
+ghost use Rattle.std.specs.Prelude.{◌≡◌, ◌++◌, OnOk, string_bytes};
+ghost use Rattle.notes.specs.Noted.{where_noted};
+ghost use Rattle.notes.specs.Says.{asked_from, list_note};
 
-use crate::text::{octets_counted, some_counted};
-use std::alloc::{AllocError, Global};
-use tlv_core::Dol;
+use crate::text::push_counted;
+use std::alloc::AllocError;
+use tlv_core::Tag;
 
-/// The notes of a data object list: in its first line how many octets it asks for.
-pub fn dol_notes(alloc: Global, list: &Dol) -> Result<Vec<String>, AllocError>
-    ensures { IfOk result (λ notes. length notes.items ≡ 1) }
+/// Adds the note on a data object list, where it is `noted`: how many octets its entries ask for.
+pub fn push_list_note(
+    text: &mut String,
+    noted: bool,
+    entries: &[(Tag, u8)],
+) -> Result<(), AllocError>
+    ensures { OnOk result (string_bytes text.new ≡ string_bytes text.old
+        ++ where_noted noted (list_note entries.now)) }
 {
-    let mut count: usize = 0;
-    for (_, len) in list.entries() {
-        count = count.saturating_add(usize::from(*len));
+    if !noted {
+        return Ok(());
     }
-    let asked = octets_counted(alloc, count)?;
-    Ok(vec![in alloc; format!(in alloc; "asks for {asked}")?]?)
+    text.push_str("  # asks for ")?;
+    push_counted(text, asked(entries))
 }
 
-/// The notes of a chain, one a line: of its count of blocks none, and how many octets its message has.
-pub fn chain_notes(alloc: Global, message: &[u8]) -> Result<Vec<String>, AllocError>
-    ensures { IfOk result (λ notes. length notes.items ≡ 2) }
+/// How many octets entries ask for, at most `usize::MAX`.
+fn asked(entries: &[(Tag, u8)]) -> usize
+    ensures { result ≡ asked_from 0 entries.now }
 {
-    let blocks = String::new(alloc);
-    let message = some_counted(alloc, message.len())?;
-    Ok(vec![in alloc; blocks, message]?)
+    let mut count: usize = 0;
+    for (_, len) in entries {
+        count = count.saturating_add(usize::from(*len));
+    }
+    count
 }

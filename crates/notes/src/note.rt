@@ -1,9 +1,11 @@
 //! Words with a number among them.
 
-ghost use Rattle.std.specs.Prelude.{◌≡◌, [], Some, None, IfOk, string_bytes};
-ghost use Rattle.notes.specs.Says.{note_text, said, words};
+ghost use Rattle.std.specs.Prelude.{◌≡◌, ◌++◌, Some, OnOk, decimal, string_bytes};
+ghost use Rattle.notes.specs.Noted.{mark, marked, where_noted};
+ghost use Rattle.notes.specs.Says.{note_text, said, words, words_marked};
 
-use std::alloc::{AllocError, Global};
+use crate::joining::MARK;
+use std::alloc::AllocError;
 
 /// What octets say: `before`, then the number in decimal digits, if there is one, then `after`.
 #[derive(Clone, Copy)]
@@ -39,15 +41,54 @@ impl Note {
             after,
         }
     }
+}
 
-    /// Its text.
-    pub(crate) fn text(self, alloc: Global) -> Result<String, AllocError>
-        ensures { IfOk result (λ text.
-            string_bytes text ≡ note_text self.before.now self.number self.after.now) }
-    {
-        match self.number {
-            Some(number) => format!(in alloc; "{}{number}{}", self.before, self.after),
-            None => String::from_str(alloc, self.before),
-        }
+/// Adds a note to its line where it is `noted` and there is one.
+pub fn push_note(text: &mut String, noted: bool, note: Note) -> Result<(), AllocError>
+    ensures { OnOk result (string_bytes text.new ≡ string_bytes text.old
+        ++ where_noted noted (words_marked note.before.now note.number note.after.now)) }
+{
+    if !noted {
+        return Ok(());
+    }
+    match note.number {
+        Some(number) => push_numbered(text, note.before, number, note.after),
+        None => push_marked(text, note.before),
+    }
+}
+
+/// Adds a number among words as a note.
+fn push_numbered(
+    text: &mut String,
+    before: &str,
+    number: u32,
+    after: &str,
+) -> Result<(), AllocError>
+    ensures { OnOk result (string_bytes text.new ≡ string_bytes text.old
+        ++ (mark ++ (before.now ++ (decimal number ++ after.now)))) }
+{
+    text.push_str(MARK)?;
+    write!(text, "{before}{number}{after}")
+}
+
+/// Adds words as a note, where there are some.
+fn push_marked(text: &mut String, words: &str) -> Result<(), AllocError>
+    ensures { OnOk result (string_bytes text.new ≡ string_bytes text.old ++ marked words.now) }
+{
+    if words.is_empty() {
+        return Ok(());
+    }
+    text.push_str(MARK)?;
+    text.push_str(words)
+}
+
+/// Adds the text of a note.
+pub(crate) fn push_text(text: &mut String, note: Note) -> Result<(), AllocError>
+    ensures { OnOk result (string_bytes text.new ≡ string_bytes text.old
+        ++ note_text note.before.now note.number note.after.now) }
+{
+    match note.number {
+        Some(number) => write!(text, "{}{number}{}", note.before, note.after),
+        None => text.push_str(note.before),
     }
 }

@@ -1,12 +1,12 @@
 //! Notes on responses.
 
-ghost use Rattle.std.specs.Prelude.{◌≡◌, ◌==◌, ◌&&◌, IfOk, length};
-ghost use Rattle.notes.specs.Says.{named, said, status_says, there};
+ghost use Rattle.std.specs.Prelude.{◌≡◌, ◌==◌, ◌&&◌, ◌++◌, OnOk, string_bytes};
+ghost use Rattle.notes.specs.Noted.{where_noted};
+ghost use Rattle.notes.specs.Says.{named, note_of, said, status_says, there};
 ghost use Rattle.notes.specs.Tables.{statuses};
 
-use crate::note::Note;
-use apdu_core::ResponseRef;
-use std::alloc::{AllocError, Global};
+use crate::note::{Note, push_note};
+use std::alloc::AllocError;
 
 /// What status bytes say (ISO/IEC 7816-4:2005, 5.1.3, tables 5 and 6), but for those that have a number in SW2.
 const STATUSES: [(u8, u8, &str); 46] = [
@@ -58,13 +58,15 @@ const STATUSES: [(u8, u8, &str); 46] = [
     (0x6F, 0x00, "no precise diagnosis"),
 ];
 
-/// The notes of a response, one a line: of its data field none, and of its status bytes what they say.
-pub fn response_notes(alloc: Global, response: &ResponseRef<'_>) -> Result<Vec<String>, AllocError>
-    ensures { IfOk result (λ notes. length notes.items ≡ 2) }
+/// Adds the note on status bytes, where it is `noted`: what they say.
+pub fn push_status_note(text: &mut String, noted: bool, sw1: u8, sw2: u8) -> Result<(), AllocError>
+    ensures { OnOk result (string_bytes text.new ≡ string_bytes text.old
+        ++ where_noted noted (note_of (status_says sw1 sw2))) }
 {
-    let part = String::new(alloc);
-    let status = status_note(response.sw1(), response.sw2()).text(alloc)?;
-    Ok(vec![in alloc; part, status]?)
+    if !noted {
+        return Ok(());
+    }
+    push_note(text, noted, status_note(sw1, sw2))
 }
 
 /// What status bytes say (ISO/IEC 7816-4:2005, 5.1.3, tables 5 and 6): no words where they have no name.

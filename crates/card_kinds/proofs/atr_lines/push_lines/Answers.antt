@@ -5,8 +5,8 @@ use Rattle.card_kinds.proofs.atr_lines.push_lines.Goals as goal
 
 pub returns : goal.returns
 returns c =
-    let whole : string_bytes c.push_tds.new.text ++ tail_text c.args.atr.now ≡ string_bytes c.args.text.now
-    ++ atr_text c.args.atr.now =
+    let whole : string_bytes c.push_tds.new.text ++ tail_text c.args.noted c.args.atr.now
+    ≡ string_bytes c.args.text.now ++ atr_text c.args.noted c.args.atr.now =
     simp (
       c.in_ok-push_tds.ensures,
       c.indicated.ensures.value,

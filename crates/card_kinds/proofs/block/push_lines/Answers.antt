@@ -1,24 +1,20 @@
-use Rattle.std.proofs.Common.{◌≡◌, ◌++◌, append_assoc, codes, refl, string_bytes}
-use Rattle.card_kinds.specs.BlockTexts.{block_lines}
-use Rattle.card_kinds.proofs.Pushes.{last-pushed}
+use Rattle.std.proofs.Common.{◌≡◌, ◌++◌, append_assoc, refl, string_bytes}
+use Rattle.notes.proofs.Adding.{as-said}
+use Rattle.card_kinds.specs.BlockTexts.{block_lines, field_lines}
+use Rattle.card_kinds.proofs.Pushes.{last-added}
 use Rattle.card_kinds.proofs.block.push_lines.Goals as goal
 
 pub returns : goal.returns
 returns c =
-    let whole : string_bytes c.push_octet-2.new.text ++ codes "\n" ≡ string_bytes c.args.text.now
-    ++ block_lines c.args.block.now c.args.lrc =
+    let whole : string_bytes c.push_note.new.text ++ field_lines c.args.noted c.args.block.now c.args.lrc
+    ≡ string_bytes c.args.text.now ++ block_lines c.args.noted c.args.block.now c.args.lrc =
     simp (
-      c.in_ok-push_octet-2.ensures,
-      c.in_ok-push_str-4.ensures.bytes,
-      c.in_ok-push_word.ensures,
-      c.inf.ensures.octets,
-      c.in_ok-push_str-3.ensures.bytes,
-      c.in_ok-push_pcb.ensures,
-      c.pcb.ensures,
-      c.in_ok-push_str-2.ensures.bytes,
+      c.in_ok-push_note.ensures,
+      as-said _ _ _ _ c.nad_note.ensures,
+      c.nad-2.ensures,
       c.in_ok-push_octet.ensures,
       c.nad.ensures,
       c.in_ok-push_str.ensures.bytes,
       append_assoc,
     ) refl in
-    last-pushed c.push_str-5.result _ _ _ _ whole c.push_str-5.ensures.bytes
+    last-added c.push_field.result _ _ _ whole c.push_field.ensures

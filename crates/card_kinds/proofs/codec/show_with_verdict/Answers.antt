@@ -15,7 +15,7 @@ pub returns-in_ok-answer-in-Err-Stop : goal.returns-in_ok-answer-in-Err-Stop
 returns-in_ok-answer-in-Err-Stop g c =
     let codec = g.C.Codec.codec c.args.expected in
     record {
-      told = is-refused codec (shown_in c.args.layout c.args.expected.kind codec)
+      told = is-refused codec (shown_in c.args.noted c.args.layout c.args.expected.kind codec)
           (refused_in c.args.layout c.args.expected.kind) c.args.octets.now _ c.in-Err-Stop.field-0
           c.in-Err-Stop.stop _ _ (g.met.C.Codec.named c.args.expected) c.in-Err-Stop.field-0-is
           c.in-Err-Stop.ensures.refused c.in_ok-answer-in-Err-Stop.ensures.text

@@ -3,6 +3,8 @@ use Rattle.std.specs.List.{repeat}
 use Rattle.hex.specs.Hex.{encode_upper}
 use Rattle.tlv_core.specs.Flat.{PartValue, part_seen}
 use Rattle.tlv_core.specs.Tag.{length_field}
+use Rattle.notes.specs.Noted.{where_noted}
+use Rattle.notes.specs.Says.{object_note}
 use Rattle.card_kinds.specs.ForestTexts.{value_text}
 use Rattle.card_kinds.proofs.Pushes.{last-pushed, line-of}
 use Rattle.card_kinds.proofs.forest.push_part.Goals as goal
@@ -34,6 +36,7 @@ returns c =
       c.octets.ensures.value,
       append_assoc,
     ) refl in
-    last-pushed c.push_str-4.result _ _ _ _ (line-of text indented headed (string_bytes c.push_value.new.text) indent
-    tag (codes " ") len (codes " ") (value_text p) (codes "\n") first header c.in_ok-push_value.ensures)
-    c.push_str-4.ensures.bytes
+    last-pushed c.push_str-4.result _ _ _ _ (line-of text indented headed (string_bytes c.push_value.new.text)
+    (string_bytes c.push_object_note.new.text) indent tag (codes " ") len (codes " ") (value_text p)
+    (where_noted c.args.noted (object_note p)) (codes "\n") first header c.in_ok-push_value.ensures
+    c.in_ok-push_object_note.ensures) c.push_str-4.ensures.bytes

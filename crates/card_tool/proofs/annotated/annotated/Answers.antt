@@ -1,11 +1,11 @@
-use Rattle.card_tool.proofs.Annotating.{none-noted, some-noted}
+use Rattle.card_tool.proofs.Annotating.{accepted-noted, refused-noted}
 use Rattle.card_tool.proofs.annotated.annotated.Goals as goal
 
-pub returns-in_ok-text-in_default : goal.returns-in_ok-text-in_default
-returns-in_ok-text-in_default c = λ expected octets shown.
-    some-noted expected octets c.args.shown.text c.get.result.now c.in_ok-text-in_default.text c.args.shown.status
-    c.in_default.not-Fault shown c.get.ensures c.in_ok-text-in_default.ensures
+pub returns-in_ok-text-in-Refused : goal.returns-in_ok-text-in-Refused
+returns-in_ok-text-in-Refused c = λ expected octets shown.
+    refused-noted expected octets c.args.shown.text c.get.result.now c.in_ok-text-in-Refused.text c.args.words.now
+    c.args.shown.status c.in-Refused.is shown c.get.ensures c.in_ok-text-in-Refused.ensures
 
-pub returns-in-Fault : goal.returns-in-Fault
-returns-in-Fault c = λ expected octets shown.
-    none-noted expected octets c.args.shown.text c.args.shown.status shown
+pub returns-in_default : goal.returns-in_default
+returns-in_default c = λ expected octets shown.
+    accepted-noted expected octets c.args.shown.text c.args.shown.status c.in_default.not-Refused shown
