@@ -1225,31 +1225,30 @@ static void atr_core_decoding_check(struct call *m, u64 v0, u64 v1, u64 v2)
     u64 v3 = 0;
     u64 v4 = 0;
     u64 v5 = 0;
-    u64 v6 = 0;
     u64 v8 = 0;
-    u64 v9 = 0;
+    u64 v10 = 0;
     u64 v11 = 0;
+    u64 v12 = 0;
     u64 v13 = 0;
-    u64 v14 = 0;
+    u32 v6 = 0;
     u32 v7 = 0;
-    u32 v10 = 0;
-    u32 v12 = 0;
+    u32 v9 = 0;
     u32 t0 = 0;
     u32 t4 = 0;
-    u64 w1 = 0;
-    u8 *f14 = NULL;
-    u8 *p239 = NULL;
-    u8 *p333 = NULL;
-    u8 *p361 = NULL;
+    u64 w0 = 0;
+    u8 *f13 = NULL;
+    u8 *p216 = NULL;
+    u8 *p310 = NULL;
+    u8 *p338 = NULL;
     u64 n11;
     const u8 *q11;
     u64 n12;
     const u8 *q12;
-    v14 = m->g0 - 288ull;
-    f14 = at(m, v14, 288);
-    v3 = v14;
+    v13 = m->g0 - 288ull;
+    f13 = at(m, v13, 288);
+    v3 = v13;
     m->g0 = v3;
-    memset(f14 + 8, (int)(0u & 255u), 280);
+    memset(f13 + 8, (int)(0u & 255u), 280);
     if (v2 == 0) { goto after3; }
     v4 = v2 + 0xFFFFFFFFFFFFFFFFull;
     if (v4 == 0) { goto after3; }
@@ -1259,105 +1258,98 @@ static void atr_core_decoding_check(struct call *m, u64 v0, u64 v1, u64 v2)
         default: goto after3;
     }
 after4:;
-    v5 = v2 + 0xFFFFFFFFFFFFFFFEull;
-    v6 = v1 + 1ull;
-    v7 = spread32(load8(m, v6, 0), 8);
-    v8 = (u64)((((v7 >> 5) & 1u) + ((v7 >> 6) & 1u)) + ((v7 >> 4) & 1u));
-    if (v5 < v8) { goto after3; }
-    v9 = v5 - v8;
-    if ((v7 ^ 0x80000000u) > (0xFFFFFFFFu ^ 0x80000000u)) { goto after8; }
-    v8 = (v1 + v8) + 2ull;
-    v10 = 0u;
+    v5 = v1 + 1ull;
+    v6 = spread32(load8(m, v5, 0), 8);
+    v7 = ((((v6 >> 6) & 1u) + ((v6 >> 5) & 1u)) + ((v6 >> 4) & 1u)) + 1u;
+    if ((v6 ^ 0x80000000u) > (0xFFFFFFFFu ^ 0x80000000u)) { goto after8; }
+    v8 = (u64)v7;
+    v9 = 0u;
 again9:;
-    v11 = v9;
-    if (v11 == 0) { goto after3; }
-    v9 = v11 + 0xFFFFFFFFFFFFFFFFull;
-    v12 = load8(m, v8, 0);
-    v5 = (u64)((((v12 >> 5) & 1u) + ((v12 >> 6) & 1u)) + ((v12 >> 4) & 1u));
-    if (v9 < v5) { goto after3; }
-    v9 = v9 - v5;
-    v8 = (v8 + v5) + 1ull;
-    v10 = v10 | ((u32)((v12 & 15u) != 0u));
-    if (((spread32(v12, 8)) ^ 0x80000000u) < (0u ^ 0x80000000u)) { goto again9; }
-    v13 = ((u64)v7) & 15ull;
-    if (v9 < v13) { goto after3; }
-    v5 = v9 - v13;
-    if ((v10 & 1u) == 0) { goto after5; }
-    if (v5 == 0) { goto after3; }
-    v7 = load8(m, v8 + v13, 0);
-    v9 = v4 - v5;
-    if (v9) { goto after7; }
-    v10 = 0u;
+    v10 = v8;
+    if (v10 >= v4) { goto after3; }
+    v7 = spread32(load8(m, v5 + v10, 0), 8);
+    v8 = v10 + ((u64)(((((v7 >> 6) & 1u) + ((v7 >> 5) & 1u)) + ((v7 >> 4) & 1u)) + 1u));
+    v9 = v9 | ((u32)((v7 & 15u) != 0u));
+    if ((v7 ^ 0x80000000u) < (0u ^ 0x80000000u)) { goto again9; }
+    v11 = ((u64)v6) & 15ull;
+    v12 = v8 + v11;
+    if (v4 < v12) { goto after3; }
+    v4 = v4 - v12;
+    if ((v9 & 1u) == 0) { goto after5; }
+    if (v4 == 0) { goto after3; }
+    v6 = load8(m, v5 + v12, 0);
+    if (v12) { goto after7; }
+    v9 = 0u;
     goto after6;
 after8:;
-    v8 = ((u64)v7) & 15ull;
-    if (v9 < v8) { goto after3; }
-    v5 = v9 - v8;
+    v10 = (u64)(v7 + (v6 & 15u));
+    if (v4 < v10) { goto after3; }
+    v4 = v4 - v10;
     goto after5;
 after7:;
-    v8 = v9 & 7ull;
-    v10 = 0u;
-    w1 = (((v2 + v13) + ((u64)((u32)((v12 & 255u) > 63u)))) + ((u64)((v12 >> 5) & 1u))) + ((u64)((v12 >> 4) & 1u));
-    if (((v11 ^ 0xFFFFFFFFFFFFFFFFull) + w1) < 7ull) { goto after10; }
-    v9 = v9 & 0xFFFFFFFFFFFFFFF8ull;
-    v10 = 0u;
-    n11 = v9 - 8ull;
-    q11 = span(m, v6, n11, 8, 8);
+    v8 = v12 & 7ull;
+    v9 = 0u;
+    w0 = ((v11 + v10) + ((u64)((((v7 > 63u) ? 2u : 1u) + ((v7 >> 5) & 1u)) + ((v7 >> 4) & 1u)))) +
+        0xFFFFFFFFFFFFFFFFull;
+    if (w0 < 7ull) { goto after10; }
+    v10 = v12 & 0xFFFFFFFFFFFFFFF8ull;
+    v9 = 0u;
+    n11 = v10 - 8ull;
+    q11 = span(m, v5, n11, 8, 8);
     if (q11) {
         n11 /= 8;
-        v10 ^= exclusive_or(q11, (n11 + 1u) * 8);
-        v6 = v6 + 8ull + 8ull * n11;
-        v9 = v9 - 8ull + 0xFFFFFFFFFFFFFFF8ull * n11;
+        v9 ^= exclusive_or(q11, (n11 + 1u) * 8);
+        v5 = v5 + 8ull + 8ull * n11;
+        v10 = v10 - 8ull + 0xFFFFFFFFFFFFFFF8ull * n11;
     } else {
 again11:;
-        p239 = held(m, v6, 8);
-        t4 = held8(p239, 3, m, v6) ^ (held8(p239, 2, m, v6) ^ (held8(p239, 1, m, v6) ^ (held8(p239, 0, m, v6) ^
-            v10)));
-        t0 = held8(p239, 7, m, v6) ^ (held8(p239, 6, m, v6) ^ (held8(p239, 5, m, v6) ^ (held8(p239, 4, m, v6) ^ t4)));
-        v10 = t0;
-        v6 = v6 + 8ull;
-        v9 = v9 + 0xFFFFFFFFFFFFFFF8ull;
-        if (v9 != 0ull) { goto again11; }
+        p216 = held(m, v5, 8);
+        t4 = held8(p216, 3, m, v5) ^ (held8(p216, 2, m, v5) ^ (held8(p216, 1, m, v5) ^ (held8(p216, 0, m, v5) ^ v9)));
+        t0 = held8(p216, 7, m, v5) ^ (held8(p216, 6, m, v5) ^ (held8(p216, 5, m, v5) ^ (held8(p216, 4, m, v5) ^ t4)));
+        v9 = t0;
+        v5 = v5 + 8ull;
+        v10 = v10 + 0xFFFFFFFFFFFFFFF8ull;
+        if (v10 != 0ull) { goto again11; }
     }
     if (v8 == 0) { goto after6; }
 after10:;
     n12 = v8 - 1ull;
-    q12 = span(m, v6, n12, 1, 1);
+    q12 = span(m, v5, n12, 1, 1);
     if (q12) {
-        v10 ^= exclusive_or(q12, (n12 + 1u) * 1);
-        v6 = v6 + 1ull + 1ull * n12;
+        v9 ^= exclusive_or(q12, (n12 + 1u) * 1);
+        v5 = v5 + 1ull + 1ull * n12;
         v8 = v8 - 1ull + 0xFFFFFFFFFFFFFFFFull * n12;
     } else {
 again12:;
-        v10 = load8(m, v6, 0) ^ v10;
-        v6 = v6 + 1ull;
+        v9 = load8(m, v5, 0) ^ v9;
+        v5 = v5 + 1ull;
         v8 = v8 + 0xFFFFFFFFFFFFFFFFull;
         if (v8 != 0ull) { goto again12; }
     }
 after6:;
-    if ((v7 & 255u) != (v10 & 255u)) { goto after3; }
-    v5 = v5 + 0xFFFFFFFFFFFFFFFFull;
+    if ((v6 & 255u) != (v9 & 255u)) { goto after3; }
+    v4 = v4 + 0xFFFFFFFFFFFFFFFFull;
 after5:;
-    v8 = v2 - v5;
-    if (v8 >= 34ull) { goto after3; }
-    p333 = held(m, v0, 25);
-    put_held64(p333, 0, m, v0, 0ull);
-    put_held8(p333, 24, m, v0, 0u);
-    put_held64(p333, 16, m, v0, 0ull);
-    put_held64(p333, 8, m, v0, v8);
+    v10 = v2 - v4;
+    if (v10 >= 34ull) { goto after3; }
+    p310 = held(m, v0, 25);
+    put_held64(p310, 0, m, v0, 0ull);
+    put_held8(p310, 24, m, v0, 0u);
+    put_held64(p310, 16, m, v0, 0ull);
+    put_held64(p310, 8, m, v0, v10);
     goto after1;
 after3:;
-    atr_core_decoding_by_octets(m, v14 + 8ull, v1, v2);
-    v2 = (u64)get8(f14 + 8);
-    p361 = held(m, v0, 25);
-    put_held64(p361, 0, m, v0, v2);
-    v12 = (u32)(v2 == 0);
-    put_held8(p361, 24, m, v0, v12 ? 0u : get8(f14 + 32));
-    put_held64(p361, 16, m, v0, v12 ? 0ull : get64(f14 + 24));
-    put_held64(p361, 8, m, v0, v12 ? get64(f14 + 280) : (u64)get8(f14 + 16));
+    atr_core_decoding_by_octets(m, v13 + 8ull, v1, v2);
+    v10 = (u64)get8(f13 + 8);
+    p338 = held(m, v0, 25);
+    put_held64(p338, 0, m, v0, v10);
+    v7 = (u32)(v10 == 0);
+    put_held8(p338, 24, m, v0, v7 ? 0u : get8(f13 + 32));
+    put_held64(p338, 16, m, v0, v7 ? 0ull : get64(f13 + 24));
+    put_held64(p338, 8, m, v0, v7 ? get64(f13 + 280) : (u64)get8(f13 + 16));
     goto after1;
 after1:;
-    m->g0 = v14 + 288ull;
+    m->g0 = v13 + 288ull;
 }
 
 static void atr_core_decoding_by_octets(struct call *m, u64 v0, u64 v1, u64 v2)
