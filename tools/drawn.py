@@ -1,4 +1,4 @@
-"""Sessions of `simulate` that are drawn, and what the program says: what tools/try-record and tools/try-judge share."""
+"""Random sessions of `simulate`, and what the program prints: what tools/try-record and tools/try-judge share."""
 
 import random
 import subprocess

@@ -1,5 +1,5 @@
-"""What the scripts of this repository know of the edits in crates/*/more-edits: a line 'file:', then pairs of lines
-'old:' and 'new:', and the function that each replaced text is in."""
+"""Reads the edits in crates/*/more-edits for the scripts: a line 'file:', then pairs of lines 'old:' and 'new:', and
+the function that each replaced text is in."""
 
 import collections
 import re

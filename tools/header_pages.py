@@ -1,4 +1,4 @@
-"""The calls of the library for C as pages for man, one for each part of its headers, so that both say the same."""
+"""Makes the pages for man of the calls in C, one for each part of the headers, so that both say the same."""
 
 import re
 

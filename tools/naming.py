@@ -1,4 +1,4 @@
-"""Which functions a function of a crate calls, and which tests name it, by names alone."""
+"""Finds which functions a function of a crate calls, and which tests name it, by names alone."""
 
 import re
 
@@ -14,8 +14,8 @@ TELLS = {"Display": re.compile("print|named"), "Debug": re.compile("show"), "Par
 # Crates that are tested through the one above them.
 TESTED = {"dumps": "card_tool", "command_line": "card_tool", "card_words": "card_tool", "card_kinds": "card_tool", "explainer": "card_tool"}
 # The modules of the crates of tests that aren't called as their crate is without its '_core'.
-MODULES = {"card_tool": "tool", "notes": "noted", "round_trips": "again", "simulator": "simulated",
-           "testing": "helpers"}
+MODULES = {"card_tool": "tool", "notes": "noted", "stack_laws": "again", "simulator": "simulated",
+           "test_support": "helpers"}
 NEVER = re.compile(r"(?!)")
 
 

@@ -1,10 +1,11 @@
-"""Every next block after each of some histories of a line, and what the rules of t1_rules.py say of it: the traces of
-the file judge.next of the folder vectors.
+"""Makes every next block after each of some histories of a line, with the answer of t1_rules.py: the traces of the file
+judge.next of the folder vectors.
 
-A history is steps with blanks between them: the end, a block, and perhaps how it arrived. `t:I0` is an I-block of the
-terminal with the number 0, `c:I1+` one of the card after which more follow, `t:R1.2` an R-block with the error code 2,
-`c:WTX` a request of the card, `t:wtx` the response to it. `!` after it is a block that was damaged on its way, `?` one
-that was lost; `reset` is a reset of the card. `t` or `c` alone says whose turn it is, `@` that the node address is 21.
+A history is steps with blanks between them: the end, a block, and perhaps how it arrived. `t:I0` is an I-block of
+the terminal with the number 0, `c:I1+` an I-block of the card with more to follow, `t:R1.2` an R-block with the
+error code 2, `c:WTX` a request of the card, `t:wtx` the response to it. `!` after a block says that it was damaged
+on its way, and `?` that it was lost. `reset` is a reset of the card. `t` or `c` alone says whose turn it is, and `@`
+that the node address is 21.
 """
 
 from t1_rules import SUBJECTS, Line, block_of, clauses, swapped, with_check

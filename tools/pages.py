@@ -1,4 +1,4 @@
-"""How a page's readers link to its headings."""
+"""Finds the parts of a page, and the anchors by which links reach its headings."""
 
 import re
 

@@ -1,5 +1,5 @@
-"""What the checker's lines say of an edit: that a goal of the function that it is in isn't proved, which refuses it, or
-why it shows nothing."""
+"""Decides from the checker's lines whether an edit is refused: a goal of the function that it is in isn't proved. If
+not, it says why the edit shows nothing."""
 
 import collections
 import re

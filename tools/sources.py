@@ -1,5 +1,5 @@
-"""Reads what a crate's sources have, as `rt fmt` lays them out: items with their documentation, their text and their
-clauses, the functions below them, and which of them a caller sees."""
+"""Reads a crate's sources as `rt fmt` lays them out: items with their documentation, their text and their clauses, the
+functions in them, and which of them a caller sees."""
 
 import dataclasses
 import re

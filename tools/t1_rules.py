@@ -1,7 +1,8 @@
-"""The rules of T=1 for the next block of an end, where it is known of each block before how it arrived.
+"""The rules of T=1 for the next block of an end, if it is known how each block before arrived.
 
-This is a second reading of docs/PROTOCOL.md, docs/JUDGE.md and docs/DECISIONS.md, beside the definitions of the crate
-judge_core: it shares no line with them. `Line` takes a session block by block and says of each which rule it breaks.
+This is a second reading of docs/PROTOCOL.md, docs/JUDGE.md and docs/DECISIONS.md, beside the definitions of the
+crate judge_core: it shares no line with them. `Line` takes a session block by block and names the rule that each
+block breaks.
 """
 
 import functools

@@ -1,4 +1,4 @@
-"""What the scripts of this repository share about their words."""
+"""What a script does with a wrong word, and which word is an option."""
 
 import sys
 

@@ -1,5 +1,5 @@
-/* Counted checks, and octets in heap blocks of exactly their size. Where WITHOUT_HANDLES is defined, tests leave out what
- * they do with ends and readers in a handle: these take memory, and the file dist/c/scard.c hasn't got them.
+/* Counted checks, and octets in heap blocks of exactly their size. If WITHOUT_HANDLES is defined, tests leave out ends
+ * and readers in a handle: these take memory, and the file dist/c/scard.c doesn't have them.
  */
 #ifndef CHECK_H
 #define CHECK_H

@@ -1,4 +1,4 @@
-/* Worked rows of each codec through the header. */
+/* Examples of each codec, through the header. */
 #include "check.h"
 
 static int reads(int codec, uint8_t ifs, const char *text, const char *wanted)

@@ -1,6 +1,6 @@
-/* Counts of all changes of two octets of a block those after which a card takes the octets for a block, and shows that
- * no change of one octet, no missing end and no octet after the block is one. The counts are those of
- * docs/PROMISES-CLAUSES.md. With a number it counts for a field of so many octets alone: 254 takes some minutes.
+/* Counts the changes of two octets of a block after which a card takes the octets for a block. It also shows that there
+ * is no such change of one octet, no such missing end and no such octet after the block. The counts are those of
+ * docs/PROMISES-STACK.md. With a number N it counts only for a field of N octets: 254 takes some minutes.
  */
 #include "check.h"
 #include "scard.h"

@@ -1,6 +1,7 @@
-/* A program that has no functions for memory: it is linked with `-lscard` and no flag, and tools/test-c looks at what
- * it wants. A session of both ends over lent buffers, a check, the parts and the tidy form of a forest, a list that is
- * read and filled, a receiver of a chain, a reader of a block, a command and a response, hexadecimal text, and the LRC.
+/* A program without functions for memory: it is linked with `-lscard` and no flag, and tools/test-c checks which
+ * symbols it needs. It has a session of both ends over lent buffers, a check, the parts and the tidy form of a forest,
+ * a list that is read and filled, a receiver of a chain, a reader of a block, a command and a response, hexadecimal
+ * text, and the LRC.
  */
 #include "scard.h"
 

@@ -1,6 +1,6 @@
-/* Random and changed octets: what is decoded is encoded again as the same octets, the parts of a forest are where their
- * tags are, tidying twice is once, and a check and a receiver of chains that the caller keeps say of two pieces what is
- * said of the whole.
+/* Random and changed octets. A decoded value is encoded as the same octets, the parts of a forest are where their tags
+ * are, and tidying a second time changes nothing. A check and a receiver of chains that the caller keeps give the same
+ * answer for two pieces as for the whole.
  */
 #define SCARD_MUST_USE /* what a state is begun with doesn't matter here */
 #include "check.h"

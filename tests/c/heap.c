@@ -1,4 +1,4 @@
-/* A program with memory of its own, made from scard_heap.h alone: blocks of an array, which is all the memory there is.
+/* A program with its own memory functions, written from scard_heap.h alone: its only memory is the blocks of an array.
  */
 #include "check.h"
 #include "scard_heap.h"

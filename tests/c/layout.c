@@ -1,5 +1,5 @@
-/* The structs of the header have the sizes that the library has, and the places of their fields: the numbers that the
- * library writes into them are read there.
+/* The structs of the header have the same sizes as in the library, and their fields the same places: the program reads
+ * the numbers that the library writes.
  */
 #include "check.h"
 

@@ -1,4 +1,4 @@
-/* A session of both ends without an allocator, small buffers, and states that something else wrote to. */
+/* A session of both ends without an allocator, small buffers, and states that other code wrote to. */
 #include "check.h"
 
 static struct scard_lent_terminal terminal;

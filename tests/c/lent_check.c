@@ -1,4 +1,4 @@
-/* Checks of forests in pieces whose state the caller keeps, and states that something else wrote to. */
+/* Checks of forests in pieces whose state the caller keeps, and states that other code wrote to. */
 #include "check.h"
 
 /* Feeds octets in pieces of this length, each in a block of its own, until they end or are refused. */

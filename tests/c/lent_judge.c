@@ -1,5 +1,5 @@
-/* Judges of a line whose state the caller keeps: sessions, each rule, lost blocks, silence, and states that something
- * else wrote to.
+/* Judges of a line whose state the caller keeps: sessions, each rule, lost blocks, silence, and states that other
+ * code wrote to.
  */
 #include "check.h"
 

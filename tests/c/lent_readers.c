@@ -1,5 +1,5 @@
 /* Readers of blocks and of answers to reset whose state the caller keeps, beside the decoders of whole octets and the
- * readers in handles, and states that something else wrote. */
+ * readers in handles, and states that other code wrote. */
 #include "check.h"
 
 static const char *const BLOCKS[] = {

@@ -1,5 +1,5 @@
-/* Receivers of chains whose state and message the caller keeps, beside those in handles, and states that something
- * else wrote to. */
+/* Receivers of chains whose state and message the caller keeps, beside those in handles, and states that other
+ * code wrote to. */
 #include "check.h"
 
 enum { ROOM = 300 };

@@ -1,5 +1,5 @@
-/* Each call that takes memory, with each of its allocations refused in turn: it says so, leaves all as it was, keeps no
- * block, and the next call works. The program is linked so that the library's malloc, realloc and free are those here.
+/* Each call that takes memory, with each of its allocations refused in turn. The call says so, changes nothing, keeps
+ * no block, and the next call works. The linker gives the library the malloc, realloc and free of this file.
  */
 #include "check.h"
 

@@ -1,4 +1,4 @@
-/* What octets say in words. */
+/* The words for octets. */
 #include "check.h"
 
 static char said[128];

@@ -1,6 +1,6 @@
-/* A terminal and a card at the two ends of a line in virtual time that is as bad as real ones: octets have times, and
- * those of a block may be changed, lost, added, doubled, swapped or late. Both ends run at once: the terminal is the
- * program, and the card has a stack of its own. Define _XOPEN_SOURCE as 700 before this is included.
+/* A terminal and a card at the two ends of a line in virtual time that is as bad as a real one. Octets have times.
+ * Octets of a block may be changed, lost, added, doubled, swapped or late. Both ends run at the same time: the terminal
+ * is the program, and the card has its own stack. Define _XOPEN_SOURCE as 700 before this is included.
  */
 #ifndef ROUGH_H
 #define ROUGH_H

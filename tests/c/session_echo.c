@@ -1,5 +1,5 @@
-/* A line on which both ends hear themselves: what an end sent isn't taken for the other's, what comes right after it
- * is, and where it comes back otherwise the block is asked for again.
+/* A line on which both ends hear themselves. An end doesn't take what it sent for octets of the other end, but it takes
+ * what comes right after. If the echo differs, the end asks for the block again.
  */
 #define _XOPEN_SOURCE 700
 #include "rough.h"

@@ -1,9 +1,9 @@
-/* Sessions over a line that is as bad as real ones: what became of exchanges, by the kind of fault. Of the first three
- * kinds, one octet of a block changed, its end cut and octets added at its end, no answer is wrong and the card acts on
- * no command that wasn't sent and on none twice; of the others the counts are printed.
+/* Sessions over a line that is as bad as a real one: the results of exchanges, by the kind of fault. The first three
+ * kinds are one changed octet of a block, a cut at its end, and octets added at its end. With these no answer is wrong,
+ * and the card acts on no command that wasn't sent and on no command twice. For the other kinds the counts are printed.
  *
- * session_faults [EXCHANGES [RATE [KIND [SEED]]]]: so many exchanges of each kind, or of the one, at so many of 1,000
- * blocks; with TRACE in the environment each block of the sessions that go wrong is printed.
+ * session_faults [EXCHANGES [RATE [KIND [SEED]]]] makes EXCHANGES exchanges of each kind, or only of KIND, with a fault
+ * in RATE of 1,000 blocks. With TRACE in the environment it prints each block of the sessions that go wrong.
  */
 #define _XOPEN_SOURCE 700
 #include "rough.h"

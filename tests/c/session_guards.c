@@ -1,5 +1,5 @@
-/* What a session refuses and where it stops: one that was never begun or is a copy, functions that are missing, a card
- * that never comes to an end, and answers without status bytes. */
+/* What a session refuses and where it stops: a session that was never begun or is a copy, missing functions, a card
+ * that never ends its answer, and answers without status bytes. */
 #include "wired.h"
 
 static struct wired wired;

@@ -1,5 +1,5 @@
-/* One block of an exchange is harmed: each of its octets becomes each other one, its end is cut at each place, octets
- * are added after it. The answer is the right one, and the card acts on the command once and on nothing else. */
+/* One block of an exchange is harmed: each octet is changed to each other value, the end is cut at each place, and
+ * octets are added after it. The answer is right, and the card acts on the command once and on nothing else. */
 #include "wired.h"
 
 static struct wired wired;

@@ -1,4 +1,4 @@
-/* How a session takes bursts from its line: pieces, silence, interrupted calls, lengths that lie; and its clocks. */
+/* How a session takes bursts from its line: pieces, silence, interrupted calls and false lengths. Also its clocks. */
 #include "check.h"
 #include "scard_session.h"
 

@@ -1,5 +1,5 @@
-/* A terminal begins together with its card: what comes of a new terminal over a card that goes on, and the way in for
- * who can't reset it. */
+/* A terminal begins together with its card: the result of a new terminal with a card that wasn't reset, and how to
+ * begin a session with a card that can't be reset. */
 #include "wired.h"
 
 static struct wired wired;

@@ -1,5 +1,5 @@
-/* The example's terminal and card at two serial ports, over pseudo terminals: what is between them passes octets on as
- * a line of 9,600 bits a second does, one each 1.25 milliseconds, and changes, adds and holds up some.
+/* The example's terminal and card at two serial ports, over pseudo terminals. Between them a relay passes octets on
+ * like a line of 9,600 bits a second, one each 1.25 milliseconds, and changes, adds and delays some.
  */
 #include "check.h"
 #include "line.h"

@@ -1,5 +1,5 @@
-/* When both ends send, in virtual time: after BGT, after the silence that ends a block, and after a broken one once the
- * line was silent for long enough: three quarters of BWT at the card, BWT at the terminal.
+/* When both ends send, in virtual time: after BGT, and after the silence that ends a block. After a broken block an end
+ * sends once the line was silent for long enough: three quarters of BWT at the card, BWT at the terminal.
  */
 #define _XOPEN_SOURCE 700
 #include "rough.h"

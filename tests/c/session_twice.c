@@ -1,5 +1,5 @@
-/* The example's terminal and card over one line, of packets and of octets: each command has its own answer, a signal is
- * no silence, and octets after a length that lies aren't left on the line. */
+/* The example's terminal and card over one line, of packets and of octets: each command has its own answer, a signal
+ * isn't silence, and octets after a false length aren't left on the line. */
 #include "check.h"
 #include "line.h"
 

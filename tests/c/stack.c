@@ -1,5 +1,5 @@
-/* How deep the calls go: each runs on a stack of its own that was painted before, and has the bound that docs/C.md
- * gives. Link it without lazy binding (-Wl,-z,now), which takes 3 KB at the first call of a function. */
+/* How much stack the calls take: each runs on a separate stack that was painted before, and keeps to the bound that
+ * docs/C.md gives. Link it without lazy binding (-Wl,-z,now), which takes 3 KB at the first call of a function. */
 #define _XOPEN_SOURCE 700
 #include "check.h"
 #include "scard_session.h"

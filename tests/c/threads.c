@@ -1,5 +1,5 @@
-/* A handle is opened in one thread, used in a second and closed in a third, as a reader driver's is, while two others
- * have ends of their own. Under the thread sanitizer, where the compiler has it. */
+/* A handle is opened in one thread, used in a second and closed in a third, like that of a reader driver, while two
+ * other threads have their own ends. It runs under the thread sanitizer, if the compiler has it. */
 #include "check.h"
 
 #include <pthread.h>

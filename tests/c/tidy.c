@@ -1,4 +1,4 @@
-/* The tidy form of forests, against one that is made here in another way: each value in a block of its own, the
+/* The tidy form of forests, beside one that this program makes in another way: each value in a separate block, the
  * innermost first.
  */
 #include "check.h"

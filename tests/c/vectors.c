@@ -1,6 +1,7 @@
-/* The conformance vectors of the folder `vectors`, of which docs/VECTORS.md has the format: each line of `check`, and
- * of `build` but those from standard input, through the header, and where there is a reader also octet by octet; those
- * of blocks and answers to reset also in each two pieces. The folder is the first word, or ./vectors.
+/* The conformance vectors of the folder `vectors`, in the format of docs/VECTORS.md. It runs each line of `check`, and
+ * each line of `build` that doesn't read standard input, through the header. If there is a reader, it runs the line
+ * octet by octet too, and blocks and answers to reset also in each two pieces. The folder is the first word, or
+ * ./vectors.
  */
 #include "check.h"
 

@@ -1,5 +1,5 @@
-/* What an end or a receiver of chains holds of messages isn't in the memory that it gives back, and it takes no more
- * memory than its limits ask for. The functions for memory are those here: they look at each block that comes back.
+/* The memory that an end or a receiver of chains frees has no octet of a message, and it takes no more memory than its
+ * limits need. This file has the functions for memory, which look at each block that is freed.
  */
 #include "check.h"
 #include "scard_heap.h"

@@ -1,4 +1,4 @@
-/* A terminal and a card in one program: the terminal's line has the card at its other end, and no time goes by. */
+/* A terminal and a card in one program: the terminal's line has the card at its other end, and no time passes. */
 #ifndef WIRED_H
 #define WIRED_H
 

@@ -1,6 +1,6 @@
 #!/usr/bin/env python3
-"""Tests tools/peers/against.py, over docs/PERFORMANCE.md and the file times.txt beside this, which a run that printed
-the ratios of that page would have printed."""
+"""Tests tools/peers/against.py, over docs/PERFORMANCE.md and the file times.txt beside this: the output of a run with
+the ratios of that page."""
 
 import pathlib
 import sys

@@ -1,20 +1,15 @@
 #!/usr/bin/env python3
-"""Tests tools/check-header: what differs between a header and the sources is told, as two arguments or fields that are
-swapped."""
+"""Tests tools/check-header: it names each difference between a header and the sources, such as two swapped arguments or
+fields."""
 
-import importlib.machinery
-import importlib.util
-import pathlib
 import sys
 import unittest
 import unittest.mock
 
 sys.dont_write_bytecode = True
-TOP = pathlib.Path(__file__).resolve().parents[2]
-sys.path[:0] = [str(TOP / "tools"), str(TOP / "tools/translator")]
-loader = importlib.machinery.SourceFileLoader("check_header", str(TOP / "tools/check-header"))
-tool = importlib.util.module_from_spec(importlib.util.spec_from_loader("check_header", loader))
-loader.exec_module(tool)
+from copies import TOP, script
+
+tool = script("check-header")
 import header
 
 HEADER = """struct scard_verdict {

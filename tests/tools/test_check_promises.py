@@ -1,18 +1,13 @@
 #!/usr/bin/env python3
-"""Tests tools/check-promises: a type whose text no clause says is told."""
+"""Tests tools/check-promises: it names each type whose text no clause states, and each promise without a heading."""
 
-import importlib.machinery
-import importlib.util
-import pathlib
 import sys
 import unittest
 
 sys.dont_write_bytecode = True
-TOP = pathlib.Path(__file__).resolve().parents[2]
-sys.path.insert(0, str(TOP / "tools"))
-loader = importlib.machinery.SourceFileLoader("check_promises", str(TOP / "tools/check-promises"))
-tool = importlib.util.module_from_spec(importlib.util.spec_from_loader("check_promises", loader))
-loader.exec_module(tool)
+from copies import script
+
+tool = script("check-promises")
 
 SAID = """
 impl Display for Fault {
@@ -46,6 +41,24 @@ class Texts(unittest.TestCase):
 
     def test_each_type_of_the_crates_has_a_clause(self):
         self.assertEqual([*tool.lost_texts()], [])
+
+
+class Headings(unittest.TestCase):
+    """Each promise has its heading on a page of the clauses, and each heading there its promise."""
+
+    PROMISE = "- **[One verdict](STACK.md#one-verdict).** Every input has one.\n"
+
+    def named(self, promises, **pages):
+        """What is named of a page of promises and of pages of clauses."""
+        return [*tool.unlike(promises, {f"{name}.md": text for name, text in pages.items()})]
+
+    def test_a_promise_with_its_heading_is_passed(self):
+        self.assertEqual(self.named(self.PROMISE, STACK="### One verdict\n", PROGRAM=""), [])
+
+    def test_a_heading_on_another_page_is_named_twice(self):
+        named = self.named(self.PROMISE, STACK="", PROGRAM="### One verdict\n")
+        self.assertEqual(named, ["STACK.md has no heading #one-verdict",
+                                 "PROMISES.md has no promise with the heading #one-verdict of PROGRAM.md"])
 
 
 if __name__ == "__main__":

@@ -1,18 +1,13 @@
 #!/usr/bin/env python3
-"""Tests tools/check-words: it finds a phrase, across the end of a line too, and not in code."""
+"""Tests tools/check-words: it finds a phrase, even over the end of a line, and not in code."""
 
-import importlib.machinery
-import importlib.util
-import pathlib
 import sys
 import unittest
 
 sys.dont_write_bytecode = True
-TOP = pathlib.Path(__file__).resolve().parents[2]
-sys.path.insert(0, str(TOP / "tools"))
-loader = importlib.machinery.SourceFileLoader("check_words", str(TOP / "tools/check-words"))
-tool = importlib.util.module_from_spec(importlib.util.spec_from_loader("check_words", loader))
-loader.exec_module(tool)
+from copies import script
+
+tool = script("check-words")
 
 
 class Words(unittest.TestCase):
@@ -23,6 +18,11 @@ class Words(unittest.TestCase):
     def test_phrases_are_found(self):
         text = "The host is told of it.\nA text\nthat is\nnone.\n\nThat is dear, and wants much. None of these, given.\n"
         said = [(1, "is told"), (3, "that is none"), (6, "dear"), (6, "wants"), (6, "None of these")]
+        self.assertEqual(self.found(text), said)
+
+    def test_each_phrase_has_something_better(self):
+        text = "It speaks of a block under\nway, but for one.\nOnly where it is spoilt, nothing but that.\n"
+        said = [(1, "speaks of"), (1, "under way"), (2, "but for"), (3, "Only where"), (3, "spoilt"), (3, "nothing but")]
         self.assertEqual(self.found(text), said)
 
     def test_words_that_only_look_alike_pass(self):

@@ -1,6 +1,6 @@
 #!/usr/bin/env python3
-"""Tests that tools/dist leaves dist/ as it was, and nothing beside it, where it can't make it anew, and says why: in a
-repository of its own, with a toolchain that proves nothing."""
+"""Tests tools/dist if it can't make dist/: it leaves dist/ unchanged, leaves nothing beside it, and says why. The tests
+use a separate repository and a toolchain that proves nothing."""
 
 import os
 import pathlib

@@ -1,6 +1,7 @@
 #!/usr/bin/env python3
-"""Tests that each script of the repository refuses a word that begins with a dash and is none of its options: with its
-usage and status 2, before it does anything. ./scard is left out, which hands its words to the program."""
+"""Tests that each script of the repository refuses a word that begins with a dash and isn't one of its options: it
+prints its usage and ends with status 2, before it does anything. ./scard is left out, since it passes its words to
+the program."""
 
 import pathlib
 import subprocess

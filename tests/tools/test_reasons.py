@@ -1,58 +1,33 @@
 #!/usr/bin/env python3
 """Tests tools/reasons: it finds a list that differs from an enum of reasons, and writes the rows of a new case."""
 
-import contextlib
-import importlib.machinery
-import importlib.util
-import io
-import pathlib
 import re
-import shutil
 import sys
-import tempfile
 import unittest
 import unittest.mock
 
 sys.dont_write_bytecode = True
-TOP = pathlib.Path(__file__).resolve().parents[2]
-sys.path.insert(0, str(TOP / "tools"))
-loader = importlib.machinery.SourceFileLoader("reasons", str(TOP / "tools/reasons"))
-tool = importlib.util.module_from_spec(importlib.util.spec_from_loader("reasons", loader))
-sys.modules["reasons"] = tool
-loader.exec_module(tool)
+from copies import TOP, OverCopies, printed, script
 
+tool = script("reasons")
 FILES = sorted({it.file for codec in tool.CODECS for it in tool.lists_of(codec)} | {it.source for it in tool.CODECS})
 # A definition's lists are laid out anew with each change.
 RELAID = "crates/c_lent/specs/Names.antt"
 NEW = "    /// An octet that nobody sends: this is a test.\n    Unheard,\n"
 
 
-class Reasons(unittest.TestCase):
+class Reasons(OverCopies):
+    FILES = FILES
+
     def setUp(self):
-        room = tempfile.TemporaryDirectory()
-        self.addCleanup(room.cleanup)
-        self.top = pathlib.Path(room.name)
-        for file in FILES:
-            (self.top / file).parent.mkdir(parents=True, exist_ok=True)
-            shutil.copy(TOP / file, self.top / file)
+        super().setUp()
         patch = unittest.mock.patch.object(tool, "TOP", self.top)
         patch.start()
         self.addCleanup(patch.stop)
 
     def said(self, *words):
         """The status and the lines of a call."""
-        with contextlib.redirect_stdout(io.StringIO()) as out:
-            status = tool.main([*words])
-        return status, out.getvalue()
-
-    def text(self, file):
-        """What is in a file."""
-        return (self.top / file).read_text()
-
-    def change(self, file, old, new):
-        """Changes the first of a text in a file."""
-        self.assertIn(old, self.text(file), file)
-        (self.top / file).write_text(self.text(file).replace(old, new, 1))
+        return printed(tool.main, [*words])
 
     def add(self, codec, before):
         """Adds a case to an enum, before another one."""
@@ -64,7 +39,7 @@ class Reasons(unittest.TestCase):
 
     def test_the_repository_needs_no_writing(self):
         self.assertEqual(self.said("--write")[0], 0)
-        self.assertEqual([self.text(it) for it in FILES], [(TOP / it).read_text() for it in FILES])
+        self.assertEqual(self.texts(), [(TOP / it).read_text() for it in FILES])
 
     def test_a_case_without_rows_is_named_for_each_list(self):
         for codec in tool.CODECS:
@@ -75,7 +50,7 @@ class Reasons(unittest.TestCase):
             self.assertEqual(status, 1)
             for file in lists:
                 self.assertIn(f"reasons: {file}: the list of {codec.name} reasons isn't that of {codec.enum}\n", said)
-            shutil.copy(TOP / codec.source, self.top / codec.source)
+            self.restore(codec.source)
 
     def test_a_new_case_gets_all_rows_and_the_next_number(self):
         tlv = next(it for it in tool.CODECS if it.name == "tlv")
@@ -123,7 +98,7 @@ class Reasons(unittest.TestCase):
         for file, old, new in changes:
             self.change(file, old, new)
             self.assertEqual(self.said()[0], 1, (file, new))
-            shutil.copy(TOP / file, self.top / file)
+            self.restore(file)
 
 
 if __name__ == "__main__":

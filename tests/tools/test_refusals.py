@@ -1,5 +1,5 @@
 #!/usr/bin/env python3
-"""Tests tools/refusals.py: lines as the checker prints them for an edit, and what is said of the edit."""
+"""Tests tools/refusals.py: lines of the checker about an edit, and the verdict on the edit."""
 
 import pathlib
 import sys

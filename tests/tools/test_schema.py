@@ -1,6 +1,6 @@
 #!/usr/bin/env python3
-"""Tests the schema of the program's objects in JSON, docs/answers.schema.json: each object of the vectors fits it, and
-mistakes in them don't. Where Python's package jsonschema isn't installed, only that the schema is JSON."""
+"""Tests the schema of the program's JSON objects, docs/answers.schema.json: each object of the vectors fits it, and
+objects with mistakes don't. Without Python's package jsonschema it tests only that the schema is JSON."""
 
 import copy
 import json

@@ -1,6 +1,6 @@
 #!/usr/bin/env python3
-"""Tests what tools/translator decides of the accesses of a function: which are held to their window together, and for how
-long that is known. Random functions, run as C and by what they say, have to do the same."""
+"""Tests how tools/translator checks the accesses of a function: which accesses share one check, and how long its result
+holds. Random functions have to do the same as C and by their meaning."""
 
 import pathlib
 import random

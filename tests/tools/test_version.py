@@ -1,52 +1,36 @@
 #!/usr/bin/env python3
 """Tests tools/version: it finds each place with another version, and writes a version into all of them."""
 
-import contextlib
-import importlib.machinery
-import importlib.util
-import io
-import pathlib
 import re
-import shutil
 import subprocess
 import sys
-import tempfile
 import unittest
 
 sys.dont_write_bytecode = True
-TOP = pathlib.Path(__file__).resolve().parents[2]
-sys.path.insert(0, str(TOP / "tools"))
-loader = importlib.machinery.SourceFileLoader("version", str(TOP / "tools/version"))
-tool = importlib.util.module_from_spec(importlib.util.spec_from_loader("version", loader))
-loader.exec_module(tool)
+from copies import TOP, OverCopies, printed, script
 
+tool = script("version")
 NOW = (TOP / "VERSION").read_text().strip()
 FILES = ["VERSION", tool.CHANGES, *tool.PLACES]
 
 
-class Versions(unittest.TestCase):
+class Versions(OverCopies):
+    FILES = FILES
+
     def setUp(self):
-        room = tempfile.TemporaryDirectory()
-        self.addCleanup(room.cleanup)
-        self.top = pathlib.Path(room.name)
-        for file in FILES:
-            (self.top / file).parent.mkdir(parents=True, exist_ok=True)
-            shutil.copy(TOP / file, self.top / file)
+        super().setUp()
         # A version that is under way may have its heading already.
-        changes = (self.top / tool.CHANGES).read_text()
+        changes = self.text(tool.CHANGES)
         (self.top / tool.CHANGES).write_text(re.sub(r"^## Next\n.*?(?=^## )", "", changes, flags=re.M | re.S))
 
     def said(self, *words):
         """The status and the lines of a call."""
-        with contextlib.redirect_stdout(io.StringIO()) as out:
-            status = tool.main([*words], self.top)
-        return status, out.getvalue()
+        return printed(tool.main, [*words], self.top)
 
     def change(self, file, old, new):
         """Changes a text that is in a file once."""
-        text = (self.top / file).read_text()
-        self.assertEqual(text.count(old), 1, file)
-        (self.top / file).write_text(text.replace(old, new))
+        self.assertEqual(self.text(file).count(old), 1, file)
+        super().change(file, old, new)
 
     def test_the_repository_has_one_version(self):
         self.assertEqual(self.said()[0], 0)
@@ -72,27 +56,27 @@ class Versions(unittest.TestCase):
         self.change(tool.CHANGES, f"## {NOW}\n", f"## Next\n\n- More.\n\n## {NOW}\n")
         self.assertEqual(self.said()[0], 0)
         self.assertEqual(self.said("12.0.345")[0], 0)
-        self.assertIn("\n## 12.0.345\n\n- More.\n", (self.top / tool.CHANGES).read_text())
-        self.assertNotIn("Next", tool.HEADING.findall((self.top / tool.CHANGES).read_text()))
+        self.assertIn("\n## 12.0.345\n\n- More.\n", self.text(tool.CHANGES))
+        self.assertNotIn("Next", tool.HEADING.findall(self.text(tool.CHANGES)))
 
     def test_a_version_is_written_everywhere(self):
         self.assertEqual(self.said("12.0.345")[0], 0)
-        self.assertEqual((self.top / "VERSION").read_text(), "12.0.345\n")
-        self.assertIn("\n    12_000_345\n", (self.top / "crates/c_lent/src/version.rt").read_text())
-        self.assertIn(" == 12000345);", (self.top / "tests/c/names.c").read_text())
-        self.assertEqual(tool.HEADING.findall((self.top / tool.CHANGES).read_text())[:2], ["12.0.345", NOW])
+        self.assertEqual(self.text("VERSION"), "12.0.345\n")
+        self.assertIn("\n    12_000_345\n", self.text("crates/c_lent/src/version.rt"))
+        self.assertIn(" == 12000345);", self.text("tests/c/names.c"))
+        self.assertEqual(tool.HEADING.findall(self.text(tool.CHANGES))[:2], ["12.0.345", NOW])
 
     def test_the_same_version_changes_no_file(self):
-        before = [(self.top / it).read_text() for it in FILES]
+        before = self.texts()
         self.assertEqual(self.said(NOW)[0], 0)
-        self.assertEqual([(self.top / it).read_text() for it in FILES], before)
+        self.assertEqual(self.texts(), before)
 
     def test_nothing_is_written_where_a_line_is_missing(self):
         self.change("docs/PROGRAM.md", f"`scard {NOW}` |", "a version |")
-        before = [(self.top / it).read_text() for it in FILES]
+        before = self.texts()
         with self.assertRaises(ValueError):
             tool.main(["12.0.345"], self.top)
-        self.assertEqual([(self.top / it).read_text() for it in FILES], before)
+        self.assertEqual(self.texts(), before)
 
     def test_what_is_no_version_is_refused(self):
         for word in ("1.4", "1.4.0.0", "v1.4.0", "01.4.0", "1.1000.0", "--check"):

@@ -1,6 +1,6 @@
 //! What the library for C does with memory of the program: the ends and readers that handles hold.
 //!
-//! scard_c exports each call that C makes, under its name after `scard_`, and says of it what a caller has to know.
+//! scard_owned exports each call that C makes, under its name after `scard_`, and says of it what a caller has to know.
 #![tactic(auto)]
 
 mod call;

@@ -19,7 +19,7 @@ use chain_core::ChainReason;
 use octet_core::{Counted, Feeder, Octets, Refused, Stop, Taker};
 use std::alloc::Global;
 use std::process::Abort;
-use testing::same;
+use test_support::same;
 
 const SELECT: [u8; 4] = [0x00, 0xA4, 0x04, 0x00];
 

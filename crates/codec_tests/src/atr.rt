@@ -12,7 +12,7 @@ use atr_core::{
 use octet_core::Stop;
 use std::alloc::Global;
 use std::process::Abort;
-use testing::same;
+use test_support::same;
 
 /// T=0 and T=1, fifteen historical bytes and TCK; the octet FF is left.
 const BOTH_PROTOCOLS: &str = "3B8F8001804F0CA000000306030001000000006AFF";

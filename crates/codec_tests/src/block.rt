@@ -7,7 +7,7 @@ use block_core::{
 };
 use octet_core::Stop;
 use std::process::Abort;
-use testing::same;
+use test_support::same;
 
 /// Whether a block is there, and is read again from its octets.
 fn is_read_again(block: Option<Block>) -> bool {

@@ -12,7 +12,7 @@ use octet_core::{After, Counted, Feeder, Source, Stop, Taker};
 use plain::{Fed, ends, feed_lent, feeds, finish_lent, has, lacks, read, receiver, write};
 use std::alloc::Global;
 use std::process::Abort;
-use testing::same;
+use test_support::same;
 
 /// 00 A4 04 00 00, in blocks of two octets.
 const CHAIN: [u8; 17] = [

@@ -4,7 +4,7 @@ use octet_core::Named;
 use std::alloc::Global;
 use std::fmt::Display;
 use std::process::Abort;
-use testing::{debugs, of_hex, same, shows};
+use test_support::{debugs, of_hex, same, shows};
 
 /// The octets of a hexadecimal text.
 pub(super) fn octets(rt: &impl Abort, alloc: Global, text: &str) -> Vec<u8> {

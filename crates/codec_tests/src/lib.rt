@@ -1,4 +1,4 @@
-//! The tests of the codecs, from [`octet_core`] to [`apdu_core`], and of [`testing`]. They are apart from these, so that
+//! The tests of the codecs, from [`octet_core`] to [`apdu_core`], and of [`test_support`]. They are apart from these, so that
 //! the gate proves each once, and in one crate, since the toolchain takes a minute to begin with one.
 #![tactic(auto)]
 

@@ -12,7 +12,7 @@ use octet_core::{
 use std::alloc::Global;
 use std::io::{ErrorKind, Read, Write};
 use std::process::Abort;
-use testing::same;
+use test_support::same;
 
 /// Whether a call of a reader gives so many octets.
 fn gives<R: Source>(reader: &mut R, room: &mut [u8; 4], count: usize) -> bool {

@@ -9,7 +9,7 @@ use notes::{
 };
 use std::alloc::Global;
 use std::process::Abort;
-use testing::{of_hex, same};
+use test_support::{of_hex, same};
 use tlv_core::FlatForest;
 
 /// Octets and the notes on them, each of which a bar ends.

@@ -4,7 +4,7 @@ use crate::answers::{answer, is_said_again};
 use crate::feeding::{is_fed_so, is_read_so};
 use crate::kind::{Answer, Chain, Kind};
 use std::alloc::Global;
-use testing::{Case, Fault};
+use test_support::{Case, Fault};
 
 /// The answer to octets, where each call on the whole list gives it, and the readers of the kind
 /// give it too where they are fed whole and octet by octet, and a chain also where it is read from

@@ -11,7 +11,7 @@ use block_core::Block;
 use chain_core::{LONGEST_MESSAGE, Receiver};
 use octet_core::{Octets, Refused};
 use std::alloc::{AllocError, Global};
-use testing::{Size, same};
+use test_support::{Size, same};
 use tlv_core::{Dol, FlatForest, Forest};
 
 /// How many octets a forest has at most here.

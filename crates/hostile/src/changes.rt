@@ -5,7 +5,7 @@ use crate::kind::{Answer, Kind};
 use crate::vectors::Vector;
 use octet_core::Stop;
 use std::alloc::Global;
-use testing::{Case, Fault, Share, with_octet};
+use test_support::{Case, Fault, Share, with_octet};
 
 /// What was said of changed octets.
 #[derive(Clone, Copy, Default)]

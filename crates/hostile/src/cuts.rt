@@ -5,7 +5,7 @@ use crate::kind::{Answer, Kind};
 use crate::vectors::Vector;
 use octet_core::Stop;
 use std::alloc::Global;
-use testing::{Case, Fault};
+use test_support::{Case, Fault};
 
 /// What was said of fronts.
 #[derive(Clone, Copy, Default)]

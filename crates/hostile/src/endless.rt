@@ -10,7 +10,7 @@ use card_tool::Status;
 use chain_core::{ChainReason, ReadRefusal, Receiver, read_chain};
 use octet_core::{After, Counted, Feeder, Stop, Taker};
 use std::alloc::{AllocError, Global};
-use testing::{Case, Fault, Share};
+use test_support::{Case, Fault, Share};
 use tlv_core::{ForestCheck, TlvReason};
 
 /// Two empty blocks after each of which more follows, with the numbers 0 and 1.

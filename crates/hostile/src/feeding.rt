@@ -9,7 +9,7 @@ use block_core::BlockReader;
 use chain_core::{ReadRefusal, Receiver, read_chain};
 use octet_core::{After, Counted, Feeder, Refused, Stop};
 use std::alloc::{AllocError, Global};
-use testing::same;
+use test_support::same;
 use tlv_core::{Forest, ForestCheck, ForestReader, TlvReason, encode};
 
 /// A reader that is fed in pieces.

@@ -5,7 +5,7 @@ use atr_core::{Atr, AtrReason};
 use block_core::{Block, BlockReason, Number};
 use chain_core::ChainReason;
 use octet_core::{Octets, Stop};
-use testing::Size;
+use test_support::Size;
 use tlv_core::{DolReason, TlvReason};
 
 /// How a chain is read: its information size, its first number, and the octets of its message at

@@ -22,7 +22,7 @@ use octet_core::{Counted, Feeder, Taker};
 use std::alloc::Global;
 use std::io;
 use std::process::ExitCode;
-use testing::{Fault, asked};
+use test_support::{Fault, asked};
 
 fn main(rt: HostRuntime) -> io::Result<ExitCode> {
     match tell_each(&rt) {

@@ -4,7 +4,7 @@ use crate::agreeing::{agreed, agrees_in_three, agrees_in_two};
 use crate::kind::{Answer, Kind};
 use crate::vectors::Vector;
 use std::alloc::{AllocError, Global};
-use testing::{Case, Fault};
+use test_support::{Case, Fault};
 
 /// How many cuts into two pieces were tried, and how many into three.
 #[derive(Clone, Copy, Default)]

@@ -4,7 +4,7 @@ use crate::act;
 use card_tool::Status;
 use octet_core::{After, Counted, Feeder, Taker};
 use std::alloc::{AllocError, Global};
-use testing::{Case, Fault, Share};
+use test_support::{Case, Fault, Share};
 
 /// A file of a session of one exchange.
 pub(crate) const FILE: &str =

@@ -10,7 +10,7 @@ use block_core::Number;
 use chain_core::{ReadRefusal, Receiver, read_chain, write_chain};
 use octet_core::{After, Counted, FailsOnce, Feeder, Octets, Sink, Source, Stop, Taker};
 use std::alloc::Global;
-use testing::{Case, Fault, of_hex};
+use test_support::{Case, Fault, of_hex};
 
 /// What is carried.
 #[derive(Clone, Copy)]

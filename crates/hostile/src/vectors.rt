@@ -3,7 +3,7 @@
 use crate::kind::{Chain, Kind};
 use block_core::Number;
 use std::alloc::Global;
-use testing::{Fault, Size, of_hex};
+use test_support::{Fault, Size, of_hex};
 
 /// Octets of a kind, the whole of one value.
 #[derive(Drop)]

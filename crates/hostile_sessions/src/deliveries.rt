@@ -11,7 +11,7 @@ use exchange_core::Exchange;
 use octet_core::{Stop, hex_upper};
 use std::alloc::{AllocError, Global};
 use t1_core::{Card, CardFault, CardTurn, Terminal, TerminalFault, TerminalTurn};
-use testing::{Case, Fault, Share, Size, of_hex, same, with_octet};
+use test_support::{Case, Fault, Share, Size, of_hex, same, with_octet};
 
 /// What octets are to an end.
 #[derive(Clone, Copy)]

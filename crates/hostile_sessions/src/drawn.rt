@@ -10,7 +10,7 @@ use rand_core::utils::NextWord;
 use rand_pcg::Pcg32;
 use std::alloc::Global;
 use t1_core::{CardTurn, TerminalTurn};
-use testing::{Case, Fault, Share};
+use test_support::{Case, Fault, Share};
 
 /// The answer to reset of a card that takes fields of 32 octets.
 const ATR: [u8; 7] = [0x3B, 0x80, 0x81, 0x31, 0x20, 0x45, 0x55];

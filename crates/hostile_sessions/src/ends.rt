@@ -5,7 +5,7 @@ use block_core::{Block, encode};
 use exchange_core::{Arrival, Exchange, Line, ReplayFault, Side, replay};
 use std::alloc::{AllocError, Global};
 use t1_core::{Card, CardFault, CardTurn, Terminal, TerminalFault, TerminalTurn};
-use testing::{Fault, same};
+use test_support::{Fault, same};
 
 /// Both ends, and the last turn of each.
 #[derive(Drop)]

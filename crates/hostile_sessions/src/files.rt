@@ -3,7 +3,7 @@
 use crate::{as_exchange, as_replayed};
 use exchange_core::{Exchange, Side, write_exchange};
 use std::alloc::{AllocError, Global};
-use testing::{Case, Fault, Share, with_octet};
+use test_support::{Case, Fault, Share, with_octet};
 
 /// What was said of files.
 #[derive(Clone, Copy, Default)]

@@ -23,7 +23,7 @@ use exchange_core::{Exchange, ExchangeFault, ReplayFault, Side, read_exchange, r
 use std::alloc::Global;
 use std::io;
 use std::process::ExitCode;
-use testing::{Fault, Share, asked};
+use test_support::{Fault, Share, asked};
 
 fn main(rt: HostRuntime) -> io::Result<ExitCode> {
     match tell_each(&rt) {

@@ -5,7 +5,7 @@ use crate::records::{happens, recorder};
 use exchange_core::{Event, Exchange, LastTurn, Line, Recorder};
 use std::alloc::Global;
 use t1_core::CardTurn;
-use testing::{Case, Fault, Share};
+use test_support::{Case, Fault, Share};
 
 /// The answer to reset of a card that takes fields of 2 octets. The terminal takes such fields too.
 const ATR: [u8; 7] = [0x3B, 0x80, 0x81, 0x31, 0x02, 0x45, 0x77];

@@ -2,7 +2,7 @@
 
 use exchange_core::{Event, EventFault, Recorder, RecorderFault, write_exchange};
 use std::alloc::Global;
-use testing::{Case, Fault, Share};
+use test_support::{Case, Fault, Share};
 
 /// The answer to reset of a card that takes fields of 2 octets.
 const ATR: [u8; 7] = [0x3B, 0x80, 0x81, 0x31, 0x02, 0x45, 0x77];

@@ -6,7 +6,7 @@ use exchange_core::{Exchange, Line};
 use octet_core::is_reserved;
 use std::alloc::{AllocError, Global};
 use t1_core::{CardFault, TerminalFault};
-use testing::{Case, Fault, Share};
+use test_support::{Case, Fault, Share};
 
 /// A call of an end that is refused in some state.
 #[derive(Clone, Copy)]

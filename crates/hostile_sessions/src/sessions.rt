@@ -4,7 +4,7 @@ use crate::as_exchange;
 use exchange_core::Exchange;
 use std::alloc::Global;
 use std::fs;
-use testing::Fault;
+use test_support::Fault;
 
 /// The files of the folder `examples`.
 const NAMES: [&str; 8] = [

@@ -2,7 +2,7 @@
 
 use crate::turns::{Fits, Wanted};
 use t1_core::{CardFault, TerminalFault};
-use testing::Size;
+use test_support::Size;
 
 /// What an end makes of what comes.
 pub(crate) struct Turns {

@@ -11,7 +11,7 @@ use rand_pcg::Pcg32;
 use std::alloc::Global;
 use std::io;
 use t1_core::{Card, Terminal};
-use testing::{Case, Fault, Share};
+use test_support::{Case, Fault, Share};
 
 /// The answer to reset of a card that takes fields of 32 octets.
 const ATR: [u8; 7] = [0x3B, 0x80, 0x81, 0x31, 0x20, 0x45, 0x55];

@@ -2,7 +2,7 @@
 
 use block_core::{Block, encode};
 use t1_core::{Card, CardFault, CardTurn, Terminal, TerminalFault, TerminalTurn};
-use testing::same;
+use test_support::same;
 
 /// The RESYNCH request and response.
 const RESYNCH: [u8; 4] = [0x00, 0xC0, 0x00, 0xC0];

@@ -9,7 +9,7 @@ use octet_core::Octets;
 use simulator::{SimulationFault, simulate};
 use std::alloc::Global;
 use std::process::Abort;
-use testing::{of_hex, same, shows};
+use test_support::{of_hex, same, shows};
 
 /// So many octets 00.
 fn zeros(rt: &impl Abort, alloc: Global, count: usize) -> Octets {

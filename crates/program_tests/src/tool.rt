@@ -11,7 +11,7 @@ use octet_core::{After, Counted, Feeder, Taker};
 use std::alloc::Global;
 use std::io::{Read, Write};
 use std::process::Abort;
-use testing::same;
+use test_support::same;
 
 /// How a run of the program ended, with its reader and its writer back.
 #[derive(Drop)]

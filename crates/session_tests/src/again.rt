@@ -6,14 +6,14 @@ use atr_core::Atr;
 use block_core::{Block, Number};
 use line_core::UntimedLine;
 use octet_core::{After, Counted, Feeder, Octets, Taker};
-use round_trips::{
+use stack_laws::{
     acted_on_once, atr_again, block_again, command_again, command_in_two_pieces, dol_again,
     exchanged_over_streams, forest_again, response_again, response_in_two_pieces,
 };
 use std::alloc::Global;
 use std::process::Abort;
 use t1_core::Terminal;
-use testing::of_hex;
+use test_support::of_hex;
 use tlv_core::{Dol, LARGEST_FOREST};
 
 /// The octets of a hexadecimal text.

@@ -1,4 +1,4 @@
-//! The tests of both ends, [`t1_core`] and [`line_core`], and of [`round_trips`]. They are apart from these, so that the
+//! The tests of both ends, [`t1_core`] and [`line_core`], and of [`stack_laws`]. They are apart from these, so that the
 //! gate proves each once, and in one crate, since the toolchain takes a minute to begin with one.
 #![tactic(auto)]
 

@@ -6,7 +6,7 @@ use as_value::{
 use octet_core::{Refused, Stop};
 use std::alloc::Global;
 use std::process::Abort;
-use testing::same;
+use test_support::same;
 use tlv_core::{
     Dol, FlatForest, Forest, ForestCheck, Form, Improper, Node, Nodes, Tag, TlvReason, decode,
     first, tidy,

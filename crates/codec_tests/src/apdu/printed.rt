@@ -6,7 +6,7 @@ use apdu_core::{Body, CommandReason, ReceiveFault, ResponseReason, SendFault};
 use chain_core::ChainReason;
 use octet_core::Stop;
 use std::alloc::Global;
-use testing::{debugs, shows};
+use test_support::{debugs, shows};
 
 const CHAIN: Stop<ChainReason> = Stop::At {
     place: 3,

@@ -2,7 +2,7 @@
 
 use crate::helpers::is_named;
 use atr_core::{AtrReader, AtrReason, ParamFault};
-use testing::{debugs, same};
+use test_support::{debugs, same};
 
 const REASONS: [(AtrReason, &str); 3] = [
     (AtrReason::BadTs, "BadTs"),

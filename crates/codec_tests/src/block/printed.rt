@@ -3,7 +3,7 @@
 use crate::helpers::is_named;
 use block_core::{Block, BlockReader, BlockReason, BlockRef, Number, encode};
 use std::alloc::Global;
-use testing::{debugs, same};
+use test_support::{debugs, same};
 
 const REASONS: [(BlockReason, &str); 5] = [
     (BlockReason::BadPcb, "BadPcb"),

@@ -8,7 +8,7 @@ use chain_core::{ChainReason, LentReceiver, ReadRefusal, Receiver, read_chain, w
 use octet_core::{Sink, Source, Stop, WriteFault};
 use std::alloc::Global;
 use std::process::Abort;
-use testing::same;
+use test_support::same;
 
 /// What a receiver answers to octets.
 pub(super) type Fed = Result<(usize, bool), Stop<ChainReason>>;

@@ -6,7 +6,7 @@ use chain_core::{ChainReason, ReadRefusal, Receiver, cut};
 use octet_core::Stop;
 use std::alloc::Global;
 use std::process::Abort;
-use testing::{debugs, same, shows};
+use test_support::{debugs, same, shows};
 
 const REASONS: [(ChainReason, &str); 9] = [
     (ChainReason::BadNad, "BadNad"),

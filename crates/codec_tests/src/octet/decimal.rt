@@ -1,7 +1,7 @@
 //! Numbers as decimal text.
 
 use octet_core::decimal_of;
-use testing::same;
+use test_support::same;
 
 #[test]
 fn numbers_of_up_to_15_digits(rt: HostRuntime) {

@@ -3,7 +3,7 @@
 use octet_core::{HexFault, Octets, Refusal, Refused, Stop, Text, WriteFault};
 use std::alloc::Global;
 use std::error::Error;
-use testing::{debugs, same, shows};
+use test_support::{debugs, same, shows};
 
 const SHORT: Stop<HexFault> = Stop::Short { place: 3 };
 

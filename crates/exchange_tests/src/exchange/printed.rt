@@ -5,7 +5,7 @@ use exchange_core::{AtrFault, Event, EventFault, RecorderFault, ReplayFault};
 use octet_core::Text;
 use std::alloc::Global;
 use t1_core::{CardFault, TerminalFault};
-use testing::{debugs, shows};
+use test_support::{debugs, shows};
 
 const OF_EVENTS: [(EventFault, &str); 4] = [
     (EventFault::NothingUnderWay, "NothingUnderWay"),

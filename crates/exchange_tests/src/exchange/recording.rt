@@ -7,7 +7,7 @@ use exchange_core::{Event, EventFault, Exchange, LastTurn, Line, Recorder, Side,
 use std::alloc::Global;
 use std::process::Abort;
 use t1_core::{CardFault, CardTurn, TerminalFault};
-use testing::same;
+use test_support::same;
 
 /// The answer to reset of a card that takes information fields of 32 octets.
 const ATR: [u8; 7] = [0x3B, 0x80, 0x81, 0x31, 0x20, 0x45, 0x55];

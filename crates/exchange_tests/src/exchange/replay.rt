@@ -6,7 +6,7 @@ use super::sessions::DAMAGED_AND_LOST;
 use exchange_core::{Exchange, ReplayFault, Side, Version, migrate, replay};
 use std::alloc::Global;
 use std::process::Abort;
-use testing::same;
+use test_support::same;
 
 /// Whether a replay differs at this line, where the end refuses a message as too long.
 fn is_too_long(alloc: Global, exchange: &Exchange, side: Side, at: usize) -> bool {

@@ -4,7 +4,7 @@ use crate::words::words_of;
 use card_words::{Asked, read};
 use std::alloc::Global;
 use std::process::Abort;
-use testing::same;
+use test_support::same;
 
 /// What the words of a line ask for, which must not be at fault.
 fn asked(rt: &impl Abort, alloc: Global, line: &str) -> Asked {

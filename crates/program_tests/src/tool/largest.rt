@@ -6,7 +6,7 @@ use octet_core::{After, Feeder, Taker, hex_upper};
 use std::alloc::Global;
 use std::io::{self, Write};
 use std::process::Abort;
-use testing::{of_hex, same};
+use test_support::{of_hex, same};
 
 /// A writer that looks whether it takes this text.
 #[derive(Drop)]

@@ -9,7 +9,7 @@ use octet_core::{After, Feeder, Taker};
 use std::alloc::Global;
 use std::io::{self, ErrorKind, Read, Write};
 use std::process::Abort;
-use testing::same;
+use test_support::same;
 
 /// The words that read the file of an exchange.
 const FILES: [&str; 3] = ["migrate", "replay --end card", "replay --end=terminal"];

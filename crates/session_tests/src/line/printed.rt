@@ -5,7 +5,7 @@ use std::alloc::Global;
 use std::fmt::Display;
 use std::io::ErrorKind;
 use t1_core::{CardFault, TerminalFault};
-use testing::shows;
+use test_support::shows;
 
 /// Whether this is what is printed of a fault.
 fn is_printed<F: Display + Drop>(alloc: Global, fault: F, text: &str) -> bool {

@@ -11,7 +11,7 @@ use octet_core::Stop;
 use std::io;
 use std::process::Abort;
 use t1_core::{Terminal, TerminalFault};
-use testing::same;
+use test_support::same;
 
 const ONE_OCTET: [u8; 5] = [0x00, 0x00, 0x01, 0x90, 0x91];
 

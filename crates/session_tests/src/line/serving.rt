@@ -6,7 +6,7 @@ use crate::ends::{card, octets_of};
 use line_core::{CardLine, Host, Received, ServeFault, serve};
 use std::io::{self, ErrorKind};
 use t1_core::{Card, CardFault};
-use testing::same;
+use test_support::same;
 
 const ASK_AGAIN: [u8; 4] = [0x00, 0x80, 0x00, 0x80];
 

@@ -6,7 +6,7 @@ use line_core::{
     CardLine, LONGEST_ARRIVAL, Received, Silences, TerminalLine, TimedDevice, TimedLine, exchange,
 };
 use std::io::{self, ErrorKind};
-use testing::same;
+use test_support::same;
 
 /// What one call of a device hears.
 #[derive(Clone, Copy)]

@@ -8,7 +8,7 @@ use t1_core::{
     CardFault, CardWait, EncodedCardTurn, EncodedTerminalTurn, LentCard, LentTerminal,
     TerminalFault, TerminalWait,
 };
-use testing::same;
+use test_support::same;
 
 /// SELECT is sent, and a block that asks for the answer again.
 const SENT: EncodedTerminalTurn = EncodedTerminalTurn::Send {

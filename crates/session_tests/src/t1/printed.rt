@@ -5,7 +5,7 @@ use octet_core::Named;
 use std::alloc::Global;
 use std::fmt::Display;
 use t1_core::{CardFault, CardTurn, TerminalFault, TerminalTurn};
-use testing::{debugs, same, shows};
+use test_support::{debugs, same, shows};
 
 static OF_THE_TERMINAL: [(TerminalFault, &str); 5] = [
     (TerminalFault::Dead, "Dead"),

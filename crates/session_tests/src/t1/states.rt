@@ -6,7 +6,7 @@ use crate::ends::{card_for, params_for, terminal_for};
 use std::alloc::Global;
 use std::process::Abort;
 use t1_core::{Card, CardAwaits, Terminal, TerminalAwaits};
-use testing::{debugs, same};
+use test_support::{debugs, same};
 
 /// An I-block with number 0 that another follows, and the octets `90 00`.
 const DONE_FIRST: [u8; 6] = [0x00, 0x20, 0x02, 0x90, 0x00, 0xB2];

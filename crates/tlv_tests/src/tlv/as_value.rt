@@ -4,7 +4,7 @@
 use octet_core::Octets;
 use std::alloc::Global;
 use std::process::Abort;
-use testing::{of_hex, same};
+use test_support::{of_hex, same};
 use tlv_core::{
     Dol, FlatForest, Forest, Form, Improper, LARGEST_FOREST, Node, Nodes, PlacedPart, Tag, decode,
     encode, placed_parts, tidy,

@@ -3,7 +3,7 @@
 use super::as_value::{flat, forest, octets};
 use std::alloc::Global;
 use std::process::Abort;
-use testing::same;
+use test_support::same;
 use tlv_core::{Forest, Node};
 
 /// The octets of two forests, whether the forests are equal, and whether their parts are.

@@ -3,7 +3,7 @@
 use super::as_value::{come_back, deep, made, one, primitive, tag};
 use std::alloc::Global;
 use std::process::Abort;
-use testing::same;
+use test_support::same;
 use tlv_core::{Form, Improper, LARGEST_FOREST, Node, Nodes};
 
 /// So many fillers.

@@ -3,7 +3,7 @@
 ghost use Rattle.std.specs.Prelude.{◌≤◌};
 
 use super::as_value::{octets, tag};
-use testing::same;
+use test_support::same;
 use tlv_core::{ForestCheck, Form, Header, LARGEST_FOREST, LentCheck, Tag, TlvReason};
 
 /// A forest, octets that a forest begins with, and octets that are refused.

@@ -4,7 +4,7 @@ use super::as_value::{are_octets, flat, octets, placed};
 use octet_core::{Refused, Stop};
 use std::alloc::Global;
 use std::process::Abort;
-use testing::same;
+use test_support::same;
 use tlv_core::{FlatForest, Form, LARGEST_FOREST, Part, PlacedPart, TlvReason, placed_parts};
 
 /// What is wanted of a part: its depth, its tag, and the place of its value with its octets.

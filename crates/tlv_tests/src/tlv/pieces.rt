@@ -6,7 +6,7 @@ use super::as_value::{forest, made, octets, one, primitive, spelling, spells, ta
 use octet_core::{Refused, Stop};
 use std::alloc::Global;
 use std::process::Abort;
-use testing::same;
+use test_support::same;
 use tlv_core::{Forest, ForestCheck, ForestReader, Form, LARGEST_FOREST, Node, TlvReason};
 
 /// What a reader says of octets.

@@ -5,7 +5,7 @@ use octet_core::{Format, Named, Octets};
 use std::alloc::Global;
 use std::fmt::Display;
 use std::process::Abort;
-use testing::{debugs, same, shows};
+use test_support::{debugs, same, shows};
 use tlv_core::{
     DolReason, FillFault, Forest, ForestCheck, ForestReader, Improper, Known, LARGEST_FOREST,
     LentCheck, Part, TlvReason,

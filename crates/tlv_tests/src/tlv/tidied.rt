@@ -2,7 +2,7 @@
 
 use super::as_value::{are_octets, octets};
 use std::alloc::Global;
-use testing::same;
+use test_support::same;
 use tlv_core::{LARGEST_FOREST, put_tidy};
 
 /// Octets, and how many octets their tidy form has, with its octets.

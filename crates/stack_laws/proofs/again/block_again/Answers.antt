@@ -2,8 +2,8 @@ use Rattle.std.proofs.Common.{length, sym, subst}
 use Rattle.octet_core.specs.Grammar.{self_ended}
 use Rattle.block_core.specs.Block.{IsBlock, IsReason}
 use Rattle.octet_core.proofs.Verdicts.{not_both}
-use Rattle.round_trips.proofs.Readings.{accepts-all}
-use Rattle.round_trips.proofs.again.block_again.Goals as goal
+use Rattle.stack_laws.proofs.Readings.{accepts-all}
+use Rattle.stack_laws.proofs.again.block_again.Goals as goal
 
 pub unreachable-requires : goal.unreachable-requires
 unreachable-requires c =

@@ -1,6 +1,6 @@
 use Rattle.std.proofs.Common.{sym, subst}
 use Rattle.tlv_core.specs.Forest.{IsForest, largest}
-use Rattle.round_trips.proofs.again.forest_again.Goals as goal
+use Rattle.stack_laws.proofs.again.forest_again.Goals as goal
 
 pub returns-in-Ok : goal.returns-in-Ok
 returns-in-Ok c =

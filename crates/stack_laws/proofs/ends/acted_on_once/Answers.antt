@@ -2,7 +2,7 @@ use Rattle.std.proofs.Common.{subst, arith}
 use Rattle.octet_core.specs.Octets.{AreOctets}
 use Rattle.apdu_core.specs.Command.{spelling}
 use Rattle.line_core.specs.Exchange.{ending_of}
-use Rattle.round_trips.proofs.ends.acted_on_once.Goals as goal
+use Rattle.stack_laws.proofs.ends.acted_on_once.Goals as goal
 
 pub returns : goal.returns
 returns g c =

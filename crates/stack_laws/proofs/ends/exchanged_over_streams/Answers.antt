@@ -1,5 +1,5 @@
 use Rattle.std.proofs.Common.{[], refl}
-use Rattle.round_trips.proofs.ends.exchanged_over_streams.Goals as goal
+use Rattle.stack_laws.proofs.ends.exchanged_over_streams.Goals as goal
 
 pub returns : goal.returns
 returns g c =

@@ -4,8 +4,8 @@ use Rattle.chain_core.specs.Longest.{longest_command}
 use Rattle.block_core.specs.declared.pcb.Number.{Number}
 use Rattle.chain_core.specs.Chain.{IsChain}
 use Rattle.chain_core.specs.Cut.{cut_of}
-use Rattle.round_trips.proofs.Chains.{arrived}
-use Rattle.round_trips.proofs.pieces.fed_in_two.Goals as goal
+use Rattle.stack_laws.proofs.Chains.{arrived}
+use Rattle.stack_laws.proofs.pieces.fed_in_two.Goals as goal
 
 pub returns : goal.returns
 returns c = λ b octets few is.

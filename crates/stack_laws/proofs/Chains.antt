@@ -6,7 +6,7 @@ use Rattle.block_core.specs.declared.pcb.Number.{Number}
 use Rattle.chain_core.specs.Chain.{IsChain, IsReason, message_of}
 use Rattle.chain_core.specs.Taking.{Taking, HasTaken, nothing_taken, refusal_of}
 use Rattle.chain_core.specs.declared.reason.ChainReason.{ChainReason}
-use Rattle.round_trips.proofs.Takings.{two-pieces}
+use Rattle.stack_laws.proofs.Takings.{two-pieces}
 
 -- it takes chains under these conditions
 abbrev Takes : Taking → ℕ → Number → ℕ → Type 0

@@ -1,0 +1,62 @@
+"""What the tests of scripts share: a script as a module, and copies of the files that it changes."""
+
+import contextlib
+import importlib.machinery
+import importlib.util
+import io
+import pathlib
+import shutil
+import sys
+import tempfile
+import unittest
+
+sys.dont_write_bytecode = True
+TOP = pathlib.Path(__file__).resolve().parents[2]
+sys.path.insert(0, str(TOP / "tools"))
+
+
+def script(name):
+    """A script of tools/ as a module."""
+    loader = importlib.machinery.SourceFileLoader(name.replace("-", "_"), str(TOP / "tools" / name))
+    module = importlib.util.module_from_spec(importlib.util.spec_from_loader(loader.name, loader))
+    sys.modules[loader.name] = module
+    loader.exec_module(module)
+    return module
+
+
+class OverCopies(unittest.TestCase):
+    """Tests of a script over copies of FILES, in a folder that goes after each test."""
+
+    FILES = ()
+
+    def setUp(self):
+        room = tempfile.TemporaryDirectory()
+        self.addCleanup(room.cleanup)
+        self.top = pathlib.Path(room.name)
+        for file in self.FILES:
+            (self.top / file).parent.mkdir(parents=True, exist_ok=True)
+            self.restore(file)
+
+    def restore(self, file):
+        """Copies a file once more."""
+        shutil.copy(TOP / file, self.top / file)
+
+    def text(self, file):
+        """What is in a file."""
+        return (self.top / file).read_text()
+
+    def texts(self):
+        """What is in each file."""
+        return [self.text(it) for it in self.FILES]
+
+    def change(self, file, old, new):
+        """Changes the first of a text in a file."""
+        self.assertIn(old, self.text(file), file)
+        (self.top / file).write_text(self.text(file).replace(old, new, 1))
+
+
+def printed(call, *words):
+    """What a call returns, and what it prints."""
+    with contextlib.redirect_stdout(io.StringIO()) as out:
+        status = call(*words)
+    return status, out.getvalue()
