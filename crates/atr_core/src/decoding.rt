@@ -28,15 +28,26 @@ pub fn decode(octets: &[u8]) -> Result<(Atr, usize), Stop<AtrReason>>
 
 /// How many octets the answer to reset takes with which the octets begin: the verdict of [`decode`], without
 /// the answer.
-#[inline]
+#[inline(always)]
 pub fn check(octets: &[u8]) -> Result<usize, Stop<AtrReason>>
     ensures found { IfOk result (λ count. (atr : AtrParts)
         × Accepts self_ended IsAtr octets.now atr count) }
     ensures refused { IfErr result (λ stop. Refuses self_ended IsAtr IsReason octets.now stop) }
 {
-    if let Some(count) = whole_len(octets) {
-        return Ok(count);
+    match whole_len(octets) {
+        Some(count) => Ok(count),
+        None => len_by_octets(octets),
     }
+}
+
+/// The verdict of [`check`] octet by octet. It stands apart, so that `check` has no room for an answer, which
+/// each call would clear.
+#[inline(never)]
+fn len_by_octets(octets: &[u8]) -> Result<usize, Stop<AtrReason>>
+    ensures found { IfOk result (λ count. (atr : AtrParts)
+        × Accepts self_ended IsAtr octets.now atr count) }
+    ensures refused { IfErr result (λ stop. Refuses self_ended IsAtr IsReason octets.now stop) }
+{
     match by_octets(octets) {
         Ok((_, count)) => Ok(count),
         Err(stop) => Err(stop),
