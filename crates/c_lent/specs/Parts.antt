@@ -1,5 +1,5 @@
 -- The parts of a forest as C sees them.
-use Rattle.std.specs.Prelude.{◌≡◌, ℕ, ◌+◌, ◌-◌, ◌==◌, ◌&&◌, min, Bool, false, List, [], ◌∷◌, length, take, map, cond, if◌then◌else◌, bytes_eq, slice_get, Option, Some, None}
+use Rattle.std.specs.Prelude.{◌≡◌, ℕ, ◌+◌, ◌-◌, ◌≤◌, ◌==◌, ◌&&◌, min, Bool, false, List, [], ◌∷◌, length, take, map, cond, if◌then◌else◌, bytes_eq, slice_get, Option, Some, None}
 use Rattle.tlv_core.specs.Tag.{constructed_bit}
 use Rattle.tlv_core.specs.TagView.{padded}
 use Rattle.tlv_core.specs.Form.{further}
@@ -9,7 +9,8 @@ use Rattle.tlv_core.specs.Parts.{Placed, value_place, preorder, first_on}
 use Rattle.tlv_core.specs.declared.node.Node.{Node}
 use Rattle.tlv_core.specs.declared.node.Node.TheVariants as node
 use Rattle.tlv_core.specs.declared.part.PlacedPart.{PlacedPart}
-use Rattle.tlv_core.specs.Flat.{placed_of}
+use Rattle.tlv_core.specs.Reasons.{Kept}
+use Rattle.tlv_core.specs.Flat.{placed_of, HasGiven}
 use Rattle.c_lent.specs.Verdict.{put_verdict, filled}
 use Rattle.c_lent.specs.declared.verdict.Verdict.{Verdict}
 use Rattle.c_lent.specs.declared.parts.CTag.{CTag}
@@ -55,6 +56,16 @@ pub record ArePut (max : ℕ) (octets : List ℕ) (old new : List CPart) (count 
   pub forest : IsForest max tree octets
   pub number : count ≡ length (parts_shown tree)
   pub array : new ≡ filled (parts_shown tree) old
+
+-- A walk has given these objects, so many, and they are put into an array that was this, as far as it has room.
+pub record ArePutSoFar (max : ℕ) (octets : List ℕ) (old : List CPart) (walk : Kept) (out : List CPart) (count : ℕ)
+    : Type 0 where
+  pub given : List Placed
+  pub has : HasGiven octets walk given
+  pub limit : walk.max ≡ max
+  pub within : count ≤ walk.count
+  pub number : count ≡ length (map part_shown given)
+  pub array : out ≡ filled (map part_shown given) old
 
 -- ---- the first object on a path of tags
 
