@@ -1,5 +1,6 @@
 -- to be believed: what the standards, or this project, say
 pub mod Replay
+pub mod Waiting
 pub mod Run
 pub mod Told
 pub mod Recording

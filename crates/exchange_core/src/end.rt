@@ -3,9 +3,12 @@
 ghost use Rattle.std.specs.Prelude.{◌≡◌, ℕ, List};
 ghost use Rattle.exchange_core.specs.Output.{line_of, effect_of};
 ghost use Rattle.exchange_core.specs.Replay.{End, replay_line, terminal_end, card_end};
+ghost use Rattle.exchange_core.specs.Waiting.{terminal_awaits, card_awaits};
+ghost use Rattle.exchange_core.specs.declared.waiting.Awaits.{Awaits as AnyAwaits};
 ghost use Rattle.t1_core.specs.Names.{terminal_fault_name, card_fault_name};
 
 use crate::output::Output;
+use crate::waiting::Awaits;
 use exchange_text::{Arrival, Line};
 use octet_core::Named;
 use t1_core::{Card, CardFault, CardTurn, Terminal, TerminalFault, TerminalTurn};
@@ -36,6 +39,9 @@ pub(crate) trait Replayed {
     /// The name of a refusal.
     ghost refusal: { Self.Fault → List ℕ };
 
+    /// What it waits for in a state.
+    ghost waits: { Self → AnyAwaits };
+
     /// What a line does, where no line has met the turn `pending` yet.
     fn hears(&mut self, pending: Option<Self::Turn>, line: &Line) -> Effect<Self::Turn, Self::Fault>
         ensures { replay_line end self.old pending line.now
@@ -48,6 +54,10 @@ pub(crate) trait Replayed {
     /// What a turn gives, while the end is in the state after it.
     fn given<'a>(&'a self, turn: &'a Self::Turn) -> Output<'a>
         ensures { line_of result ≡ end.line self.now turn.now };
+
+    /// What it waits for.
+    fn waits(&self) -> Awaits
+        ensures { result ≡ waits self.now };
 }
 
 impl Replayed for Terminal {
@@ -58,6 +68,8 @@ impl Replayed for Terminal {
     ghost end = { terminal_end };
 
     ghost refusal = { terminal_fault_name };
+
+    ghost waits = { terminal_awaits };
 
     fn hears(
         &mut self,
@@ -98,6 +110,10 @@ impl Replayed for Terminal {
             TerminalTurn::Dead => Output::Dead,
         }
     }
+
+    fn waits(&self) -> Awaits {
+        Awaits::Terminal(self.awaits())
+    }
 }
 
 impl Replayed for Card {
@@ -108,6 +124,8 @@ impl Replayed for Card {
     ghost end = { card_end };
 
     ghost refusal = { card_fault_name };
+
+    ghost waits = { card_awaits };
 
     fn hears(&mut self, pending: Option<CardTurn>, line: &Line) -> Effect<CardTurn, CardFault>
         ensures { replay_line card_end self.old pending line.now
@@ -140,5 +158,9 @@ impl Replayed for Card {
             CardTurn::Send(block) => Output::FromCard(block),
             CardTurn::Asked => Output::Asked(self.command().unwrap_or(&[])),
         }
+    }
+
+    fn waits(&self) -> Awaits {
+        Awaits::Card(self.awaits())
     }
 }

@@ -13,6 +13,7 @@ mod output;
 pub mod params;
 pub mod recording;
 pub mod replaying;
+pub mod waiting;
 
 pub use carrying::{card_called, copied, is_spelled, spelled, terminal_called};
 pub use event::{Event, EventFault, LastTurn, RecorderFault};
@@ -22,3 +23,4 @@ pub use exchange_text::{
 pub use params::{AtrFault, params_of};
 pub use recording::{Recorder, answers_are_replies, refused_event_changes_nothing, told};
 pub use replaying::{ReplayFault, Side, replay};
+pub use waiting::{Awaits, Call, Waiting, waiting_at};

@@ -19,7 +19,7 @@ use t1_core::{Card, Terminal};
 const ATR_LINE: usize = 2;
 
 /// The first line after that of the answer to reset.
-const FIRST_LINE: usize = 3;
+pub(crate) const FIRST_LINE: usize = 3;
 
 /// The end that is replayed.
 #[derive(Clone, Copy, Debug, PartialEq, Eq)]
@@ -126,7 +126,7 @@ fn replay_lines<E: Replayed + Drop>(
 }
 
 /// Replays a line: the turn that no line has met after it.
-fn replay_line<E: Replayed>(
+pub(crate) fn replay_line<E: Replayed>(
     alloc: Global,
     end: &mut E,
     pending: Option<E::Turn>,
