@@ -8,3 +8,4 @@ pub mod NoSign
 pub mod Noting
 pub mod Tds
 pub mod Pushes
+pub mod NotesApart

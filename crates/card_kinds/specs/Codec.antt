@@ -1,10 +1,11 @@
 -- What the octets of a kind are to the program.
-use Rattle.std.specs.Prelude.{ℕ, List, Bool, Result, Ok, Err}
+use Rattle.std.specs.Prelude.{ℕ, List, ◌++◌, Bool, true, false, Result, Ok, Err}
 use Rattle.octet_core.specs.Grammar.{Ending, Accepts, Refuses, RefusesUnlessMemory}
 use Rattle.octet_core.specs.declared.stop.Refused.{Refused}
 use Rattle.octet_core.specs.declared.stop.Stop.{Stop}
 use Rattle.card_words.specs.declared.request.Layout.{Layout}
 use Rattle.card_words.specs.declared.request.Layout.TheVariants.{Lines, Json}
+use Rattle.card_kinds.specs.Json.{notes_member}
 
 -- where a value V ends, which octets spell it, why octets are refused, the names of these reasons R, the lines that a
 -- value is shown by, with notes or without, and the members of an object of JSON that say it, each after a comma
@@ -16,14 +17,19 @@ pub record Codec (V R : Type 0) : Type 1 where
   pub lines : Bool → V → List ℕ
   pub members : V → List ℕ
 
--- lines, or members of an object
-abbrev pub said_by : Layout → List ℕ → List ℕ → List ℕ
-said_by Lines lines members = lines
-said_by Json lines members = members
+-- members of an object, with one for the notes on these lines where they are noted
+abbrev pub members_by : Bool → List ℕ → List ℕ → List ℕ
+members_by true lines members = members ++ notes_member lines
+members_by false lines members = members
 
--- a value as lines, with notes where it is noted, or as members of an object
+-- lines, or members of an object
+abbrev pub said_by : Layout → Bool → List ℕ → List ℕ → List ℕ
+said_by Lines noted lines members = lines
+said_by Json noted lines members = members_by noted lines members
+
+-- a value as lines or as members of an object, with notes where it is noted
 abbrev pub said_in : {V R : Type 0} → Bool → Layout → Codec V R → V → List ℕ
-said_in noted layout c v = said_by layout (c.lines noted v) (c.members v)
+said_in noted layout c v = said_by layout noted (c.lines noted v) (c.members v)
 
 -- the first n octets of b spell v
 abbrev pub Takes : {V R : Type 0} → Codec V R → List ℕ → V → ℕ → Type 0

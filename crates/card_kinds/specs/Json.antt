@@ -1,5 +1,7 @@
 -- What the program says of octets as an object of JSON: its members, in their order, with a comma between two.
-use Rattle.std.specs.Prelude.{ℕ, List, [], ◌∷◌, ◌++◌, codes, decimal}
+use Rattle.std.specs.Prelude.{ℕ, ◌-◌, List, [], ◌∷◌, ◌++◌, codes, decimal, length, take}
+use Rattle.json_lines.specs.Notes.{note_items}
+use Rattle.notes.specs.Noted.{mark}
 use Rattle.octet_core.specs.declared.stop.Stop.{Stop}
 use Rattle.octet_core.specs.declared.stop.Stop.TheVariants.{Short, At}
 
@@ -40,3 +42,15 @@ object_head kind = codes "{\"version\":1,\"kind\":\"" ++ (kind ++ codes "\",")
 -- the line of the object with these members
 abbrev pub object_line : List ℕ → List ℕ → List ℕ
 object_line kind members = object_head kind ++ (members ++ codes "}\n")
+
+-- the member with the notes on the lines of a text: of each line that has one the line and the note
+abbrev pub notes_member : List ℕ → List ℕ
+notes_member noted = codes ",\"notes\":[" ++ (note_items mark noted ++ codes "]")
+
+-- the line of an object with one more member at its end
+abbrev pub with_member : List ℕ → List ℕ → List ℕ
+with_member object member = take (length object - 2) object ++ (member ++ codes "}\n")
+
+-- the line of an object with the notes on the lines of a text
+abbrev pub with_notes : List ℕ → List ℕ → List ℕ
+with_notes object noted = with_member object (notes_member noted)

@@ -93,7 +93,12 @@ refused_in Json kind name stop = object_line (kind_name kind) (refused_members n
 abbrev pub ChecksBy : {V R : Type 0} → Layout → Kind → Codec V R → List ℕ → List ℕ → Status → Type 0
 ChecksBy layout kind c b = TellsBy c (λ v n. accepted_in layout kind n) (refused_in layout kind c.name) b
 
--- the value itself, with notes on its lines where it is noted
+-- how the program ends by a verdict
+abbrev pub status_of : {R : Type 0} → Result ℕ (Stop R) → Status
+status_of (Ok n) = status.Accepted
+status_of (Err stop) = status.Refused
+
+-- the value itself, with the notes on its lines where it is noted
 abbrev pub ShowsBy : {V R : Type 0} → Bool → Layout → Kind → Codec V R → List ℕ → List ℕ → Status → Type 0
 ShowsBy noted layout kind c b = TellsBy c (shown_in noted layout kind c) (refused_in layout kind c.name) b
 

@@ -2,7 +2,7 @@
 
 ghost use Rattle.std.specs.Prelude.{◌≡◌, ◌≤◌, ℕ, false, IfOk, IfErr, string_bytes};
 ghost use Rattle.card_words.specs.declared.request.Expected.{Expected as AnyExpected};
-ghost use Rattle.card_kinds.specs.Verdicts.{ChecksBy, ShowsBy, shown_in};
+ghost use Rattle.card_kinds.specs.Verdicts.{ChecksBy, ShowsBy, shown_in, status_of};
 ghost use Rattle.card_kinds.specs.Codec.{Codec as AnyCodec, IsVerdict, StopsUnlessMemory, Takes};
 
 use crate::answer::Answer;
@@ -44,7 +44,7 @@ pub trait Codec {
         ensures found { IfOk result (λ n. (v : Value) × Takes (codec expected) octets.now v n) }
         ensures refused { IfErr result (StopsUnlessMemory (codec expected) octets.now) };
 
-    /// The value as lines, with notes where it is `noted`, or as the line of an object of JSON.
+    /// The value as lines, or as the line of an object of JSON, with notes where it is `noted`.
     fn shown(
         alloc: Global,
         octets: &[u8],
@@ -107,8 +107,8 @@ pub fn check_with_verdict<C: Codec>(
     }
 }
 
-/// What `show` says of octets, and the verdict on them, where it is `noted` with notes on the lines of a value and the
-/// words of a note on that of a refusal. The octets are decoded once.
+/// What `show` says of octets, and the verdict on them, where it is `noted` with the notes on the lines of a value and
+/// the words of a note on that of a refusal, which its text doesn't have. The octets are decoded once.
 pub fn show_with_verdict<C: Codec>(
     alloc: Global,
     layout: Layout,
@@ -122,6 +122,7 @@ pub fn show_with_verdict<C: Codec>(
         octets.now judged.answer.text judged.answer.status) }
     ensures verdict { IfOk result (λ judged.
         IsVerdict (C.codec expected) octets.now judged.verdict) }
+    ensures ended { IfOk result (λ judged. judged.answer.status ≡ status_of judged.verdict) }
 {
     match C::shown(alloc, octets, expected, layout, noted) {
         Ok(Shown { text, taken }) => Ok(Judged {

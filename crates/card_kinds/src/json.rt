@@ -1,10 +1,12 @@
 //! Objects of JSON that say what the program says of octets.
 
 ghost use Rattle.std.specs.Prelude.{◌≡◌, ◌++◌, IfOk, OnOk, string_bytes};
-ghost use Rattle.card_kinds.specs.Json.{accepted_members, object_head, object_line, refused_at_members, refused_members, separator, short_members};
+ghost use Rattle.card_kinds.specs.Json.{accepted_members, notes_member, object_head, object_line, refused_at_members, refused_members, separator, short_members};
 ghost use Rattle.card_kinds.specs.Verdicts.{kind_name};
 
 use card_words::Kind;
+use json_lines::note_items;
+use notes::MARK;
 use octet_core::{Named, Stop};
 use std::alloc::{AllocError, Global};
 
@@ -45,6 +47,14 @@ pub(crate) fn push_accepted(text: &mut String, taken: usize) -> Result<(), Alloc
         ++ accepted_members taken) }
 {
     write!(text, "\"verdict\":\"ok\",\"octets\":{taken}")
+}
+
+/// The member with the notes on the lines of a text, after a comma: of each line that has one the line and the note.
+pub fn notes_member(alloc: Global, noted: &[u8]) -> Result<String, AllocError>
+    ensures { IfOk result (λ member. string_bytes member ≡ notes_member noted.now) }
+{
+    let items = note_items(alloc, MARK.as_bytes(), noted)?;
+    format!(in alloc; ",\"notes\":[{items}]")
 }
 
 /// The line of an object about octets of a kind that are a value, which takes `taken` octets.

@@ -111,7 +111,7 @@ pub(crate) const SHOW: Page<'static> = Page {
 With --stdin lines, each line of standard input is one value in hexadecimal. Its answer comes at once, and then an empty
 line.
 With --notes, a line may end with two spaces, a number sign, a space and a note. Without the note it is the same line.
-With --json, each answer is a JSON object on one line.
+With --json, each answer is a JSON object on one line. With --notes too, it has the lines that have notes, and these.
 
 Exit status:
   0  the value was shown; with lines, all values

@@ -87,7 +87,42 @@ pub(crate) fn lines_of(alloc: Global, json: &str) -> Result<Option<String>, Allo
             add_member(alloc, &mut text, &answer, value, form, item)?;
         }
     }
-    Ok(Some(text))
+    Ok(Some(with_notes(alloc, text, &answer)?))
+}
+
+/// Lines with the notes that an object has on them, in their order.
+fn with_notes(alloc: Global, lines: String, answer: &Value) -> Result<String, AllocError> {
+    let Some(Value::Array(notes)) = answer.get("notes") else {
+        return Ok(lines);
+    };
+    let mut notes = notes.iter();
+    let mut next = notes.next();
+    let mut text = String::new(alloc);
+    let mut is_first = true;
+    for line in lines.as_str().split('\n') {
+        if !is_first {
+            text.push('\n')?;
+        }
+        is_first = false;
+        text.push_str(line)?;
+        if let Some(note) = note_on(next, line) {
+            text.push_str("  # ")?;
+            text.push_str(note)?;
+            next = notes.next();
+        }
+    }
+    Ok(text)
+}
+
+/// The note, where it is on this line.
+fn note_on<'a>(note: Option<&'a Value>, line: &str) -> Option<&'a str> {
+    let note = note?;
+    let on = note.get("line").and_then(Value::as_str)?;
+    if on == line {
+        note.get("note").and_then(Value::as_str)
+    } else {
+        None
+    }
 }
 
 /// Whether an object says a value, whose lines have no verdict.

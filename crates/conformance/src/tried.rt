@@ -128,11 +128,7 @@ fn may_have_json(words: &[String]) -> bool {
     let Some(name) = words.get(1) else {
         return false;
     };
-    IN_JSON.contains(&name.as_str())
-        && !has("--explain")
-        && !has("--notes")
-        && !has("--json")
-        && !has("--")
+    IN_JSON.contains(&name.as_str()) && !has("--explain") && !has("--json") && !has("--")
 }
 
 /// Whether the objects stand for the lines of a text, in which an empty line may come after each value.

@@ -1,5 +1,5 @@
 -- No object of an answer has a float in it.
-use Rattle.std.proofs.Common.{◌≡◌, ◌==◌, ◌++◌, ◌||◌, ◌%◌, ℕ, List, [], ◌∷◌, Bool, true, false, Option, Some, None, IfSome, Ordering, Less, Equal, Greater, option_map, option_and_then, codes, refl, encode_utf8, is_some, if◌then◌else◌}
+use Rattle.std.proofs.Common.{◌≡◌, ◌==◌, ◌++◌, ◌||◌, ℕ, List, [], ◌∷◌, Bool, true, false, Option, Some, None, IfSome, Ordering, Less, Equal, Greater, option_map, option_and_then, codes, refl, encode_utf8, is_some, if◌then◌else◌}
 use Rattle.std.specs.Ordering.{match_ordering, nat_cmp}
 use Rattle.std.specs.Cmp.Lexicographic.{slice_cmp}
 use Rattle.std.specs.List.{slice_split}
@@ -8,13 +8,13 @@ use Rattle.serde_json.specs.View.{items_of}
 use Rattle.serde_json.specs.Written.{has_float, items_have_float, members_have_float}
 use Rattle.octet_core.specs.Decimal.{decimal_number}
 use Rattle.json_lines.specs.Named.{Named, put_all, object_of, shares}
-use Rattle.json_lines.specs.Words.{after, blanks_from, characters, number_and_rest, parted, word_and_rest}
-use Rattle.json_lines.specs.Forms.{Read, Said, array_name, at_number, at_parts, at_piece, at_place, at_word, by_form, by_pieces, by_row, by_rows, data_said, depth_said, inner_name, is_none, may_stand, named_by, number_of, number_said, numbers_from, numbers_said, or_else, or_nothing, past, text_said, unless_none, up_to, whole, with_rest, word_said}
+use Rattle.json_lines.specs.Words.{after, characters, number_and_rest, word_and_rest}
+use Rattle.json_lines.specs.Forms.{Read, Said, array_name, at_number, at_word, data_said, is_none, may_stand, named_by, number_of, number_said, numbers_from, numbers_said, or_else, past, text_said, unless_none, up_to, whole, with_rest, word_said}
 use Rattle.json_lines.specs.Answers.{Kept, array_of, begun_array, begun_by, ended, json_data, line_array, nothing_kept, owned, with_item, with_line, with_formed, with_line_itself, with_lines, with_named, with_one, with_owned, with_said, with_unowned}
-use Rattle.json_lines.specs.declared.forms.TheConstants.{ROWS}
+use Rattle.json_lines.specs.Table.{by_line, by_lines, by_part, by_parts, by_table, has, says, table, Part}
 use Rattle.json_lines.specs.declared.forms.Array.{Array}
 use Rattle.json_lines.specs.declared.forms.Place.{Place}
-use Rattle.json_lines.specs.declared.forms.Place.TheVariants.{Members as ToMembers, Under, Begins, Closes, Item, FirstItem}
+use Rattle.json_lines.specs.declared.forms.Place.TheVariants.{Members as ToMembers, Closes, Item}
 
 -- ---- tests and options
 
@@ -161,9 +161,6 @@ word-plain mark word =
 abbrev IsPlainRead : Read → Type 0
 IsPlainRead read = has_float read.0 ≡ false
 
-depth-plain : (b : ℕ × List ℕ) → IfSome (depth_said b) IsPlainRead
-depth-plain (blanks, rest) = if-some IsPlainRead (blanks % 2 == 0) _ None refl tt
-
 at-word-plain : (mark : ℕ) (line : List ℕ) → IfSome (at_word mark line) IsPlainRead
 at-word-plain mark line =
     let w = word_and_rest line in
@@ -186,60 +183,51 @@ data-plain mark text line =
     (if-some IsPlainRead (mark == 33) _ _ (all-mapped IsPlainRead _ (after text line) (λ rest. refl))
     (if-some IsPlainRead (mark == 43) _ _ refl
     (if-some IsPlainRead (mark == 38) _ _ refl
-    (if-some IsPlainRead (mark == 62) _ _ (depth-plain (blanks_from 0 line))
     (if-some IsPlainRead (mark == 64) _ _ (up-to-plain text [] line)
-    (if-some IsPlainRead (mark == 35) _ _ (at-number-plain line) (at-word-plain mark line))))))))
+    (if-some IsPlainRead (mark == 35) _ _ (at-number-plain line) (at-word-plain mark line)))))))
 
 -- ---- forms
 
 abbrev IsPlainSaid : Said → Type 0
 IsPlainSaid said = named_have_float said.0 ≡ false
 
-place-plain : (place : List ℕ) (said : Said) → IsPlainSaid said → IfSome (at_place place said) IsPlainSaid
-place-plain [] said h = tt
-place-plain (mark ∷ place) said h =
-    let p = parted 58 place in
-    mapped IsPlainRead IsPlainSaid (named_by p.0 said.0) (data_said mark (or_nothing p.1) said.1)
-    (λ read k. named-append said.0 _ h (one-named (characters p.0) read.0 k))
-    (data-plain mark (or_nothing p.1) said.1)
-
 past-plain : (words : List ℕ) (said : Said) → IsPlainSaid said → IfSome (past words said) IsPlainSaid
 past-plain words said h = all-mapped IsPlainSaid _ (after words said.1) (λ rest. h)
 
-parts-plain : (p : List ℕ × Option (List ℕ)) (said : Said) → IsPlainSaid said → IfSome (at_parts p said) IsPlainSaid
-parts-plain (words, None) said h = past-plain words said h
-parts-plain (place, Some words) said h =
-    chained IsPlainSaid IsPlainSaid (past words) (at_place place said) (past-plain words) (place-plain place said h)
+part-plain : (part : Part) (said : Said) → IsPlainSaid said → IfSome (by_part part said) IsPlainSaid
+part-plain (has words) said h = past-plain words said h
+part-plain (says mark name text) said h =
+    mapped IsPlainRead IsPlainSaid (named_by name said.0) (data_said mark text said.1)
+    (λ read k. named-append said.0 _ h (one-named (characters name) read.0 k)) (data-plain mark text said.1)
 
 whole-plain : (said : Said) → IsPlainSaid said → IfSome (whole said) IsPlainNamed
 whole-plain (named, []) h = h
 whole-plain (named, x ∷ line) h = tt
 
-pieces-plain : (pieces : List (List ℕ)) (said : Said) → IsPlainSaid said
-    → IfSome (by_pieces pieces said) IsPlainNamed
-pieces-plain [] said h = whole-plain said h
-pieces-plain (piece ∷ pieces) said h =
-    chained IsPlainSaid IsPlainNamed (by_pieces pieces) (at_piece piece said) (pieces-plain pieces)
-    (parts-plain (parted 125 piece) said h)
-
-form-plain : (form line : List ℕ) → IfSome (by_form form line) IsPlainNamed
-form-plain form line = pieces-plain (slice_split (λ x. x == 123) form) ([], line) refl
+parts-plain : (parts : List Part) (said : Said) → IsPlainSaid said → IfSome (by_parts parts said) IsPlainNamed
+parts-plain [] said h = whole-plain said h
+parts-plain (part ∷ parts) said h =
+    chained IsPlainSaid IsPlainNamed (by_parts parts) (by_part part said) (parts-plain parts) (part-plain part said h)
 
 abbrev IsPlainPlaced : Place × Named → Type 0
 IsPlainPlaced placed = named_have_float placed.1 ≡ false
 
-row-plain : (begun : Option Array) (place : Place) (form line : List ℕ)
-    → IfSome (by_row begun place form line) IsPlainPlaced
-row-plain begun place form line = if-some IsPlainPlaced (may_stand place begun) _ None
-    (mapped IsPlainNamed IsPlainPlaced (λ named. (place, named)) (by_form form line) (λ named h. h)
-    (form-plain form line)) tt
+row-plain : (begun : Option Array) (place : Place) (parts : List Part) (line : List ℕ)
+    → IfSome (by_line begun place parts line) IsPlainPlaced
+row-plain begun place parts line = if-some IsPlainPlaced (may_stand place begun) _ None
+    (mapped IsPlainNamed IsPlainPlaced (λ named. (place, named)) (by_parts parts ([], line)) (λ named h. h)
+    (parts-plain parts ([], line) refl)) tt
 
-rows-plain : {Row : Type 0} (place : Row → Place) (form : Row → List ℕ) (begun : Option Array) (rows : List Row)
-    (line : List ℕ) → IfSome (by_rows place form begun rows line) IsPlainPlaced
-rows-plain place form begun [] line = tt
-rows-plain place form begun (row ∷ rows) line =
-    either-some IsPlainPlaced (by_row begun (place row) (form row) line) (by_rows place form begun rows line)
-    (row-plain begun (place row) (form row) line) (rows-plain place form begun rows line)
+rows-plain : (begun : Option Array) (rows : List (Place × List Part)) (line : List ℕ)
+    → IfSome (by_lines begun rows line) IsPlainPlaced
+rows-plain begun [] line = tt
+rows-plain begun (row ∷ rows) line =
+    either-some IsPlainPlaced (by_line begun row.0 row.1 line) (by_lines begun rows line)
+    (row-plain begun row.0 row.1 line) (rows-plain begun rows line)
+
+table-plain : (begun : Option Array) (line : List ℕ) → IfSome (by_table begun line) IsPlainPlaced
+unfolding by_table
+table-plain begun line = rows-plain begun table line
 
 -- ---- answers
 
@@ -275,18 +263,12 @@ said-plain : (k : Kept) (line : List ℕ) (said : Option (Place × Named)) → I
     → IfSome said IsPlainPlaced → IsPlainKept (with_said k line said)
 said-plain k line None h s = line-plain k line h
 said-plain k line (Some (ToMembers, named)) h s = more-named k line k.begun named h s
-said-plain k line (Some (Under inner, named)) h s =
-    more-named k line k.begun ((inner_name inner, object_of named) ∷ []) h
-    (one-named (inner_name inner) (object_of named) (put_all-plain named s))
-said-plain k line (Some (Begins a, named)) h s = more-named k line (Some a) named h s
 said-plain k line (Some (Closes a, named)) h s = more-named k line (Some a) named h s
-said-plain k line (Some (Item a, named)) h s = more-items k k.begun named h s
-said-plain k line (Some (FirstItem a, named)) h s = more-items k (Some a) named h s
+said-plain k line (Some (Item a, named)) h s = more-items k (Some a) named h s
 
 one-line-plain : (k : Kept) (line : List ℕ) → IsPlainKept k → IsPlainKept (with_one k line)
 one-line-plain k [] h = h
-one-line-plain k (x ∷ line) h = said-plain k (x ∷ line) _ h
-    (rows-plain (λ row. row.0) (λ row. row.1.now) k.begun ROWS (x ∷ line))
+one-line-plain k (x ∷ line) h = said-plain k (x ∷ line) _ h (table-plain k.begun (x ∷ line))
 
 array-plain : (name : List ℕ) (items : List Data) → some_float items ≡ false
     → named_have_float (array_of name items) ≡ false
@@ -327,8 +309,7 @@ formed-plain k line None h s = owned-plain k line (owned line) h
 
 each-plain : (k : Kept) (line : List ℕ) → IsPlainKept k → IsPlainKept (with_line k line)
 unfolding with_line
-each-plain k line h =
-    formed-plain k line _ h (rows-plain (λ row. row.0) (λ row. row.1.now) k.begun ROWS line)
+each-plain k line h = formed-plain k line _ h (table-plain k.begun line)
 
 all-plain : (k : Kept) (lines : List (List ℕ)) → IsPlainKept k → IsPlainKept (with_lines k lines)
 all-plain k [] h = h

@@ -2,9 +2,8 @@
 use Rattle.std.proofs.Common.{◌≡◌, ◌∙◌, ◌≤◌, ℕ, List, [], ◌∷◌, length, false, refl, ap, arith}
 use Rattle.serde_json.specs.Data.{Data}
 use Rattle.serde_json.specs.Written.{compact_text, has_float}
-use Rattle.json_lines.specs.Forms.{by_rows}
+use Rattle.json_lines.specs.Table.{by_table}
 use Rattle.json_lines.specs.Answers.{Kept, json_data, with_formed, with_line, with_one, with_said}
-use Rattle.json_lines.specs.declared.forms.TheConstants.{ROWS}
 use Rattle.json_lines.proofs.Plain.{answer-plain}
 
 -- the object has no float, so its text is known
@@ -14,12 +13,12 @@ text-of text s d is written = written (ap has_float is ∙ answer-plain text) �
 
 -- a line, by the forms of all lines
 pub by-forms : (k : Kept) (line : List ℕ)
-    → with_line k line ≡ with_formed k line (by_rows (λ row. row.0) (λ row. row.1.now) k.begun ROWS line)
+    → with_line k line ≡ with_formed k line (by_table k.begun line)
 unfolding with_line
 by-forms k line = refl
 
 -- a line that isn't empty
 pub some-line : (k : Kept) (line : List ℕ) → 1 ≤ length line
-    → with_one k line ≡ with_said k line (by_rows (λ row. row.0) (λ row. row.1.now) k.begun ROWS line)
+    → with_one k line ≡ with_said k line (by_table k.begun line)
 some-line k [] h = absurd (omega arith)
 some-line k (x ∷ line) h = refl

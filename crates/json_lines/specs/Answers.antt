@@ -6,13 +6,13 @@ use Rattle.serde_json.specs.View.{items_of, view}
 use Rattle.serde_json.specs.Written.{compact_text}
 use Rattle.json_lines.specs.Named.{Named, named_view, object_of, shares}
 use Rattle.json_lines.specs.Words.{after, characters}
-use Rattle.json_lines.specs.Forms.{array_name, by_rows, inner_name, or_else}
-use Rattle.json_lines.specs.declared.forms.TheConstants.{ROWS}
+use Rattle.json_lines.specs.Forms.{array_name, or_else}
+use Rattle.json_lines.specs.Table.{by_table}
 use Rattle.json_lines.specs.declared.answer.Answer.{Answer}
 use Rattle.json_lines.specs.declared.forms.Array.{Array}
 use Rattle.json_lines.specs.declared.forms.Array.TheVariants.{Exchanges}
 use Rattle.json_lines.specs.declared.forms.Place.{Place}
-use Rattle.json_lines.specs.declared.forms.Place.TheVariants.{Members, Under, Begins, Closes, Item, FirstItem}
+use Rattle.json_lines.specs.declared.forms.Place.TheVariants.{Members, Closes, Item}
 
 -- what the lines so far said: members of the object, the array that has begun with its items, and lines of no form
 pub record Kept : Type 0 where
@@ -56,17 +56,13 @@ with_item k begun named =
 abbrev pub with_said : Kept → List ℕ → Option (Place × Named) → Kept
 with_said k line None = with_line_itself k line
 with_said k line (Some (Members, named)) = with_named k line k.begun named
-with_said k line (Some (Under inner, named)) =
-    with_named k line k.begun ((inner_name inner, object_of named) ∷ [])
-with_said k line (Some (Begins a, named)) = with_named k line (Some a) named
 with_said k line (Some (Closes a, named)) = with_named k line (Some a) named
-with_said k line (Some (Item a, named)) = with_item k k.begun named
-with_said k line (Some (FirstItem a, named)) = with_item k (Some a) named
+with_said k line (Some (Item a, named)) = with_item k (Some a) named
 
 -- an empty line says nothing
 abbrev pub with_one : Kept → List ℕ → Kept
 with_one k [] = k
-with_one k (x ∷ line) = with_said k (x ∷ line) (by_rows (λ row. row.0) (λ row. row.1.now) k.begun ROWS (x ∷ line))
+with_one k (x ∷ line) = with_said k (x ∷ line) (by_table k.begun (x ∷ line))
 
 -- ---- the end
 
@@ -110,7 +106,7 @@ with_formed k line (Some said) = with_said k line (Some said)
 with_formed k line None = with_owned k line (owned line)
 
 unfoldable pub with_line : Kept → List ℕ → Kept
-with_line k line = with_formed k line (by_rows (λ row. row.0) (λ row. row.1.now) k.begun ROWS line)
+with_line k line = with_formed k line (by_table k.begun line)
 
 abbrev pub with_lines : Kept → List (List ℕ) → Kept
 with_lines k [] = k

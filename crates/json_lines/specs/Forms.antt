@@ -1,17 +1,15 @@
 -- What a line says by a form, and by the first that it has.
-use Rattle.std.specs.Prelude.{ℕ, ◌||◌, ◌+◌, ◌/◌, ◌%◌, ◌==◌, List, [], ◌∷◌, ◌++◌, codes, Bool, true, false, Option, Some, None, option_map, option_and_then, bytes_eq, if◌then◌else◌, encode_utf8, is_some}
+use Rattle.std.specs.Prelude.{ℕ, ◌||◌, ◌==◌, List, [], ◌∷◌, ◌++◌, codes, Bool, true, false, Option, Some, None, option_map, option_and_then, bytes_eq, if◌then◌else◌, encode_utf8, is_some}
 use Rattle.std.specs.List.{slice_split}
 use Rattle.serde_json.specs.Data.{Data, array, boolean, null, number, string, unsigned}
 use Rattle.serde_json.specs.View.{items_of}
 use Rattle.octet_core.specs.Decimal.{decimal_number}
 use Rattle.json_lines.specs.Named.{Named}
-use Rattle.json_lines.specs.Words.{after, characters, blanks_from, number_and_rest, parted, word_and_rest}
+use Rattle.json_lines.specs.Words.{after, characters, number_and_rest, parted, word_and_rest}
 use Rattle.json_lines.specs.declared.forms.Array.{Array}
-use Rattle.json_lines.specs.declared.forms.Array.TheVariants.{Interface, Objects, Entries, Exchanges, Told}
-use Rattle.json_lines.specs.declared.forms.Inner.{Inner}
-use Rattle.json_lines.specs.declared.forms.Inner.TheVariants.{T1, Pcb}
+use Rattle.json_lines.specs.declared.forms.Array.TheVariants.{Exchanges, Told}
 use Rattle.json_lines.specs.declared.forms.Place.{Place}
-use Rattle.json_lines.specs.declared.forms.Place.TheVariants.{Members, Under, Begins, Closes, Item, FirstItem}
+use Rattle.json_lines.specs.declared.forms.Place.TheVariants.{Members, Closes, Item}
 
 -- ---- words
 
@@ -65,10 +63,6 @@ with_rest rest it = (it, rest)
 abbrev pub with_data : Data → List ℕ → Read
 with_data it rest = (it, rest)
 
--- two blanks for each depth above 1
-abbrev pub depth_said : ℕ × List ℕ → Option Read
-depth_said (blanks, rest) = if blanks % 2 == 0 then Some (number_of (1 + blanks / 2), rest) else None
-
 -- what the word at the front of a line says
 abbrev pub at_word : ℕ → List ℕ → Option Read
 at_word mark line = let w = word_and_rest line in option_map (with_rest w.1) (word_said mark w.0)
@@ -91,7 +85,6 @@ data_said mark text line =
     else if mark == 33 then option_map (with_data (boolean true)) (after text line)
     else if mark == 43 then Some (with_data (string (characters text)) line)
     else if mark == 38 then Some (with_data (string (characters line)) [])
-    else if mark == 62 then depth_said (blanks_from 0 line)
     else if mark == 64 then up_to text [] line
     else if mark == 35 then at_number line
     else at_word mark line
@@ -144,20 +137,10 @@ by_form form line = by_pieces (slice_split (λ x. x == 123) form) ([], line)
 -- ---- rows
 
 abbrev pub array_name : Array → List ℕ
-array_name Interface = codes "interface"
-array_name Objects = codes "objects"
-array_name Entries = codes "entries"
 array_name Exchanges = codes "exchanges"
 array_name Told = codes "told"
 
-abbrev pub inner_name : Inner → List ℕ
-inner_name T1 = codes "t1"
-inner_name Pcb = codes "pcb"
-
 abbrev pub is_same : Array → Array → Bool
-is_same Interface Interface = true
-is_same Objects Objects = true
-is_same Entries Entries = true
 is_same Exchanges Exchanges = true
 is_same Told Told = true
 is_same _ _ = false
@@ -174,11 +157,8 @@ has_begun a (Some begun) = is_same a begun
 -- whether a line can go to a place, with the array that has begun
 abbrev pub may_stand : Place → Option Array → Bool
 may_stand Members begun = true
-may_stand (Under inner) begun = true
-may_stand (Begins a) begun = is_nothing begun
 may_stand (Closes a) begun = is_nothing begun || has_begun a begun
-may_stand (Item a) begun = has_begun a begun
-may_stand (FirstItem a) begun = is_nothing begun || has_begun a begun
+may_stand (Item a) begun = is_nothing begun || has_begun a begun
 
 -- what the first says, where it says something, and else the second
 abbrev pub or_else : {X : Type 0} → Option X → Option X → Option X

@@ -47,11 +47,6 @@ ends_number x = ends_word x || x == 44
 abbrev pub number_and_rest : List ℕ → List ℕ × List ℕ
 number_and_rest line = up_to line (position_from ends_number 0 line)
 
--- the blanks at the front of a line after so many, and what is after them
-abbrev pub blanks_from : ℕ → List ℕ → ℕ × List ℕ
-blanks_from count [] = (count, [])
-blanks_from count (x ∷ line) = if x == 32 then blanks_from (count + 1) line else (count, x ∷ line)
-
 -- the text of octets, each the character that has its number
 abbrev pub characters : List ℕ → List ℕ
 characters [] = []

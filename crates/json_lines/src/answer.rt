@@ -4,7 +4,7 @@ ghost use Rattle.std.specs.Prelude.{◌≡◌, ◌∷◌, ◌++◌, [], map, opt
 ghost use Rattle.serde_json.specs.Data.{put};
 ghost use Rattle.serde_json.specs.View.{members_view, view};
 ghost use Rattle.json_lines.specs.Answers.{array_of, ended, kept, nothing_kept, owned, with_item, with_line, with_line_itself, with_named, with_one, with_said, with_owned, with_unowned};
-ghost use Rattle.json_lines.specs.Forms.{by_rows};
+ghost use Rattle.json_lines.specs.Table.{by_table};
 ghost use Rattle.json_lines.specs.Named.{has_name, named_view, object_of, shares};
 
 use crate::fact::string;
@@ -105,15 +105,8 @@ impl Answer {
         };
         match place {
             Place::Members => self.put_all(alloc, line, self.begun, named),
-            Place::Under(inner) => {
-                let data = object_of(alloc, named)?;
-                self.put(alloc, line, inner.name(), data)
-            }
-            Place::Begins(array) | Place::Closes(array) => {
-                self.put_all(alloc, line, Some(array), named)
-            }
-            Place::Item(_) => self.put_item(alloc, named),
-            Place::FirstItem(array) => {
+            Place::Closes(array) => self.put_all(alloc, line, Some(array), named),
+            Place::Item(array) => {
                 self.begun = Some(array);
                 self.put_item(alloc, named)
             }
@@ -257,7 +250,7 @@ fn said_by(
     line: &[u8],
 ) -> Result<Option<(Place, Named)>, AllocError>
     ensures { IfOk result (λ said. option_map (λ s. (s.0, named_view s.1.items)) said
-        ≡ by_rows (λ row. row.0) (λ row. row.1.now) begun ROWS line.now) }
+        ≡ by_table begun line.now) }
 {
     by_rows(alloc, &ROWS, begun, line)
 }

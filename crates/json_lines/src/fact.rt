@@ -4,10 +4,10 @@ ghost use Rattle.std.specs.Prelude.{◌≡◌, ◌==◌, ◌∷◌, ◌++◌, []
 ghost use Rattle.std.specs.List.{slice_split};
 ghost use Rattle.serde_json.specs.View.{view};
 ghost use Rattle.serde_json.specs.Data.{null, string};
-ghost use Rattle.json_lines.specs.Forms.{at_number, at_word, data_said, depth_said, is_none, numbers_from, number_said, numbers_said, text_said, unless_none, up_to, with_data, with_rest, word_said};
-ghost use Rattle.json_lines.specs.Words.{after, characters, blanks_from};
+ghost use Rattle.json_lines.specs.Forms.{at_number, at_word, data_said, is_none, numbers_from, number_said, numbers_said, text_said, unless_none, up_to, with_data, with_rest, word_said};
+ghost use Rattle.json_lines.specs.Words.{after, characters};
 
-use crate::words::{after, blanks, characters, number, parted, word};
+use crate::words::{after, characters, number, parted, word};
 use octet_core::decimal_of;
 use serde_json::Value;
 use std::alloc::{AllocError, Global};
@@ -34,7 +34,6 @@ pub(crate) fn data_said<'a>(
         b'!' => Ok(past(Value::Bool(true), text, line)),
         b'+' => Ok(Some((string(alloc, text)?, line))),
         b'&' => Ok(Some((string(alloc, line)?, &[]))),
-        b'>' => Ok(depth(line)),
         b'@' => up_to(alloc, text, line),
         b'#' => Ok(at_number(line)),
         _ => at_word(alloc, mark, line),
@@ -78,18 +77,6 @@ fn up_to<'a>(alloc: Global, text: &[u8], line: &'a [u8]) -> Result<Read<'a>, All
         rest = more;
     }
     Ok(None)
-}
-
-/// The depth that blanks say, two for each above 1.
-fn depth(line: &[u8]) -> Read<'_>
-    ensures { option_map (λ r. (view r.0, r.1.now)) result ≡ depth_said (blanks_from 0 line.now) }
-{
-    let (blanks, rest) = blanks(line);
-    if blanks % 2 == 0 {
-        Some((Value::from(1 + blanks / 2), rest))
-    } else {
-        None
-    }
 }
 
 /// What the number at the front of a line says.

@@ -46,14 +46,14 @@ fn push_line(alloc: Global, items: &mut String, line: &[u8]) -> Result<(), Alloc
 }
 
 /// A line as a string of JSON.
-fn line_string(alloc: Global, line: &[u8]) -> Result<String, AllocError>
+pub(crate) fn line_string(alloc: Global, line: &[u8]) -> Result<String, AllocError>
     ensures { IfOk result (λ item. string_bytes item ≡ line_string line.now) }
 {
     json_string(alloc, characters(alloc, line)?)
 }
 
 /// What comes between the items of an array and one more.
-fn separator(items: &str) -> &'static str
+pub(crate) fn separator(items: &str) -> &'static str
     ensures { result.now ≡ separator items.now }
 {
     if items.is_empty() { "" } else { "," }

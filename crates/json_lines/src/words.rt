@@ -2,7 +2,7 @@
 
 ghost use Rattle.std.specs.Prelude.{◌≡◌, ◌==◌, ◌∷◌, ◌<◌, length, option_map, string_bytes, IfOk, IfSome};
 ghost use Rattle.std.specs.List.{position_from, slice_split};
-ghost use Rattle.json_lines.specs.Words.{after, after_mark, characters, blanks_from, ends_number, ends_word, lent, number_and_rest, parted, word_and_rest};
+ghost use Rattle.json_lines.specs.Words.{after, after_mark, characters, ends_number, ends_word, lent, number_and_rest, parted, word_and_rest};
 
 use std::alloc::{AllocError, Global};
 
@@ -91,19 +91,6 @@ fn ends_word(x: u8) -> bool
     ensures { result ≡ ends_word x }
 {
     x == b' ' || x == b':'
-}
-
-/// How many blanks a line begins with, and what is after them.
-pub(crate) fn blanks(line: &[u8]) -> (u64, &[u8])
-    ensures { (result.0, result.1.now) ≡ blanks_from 0 line.now }
-{
-    let mut count = 0;
-    let mut rest = line;
-    while let [b' ', more @ ..] = rest {
-        count += 1;
-        rest = more;
-    }
-    (count, rest)
 }
 
 /// The text of octets, each the character that has its number.

@@ -8,7 +8,7 @@ use octet_core::Octets;
 use std::alloc::{AllocError, Global};
 
 /// What parts a line and its note.
-pub(crate) const MARK: &str = "  # ";
+pub const MARK: &str = "  # ";
 
 /// A line with words as a note before its end. No words are no note, and words with a line end are left out.
 pub fn noted_line(alloc: Global, line: &[u8], words: &str) -> Result<Octets, AllocError>

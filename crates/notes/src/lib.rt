@@ -28,7 +28,7 @@ pub use block_refusal::{block_refusal_note, chain_refusal_note, field_left};
 pub use command::{class_note, instruction_name, le_note, push_header_note, push_part_note};
 pub use forest::{class_name, push_object_note};
 pub use forest_refusal::{forest_refusal_note, wanted_of};
-pub use joining::noted_line;
+pub use joining::{MARK, noted_line};
 pub use list::push_list_note;
 pub use missing::wanting_note;
 pub use note::{Note, push_note};

@@ -9,6 +9,7 @@ returns-in-Ok g c =
     record {
       told = accepted found.0 c.in-Ok.field-0.taken found.1 (c.told.ensures.text ∙ found.2) c.told.ensures.status;
       verdict = (found.0, found.1);
+      ended = c.told.ensures.status;
     }
 
 pub returns-in_ok-answer-in-Err-Stop : goal.returns-in_ok-answer-in-Err-Stop
@@ -22,4 +23,5 @@ returns-in_ok-answer-in-Err-Stop g c =
           c.in_ok-answer-in-Err-Stop.ensures.status;
       verdict = of-stop codec c.args.octets.now c.in-Err-Stop.field-0 c.in-Err-Stop.stop c.in-Err-Stop.field-0-is
           c.in-Err-Stop.ensures.refused;
+      ended = c.in_ok-answer-in-Err-Stop.ensures.status;
     }

@@ -1,4 +1,5 @@
 use Rattle.std.proofs.Common.{◌≡◌, ◌++◌, append_assoc, codes, refl, string_bytes}
+use Rattle.card_kinds.specs.Codec.{members_by}
 use Rattle.card_kinds.specs.Json.{accepted_members, object_line}
 use Rattle.card_kinds.specs.Verdicts.{kind_name}
 use Rattle.card_kinds.proofs.Pushes.{last-pushed}
@@ -6,11 +7,13 @@ use Rattle.card_kinds.proofs.shown.push_object.Goals as goal
 
 pub returns : goal.returns
 returns g c =
-    let whole : string_bytes c.push_members.new.text ++ codes "}\n" ≡ string_bytes c.args.text.now
-    ++ object_line (kind_name c.args.kind) (accepted_members c.args.taken ++ g.V.Showable.members c.args.value.now)
+    let whole : string_bytes c.push_said.new.text ++ codes "}\n" ≡ string_bytes c.args.text.now
+    ++ object_line (kind_name c.args.kind) (accepted_members c.args.taken
+    ++ members_by c.args.noted (g.V.Showable.lines c.args.noted c.args.value.now)
+    (g.V.Showable.members c.args.value.now))
     =
     simp (
-      c.in_ok-push_members.ensures,
+      c.in_ok-push_said.ensures,
       c.in_ok-push_accepted.ensures,
       c.in_ok-push_head.ensures,
       c.kind_name.ensures,
