@@ -1,5 +1,6 @@
 -- How answers and the notes on them are those of a request, and of words.
-use Rattle.std.proofs.Common.{◌≡◌, ◌⊎◌, ◌∙◌, ◌++◌, inl, inr, ℕ, List, [], Option, Some, None, Result, Ok, Err, IfOk, IfErr, OnOk, IsOkAnd, String, length, string_bytes, Bool, true, false, ap, refl, subst, sym}
+use Rattle.std.proofs.Common.{◌≡◌, ◌≢◌, ◌⊎◌, ◌∙◌, ◌++◌, inl, inr, ℕ, List, [], Option, Some, None, Result, Ok, Err, IfOk, IfErr, OnOk, IsOkAnd, MatchResult, String, length, string_bytes, Bool, true, false, ap, refl, subst, sym}
+use Rattle.std.specs.declared.alloc.AllocError.{AllocError}
 use Rattle.std.specs.declared.alloc.Global.{Global}
 use Rattle.command_line.specs.Asked.{asks_to_explain}
 use Rattle.card_words.specs.Given.{octets_given, octets_in, IsFromReader}
@@ -9,17 +10,18 @@ use Rattle.card_words.specs.declared.given.OctetSource.TheVariants.{Read, Word}
 use Rattle.card_words.specs.Texts.{fault_text}
 use Rattle.card_words.specs.Words.{IsRead, NeedsFile}
 use Rattle.card_words.specs.declared.fault.Fault.{Fault}
-use Rattle.card_words.specs.declared.fault.Fault.TheVariants.{Memory}
+use Rattle.card_words.specs.declared.fault.Fault.TheVariants.{Hex, Memory, TooLarge}
 use Rattle.card_words.specs.declared.given.OctetSource.{OctetSource}
 use Rattle.card_words.specs.declared.request.Asked.TheVariants.{Once}
 use Rattle.card_words.specs.declared.request.Request.{Request}
 use Rattle.card_tool.specs.Answers.{IsAnswerTo, IsRight, IsRightTo, IsToldOf}
-use Rattle.card_tool.specs.Explained.{differs, form_note, octets_of, said_of, text_note, AreNoted, IsDifferenceNote, IsFaulted, IsFaultNote, IsFillNote, IsNoted, IsNoteOn, IsNoteTo, IsReplyTo, IsSaid, IsTakenWith, Replies, RepliesTo, on_fault, silent}
+use Rattle.card_tool.specs.Explained.{differs, form_note, octets_of, on_known, on_words, said_of, silent, too_large, AreNoted, Fits, IsDifferenceNote, IsFaulted, IsFillNote, IsFormNote, IsKnownNote, IsNoted, IsNotedLine, IsNoteOn, IsNoteTo, IsReplyTo, IsSaid, IsTakenWith, Replies, RepliesTo, SaysOf}
 use Rattle.card_tool.specs.FileNotes.{line_text, IsWhy}
 use Rattle.card_tool.specs.TracePlaces.{trace_place}
-use Rattle.card_tool.specs.Files.{ReadsWhole}
+use Rattle.card_tool.specs.Files.{largest_file, ReadsWhole}
 use Rattle.card_tool.specs.declared.judged.WithNote.{WithNote}
 use Rattle.card_tool.specs.declared.replies.Taken.{Taken}
+use Rattle.card_tool.specs.declared.replies.Taken.TheVariants.{Given, Refused}
 use Rattle.card_tool.specs.ExchangeTexts.{IsOutcome}
 use Rattle.exchange_text.specs.Exchange.{ExchangeParts}
 use Rattle.exchange_core.specs.Replay.{IfDiffers, Replays}
@@ -27,9 +29,9 @@ use Rattle.exchange_core.specs.declared.replaying.ReplayFault.{ReplayFault}
 use Rattle.exchange_core.specs.declared.replaying.Side.{Side}
 use Rattle.octet_core.specs.declared.stop.Stop.{Stop}
 use Rattle.card_kinds.specs.Codec.{Codec, IsVerdict}
-use Rattle.explainer.specs.Notes.{verdict_text}
+use Rattle.explainer.specs.Notes.{large_note, verdict_text}
+use Rattle.explainer.specs.Words.{IsWordsNote}
 use Rattle.card_tool.specs.Judged.{IsListNote, IsNoteBy, SaysIf}
-use Rattle.tlv_core.specs.Fill.{HasDuplicate}
 use Rattle.tlv_core.specs.declared.known.Known.{Known}
 use Rattle.octet_core.proofs.Lists.{nil_of}
 use Rattle.card_kinds.specs.declared.answer.Answer.{Answer}
@@ -48,7 +50,7 @@ wanting request held count = inr (refl, refl, refl)
 
 -- where an end does a line otherwise, the line with the reason and its place is the note on the exchange
 pub on-difference : {E : Type 0} (r : Result (String Global) E) (file : List ℕ) (e : ExchangeParts) (which : Side)
-    (line : ℕ) (gives why : List ℕ) → Replays e.atr e.lines which (Some (line, gives)) → IsWhy e line gives why
+    (line : ℕ) (gives why : List ℕ) → Replays e.atr e.lines which (Some (line, gives)) → IsWhy e which line gives why
     → IfOk r (λ text. string_bytes text ≡ line_text file line (why ++ trace_place e.lines line))
     → IfOk r (λ text. IsDifferenceNote file e which (string_bytes text))
 on-difference (Ok text) file e which line gives why replays is h = differs line gives why replays is h
@@ -62,26 +64,14 @@ pub outcome : {A : Type 0} (r : Result A ReplayFault) (e : ExchangeParts) (which
 outcome (Ok done) e which agrees other = agrees
 outcome (Err fault) e which agrees other = other
 
--- where there is no note on a list, it is one on a known value
-pub on-known : {E : Type 0} (r : Result (String Global) E) (list : List ℕ) (known : Result (List Known) Fault)
-    (silence : List ℕ) → length silence ≡ 0 → IsListNote list silence → IfOk known HasDuplicate
-    → IfOk r (λ text. IsFillNote list known (string_bytes text))
-on-known (Ok text) list known silence none h faults =
-    inr (subst (IsListNote list) (nil_of silence none) h, faults)
-on-known (Err e) list known silence none h faults = tt
-
--- and where all words say known values, one on two of one tag, or none
-pub on-values : {E : Type 0} (r : Result (String Global) E) (list : List ℕ) (known : Result (List Known) Fault)
-    (values : List Known) (silence : List ℕ) → length silence ≡ 0 → IsListNote list silence
-    → known ≡ Ok values → IfOk r (λ text. (string_bytes text ≡ []) ⊎ HasDuplicate values)
-    → IfOk r (λ text. IsFillNote list known (string_bytes text))
-on-values (Ok text) list known values silence none h is (inl empty) =
-    inl (subst (IsListNote list) (nil_of silence none ∙ sym empty) h)
-on-values (Ok text) list known values silence none h is (inr twice) = inr (
-  subst (IsListNote list) (nil_of silence none) h,
-  subst (λ (k : Result (List Known) Fault). IfOk k HasDuplicate) (sym is) twice,
-)
-on-values (Err e) list known values silence none h is told = tt
+-- where there is no note on a list, it is that on the words for known values
+pub known-noted : {E : Type 0} (r : Result (String Global) E) (words : List (List ℕ)) (list : List ℕ)
+    (known : Result (List Known) Fault) (silence : List ℕ) → length silence ≡ 0 → IsListNote list silence
+    → IfOk r (λ text. IsKnownNote words known (string_bytes text))
+    → IfOk r (λ text. IsFillNote words list known (string_bytes text))
+known-noted (Ok text) words list known silence none h told =
+    on_known (subst (IsListNote list) (nil_of silence none) h) told
+known-noted (Err e) words list known silence none h told = tt
 
 -- ---- a note that is asked for
 
@@ -107,30 +97,26 @@ says-by true c says least b verdict (Ok text) is h = (verdict, is, h)
 says-by true c says least b verdict (Err e) is h = tt
 says-by false c says least b verdict r is h = h
 
--- the line of a fault with a note on it
-pub faulted : (fault : Fault) (made : WithNote) → made.answer.text ≡ fault_text fault
-    → made.answer.status ≡ status.Fault → IfOk made.note (λ text. IsFaultNote fault (string_bytes text))
-    → IsFaulted fault (Ok made)
-faulted fault made is ends says = (ends, is, go made.note says)
-  where
-    go : {F : Type 0} (r : Result (String Global) F) → IfOk r (λ text. IsFaultNote fault (string_bytes text))
-        → IfOk r (λ text. (string_bytes text ≡ []) ⊎ IsFaultNote fault (string_bytes text))
-    go (Ok text) h = inr h
-    go (Err e) h = tt
+-- the line of a fault with a note on it, of which this holds
+pub faulted : (told : Fault) (Note : List ℕ → Type 0) (note : Result (String Global) AllocError)
+    (r : Result WithNote Fault) → IsNotedLine told note r → IfOk note (λ text. Note (string_bytes text))
+    → IsFaulted told Note r
+faulted told Note note (Ok made) (line, same) h = (line, rw same h)
+faulted told Note note (Err other) same h = same
 
 -- ---- answers to a request
 
-module _ (request : Request) (held left : Option (List ℕ)) (before after : ℕ) where
+module _ (words : List (List ℕ)) (request : Request) (held left : Option (List ℕ)) (before after : ℕ) where
   -- an answer of which nothing is said
   pub alone : (made : WithNote) (file : Result (List ℕ) Fault)
       → (NeedsFile request → ReadsWhole held left before after file)
       → IsAnswerTo request file made.answer.text made.answer.status
-      → IfOk made.note (λ note. string_bytes note ≡ []) → IsReplyTo request held left before after made
+      → IfOk made.note (λ note. string_bytes note ≡ []) → IsReplyTo words request held left before after made
   alone made file is_file h none =
       record { file = file; is_file = is_file; is_answer = h; is_note = left-of made.note none }
     where
       left-of : {E : Type 0} (r : Result (String Global) E) → IfOk r (λ note. string_bytes note ≡ [])
-          → IfOk r (λ note. (string_bytes note ≡ []) ⊎ IsNoteTo request file (string_bytes note))
+          → IfOk r (λ note. (string_bytes note ≡ []) ⊎ IsNoteTo words request file (string_bytes note))
       left-of (Ok note) h = inl h
       left-of (Err e) h = tt
 
@@ -138,85 +124,72 @@ module _ (request : Request) (held left : Option (List ℕ)) (before after : ℕ
   pub with-note : (made : WithNote) (file : Result (List ℕ) Fault)
       → (NeedsFile request → ReadsWhole held left before after file)
       → IsAnswerTo request file made.answer.text made.answer.status
-      → IfOk made.note (λ note. IsNoteTo request file (string_bytes note))
-      → IsReplyTo request held left before after made
+      → IfOk made.note (λ note. IsNoteTo words request file (string_bytes note))
+      → IsReplyTo words request held left before after made
   with-note made file is_file h note =
       record { file = file; is_file = is_file; is_answer = h; is_note = right-of made.note note }
     where
       right-of : {E : Type 0} (r : Result (String Global) E)
-          → IfOk r (λ note. IsNoteTo request file (string_bytes note))
-          → IfOk r (λ note. (string_bytes note ≡ []) ⊎ IsNoteTo request file (string_bytes note))
+          → IfOk r (λ note. IsNoteTo words request file (string_bytes note))
+          → IfOk r (λ note. (string_bytes note ≡ []) ⊎ IsNoteTo words request file (string_bytes note))
       right-of (Ok note) h = inr h
       right-of (Err e) h = tt
 
 -- ---- octets that are given
 
 -- a word gave them, and there is no text
-pub word-taken-with : (explains : Bool) (octets : List ℕ) (made : Taken) (held : Option (List ℕ)) (count : ℕ)
-    → made.octets ≡ octets → IfOk made.note (λ note. string_bytes note ≡ [])
-    → IsTakenWith explains (Word octets) held held count count (Ok made)
-word-taken-with explains octets made held count is none = record {
+pub word-taken-with : (explains : Bool) (octets : List ℕ) (note : Result (String Global) AllocError)
+    (held : Option (List ℕ)) (count : ℕ) → IfOk note (λ text. string_bytes text ≡ [])
+    → IsTakenWith explains (Word octets) held held count count (Ok (Given octets note))
+word-taken-with explains octets note held count none = record {
   taken = record {
     file = Ok [];
     is_file = λ asked. absurd asked;
-    is_taken = inl (ap taken-as is);
+    is_taken = inl refl;
     count = refl;
   };
-  is_note = nothing explains made.note none;
+  is_note = nothing explains note none;
 }
   where
-    nothing : {E : Type 0} (asks : Bool) (r : Result (String Global) E) → IfOk r (λ note. string_bytes note ≡ [])
-        → IfOk r (λ note. SaysIf asks (λ said. said ≡ []) (string_bytes note))
+    nothing : (asks : Bool) (r : Result (String Global) AllocError) → IfOk r (λ text. string_bytes text ≡ [])
+        → IfOk r (λ text. SaysIf asks (λ said. said ≡ []) (string_bytes text))
     nothing true r h = h
     nothing false r h = h
 
 -- or a text was read, and they were taken from it
-module _ (form : Form) (held left : Option (List ℕ)) (before after : ℕ) (text : List ℕ)
-    (result : Result Taken Fault) (had : ReadsWhole held left before after (Ok text))
-    (octets : UnlessMemory (octets_of result) (octets_in form text)) where
-  read-with : (explains : Bool) → IfOk result (λ made. IfOk made.note
-      (λ note. SaysIf explains (λ said. said ≡ text_note form text) (string_bytes note)))
-      → IsTakenWith explains (Read form) held left before after result
-  read-with explains note = record {
-    taken = record {
-      file = Ok text;
-      is_file = λ asked. had;
-      is_taken = elim octets [
-        | inl memory ↦ inr (memory, had.count)
-        | inr same ↦ inl same
-      ];
-      count = counted before after (octets_of result) had.count;
-    };
-    is_note = note;
-  }
-
-  pub read-explained : (explains : Bool) → explains ≡ true
-      → IfOk result (λ made. IfOk made.note (λ note. string_bytes note ≡ text_note form text))
-      → IsTakenWith explains (Read form) held left before after result
-  read-explained true asks note = read-with true note
-  read-explained false asks note = cc asks
-
-  pub read-plainly : (explains : Bool) → explains ≡ false
-      → IfOk result (λ made. IfOk made.note (λ note. string_bytes note ≡ []))
-      → IsTakenWith explains (Read form) held left before after result
-  read-plainly false asks note = read-with false note
-  read-plainly true asks note = cc asks
+pub read-with : (form : Form) (held left : Option (List ℕ)) (before after : ℕ) (text : List ℕ)
+    (result : Result Taken Fault) → ReadsWhole held left before after (Ok text)
+    → UnlessMemory (octets_of result) (octets_in form text) → (explains asks : Bool) → explains ≡ asks
+    → IfOk result (SaysOf asks (Read form) (Ok text)) → IsTakenWith explains (Read form) held left before after result
+read-with form held left before after text result had octets explains asks same note = record {
+  taken = record {
+    file = Ok text;
+    is_file = λ asked. had;
+    is_taken = elim octets [
+      | inl memory ↦ inr (memory, had.count)
+      | inr is ↦ inl is
+    ];
+    count = counted before after (octets_of result) had.count;
+  };
+  is_note = rw same note;
+}
 
 -- a request that tells of the octets that are given, and has a note on them and on their text
-module _ (explains : Bool) (request : Request) (given : OctetSource) (Told : List ℕ → List ℕ → Status → Type 0)
+module _ (explains : Bool) (words : List (List ℕ)) (request : Request) (given : OctetSource)
+    (Told : List ℕ → List ℕ → Status → Type 0)
     (Note : List ℕ → List ℕ → Type 0)
     (held left : Option (List ℕ)) (before after : ℕ) (need : NeedsFile request → IsFromReader given)
     (answers : (file : Result (List ℕ) Fault) (text : List ℕ) (ended : Status)
     → IsToldOf Told (octets_given given file) text ended → IsAnswerTo request file text ended)
     (notes : (file : Result (List ℕ) Fault) (note : List ℕ) → IsNoteOn given file Note note
-    → IsNoteTo request file note) where
+    → IsNoteTo words request file note) where
   both-said : (asks : Bool) (one other note : List ℕ) (file : Result (List ℕ) Fault) (octets : List ℕ)
       → Ok octets ≡ octets_given given file → SaysIf asks (Note octets) one
       → SaysIf asks (λ said. said ≡ form_note given file) other → note ≡ one ++ other
-      → (note ≡ []) ⊎ IsNoteTo request file note
+      → (note ≡ []) ⊎ IsNoteTo words request file note
   both-said true one other note file octets same h g is =
-      inr (notes file note (subst (λ (r : Result (List ℕ) Fault). IsOkAnd r (λ b. (front : List ℕ)
-      × Note b front × (note ≡ front ++ form_note given file))) same
+      inr (notes file note (subst (λ (r : Result (List ℕ) Fault). MatchResult r (λ b. (front : List ℕ)
+      × Note b front × (note ≡ front ++ form_note given file)) (λ fault. IsFormNote given file note)) same
       (one, h, is ∙ ap (λ (l : List ℕ). one ++ l) g)))
   both-said false one other note file octets same h g is = inl (is ∙ ap (λ (l : List ℕ). l ++ other) h ∙ g)
 
@@ -226,21 +199,22 @@ module _ (explains : Bool) (request : Request) (given : OctetSource) (Told : Lis
       → IfOk other (λ text. SaysIf explains (λ said. said ≡ form_note given file) (string_bytes text))
       → IfOk note (λ text. IsOkAnd one (λ first. IsOkAnd other (λ second.
       string_bytes text ≡ string_bytes first ++ string_bytes second)))
-      → IfOk note (λ text. (string_bytes text ≡ []) ⊎ IsNoteTo request file (string_bytes text))
+      → IfOk note (λ text. (string_bytes text ≡ []) ⊎ IsNoteTo words request file (string_bytes text))
   on-given (Ok first) (Ok second) (Ok text) file octets same h g both =
       both-said explains (string_bytes first) (string_bytes second) (string_bytes text) file octets same h g both
   on-given (Ok first) (Err e) (Ok text) file octets same h g both = absurd both
   on-given (Err e) other (Ok text) file octets same h g both = absurd both
   on-given one other (Err e) file octets same h g both = tt
 
-  pub noted-given : (taken : Taken) → IsTakenWith explains given held left before after (Ok taken)
-      → (one made : WithNote) → Told taken.octets one.answer.text one.answer.status
-      → IfOk one.note (λ text. SaysIf explains (Note taken.octets) (string_bytes text))
+  pub noted-given : (octets : List ℕ) (note : Result (String Global) AllocError)
+      → IsTakenWith explains given held left before after (Ok (Given octets note))
+      → (one made : WithNote) → Told octets one.answer.text one.answer.status
+      → IfOk one.note (λ text. SaysIf explains (Note octets) (string_bytes text))
       → made.answer ≡ one.answer
-      → IfOk made.note (λ text. IsOkAnd one.note (λ first. IsOkAnd taken.note (λ second.
+      → IfOk made.note (λ text. IsOkAnd one.note (λ first. IsOkAnd note (λ second.
       string_bytes text ≡ string_bytes first ++ string_bytes second)))
-      → IsReplyTo request held left before after made
-  noted-given taken had one made answer fits same both =
+      → IsReplyTo words request held left before after made
+  noted-given octets note had one made answer fits same both =
       elim had.taken.is_taken [
         | inl is ↦ record {
           file = had.taken.file;
@@ -248,17 +222,45 @@ module _ (explains : Bool) (request : Request) (given : OctetSource) (Told : Lis
           is_answer = subst (λ (a : Answer). IsAnswerTo request had.taken.file a.text a.status) (sym same)
               (answers had.taken.file one.answer.text one.answer.status
               (subst (λ (r : Result (List ℕ) Fault). IsToldOf Told r one.answer.text one.answer.status) is answer));
-          is_note = on-given one.note taken.note made.note had.taken.file taken.octets is fits had.is_note both;
+          is_note = on-given one.note note made.note had.taken.file octets is fits had.is_note both;
         }
         | inr memory ↦ absurd (cc memory.0)
       ]
+
+  -- or gets the line of the fault, with a note, of a text that isn't in its form
+  pub noted-refused : (made : WithNote) → IsTakenWith explains given held left before after (Ok (Refused made))
+      → IsReplyTo words request held left before after made
+  noted-refused made had =
+      elim had.taken.is_taken [
+        | inl is ↦ record {
+          file = had.taken.file;
+          is_file = λ asked. had.taken.is_file (need asked);
+          is_answer = answers had.taken.file made.answer.text made.answer.status
+              (subst (λ (r : Result (List ℕ) Fault). IsToldOf Told r made.answer.text made.answer.status) is
+              (had.is_note.0.text, had.is_note.0.status));
+          is_note = go made.note had.taken.file is had.is_note.1;
+        }
+        | inr memory ↦ absurd (cc memory.0)
+      ]
+    where
+      hex : Result (List ℕ) Fault
+      hex = Err Hex
+
+      go : {E : Type 0} (r : Result (String Global) E) (file : Result (List ℕ) Fault)
+          → hex ≡ octets_given given file → IfOk r (λ text. IsFormNote given file (string_bytes text))
+          → IfOk r (λ text. (string_bytes text ≡ []) ⊎ IsNoteTo words request file (string_bytes text))
+      go (Ok text) file is h = inr (notes file (string_bytes text)
+          (subst (λ (r : Result (List ℕ) Fault). MatchResult r (λ b. (front : List ℕ)
+          × Note b front × (string_bytes text ≡ front ++ form_note given file))
+          (λ fault. IsFormNote given file (string_bytes text))) is h))
+      go (Err e) file is h = tt
 
 -- ---- answers to words
 
 module _ (words : List (List ℕ)) (held left : Option (List ℕ)) (before after : ℕ) where
   -- what is right of a request is right of the words
   pub noted-words : (request : Request) (made : WithNote) → IsRead words (Ok (Once request))
-      → IsReplyTo request held left before after made
+      → IsReplyTo words request held left before after made
       → IsNoted words held left before after made.answer.text (said_of made.note) made.answer.status
   noted-words request made read h = go made.note h.is_note
     where
@@ -267,7 +269,7 @@ module _ (words : List (List ℕ)) (held left : Option (List ℕ)) (before after
           (inl (record { file = h.file; is_file = h.is_file; is_answer = h.is_answer }))
 
       go : {E : Type 0} (note : Result (String Global) E)
-          → IfOk note (λ n. (string_bytes n ≡ []) ⊎ IsNoteTo request h.file (string_bytes n))
+          → IfOk note (λ n. (string_bytes n ≡ []) ⊎ IsNoteTo words request h.file (string_bytes n))
           → IsNoted words held left before after made.answer.text (said_of note) made.answer.status
       go (Ok n) (inl none) = inl (is-right, silent none)
       go (Ok n) (inr is) = inr (
@@ -283,7 +285,7 @@ module _ (words : List (List ℕ)) (held left : Option (List ℕ)) (before after
       go (Err e) is = inl (is-right, silent refl)
 
   pub replied-words : (request : Request) (r : Result WithNote Fault) → IsRead words (Ok (Once request))
-      → RepliesTo request held left before after r → AreNoted words held left before after r
+      → RepliesTo words request held left before after r → AreNoted words held left before after r
   replied-words request (Ok made) read h = noted-words request made read h
   replied-words request (Err fault) read h = right words held left before after request (fault_text fault) status.Fault
       read h
@@ -312,24 +314,22 @@ module _ (words : List (List ℕ)) (held left : Option (List ℕ)) (before after
     unasked = λ quiet. absurd (cc (asks, quiet));
   }
 
-  -- a note on the line of a fault
-  pub said-fault : (fault : Fault) (r : Result WithNote Fault) → asks_to_explain words ≡ true
-      → IsRight words held left before after (fault_text fault) status.Fault → IsFaulted fault r
+  -- a note on the line of a fault, where it fits that
+  pub said-fault : (fault : Fault) (Note : List ℕ → Type 0) (r : Result WithNote Fault) → asks_to_explain words ≡ true
+      → IsRight words held left before after (fault_text fault) status.Fault → IsFaulted fault Note r
+      → IfOk r (λ _. (note : List ℕ) → Note note → Fits words (fault_text fault) note)
       → Replies words held left before after r
-  said-fault fault (Ok made) asks h told = go made.note told.2
+  said-fault fault Note (Ok made) asks h told fits = go made.note told.1
     where
       is-right : IsRight words held left before after made.answer.text made.answer.status
-      is-right = rw (told.0, told.1) h
+      is-right = rw (told.0.status, told.0.text) h
 
-      go : {E : Type 0} (note : Result (String Global) E)
-          → IfOk note (λ n. (string_bytes n ≡ []) ⊎ IsFaultNote fault (string_bytes n))
+      go : {E : Type 0} (note : Result (String Global) E) → IfOk note (λ n. Note (string_bytes n))
           → IsSaid words held left before after made.answer.text (said_of note) made.answer.status
-      go (Ok n) (inl none) = said-asked made.answer.text (string_bytes n) made.answer.status asks
-          (inl (is-right, silent none))
-      go (Ok n) (inr is) = said-asked made.answer.text (string_bytes n) made.answer.status asks
-          (inl (is-right, on_fault fault told.1 is))
+      go (Ok n) is = said-asked made.answer.text (string_bytes n) made.answer.status asks
+          (inl (is-right, rw told.0.text (fits (string_bytes n) is)))
       go (Err e) is = said-nothing made.answer.text made.answer.status is-right
-  said-fault fault (Err other) asks h same =
+  said-fault fault Note (Err other) asks h same fits =
       rw same (said-nothing (fault_text fault) status.Fault h)
 
   -- an answer whose note isn't asked for
@@ -338,3 +338,20 @@ module _ (words : List (List ℕ)) (held left : Option (List ℕ)) (before after
       → IsSaid words held left before after alone.answer.text (said_of alone.note) alone.answer.status
   said-alone made alone h same none = rw (same, none) (said-nothing made.answer.text made.answer.status
       (right-noted made.answer.text (said_of made.note) made.answer.status h))
+
+-- ---- what fits the line of a fault
+
+abbrev read-as : Fault → Result Request Fault
+read-as fault = Err fault
+
+-- the note on words, where they were refused for want of nothing
+pub fits-words : (words : List (List ℕ)) (told : Fault) → told ≢ Memory
+    → (read-as told ≡ Err Memory) ⊎ IsRead words (Err told) → (note : List ℕ) → IsWordsNote words note
+    → Fits words (fault_text told) note
+fits-words words told other (inl memory) note h = absurd (other (cc memory))
+fits-words words told other (inr read) note h = on_words told read refl h
+
+-- the note on octets that are too many
+pub fits-large : (words : List (List ℕ)) (told : Fault) → told ≡ TooLarge → (note : List ℕ)
+    → note ≡ large_note largest_file → Fits words (fault_text told) note
+fits-large words told is note h = too_large (ap fault_text is) h

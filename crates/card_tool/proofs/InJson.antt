@@ -1,5 +1,5 @@
 -- Answers as objects of JSON, and as lines.
-use Rattle.std.proofs.Common.{◌≡◌, ℕ, List, [], Bool, true, false, Option, Result, Ok, Err, append-nil, refl, sym}
+use Rattle.std.proofs.Common.{◌≡◌, ℕ, List, [], Bool, true, false, Option, Result, Ok, Err, IfErr, append-nil, refl, sym}
 use Rattle.command_line.specs.Asked.{asks_for_json}
 use Rattle.card_words.specs.Texts.{fault_text}
 use Rattle.card_words.specs.declared.fault.Fault.{Fault}
@@ -8,8 +8,8 @@ use Rattle.card_kinds.specs.declared.answer.Answer.{Answer}
 use Rattle.card_kinds.specs.declared.status.Status.{Status}
 use Rattle.card_kinds.specs.declared.status.Status.TheVariants as status
 use Rattle.card_tool.specs.Answers.{IsWritten, Writes}
-use Rattle.card_tool.specs.Explained.{said_of, Gives, IsSaid, Replies}
-use Rattle.card_tool.specs.InJson.{IsRightAsked, IsRightJson, in_json, in_lines, unmade}
+use Rattle.card_tool.specs.Explained.{said_of, Gives, IsRightWith, IsSaid, Replies}
+use Rattle.card_tool.specs.InJson.{HaveAnswer, IsRightAsked, IsRightJson, in_json, in_lines, unmade}
 use Rattle.card_tool.specs.declared.judged.WithNote.{WithNote}
 use Rattle.card_tool.proofs.Asking.{no-words}
 
@@ -45,6 +45,22 @@ pub right-line : (words : List (List ℕ)) (held left : Option (List ℕ)) (befo
 right-line words held left before after fault answer made h text ended same none =
     rw (same, none, text, ended) h
 
+-- what holds anyway holds where a call fails
+pub held-err : {A E : Type 0} (r : Result A E) {P : Type 0} → P → IfErr r (λ _. P)
+held-err (Ok a) p = tt
+held-err (Err e) p = p
+
+-- memory for the object was refused, where words have an answer
+pub not-made : {words : List (List ℕ)} {held left : Option (List ℕ)} {before after : ℕ} (r : Result WithNote Fault)
+    (fault : Fault) → r ≡ Err fault → fault ≡ Memory → HaveAnswer words held left before after
+    → Gives (IsRightJson words held left before after) r
+not-made r fault is memory h = rw (is, memory) (unmade h refl refl)
+
+-- words that have a text with what comes after it
+said-some : {words : List (List ℕ)} {held left : Option (List ℕ)} {before after : ℕ} {whole : List ℕ} (ended : Status)
+    → IsRightWith words held left before after whole ended → HaveAnswer words held left before after
+said-some ended h = record { text = h.text; note = h.note; ended = ended; is_said = h.is_said }
+
 -- the line of memory that ran out before the words were read is right of any
 pub no-words-asked : (held : Option (List ℕ)) (count : ℕ) (old new : Option (List ℕ)) (before after : ℕ)
     (ended : Status) → IsWritten (fault_text Memory) status.Fault old new before after ended
@@ -53,10 +69,10 @@ no-words-asked held count old new before after ended is words = go (asks_for_jso
   where
     go : (asked : Bool) → asks_for_json words ≡ asked
         → Writes (IsRightAsked words held held count count) old new before after ended
-    go true ask = record {
+    go true ask = let plain = no-words held count old new before after ended is words in record {
       text = fault_text Memory;
       right = status.Fault;
-      is_right = in_json ask (unmade refl refl);
+      is_right = in_json ask (unmade (said-some plain.right plain.is_right) refl refl);
       is_written = is;
     }
     go false ask =

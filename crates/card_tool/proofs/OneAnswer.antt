@@ -1,5 +1,5 @@
 -- That what is asked for has one answer.
-use Rattle.std.proofs.Common.{◌≡◌, ◌≤◌, ◌∙◌, ◌++◌, ℕ, List, [], ◌∷◌, Bool, true, false, if◌then◌else◌, nat_le, Result, Ok, Err, IfOk, ap, append_assoc, length, subst, sym, refl}
+use Rattle.std.proofs.Common.{◌≡◌, ◌≤◌, ◌∙◌, ◌++◌, ℕ, List, [], ◌∷◌, Bool, true, false, if◌then◌else◌, nat_le, Result, Ok, Err, IfOk, ap, append-nil, append_assoc, codes, length, subst, sym, refl}
 use Rattle.octet_core.specs.Octets.{AreOctets}
 use Rattle.card_tool.specs.ExchangeTexts.{TellsFile}
 use Rattle.card_tool.specs.RecordTexts.{Records}
@@ -10,9 +10,10 @@ use Rattle.card_tool.specs.JudgeTexts.{JudgesTrace}
 use Rattle.card_tool.proofs.Judgments.{judged-once}
 use Rattle.card_tool.proofs.Simulations.{simulated-once, lines-once}
 use Rattle.card_tool.specs.SimulationTexts.{SimulatesLines}
-use Rattle.card_tool.specs.Answers.{answer_text, line_text, plain_aim, plain_asked, plain_request, plain_task, plain_text, plain_told, AreLinesTold, IsAnswerAsked, IsAnswerTo, IsLineTold, IsTold, IsToldOf, Tells}
-use Rattle.card_kinds.specs.Verdicts.{Shows, Tidies}
-use Rattle.card_tool.proofs.Annotating.{some-noted}
+use Rattle.card_tool.specs.Answers.{answer_text, in_objects, json_object, line_text, no_object, object_of, objects_noted, objects_plain, plain_aim, plain_asked, plain_request, plain_task, AreAlike, AreLinesTold, IsAnswerAsked, IsAnswerTo, IsLineTold, IsPlain, IsTold, IsToldOf, IsWithout, Tells}
+use Rattle.card_kinds.specs.Json.{with_notes}
+use Rattle.card_kinds.specs.Verdicts.{accepted, kind_name, refused, Shows, Tidies}
+use Rattle.card_tool.proofs.Annotating.{some-noted, some-object}
 use Rattle.notes.proofs.Cutting.{cut-apart}
 use Rattle.notes.specs.Noted.{without_notes}
 use Rattle.card_words.specs.Texts.{fault_text}
@@ -169,7 +170,7 @@ noted-too : (aim : Aim) (how : Layout) (expected : Expected) (b text : List ℕ)
 noted-too Check how expected b text ended h = (text, h)
 noted-too Show how expected b text ended h = (text, h)
 noted-too Note layout.Lines expected b text ended h = some-noted expected b text ended h
-noted-too Note layout.Json expected b text ended h = (text, h)
+noted-too Note layout.Json expected b text ended h = some-object expected b text ended h
 
 told-too : (task : Task) (r : Result (List ℕ) Fault) (text : List ℕ) (ended : Status)
     → IsToldOf (IsTold (plain_task task)) r text ended → (t : List ℕ) × IsToldOf (IsTold task) r t ended
@@ -217,101 +218,190 @@ asked-too (Once Version) file text ended h = (text, h)
 asked-too (Lines task) (Ok b) text ended h = lines-too task (all_lines b) text ended h
 asked-too (Lines task) (Err fault) text ended h = (text, h)
 
--- ---- cut at the notes
+-- ---- without the notes
 
--- a text that is told of octets with notes is the one without them once it is cut
-cut-told : (aim : Aim) (how : Layout) (expected : Expected) (b text : List ℕ) (ended : Status)
-    → Tells aim how expected b text ended → Tells (plain_aim aim) how expected b (plain_told aim how text) ended
-cut-told Check how expected b text ended h = h
-cut-told Show how expected b text ended h = h
-cut-told Note layout.Lines expected b text ended h =
-    subst (λ (l : List ℕ). Shows layout.Lines expected.kind expected b l ended) (sym h.is_cut) h.is_shown
-cut-told Note layout.Json expected b text ended h = h
+-- a text of objects with notes in a row, and the one without them
+record Objects (text plain : List ℕ) : Type 0 where
+  objects : List (List ℕ × List ℕ)
+  noted : text ≡ objects_noted objects
+  without : plain ≡ objects_plain objects
 
--- no line of a fault has a note
-cut-fault : (aim : Aim) (how : Layout) (fault : Fault) → plain_told aim how (fault_text fault) ≡ fault_text fault
-cut-fault Check how fault = refl
-cut-fault Show how fault = refl
-cut-fault Note layout.Lines Words = refl
-cut-fault Note layout.Lines Hex = refl
-cut-fault Note layout.Lines Memory = refl
-cut-fault Note layout.Lines Read = refl
-cut-fault Note layout.Lines TooLarge = refl
-cut-fault Note layout.Json fault = refl
+-- the texts of lines in a row, and the ones without notes
+abbrev Cut : Aim → Layout → List ℕ → List ℕ → Type 0
+Cut Check how text plain = plain ≡ text
+Cut Show how text plain = plain ≡ text
+Cut Note layout.Lines text plain = plain ≡ without_notes text
+Cut Note layout.Json text plain = Objects text plain
 
-cut-octets : (task : Task) (r : Result (List ℕ) Fault) (text : List ℕ) (ended : Status)
-    → IsToldOf (IsTold task) r text ended
-    → IsToldOf (IsTold (plain_task task)) r (plain_told task.aim task.layout text) ended
-cut-octets task (Ok b) text ended h = cut-told task.aim task.layout task.expected b text ended h
-cut-octets task (Err fault) text ended h =
-    (ap (plain_told task.aim task.layout) h.0 ∙ cut-fault task.aim task.layout fault, h.1)
+cut-whole : (aim : Aim) (how : Layout) (text plain : List ℕ) → Cut aim how text plain → IsWithout aim how text plain
+cut-whole Check how text plain h = h
+cut-whole Show how text plain h = h
+cut-whole Note layout.Lines text plain h = h
+cut-whole Note layout.Json text plain h = in_objects h.objects h.noted h.without
 
--- what comes after the answer to a line is cut apart from it
-cut-line : (aim : Aim) (how : Layout) (kind : Kind) (ended : Status) (told more : List ℕ)
-    → plain_told aim how (line_text aim how kind ended told ++ more)
-    ≡ line_text (plain_aim aim) how kind ended (plain_told aim how told) ++ plain_told aim how more
-cut-line Check how kind ended told more = refl
-cut-line Show how kind ended told more = refl
-cut-line Note layout.Lines kind ended told more =
-    ap without_notes (append_assoc told (10 ∷ []) more) ∙ cut-apart false told more
-    ∙ sym (append_assoc (without_notes told) (10 ∷ []) (without_notes more))
-cut-line Note layout.Json kind ended told more = refl
-
-cut-nothing : (aim : Aim) (how : Layout) → plain_told aim how [] ≡ []
+cut-nothing : (aim : Aim) (how : Layout) → Cut aim how [] []
 cut-nothing Check how = refl
 cut-nothing Show how = refl
 cut-nothing Note layout.Lines = refl
-cut-nothing Note layout.Json = refl
+cut-nothing Note layout.Json = record { objects = []; noted = refl; without = refl }
+
+-- a text that is told of octets with notes, and the one without them
+cut-told : (aim : Aim) (how : Layout) (expected : Expected) (b text : List ℕ) (ended : Status)
+    → Tells aim how expected b text ended → (plain : List ℕ) × Tells (plain_aim aim) how expected b plain ended
+    × IsWithout aim how text plain
+cut-told Check how expected b text ended h = (text, h, refl)
+cut-told Show how expected b text ended h = (text, h, refl)
+cut-told Note layout.Lines expected b text ended h = (h.plain, h.is_shown, sym h.is_cut)
+cut-told Note layout.Json expected b text ended h = (
+  h.object,
+  h.is_shown,
+  in_objects ((h.object, h.noted) ∷ []) (h.is_text ∙ sym (append-nil (with_notes h.object h.noted)))
+      (sym (append-nil h.object)),
+)
+
+-- no line of a fault has a note
+no-notes : (fault : Fault) → fault_text fault ≡ without_notes (fault_text fault)
+no-notes Words = refl
+no-notes Hex = refl
+no-notes Memory = refl
+no-notes Read = refl
+no-notes TooLarge = refl
+
+cut-fault : (aim : Aim) (how : Layout) (fault : Fault) (text : List ℕ) → text ≡ fault_text fault
+    → IsWithout aim how text (fault_text fault)
+cut-fault Check how fault text is = sym is
+cut-fault Show how fault text is = sym is
+cut-fault Note layout.Lines fault text is = no-notes fault ∙ ap without_notes (sym is)
+cut-fault Note layout.Json fault text is = no_object is
+
+cut-octets : (task : Task) (r : Result (List ℕ) Fault) (text : List ℕ) (ended : Status)
+    → IsToldOf (IsTold task) r text ended → (plain : List ℕ) × IsToldOf (IsTold (plain_task task)) r plain ended
+    × IsWithout task.aim task.layout text plain
+cut-octets task (Ok b) text ended h = cut-told task.aim task.layout task.expected b text ended h
+cut-octets task (Err fault) text ended h =
+    (fault_text fault, (refl, h.1), cut-fault task.aim task.layout fault text h.0)
+
+-- what comes after the lines of an answer and an empty one is cut apart from them
+cut-row : (told plain more rest : List ℕ) → plain ≡ without_notes told → rest ≡ without_notes more
+    → (plain ++ codes "\n") ++ rest ≡ without_notes ((told ++ codes "\n") ++ more)
+cut-row told plain more rest is others =
+    rw (is, others) (sym (ap without_notes (append_assoc told (codes "\n") more) ∙ cut-apart false told more
+    ∙ sym (append_assoc (without_notes told) (codes "\n") (without_notes more))))
+
+-- an object that is told is the whole answer
+object-stays : (aim : Aim) (kind : Kind) (expected : Expected) (b object : List ℕ) (ended : Status)
+    → Shows layout.Json kind expected b object ended → (told : List ℕ) → object_of aim kind ended told ≡ told
+object-stays aim kind expected b object ended (accepted v n h is e) told = rw e refl
+object-stays aim kind expected b object ended (refused stop h is e) told = rw e refl
+
+object-first : (object noted told plain more rest : List ℕ) → told ≡ with_notes object noted → plain ≡ object
+    → Objects more rest → Objects (told ++ more) (plain ++ rest)
+object-first object noted told plain more rest is same others = record {
+  objects = (object, noted) ∷ others.objects;
+  noted = rw is (ap (λ (l : List ℕ). with_notes object noted ++ l) others.noted);
+  without = rw same (ap (λ (l : List ℕ). object ++ l) others.without);
+}
+
+-- an answer to a line that is told with notes, and the one without them, before those of more lines
+cut-line : (aim : Aim) (how : Layout) (expected : Expected) (r : Result (List ℕ) Fault) (told : List ℕ)
+    (ended : Status) → IsToldOf (Tells aim how expected) r told ended → (plain : List ℕ)
+    × IsToldOf (Tells (plain_aim aim) how expected) r plain ended
+    × ((more rest : List ℕ) → Cut aim how more rest
+    → Cut aim how (line_text aim how expected.kind ended told ++ more)
+    (line_text (plain_aim aim) how expected.kind ended plain ++ rest))
+cut-line Check how expected r told ended h =
+    (told, h, λ more rest c. ap (λ (l : List ℕ). line_text Check how expected.kind ended told ++ l) c)
+cut-line Show how expected r told ended h =
+    (told, h, λ more rest c. ap (λ (l : List ℕ). line_text Show how expected.kind ended told ++ l) c)
+cut-line Note layout.Lines expected (Ok b) told ended h =
+    (h.plain, h.is_shown, λ more rest c. cut-row told h.plain more rest (sym h.is_cut) c)
+cut-line Note layout.Lines expected (Err fault) told ended h = (
+  fault_text fault,
+  (refl, h.1),
+  λ more rest c. cut-row told (fault_text fault) more rest (no-notes fault ∙ ap without_notes (sym h.0)) c,
+)
+cut-line Note layout.Json expected (Ok b) told ended h = (
+  h.object,
+  h.is_shown,
+  λ more rest c. object-first h.object h.noted _ _ more rest
+      (object-stays Note expected.kind expected b h.object ended h.is_shown told ∙ h.is_text)
+      (object-stays Show expected.kind expected b h.object ended h.is_shown h.object) c,
+)
+cut-line Note layout.Json expected (Err fault) told ended h = (
+  fault_text fault,
+  (refl, h.1),
+  λ more rest c. object-first (json_object (kind_name expected.kind) (fault_text fault)) (fault_text fault) _ _ more
+      rest
+      (rw (h.1, h.0) refl) (rw h.1 refl) c,
+)
 
 cut-lines : (task : Task) (lines : List (List ℕ)) (text : List ℕ) (ended : Status)
-    → AreLinesTold task lines text ended → AreLinesTold (plain_task task) lines
-    (plain_told task.aim task.layout text) ended
-cut-lines task [] text ended h = (ap (plain_told task.aim task.layout) h.0 ∙ cut-nothing task.aim task.layout, h.1)
+    → AreLinesTold task lines text ended → (plain : List ℕ) × AreLinesTold (plain_task task) lines plain ended
+    × Cut task.aim task.layout text plain
+cut-lines task [] text ended h = (
+  [],
+  (refl, h.1),
+  subst (λ (t : List ℕ). Cut task.aim task.layout t []) (sym h.0) (cut-nothing task.aim task.layout),
+)
 cut-lines task (line ∷ lines) text ended h =
-    let one = h.is_first in
-    record {
-      first = answer_text (plain_task task) h.one (plain_told task.aim task.layout one.told);
-      one = h.one;
-      more = plain_told task.aim task.layout h.more;
-      others = h.others;
-      is_first = record {
-        told = plain_told task.aim task.layout one.told;
-        is_told = cut-octets task (line_octets line) one.told h.one one.is_told;
+    let said = h.is_first in
+    let one =
+    cut-line task.aim task.layout task.expected (line_octets line) said.told h.one said.is_told in
+    let more = cut-lines task lines h.more h.others h.is_more in
+    let first : List ℕ = answer_text (plain_task task) h.one one.0 in (
+      first ++ more.0,
+      record {
+        first = first;
+        one = h.one;
+        more = more.0;
+        others = h.others;
+        is_first = record { told = one.0; is_told = one.1; is_text = refl };
+        is_more = more.1;
         is_text = refl;
-      };
-      is_more = cut-lines task lines h.more h.others h.is_more;
-      is_text = ap (plain_told task.aim task.layout) (h.is_text ∙ ap (λ (l : List ℕ). l ++ h.more) one.is_text)
-          ∙ cut-line task.aim task.layout task.expected.kind h.one one.told h.more;
-      is_ended = h.is_ended;
-    }
+        is_ended = h.is_ended;
+      },
+      subst (λ (t : List ℕ). Cut task.aim task.layout t (first ++ more.0))
+          (sym (h.is_text ∙ ap (λ (l : List ℕ). l ++ h.more) said.is_text)) (one.2 h.more more.0 more.2),
+    )
 
--- what is told with notes is told without them once it is cut
+-- what is told with notes is told without them too
 pub notes-cut : (asked : Asked) (file : Result (List ℕ) Fault) (text : List ℕ) (ended : Status)
-    → IsAnswerAsked asked file text ended → IsAnswerAsked (plain_asked asked) file (plain_text asked text) ended
+    → IsAnswerAsked asked file text ended → (plain : List ℕ) × IsAnswerAsked (plain_asked asked) file plain ended
+    × IsPlain asked text plain
 notes-cut (Once (Tell task given)) file text ended h = cut-octets task (octets_given given file) text ended h
-notes-cut (Once (BuildChain ifs number message)) file text ended h = h
-notes-cut (Once (BuildTidy given)) file text ended h = h
-notes-cut (Once (BuildFill list known)) file text ended h = h
-notes-cut (Once (File task)) file text ended h = h
-notes-cut (Once (Record atr)) file text ended h = h
-notes-cut (Once (Judge atr judging)) file text ended h = h
-notes-cut (Once (Simulate session)) file text ended h = h
-notes-cut (Once (SimulateLines session)) file text ended h = h
-notes-cut (Once (Help help)) file text ended h = h
-notes-cut (Once Version) file text ended h = h
-notes-cut (Lines task) (Ok b) text ended h = cut-lines task (all_lines b) text ended h
+notes-cut (Once (BuildChain ifs number message)) file text ended h = (text, h, refl)
+notes-cut (Once (BuildTidy given)) file text ended h = (text, h, refl)
+notes-cut (Once (BuildFill list known)) file text ended h = (text, h, refl)
+notes-cut (Once (File task)) file text ended h = (text, h, refl)
+notes-cut (Once (Record atr)) file text ended h = (text, h, refl)
+notes-cut (Once (Judge atr judging)) file text ended h = (text, h, refl)
+notes-cut (Once (Simulate session)) file text ended h = (text, h, refl)
+notes-cut (Once (SimulateLines session)) file text ended h = (text, h, refl)
+notes-cut (Once (Help help)) file text ended h = (text, h, refl)
+notes-cut (Once Version) file text ended h = (text, h, refl)
+notes-cut (Lines task) (Ok b) text ended h =
+    let cut = cut-lines task (all_lines b) text ended h in
+    (cut.0, cut.1, cut-whole task.aim task.layout text cut.0 cut.2)
 notes-cut (Lines task) (Err fault) text ended h =
-    (ap (plain_told task.aim task.layout) h.0 ∙ cut-fault task.aim task.layout fault, h.1)
+    (fault_text fault, (refl, h.1), cut-fault task.aim task.layout fault text h.0)
 
 -- ---- both
 
--- what is asked for has one text once it is cut at its notes, and one status
+-- what is asked for has one text without its notes, and one status
 pub one-cut : (asked : Asked) (file : Result (List ℕ) Fault) → AreSized asked → HaveOctets asked
     → (IsOnce NeedsOctets asked → IfOk file AreOctets) → (t u : List ℕ) (s q : Status) → IsAnswerAsked asked file t s
-    → IsAnswerAsked asked file u q → (plain_text asked t ≡ plain_text asked u) × (s ≡ q)
+    → IsAnswerAsked asked file u q → AreAlike asked t u × (s ≡ q)
 one-cut asked file sized octets as_read t u s q h g =
-    (one-asked asked file sized octets as_read).one (plain_text asked t) (plain_text asked u) s q
-    (notes-cut asked file t s h) (notes-cut asked file u q g)
+    let first = notes-cut asked file t s h in
+    let second = notes-cut asked file u q g in
+    let same = (one-asked asked file sized octets as_read).one first.0 second.0 s q first.1 second.1 in (
+      record {
+        plain = first.0;
+        first = first.2;
+        second = subst (λ (l : List ℕ). IsPlain asked u l) (sym same.0) second.2;
+      },
+      same.1,
+    )
 
 pub some-asked : (asked : Asked) (file : Result (List ℕ) Fault) → AreSized asked → HaveOctets asked
     → (IsOnce NeedsOctets asked → IfOk file AreOctets) → (t : List ℕ) × (s : Status) × IsAnswerAsked asked file t s

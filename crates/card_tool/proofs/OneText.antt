@@ -23,7 +23,8 @@ use Rattle.card_words.specs.declared.request.Aim.TheVariants.{Check, Show, Note}
 use Rattle.card_words.specs.declared.request.Layout.{Layout}
 use Rattle.card_words.specs.declared.request.Layout.TheVariants as layout
 use Rattle.card_words.specs.declared.request.Request.TheVariants.{BuildChain, BuildTidy, BuildFill, Tell, File, Record, Judge, Simulate, SimulateLines, Help, Version}
-use Rattle.card_tool.specs.Answers.{plain_text, plain_told, AsksForNotes, AskForNotes, IsAnswer, IsAnswerAsked, IsSameText}
+use Rattle.card_tool.specs.Answers as same_text
+use Rattle.card_tool.specs.Answers.{AsksForNotes, AskForNotes, HaveNotes, IsAnswer, IsAnswerAsked, IsPlain, IsSameText, IsWithout}
 use Rattle.notes.specs.Noted.{without_notes}
 use Rattle.card_tool.specs.Files.{file_of, largest_file, ReadsWhole}
 use Rattle.card_kinds.specs.declared.status.Status.{Status}
@@ -38,40 +39,49 @@ one-fault : (fault : Fault) (text other : List ℕ) (ended different : Status) �
     × (ended ≡ different)
 one-fault fault text other ended different h g = (h.0 ∙ sym g.0, h.1 ∙ sym g.1)
 
--- two texts that are one once they are cut are one, or notes are asked for
-by-aim : (aim : Aim) (how : Layout) (text other : List ℕ) → plain_told aim how text ≡ plain_told aim how other
-    → (text ≡ other) ⊎ (((aim ≡ Note) × (how ≡ layout.Lines)) × (without_notes text ≡ without_notes other))
-by-aim Check how text other h = inl h
-by-aim Show how text other h = inl h
-by-aim Note layout.Lines text other h = inr ((refl, refl), h)
-by-aim Note layout.Json text other h = inl h
+-- two texts that are one without notes are one, or notes are asked for
+abbrev InLines : List ℕ → List ℕ → Type 0
+InLines text other = without_notes text ≡ without_notes other
 
-same-or-noted : (asked : Asked) (text other : List ℕ) → plain_text asked text ≡ plain_text asked other
-    → (text ≡ other) ⊎ (AsksForNotes asked × (without_notes text ≡ without_notes other))
-same-or-noted (Once (Tell task given)) text other h = by-aim task.aim task.layout text other h
-same-or-noted (Once (BuildChain ifs number message)) text other h = inl h
-same-or-noted (Once (BuildTidy given)) text other h = inl h
-same-or-noted (Once (BuildFill list known)) text other h = inl h
-same-or-noted (Once (File task)) text other h = inl h
-same-or-noted (Once (Record atr)) text other h = inl h
-same-or-noted (Once (Judge atr judging)) text other h = inl h
-same-or-noted (Once (Simulate session)) text other h = inl h
-same-or-noted (Once (SimulateLines session)) text other h = inl h
-same-or-noted (Once (Help help)) text other h = inl h
-same-or-noted (Once Version) text other h = inl h
-same-or-noted (Lines task) text other h = by-aim task.aim task.layout text other h
+abbrev InObjects : List ℕ → List ℕ → Type 0
+InObjects text other = (plain : List ℕ) × HaveNotes text plain × HaveNotes other plain
 
-asks-notes : (words : List (List ℕ)) (asked : Asked) → IsRead words (Ok asked) → AsksForNotes asked
-    → AskForNotes words
-asks-notes words asked (called_for_version version e) notes =
+by-aim : (aim : Aim) (how : Layout) (text other plain : List ℕ) → IsWithout aim how text plain
+    → IsWithout aim how other plain
+    → (text ≡ other) ⊎ ((((aim ≡ Note) × (how ≡ layout.Lines)) × InLines text other)
+    ⊎ (((aim ≡ Note) × (how ≡ layout.Json)) × InObjects text other))
+by-aim Check how text other plain h g = inl (sym h ∙ g)
+by-aim Show how text other plain h g = inl (sym h ∙ g)
+by-aim Note layout.Lines text other plain h g = inr (inl ((refl, refl), sym h ∙ g))
+by-aim Note layout.Json text other plain h g = inr (inr ((refl, refl), (plain, h, g)))
+
+same-or-noted : (asked : Asked) (text other plain : List ℕ) → IsPlain asked text plain → IsPlain asked other plain
+    → (text ≡ other) ⊎ ((AsksForNotes layout.Lines asked × InLines text other)
+    ⊎ (AsksForNotes layout.Json asked × InObjects text other))
+same-or-noted (Once (Tell task given)) text other plain h g = by-aim task.aim task.layout text other plain h g
+same-or-noted (Once (BuildChain ifs number message)) text other plain h g = inl (sym h ∙ g)
+same-or-noted (Once (BuildTidy given)) text other plain h g = inl (sym h ∙ g)
+same-or-noted (Once (BuildFill list known)) text other plain h g = inl (sym h ∙ g)
+same-or-noted (Once (File task)) text other plain h g = inl (sym h ∙ g)
+same-or-noted (Once (Record atr)) text other plain h g = inl (sym h ∙ g)
+same-or-noted (Once (Judge atr judging)) text other plain h g = inl (sym h ∙ g)
+same-or-noted (Once (Simulate session)) text other plain h g = inl (sym h ∙ g)
+same-or-noted (Once (SimulateLines session)) text other plain h g = inl (sym h ∙ g)
+same-or-noted (Once (Help help)) text other plain h g = inl (sym h ∙ g)
+same-or-noted (Once Version) text other plain h g = inl (sym h ∙ g)
+same-or-noted (Lines task) text other plain h g = by-aim task.aim task.layout text other plain h g
+
+asks-notes : (how : Layout) (words : List (List ℕ)) (asked : Asked) → IsRead words (Ok asked) → AsksForNotes how asked
+    → AskForNotes how words
+asks-notes how words asked (called_for_version version e) notes =
     let is : asked ≡ Once Version = cc e in
-    absurd (subst AsksForNotes is notes)
-asks-notes words asked (taken are e) notes =
-    (are, subst (λ (r : Result Asked Fault). MatchResult r AsksForNotes (λ _. ⊥)) e notes)
-asks-notes words asked (called_for_help parsed among help e) notes =
+    absurd (subst (AsksForNotes how) is notes)
+asks-notes how words asked (taken are e) notes =
+    (are, subst (λ (r : Result Asked Fault). MatchResult r (AsksForNotes how) (λ _. ⊥)) e notes)
+asks-notes how words asked (called_for_help parsed among help e) notes =
     let is : asked ≡ Once (Help help) = cc e in
-    absurd (subst AsksForNotes is notes)
-asks-notes words asked (not_taken parsed other e) notes = cc e
+    absurd (subst (AsksForNotes how) is notes)
+asks-notes how words asked (not_taken parsed other e) notes = cc e
 
 -- the same words were read twice as this
 read-once : (words : List (List ℕ)) (read : Result Asked Fault) → IsRead words read → (file : Result (List ℕ) Fault)
@@ -85,13 +95,17 @@ read-once words (Ok asked) read file octets text other ended different h g =
     let proper = read-proper words asked read in
     let same = one-cut asked file proper.0 proper.1 (λ need. octets (needs-octets words asked read need)) text other
     ended different h g in
-    elim (same-or-noted asked text other same.0) [
-      | inl text_is ↦ (inl text_is, same.1)
-      | inr noted ↦ (inr (asks-notes words asked read noted.0, noted.1), same.1)
+    elim (same-or-noted asked text other same.0.plain same.0.first same.0.second) [
+      | inl text_is ↦ (same_text.same text_is, same.1)
+      | inr (inl noted) ↦ (same_text.in_lines (asks-notes layout.Lines words asked read noted.0) noted.1, same.1)
+      | inr (inr noted) ↦ (
+        same_text.in_objects (asks-notes layout.Json words asked read noted.0) noted.1.0 noted.1.1 noted.1.2,
+        same.1,
+      )
     ]
 read-once words (Err fault) read file octets text other ended different h g =
     let same = one-fault fault text other ended different h g in
-    (inl same.0, same.1)
+    (same_text.same same.0, same.1)
 
 no-other : (kinds : Kinds) → kinds ≡ [] → HasOther kinds → ⊥
 no-other kinds none other = let among = subst (IsAmong other.0) none other.1 in among

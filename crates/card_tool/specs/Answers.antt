@@ -1,5 +1,5 @@
 -- What the program answers: one text and one status.
-use Rattle.std.specs.Prelude.{◌≡◌, ◌<◌, ◌++◌, ℕ, ◌⊎◌, List, Option, codes, drop, length, take, Result, Err, MatchResult}
+use Rattle.std.specs.Prelude.{◌≡◌, ◌<◌, ◌++◌, ℕ, ◌⊎◌, List, [], ◌∷◌, Option, codes, drop, length, take, Result, Err, MatchResult}
 use Rattle.std.specs.Io.KnownBytes.{Appends}
 use Rattle.octet_core.specs.Failures.{HasFailed}
 use Rattle.card_kinds.specs.Verdicts.{Checks, NotesBy, Shows, Tidies, IsFilled, codec_of, kind_name}
@@ -12,7 +12,7 @@ use Rattle.card_tool.specs.SimulationTexts.{Simulates, SimulatesLines}
 use Rattle.card_tool.specs.RecordTexts.{Records}
 use Rattle.card_tool.specs.JudgeTexts.{JudgesTrace}
 use Rattle.json_lines.specs.Answers.{json_text}
-use Rattle.card_kinds.specs.Json.{object_head}
+use Rattle.card_kinds.specs.Json.{object_head, with_notes}
 use Rattle.card_tool.specs.Files.{ReadsWhole}
 use Rattle.card_tool.specs.Lines.{all_lines, line_octets, AreTold}
 use Rattle.card_words.specs.Given.{octets_given}
@@ -53,12 +53,20 @@ pub record ShowsNoted (kind : Kind) (expected : Expected) (b text : List ℕ) (e
   pub is_cut : without_notes text ≡ plain
   pub unnoted : ended ≡ status.Fault → text ≡ plain
 
--- what is told of octets; an object of JSON has no notes
+-- The object of the value or of the refusal, with the notes on the lines that are told with notes.
+pub record ShowsNotedObject (kind : Kind) (expected : Expected) (b text : List ℕ) (ended : Status) : Type 0 where
+  pub object : List ℕ
+  pub is_shown : Shows layout.Json kind expected b object ended
+  pub noted : List ℕ
+  pub has_notes : ShowsNoted kind expected b noted ended
+  pub is_text : text ≡ with_notes object noted
+
+-- what is told of octets
 abbrev pub Tells : Aim → Layout → Expected → List ℕ → List ℕ → Status → Type 0
 Tells Check how expected = Checks how expected.kind expected
 Tells Show how expected = Shows how expected.kind expected
 Tells Note layout.Lines expected = ShowsNoted expected.kind expected
-Tells Note layout.Json expected = Shows layout.Json expected.kind expected
+Tells Note layout.Json expected = ShowsNotedObject expected.kind expected
 
 abbrev pub IsTold : Task → List ℕ → List ℕ → Status → Type 0
 IsTold task = Tells task.aim task.layout task.expected
@@ -67,11 +75,18 @@ IsTold task = Tells task.aim task.layout task.expected
 abbrev pub json_object : List ℕ → List ℕ → List ℕ
 json_object about lines = object_head about ++ drop 1 (json_text lines)
 
--- an object of JSON about octets of a kind: what is told of them is one, and the line of a fault becomes one
-abbrev pub object_of : Kind → Status → List ℕ → List ℕ
-object_of kind status.Accepted told = told
-object_of kind status.Refused told = told
-object_of kind status.Fault told = json_object (kind_name kind) told
+-- an object with the notes on these lines, where notes are asked for
+abbrev pub noted_as : Aim → List ℕ → List ℕ → List ℕ
+noted_as Check object lines = object
+noted_as Show object lines = object
+noted_as Note object lines = with_notes object lines
+
+-- an object of JSON about octets of a kind: what is told of them is one, and the line of a fault, which has no note,
+-- becomes one
+abbrev pub object_of : Aim → Kind → Status → List ℕ → List ℕ
+object_of aim kind status.Accepted told = told
+object_of aim kind status.Refused told = told
+object_of aim kind status.Fault told = noted_as aim (json_object (kind_name kind) told) told
 
 -- how a line is answered by lines that are told of it: a check by one, and a value by several and an empty one
 abbrev pub lines_text : Aim → List ℕ → List ℕ
@@ -82,7 +97,7 @@ lines_text Note told = told ++ codes "\n"
 -- and how it is answered by one as an object of JSON too
 abbrev pub line_text : Aim → Layout → Kind → Status → List ℕ → List ℕ
 line_text aim layout.Lines kind ended told = lines_text aim told
-line_text aim layout.Json kind ended told = object_of kind ended told
+line_text aim layout.Json kind ended told = object_of aim kind ended told
 
 -- the same by a task
 abbrev pub answer_text : Task → Status → List ℕ → List ℕ
@@ -136,37 +151,61 @@ abbrev pub plain_asked : Asked → Asked
 plain_asked (Once request) = Once (plain_request request)
 plain_asked (Lines task) = Lines (plain_task task)
 
--- a text that is told, with each line cut at its first note where notes are put
-abbrev pub plain_told : Aim → Layout → List ℕ → List ℕ
-plain_told Check how text = text
-plain_told Show how text = text
-plain_told Note layout.Lines text = without_notes text
-plain_told Note layout.Json text = text
+-- objects in a row, each with the lines on which its notes are: without the notes, and with them
+abbrev pub objects_plain : List (List ℕ × List ℕ) → List ℕ
+objects_plain [] = []
+objects_plain (one ∷ more) = one.0 ++ objects_plain more
 
-abbrev pub plain_answer : Request → List ℕ → List ℕ
-plain_answer (Tell task given) text = plain_told task.aim task.layout text
-plain_answer _ text = text
+abbrev pub objects_noted : List (List ℕ × List ℕ) → List ℕ
+objects_noted [] = []
+objects_noted (one ∷ more) = with_notes one.0 one.1 ++ objects_noted more
 
-abbrev pub plain_text : Asked → List ℕ → List ℕ
-plain_text (Once request) text = plain_answer request text
-plain_text (Lines task) text = plain_told task.aim task.layout text
+-- a text of objects with notes, and the one without them; the line of a fault may be told, which is no object
+pub data HaveNotes (text plain : List ℕ) : Type 0 where
+  in_objects : (objects : List (List ℕ × List ℕ)) → text ≡ objects_noted objects → plain ≡ objects_plain objects
+      → HaveNotes text plain
+  no_object : text ≡ plain → HaveNotes text plain
 
--- notes are put
-abbrev pub HasNotes : Task → Type 0
-HasNotes task = (task.aim ≡ Note) × (task.layout ≡ layout.Lines)
+-- a text that is told, and the same without notes: with each line cut at its first note, or each object without them
+abbrev pub IsWithout : Aim → Layout → List ℕ → List ℕ → Type 0
+IsWithout Check how text plain = plain ≡ text
+IsWithout Show how text plain = plain ≡ text
+IsWithout Note layout.Lines text plain = plain ≡ without_notes text
+IsWithout Note layout.Json text plain = HaveNotes text plain
 
-abbrev pub AsksForNotes : Asked → Type 0
-AsksForNotes (Once (Tell task given)) = HasNotes task
-AsksForNotes (Once _) = ⊥
-AsksForNotes (Lines task) = HasNotes task
+abbrev pub IsPlainOf : Request → List ℕ → List ℕ → Type 0
+IsPlainOf (Tell task given) text plain = IsWithout task.aim task.layout text plain
+IsPlainOf _ text plain = plain ≡ text
 
-abbrev pub AskForNotes : List (List ℕ) → Type 0
-AskForNotes words = AreTaken words × MatchResult (asked_of (subcommand_of scard words)) AsksForNotes (λ _. ⊥)
+abbrev pub IsPlain : Asked → List ℕ → List ℕ → Type 0
+IsPlain (Once request) text plain = IsPlainOf request text plain
+IsPlain (Lines task) text plain = IsWithout task.aim task.layout text plain
 
--- two texts of the same words are one, or where notes are asked for once they are cut at them
-abbrev pub IsSameText : List (List ℕ) → List ℕ → List ℕ → Type 0
-IsSameText words text other =
-    (text ≡ other) ⊎ (AskForNotes words × (without_notes text ≡ without_notes other))
+-- two texts that are one without notes
+pub record AreAlike (asked : Asked) (text other : List ℕ) : Type 0 where
+  pub plain : List ℕ
+  pub first : IsPlain asked text plain
+  pub second : IsPlain asked other plain
+
+-- notes are put, in this layout
+abbrev pub HasNotes : Layout → Task → Type 0
+HasNotes how task = (task.aim ≡ Note) × (task.layout ≡ how)
+
+abbrev pub AsksForNotes : Layout → Asked → Type 0
+AsksForNotes how (Once (Tell task given)) = HasNotes how task
+AsksForNotes how (Once _) = ⊥
+AsksForNotes how (Lines task) = HasNotes how task
+
+abbrev pub AskForNotes : Layout → List (List ℕ) → Type 0
+AskForNotes how words =
+    AreTaken words × MatchResult (asked_of (subcommand_of scard words)) (AsksForNotes how) (λ _. ⊥)
+
+-- two texts of the same words: they are one, or where notes are asked for they are one without them
+pub data IsSameText (words : List (List ℕ)) (text other : List ℕ) : Type 0 where
+  same : text ≡ other → IsSameText words text other
+  in_lines : AskForNotes layout.Lines words → without_notes text ≡ without_notes other → IsSameText words text other
+  in_objects : AskForNotes layout.Json words → (plain : List ℕ) → HaveNotes text plain → HaveNotes other plain
+      → IsSameText words text other
 
 -- the request that words are read as, or that memory ran out
 abbrev pub IsReadFrom : List (List ℕ) → Result Request Fault → Type 0

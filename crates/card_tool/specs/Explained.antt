@@ -2,7 +2,8 @@
 --
 -- held and left are the octets that the reader held before and after, where they are known; before and after are the
 -- counts of its calls that failed.
-use Rattle.std.specs.Prelude.{◌≡◌, ◌⊎◌, ◌++◌, ℕ, List, [], Option, Some, None, Result, Ok, Err, IfOk, IsOkAnd, MatchResult, String, string_bytes, Bool, false}
+use Rattle.std.specs.Prelude.{◌≡◌, ◌⊎◌, ◌++◌, ℕ, List, [], length, Option, Some, None, Result, Ok, Err, IfOk, IsOkAnd, MatchResult, String, string_bytes, Bool, false}
+use Rattle.std.specs.declared.alloc.AllocError.{AllocError}
 use Rattle.std.specs.declared.alloc.Global.{Global}
 use Rattle.command_line.specs.Asked.{asks_to_explain}
 use Rattle.card_words.specs.Given.{octets_given}
@@ -21,6 +22,7 @@ use Rattle.card_words.specs.declared.request.FileTask.{FileTask}
 use Rattle.card_words.specs.declared.request.FileTask.TheVariants.{Replay}
 use Rattle.card_words.specs.declared.request.Request.{Request}
 use Rattle.card_words.specs.declared.request.Request.TheVariants.{BuildTidy, BuildFill, Tell, File, Record, Judge, Simulate, SimulateLines}
+use Rattle.card_kinds.specs.declared.answer.Answer.{Answer}
 use Rattle.card_kinds.specs.declared.status.Status.{Status}
 use Rattle.card_kinds.specs.declared.status.Status.TheVariants as status
 use Rattle.exchange_text.specs.Exchange.{ExchangeParts}
@@ -28,15 +30,18 @@ use Rattle.exchange_text.specs.Reading.{exchange_said}
 use Rattle.exchange_core.specs.Replay as replay
 use Rattle.exchange_core.specs.declared.replaying.Side.{Side}
 use Rattle.exchange_core.specs.declared.replaying.Side.TheVariants as side
-use Rattle.tlv_core.specs.Fill.{HasDuplicate}
 use Rattle.tlv_core.specs.declared.known.Known.{Known}
 use Rattle.explainer.specs.Notes.{large_note}
+use Rattle.explainer.specs.Known.{known_note, IsTwiceNote}
+use Rattle.explainer.specs.Texts as explained
 use Rattle.explainer.specs.Texts.{offsets_note}
+use Rattle.explainer.specs.Words.{IsWordsNote}
 use Rattle.card_tool.specs.Answers.{IsAnswerTo, IsRight, IsRightTo}
 use Rattle.card_tool.specs.Files.{largest_file, IsTaken, ReadsWhole}
 use Rattle.card_tool.specs.Judged.{IsForestNote, IsKindNote, IsListNote, SaysIf}
 use Rattle.card_tool.specs.declared.judged.WithNote.{WithNote}
 use Rattle.card_tool.specs.declared.replies.Taken.{Taken}
+use Rattle.card_tool.specs.declared.replies.Taken.TheVariants.{Given, Refused}
 use Rattle.card_tool.specs.FileNotes.{fault_note, line_text, IsWhy}
 use Rattle.card_tool.specs.TracePlaces.{trace_place}
 use Rattle.card_tool.specs.RecordTexts.{IsRecordNote}
@@ -50,7 +55,7 @@ use Rattle.card_tool.specs.SimulationTexts.{IsLinesNote, IsSimulationNote}
 pub data IsDifferenceNote (file : List ℕ) (e : ExchangeParts) (which : Side) (note : List ℕ) : Type 0 where
   agrees : replay.Replays e.atr e.lines which None → note ≡ [] → IsDifferenceNote file e which note
   differs : (line : ℕ) (gives why : List ℕ) → replay.Replays e.atr e.lines which (Some (line, gives))
-      → IsWhy e line gives why → note ≡ line_text file line (why ++ trace_place e.lines line)
+      → IsWhy e which line gives why → note ≡ line_text file line (why ++ trace_place e.lines line)
       → IsDifferenceNote file e which note
 
 -- the notes on one that is replayed at both ends: the terminal's, and then the card's
@@ -78,11 +83,17 @@ IsFileNote task text note = MatchResult (exchange_said text) (λ e. IsNoteSo tas
 
 -- ---- notes on what a request is about
 
--- The note on a list that is to be filled: that on its octets, or where nothing is to be said of them, one on a known
--- value that is none, or on two of one tag, which is open.
-abbrev pub IsFillNote : List ℕ → Result (List Known) Fault → List ℕ → Type 0
-IsFillNote list known note =
-    IsListNote list note ⊎ (IsListNote list [] × IfOk known HasDuplicate)
+-- the note on words for known values: on the first that says none, or on the first two of one tag
+abbrev pub IsKnownNote : List (List ℕ) → Result (List Known) Fault → List ℕ → Type 0
+IsKnownNote words (Ok known) note = IsTwiceNote words known note
+IsKnownNote words (Err fault) note = note ≡ known_note words
+
+-- The note on a list that is to be filled: that on its octets, or where nothing is to be said of them, that on the words
+-- for known values.
+pub data IsFillNote (words : List (List ℕ)) (list : List ℕ) (known : Result (List Known) Fault) (note : List ℕ) :
+    Type 0 where
+  on_list : IsListNote list note → (length note ≡ 0 → ⊥) → IsFillNote words list known note
+  on_known : IsListNote list [] → IsKnownNote words known note → IsFillNote words list known note
 
 -- what is said of a text in this form: of one in hexadecimal, that it is a dump too
 abbrev pub text_note : Form → List ℕ → List ℕ
@@ -94,63 +105,78 @@ abbrev pub form_note : OctetSource → Result (List ℕ) Fault → List ℕ
 form_note (Read form) (Ok text) = text_note form text
 form_note _ _ = []
 
--- a note on octets, and after it that on the text that they were taken from
+-- the note on a text that isn't in its form
+abbrev pub IsFormNote : OctetSource → Result (List ℕ) Fault → List ℕ → Type 0
+IsFormNote (Read form) (Ok text) note = note ≡ explained.text_note form text
+IsFormNote _ _ note = ⊥
+
+-- a note on octets, and after it that on the text that they were taken from; or that on a text which gives none
 abbrev pub IsNoteOn : OctetSource → Result (List ℕ) Fault → (List ℕ → List ℕ → Type 0) → List ℕ → Type 0
-IsNoteOn given file Note note = IsOkAnd (octets_given given file)
+IsNoteOn given file Note note = MatchResult (octets_given given file)
     (λ b. (first : List ℕ) × Note b first × (note ≡ first ++ form_note given file))
+    (λ fault. IsFormNote given file note)
 
--- The note on what a request was given, with what reading standard input gave.
-abbrev pub IsNoteTo : Request → Result (List ℕ) Fault → List ℕ → Type 0
-IsNoteTo (Tell task given) file note = IsNoteOn given file (IsKindNote task.expected.kind task.expected) note
-IsNoteTo (BuildTidy given) file note = IsNoteOn given file IsForestNote note
-IsNoteTo (BuildFill list known) file note = IsFillNote list known note
-IsNoteTo (File task) file note = IsOkAnd file (λ text. IsFileNote task text note)
-IsNoteTo (Record atr) file note = IsOkAnd file (λ text. IsRecordNote atr text note)
-IsNoteTo (Judge atr judging) file note = IsOkAnd file (λ text. IsJudgeNote atr judging text note)
-IsNoteTo (Simulate session) file note = IsSimulationNote session note
-IsNoteTo (SimulateLines session) file note = IsOkAnd file (λ text. IsLinesNote session text note)
-IsNoteTo _ file note = ⊥
+-- The note on what a request was given, of these words, with what reading standard input gave.
+abbrev pub IsNoteTo : List (List ℕ) → Request → Result (List ℕ) Fault → List ℕ → Type 0
+IsNoteTo words (Tell task given) file note = IsNoteOn given file (IsKindNote task.expected.kind task.expected) note
+IsNoteTo words (BuildTidy given) file note = IsNoteOn given file IsForestNote note
+IsNoteTo words (BuildFill list known) file note = IsFillNote words list known note
+IsNoteTo words (File task) file note = IsOkAnd file (λ text. IsFileNote task text note)
+IsNoteTo words (Record atr) file note = IsOkAnd file (λ text. IsRecordNote atr text note)
+IsNoteTo words (Judge atr judging) file note = IsOkAnd file (λ text. IsJudgeNote atr judging text note)
+IsNoteTo words (Simulate session) file note = IsSimulationNote session note
+IsNoteTo words (SimulateLines session) file note = IsOkAnd file (λ text. IsLinesNote session text note)
+IsNoteTo words _ file note = ⊥
 
--- The note on a fault: on octets that are too many, or on words, of which it is open.
-abbrev pub IsFaultNote : Fault → List ℕ → Type 0
-IsFaultNote fault.Words note = Unit {0}
-IsFaultNote fault.Hex note = Unit {0}
-IsFaultNote fault.TooLarge note = note ≡ large_note largest_file
-IsFaultNote _ note = ⊥
+-- a note that fits a text whatever was given: none, that on words which are no request, or that on octets which are too
+-- many
+pub data Fits (words : List (List ℕ)) (text note : List ℕ) : Type 0 where
+  silent : note ≡ [] → Fits words text note
+  on_words : (told : Fault) → IsRead words (Err told) → text ≡ fault_text told → IsWordsNote words note
+      → Fits words text note
+  too_large : text ≡ fault_text fault.TooLarge → note ≡ large_note largest_file → Fits words text note
 
--- a note that fits a text whatever was given: none, or that of the fault which the text tells
-pub data Fits (text note : List ℕ) : Type 0 where
-  silent : note ≡ [] → Fits text note
-  on_fault : (told : Fault) → text ≡ fault_text told → IsFaultNote told note → Fits text note
-
--- an answer to a request and the note on what it was given, which is empty where there is nothing to say
-pub record IsNotedFrom (request : Request) (held left : Option (List ℕ)) (before after : ℕ) (text note : List ℕ)
-    (ended : Status) : Type 0 where
+-- an answer to a request of these words and the note on what it was given, which is empty where there is nothing to say
+pub record IsNotedFrom (words : List (List ℕ)) (request : Request) (held left : Option (List ℕ)) (before after : ℕ)
+    (text note : List ℕ) (ended : Status) : Type 0 where
   pub file : Result (List ℕ) Fault
   pub is_file : NeedsFile request → ReadsWhole held left before after file
   pub is_answer : IsAnswerTo request file text ended
-  pub is_note : IsNoteTo request file note
+  pub is_note : IsNoteTo words request file note
 
 -- and of words: the note is that on what a request was given, or it fits the text alone
 abbrev pub IsNoted : List (List ℕ) → Option (List ℕ) → Option (List ℕ) → ℕ → ℕ → List ℕ → List ℕ → Status → Type 0
 IsNoted words held left before after text note ended =
-    (IsRight words held left before after text ended × Fits text note)
+    (IsRight words held left before after text ended × Fits words text note)
     ⊎ ((request : Request) × IsRead words (Ok (Once request))
-    × IsNotedFrom request held left before after text note ended)
+    × IsNotedFrom words request held left before after text note ended)
 
 -- ---- octets with a note on their text
 
 abbrev pub octets_of : Result Taken Fault → Result (List ℕ) Fault
-octets_of (Ok taken) = Ok taken.octets
+octets_of (Ok (Given octets note)) = Ok octets
+octets_of (Ok (Refused made)) = Err fault.Hex
 octets_of (Err fault) = Err fault
 
--- what taking octets gives, and what is said of their text where that is asked for and memory was there for it
+-- the line of a fault
+pub record IsFaultLine (told : Fault) (answer : Answer) : Type 0 where
+  pub status : answer.status ≡ status.Fault
+  pub text : answer.text ≡ fault_text told
+
+-- What is said of the text that octets were taken from, where that is asked for and memory was there for it; or the line
+-- of the fault of one that isn't in its form, with the note on it.
+abbrev pub SaysOf : Bool → OctetSource → Result (List ℕ) Fault → Taken → Type 0
+SaysOf explains given file (Given octets note) =
+    IfOk note (λ text. SaysIf explains (λ said. said ≡ form_note given file) (string_bytes text))
+SaysOf explains given file (Refused made) =
+    IsFaultLine fault.Hex made.answer × IfOk made.note (λ note. IsFormNote given file (string_bytes note))
+
+-- what taking octets gives, and what is said of their text
 pub record IsTakenWith (explains : Bool) (given : OctetSource) (held left : Option (List ℕ)) (before after : ℕ)
     (result : Result Taken Fault) :
     Type 0 where
   pub taken : IsTaken given held left before after (octets_of result)
-  pub is_note : IfOk result (λ made. IfOk made.note
-      (λ note. SaysIf explains (λ said. said ≡ form_note given taken.file) (string_bytes note)))
+  pub is_note : IfOk result (SaysOf explains given taken.file)
 
 -- ---- answers with notes
 
@@ -159,18 +185,20 @@ abbrev pub said_of : {E : Type 0} → Result (String Global) E → List ℕ
 said_of (Ok note) = string_bytes note
 said_of (Err _) = []
 
--- an answer to a request, with the note on what that was given or none, where memory was there for it
-pub record IsReplyTo (request : Request) (held left : Option (List ℕ)) (before after : ℕ) (made : WithNote) :
+-- an answer to a request of these words, with the note on what that was given or none, where memory was there for it
+pub record IsReplyTo (words : List (List ℕ)) (request : Request) (held left : Option (List ℕ)) (before after : ℕ)
+    (made : WithNote) :
     Type 0 where
   pub file : Result (List ℕ) Fault
   pub is_file : NeedsFile request → ReadsWhole held left before after file
   pub is_answer : IsAnswerTo request file made.answer.text made.answer.status
-  pub is_note : IfOk made.note (λ note. (string_bytes note ≡ []) ⊎ IsNoteTo request file (string_bytes note))
+  pub is_note : IfOk made.note (λ note. (string_bytes note ≡ []) ⊎ IsNoteTo words request file (string_bytes note))
 
 -- what answers a request, or the fault for which nothing does
-abbrev pub RepliesTo : Request → Option (List ℕ) → Option (List ℕ) → ℕ → ℕ → Result WithNote Fault → Type 0
-RepliesTo request held left before after (Ok made) = IsReplyTo request held left before after made
-RepliesTo request held left before after (Err fault) =
+abbrev pub RepliesTo : List (List ℕ) → Request → Option (List ℕ) → Option (List ℕ) → ℕ → ℕ → Result WithNote Fault
+    → Type 0
+RepliesTo words request held left before after (Ok made) = IsReplyTo words request held left before after made
+RepliesTo words request held left before after (Err fault) =
     IsRightTo request held left before after (fault_text fault) status.Fault
 
 -- a text and a note that are right of words: no note where none is asked for
@@ -194,11 +222,15 @@ AreNoted words held left before after (Ok made) =
 AreNoted words held left before after (Err fault) =
     IsRight words held left before after (fault_text fault) status.Fault
 
--- the line of a fault with a note on it, or the fault itself
-abbrev pub IsFaulted : Fault → Result WithNote Fault → Type 0
-IsFaulted told (Ok made) = (made.answer.status ≡ status.Fault) × (made.answer.text ≡ fault_text told)
-    × IfOk made.note (λ note. (string_bytes note ≡ []) ⊎ IsFaultNote told (string_bytes note))
-IsFaulted told (Err same) = same ≡ told
+-- the line of a fault with this note on it, or the fault itself
+abbrev pub IsNotedLine : Fault → Result (String Global) AllocError → Result WithNote Fault → Type 0
+IsNotedLine told note (Ok made) = IsFaultLine told made.answer × (made.note ≡ note)
+IsNotedLine told note (Err same) = same ≡ told
+
+-- the same with a note of which this holds
+abbrev pub IsFaulted : Fault → (List ℕ → Type 0) → Result WithNote Fault → Type 0
+IsFaulted told Note (Ok made) = IsFaultLine told made.answer × IfOk made.note (λ note. Note (string_bytes note))
+IsFaulted told Note (Err same) = same ≡ told
 
 -- the text that is right of words, with what is said after it
 pub record IsRightWith (words : List (List ℕ)) (held left : Option (List ℕ)) (before after : ℕ) (whole : List ℕ)

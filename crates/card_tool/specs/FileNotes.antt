@@ -5,8 +5,12 @@ use Rattle.std.specs.Str.{trim_end}
 use Rattle.exchange_text.specs.Exchange.{ExchangeParts}
 use Rattle.exchange_text.specs.declared.fault.ExchangeFault.{ExchangeFault}
 use Rattle.exchange_text.specs.declared.fault.ExchangeFault.TheVariants.{Header, End, Word, Hex, Falls, Memory}
+use Rattle.exchange_core.specs.Waiting.{IsWaiting}
+use Rattle.exchange_core.specs.declared.replaying.Side.{Side}
+use Rattle.exchange_core.specs.declared.waiting.Waiting.{Waiting}
 use Rattle.explainer.specs.Notes.{line_note, IsSessionNote}
 use Rattle.explainer.specs.Texts.{character}
+use Rattle.card_tool.specs.Waits.{waiting_said}
 
 -- the line that a fault of a file is in
 abbrev pub line_of : ExchangeFault → ℕ
@@ -142,7 +146,11 @@ reason gives is_past =
     else codes
     "the end's turn has to be met by a line before anything else happens to it, and this is another line"))
 
--- of the line of the answer to reset it is the note on that, whose last line has no end here
-pub data IsWhy (e : ExchangeParts) (line : ℕ) (gives what : List ℕ) : Type 0 where
-  no_session : (note : List ℕ) → line ≡ 2 → IsSessionNote e.atr note → what ≡ trim_end note → IsWhy e line gives what
-  otherwise : line ≢ 2 → what ≡ reason gives (nat_lt (length e.lines + 2) line) → IsWhy e line gives what
+-- Of the line of the answer to reset it is the note on that, whose last line has no end here; of another it says what
+-- the end waits for, too.
+pub data IsWhy (e : ExchangeParts) (which : Side) (line : ℕ) (gives what : List ℕ) : Type 0 where
+  no_session : (note : List ℕ) → line ≡ 2 → IsSessionNote e.atr note → what ≡ trim_end note
+      → IsWhy e which line gives what
+  otherwise : (waiting : Option Waiting) → line ≢ 2 → IsWaiting e.atr e.lines which line waiting
+      → what ≡ reason gives (nat_lt (length e.lines + 2) line) ++ waiting_said gives waiting
+      → IsWhy e which line gives what

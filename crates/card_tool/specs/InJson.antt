@@ -2,7 +2,7 @@
 --
 -- held and left are the octets that the reader held before and after, where they are known; before and after are the
 -- counts of its calls that failed.
-use Rattle.std.specs.Prelude.{◌≡◌, ℕ, ◌-◌, List, [], ◌∷◌, ◌++◌, Option, Result, Ok, Err, codes, drop, length, take, true, false}
+use Rattle.std.specs.Prelude.{◌≡◌, ℕ, List, [], ◌∷◌, ◌++◌, Option, Result, Ok, Err, codes, drop, true, false}
 use Rattle.command_line.specs.Asked.{asks_for_json}
 use Rattle.card_words.specs.Texts.{fault_text}
 use Rattle.card_words.specs.declared.fault.Fault.{Fault}
@@ -13,10 +13,10 @@ use Rattle.card_words.specs.declared.request.FileTask.{FileTask}
 use Rattle.card_words.specs.declared.request.FileTask.TheVariants.{Replay, Migrate, Apdus, Draw}
 use Rattle.card_words.specs.declared.request.Layout.{Layout}
 use Rattle.card_words.specs.declared.request.Layout.TheVariants as layout
-use Rattle.card_words.specs.declared.request.Kind.{Kind}
 use Rattle.card_words.specs.declared.request.Request.{Request}
 use Rattle.card_words.specs.declared.request.Request.TheVariants.{BuildChain, BuildTidy, BuildFill, Tell, File, Record, Judge, Simulate, SimulateLines, Help, Version}
-use Rattle.card_kinds.specs.Json.{object_head}
+use Rattle.card_words.specs.declared.request.Task.{Task}
+use Rattle.card_kinds.specs.Json.{object_head, with_member}
 use Rattle.card_kinds.specs.Verdicts.{kind_name}
 use Rattle.json_lines.specs.Answers.{json_text}
 use Rattle.json_lines.specs.Strings.{json_string, line_strings}
@@ -49,9 +49,9 @@ subject (Help help) = codes "help"
 subject Version = codes "version"
 
 -- what is told of octets in this layout is an object already, and lines become one
-abbrev pub told_object : Layout → Kind → Status → List ℕ → List ℕ
-told_object layout.Lines kind ended told = json_object (kind_name kind) told
-told_object layout.Json kind ended told = object_of kind ended told
+abbrev pub told_object : Layout → Task → Status → List ℕ → List ℕ
+told_object layout.Lines task ended told = json_object (kind_name task.expected.kind) told
+told_object layout.Json task ended told = object_of task.aim task.expected.kind ended told
 
 -- an object that has lines as they are
 abbrev pub object_with_lines : List ℕ → List ℕ → List ℕ
@@ -89,7 +89,7 @@ file_object (Draw drawing) ended told = content_object (codes "draw") ended told
 
 -- the object of what a request comes to
 abbrev pub request_object : Request → Status → List ℕ → List ℕ
-request_object (Tell task given) ended told = told_object task.layout task.expected.kind ended told
+request_object (Tell task given) ended told = told_object task.layout task ended told
 request_object (File task) ended told = file_object task ended told
 request_object (Judge atr judging) ended told = json_object (codes "judge") told
 request_object request ended told = content_object (subject request) ended told
@@ -101,29 +101,37 @@ object_by (Err fault) ended told = json_object (codes "words") told
 
 -- the same by how that is
 abbrev pub object_as : Object → Status → List ℕ → List ℕ
-object_as (Told how kind) ended told = told_object how kind ended told
+object_as (Told task) ended told = told_object task.layout task ended told
 object_as (Report about) ended told = json_object about.now told
 object_as (Judged about) ended told = judged_object about.now ended told
 object_as (Content about) ended told = content_object about.now ended told
 
--- an object with one more member at its end, which explains it
-abbrev pub with_member : List ℕ → List ℕ → List ℕ
-with_member object note = take (length object - 2) object
-    ++ (codes ",\"explanation\":" ++ (json_string note ++ codes "}\n"))
+-- the member that explains an object
+abbrev pub explanation_member : List ℕ → List ℕ
+explanation_member note = codes ",\"explanation\":" ++ json_string note
 
 -- an object, and what is said of it, which may be nothing
 abbrev pub with_explanation : List ℕ → List ℕ → List ℕ
 with_explanation object [] = object
-with_explanation object (x ∷ note) = with_member object (x ∷ note)
+with_explanation object (x ∷ note) = with_member object (explanation_member (x ∷ note))
 
--- The object of the text that is right, with its status and what is said of it; or memory for the object was refused.
+-- words have a text with what is said of it, by what was read
+pub record HaveAnswer (words : List (List ℕ)) (held left : Option (List ℕ)) (before after : ℕ) : Type 0 where
+  pub text : List ℕ
+  pub note : List ℕ
+  pub ended : Status
+  pub is_said : IsSaid words held left before after text note ended
+
+-- The object of the text that is right, with its status and what is said of it; or memory was refused, where the words
+-- have a text by what was read.
 pub data IsRightJson (words : List (List ℕ)) (held left : Option (List ℕ)) (before after : ℕ) (whole : List ℕ)
     (ended : Status) : Type 0 where
   made : (read : Result Request Fault) (text note : List ℕ) → IsReadFrom words read
       → IsSaid words held left before after text note ended
       → whole ≡ with_explanation (object_by read ended text) note
       → IsRightJson words held left before after whole ended
-  unmade : whole ≡ fault_text Memory → ended ≡ status.Fault → IsRightJson words held left before after whole ended
+  unmade : HaveAnswer words held left before after → whole ≡ fault_text Memory → ended ≡ status.Fault
+      → IsRightJson words held left before after whole ended
 
 -- what is right of words
 pub data IsRightAsked (words : List (List ℕ)) (held left : Option (List ℕ)) (before after : ℕ) (whole : List ℕ)

@@ -4,7 +4,7 @@ use Rattle.octet_core.specs.declared.stop.Stop.{Stop}
 use Rattle.card_words.specs.declared.request.Expected.{Expected}
 use Rattle.card_words.specs.declared.request.Kind.{Kind}
 use Rattle.card_words.specs.declared.request.Kind.TheVariants as kind
-use Rattle.card_kinds.specs.Codec.{Codec, IsVerdict}
+use Rattle.card_kinds.specs.Codec.{Codec, IsVerdict, Stops}
 use Rattle.card_kinds.specs.AtrTexts.{atr_codec}
 use Rattle.card_kinds.specs.BlockTexts.{block_codec}
 use Rattle.card_kinds.specs.ChainTexts.{chain_codec}
@@ -12,9 +12,15 @@ use Rattle.card_kinds.specs.CommandTexts.{command_codec}
 use Rattle.card_kinds.specs.ResponseTexts.{response_codec}
 use Rattle.card_kinds.specs.ForestTexts.{forest_codec}
 use Rattle.card_kinds.specs.ListTexts.{list_codec}
+use Rattle.card_kinds.specs.Texts.{refused_text}
+use Rattle.card_kinds.specs.Verdicts.{codec_of}
 use Rattle.card_kinds.specs.declared.status.Status.{Status}
+use Rattle.card_kinds.specs.declared.status.Status.TheVariants as status
+use Rattle.card_words.specs.declared.request.Layout.{Layout}
+use Rattle.card_words.specs.declared.request.Layout.TheVariants.{Json}
 use Rattle.explainer.specs.Notes.{least_of, verdict_text}
 use Rattle.explainer.specs.Sentences.{atr_sentence, block_sentence, chain_sentence, command_sentence, dol_sentence, response_sentence, tlv_sentence}
+use Rattle.card_tool.specs.declared.judged.Annotatable.{Annotatable}
 use Rattle.card_tool.specs.declared.judged.WithNote.{WithNote}
 
 -- the note on octets by the verdict of a codec on them, with the sentence of each reason, and how many octets must still
@@ -49,3 +55,17 @@ SaysIf false Note note = note ≡ []
 -- an answer and a note, where memory was there for it, of which these hold
 abbrev pub AreOf : (List ℕ → Status → Type 0) → (List ℕ → Type 0) → WithNote → Type 0
 AreOf Told Note made = Told made.answer.text made.answer.status × IfOk made.note (λ note. Note (string_bytes note))
+
+-- the line of a refusal of octets
+abbrev pub IsRefusalBy : {V R : Type 0} → Codec V R → List ℕ → List ℕ → Type 0
+IsRefusalBy {V} {R} c b line = (stop : Stop R) × Stops c b stop × (line ≡ refused_text c.name stop)
+
+-- the same by what they are taken for
+abbrev pub IsRefusalLine : Kind → Expected → List ℕ → List ℕ → Type 0
+IsRefusalLine kind expected b = IsRefusalBy (codec_of kind expected).codec b
+
+-- An answer and a note of which these hold; where it is a refusal as an object that is to have notes, there is its line.
+abbrev pub AreAnnotatable : Bool → Layout → (List ℕ → Status → Type 0) → (List ℕ → Type 0) → (List ℕ → Type 0)
+    → Annotatable → Type 0
+AreAnnotatable noted layout Told Note Line made = AreOf Told Note made.said
+    × (noted ≡ true → layout ≡ Json → made.said.answer.status ≡ status.Refused → Line made.line)

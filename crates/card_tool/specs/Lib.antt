@@ -2,6 +2,7 @@ pub mod Files
 pub mod Lines
 pub mod ExchangeTexts
 pub mod SimulationTexts
+pub mod Waits
 pub mod FileNotes
 pub mod TracePlaces
 pub mod RecordTexts

@@ -42,7 +42,7 @@ IsNoteOfLine task line (Err fault) = λ note. note ≡ fault_note line fault
 -- how a line is answered by what is told of it and a note, which may be empty
 abbrev pub said_in : Layout → Task → Status → List ℕ → List ℕ → List ℕ
 said_in layout.Lines task ended told note = lines_text task.aim (told ++ indented note)
-said_in layout.Json task ended told note = with_explanation (object_of task.expected.kind ended told) note
+said_in layout.Json task ended told note = with_explanation (object_of task.aim task.expected.kind ended told) note
 
 abbrev pub said_text : Task → Status → List ℕ → List ℕ → List ℕ
 said_text task ended told note = said_in task.layout task ended told note

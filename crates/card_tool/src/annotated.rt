@@ -1,16 +1,21 @@
 //! Values and refusals whose lines have notes.
 
-ghost use Rattle.std.specs.Prelude.{true, List, ℕ, IfOk};
+ghost use Rattle.std.specs.Prelude.{◌≡◌, true, Err, List, ℕ, IfOk};
 ghost use Rattle.card_kinds.specs.Verdicts.{ShowsWhere};
-ghost use Rattle.card_tool.specs.Answers.{ShowsNoted};
+ghost use Rattle.card_kinds.specs.Texts.{refused_text};
+ghost use Rattle.card_kinds.specs.declared.status.Status.TheVariants as ended;
+ghost use Rattle.card_tool.specs.Answers.{ShowsNoted, ShowsNotedObject};
+ghost use Rattle.card_tool.specs.Judged.{IsRefusalLine};
 ghost use Rattle.card_words.specs.declared.request.Expected.{Expected as AnyExpected};
 ghost use Rattle.card_words.specs.declared.request.Layout.TheVariants as layout;
+ghost use Rattle.octet_core.specs.declared.stop.Stop.{Stop as AnyStop};
 
+use crate::json::with_notes;
 use card_kinds::{Answer, Status, Verdict};
-use card_words::Kind;
+use card_words::{Kind, Layout};
 use explainer::least_wanting;
 use notes::{noted_line, wanting_note};
-use octet_core::Stop;
+use octet_core::{Named, Octets, Stop};
 use std::alloc::{AllocError, Global};
 
 /// What `show` says of octets as lines with notes on them: on the line of a refusal, these words.
@@ -29,6 +34,48 @@ pub(crate) fn annotated(alloc: Global, shown: Answer, words: &str) -> Result<Ans
             })
         }
         _ => Ok(shown),
+    }
+}
+
+/// What `show` says of octets as an object with the notes on their lines: of a refusal, these words on its line.
+pub(crate) fn annotated_object(
+    alloc: Global,
+    object: Answer,
+    line: &[u8],
+    words: &str,
+) -> Result<Answer, AllocError>
+    ensures { (expected : AnyExpected) (octets : List ℕ)
+        → ShowsWhere true layout.Json expected.kind expected octets object.text object.status
+        → (object.status ≡ ended.Refused → IsRefusalLine expected.kind expected octets line.now)
+        → IfOk result (λ answer.
+        ShowsNotedObject expected.kind expected octets answer.text answer.status) }
+{
+    match object.status {
+        Status::Refused => {
+            let noted = noted_line(alloc, line, words)?;
+            let text = with_notes(alloc, object.text, noted.get())?;
+            Ok(Answer {
+                text,
+                status: Status::Refused,
+            })
+        }
+        _ => Ok(object),
+    }
+}
+
+/// The line of a refusal that is an object, where it is `noted`.
+pub(crate) fn refusal_line<R: Named + Copy>(
+    alloc: Global,
+    noted: bool,
+    how: Layout,
+    verdict: Verdict<R>,
+) -> Result<Octets, AllocError>
+    ensures { IfOk result (λ line. noted ≡ true → how ≡ layout.Json → (stop : AnyStop R)
+        → verdict ≡ Err stop → line ≡ refused_text R.text stop) }
+{
+    match (how, verdict) {
+        (Layout::Json, Err(stop)) if noted => Ok(Answer::refused(alloc, stop)?.text),
+        _ => Ok(Octets::of(Vec::new(alloc))),
     }
 }
 

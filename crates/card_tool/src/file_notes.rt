@@ -10,7 +10,8 @@ ghost use Rattle.explainer.specs.Notes.{line_note, IsSessionNote};
 
 use crate::expected::{form_at, header_at, octets_at};
 use crate::trace_place::push_place;
-use exchange_core::{Exchange, ExchangeFault, ReplayFault, Side};
+use crate::waits::push_waiting;
+use exchange_core::{Exchange, ExchangeFault, ReplayFault, Side, waiting_at};
 use explainer::{character, session_note};
 use std::alloc::{AllocError, Global};
 
@@ -80,17 +81,17 @@ pub(crate) fn difference_note(
     alloc: Global,
     text: &[u8],
     exchange: &Exchange,
-    _side: Side,
+    side: Side,
     outcome: &Result<(), ReplayFault>,
 ) -> Result<String, AllocError>
-    requires { IsOutcome exchange.now _side outcome.now }
+    requires { IsOutcome exchange.now side outcome.now }
     ensures { IfOk result (λ note.
-        IsDifferenceNote text.now exchange.now _side (string_bytes note)) }
+        IsDifferenceNote text.now exchange.now side (string_bytes note)) }
 {
     match outcome {
         Ok(()) => Ok(String::new(alloc)),
         Err(ReplayFault::Differs { line, gives }) => {
-            let mut what = why(alloc, exchange, *line, gives.get())?;
+            let mut what = why(alloc, exchange, side, *line, gives.get())?;
             push_place(alloc, &mut what, exchange.lines().get(), *line)?;
             shown_at(alloc, text, *line, what.as_str())
         }
@@ -98,15 +99,23 @@ pub(crate) fn difference_note(
     }
 }
 
-/// Why an end differs from a line, by what it gives there.
-fn why(alloc: Global, exchange: &Exchange, line: usize, gives: &str) -> Result<String, AllocError>
-    ensures { IfOk result (λ what. IsWhy exchange.now line gives.now (string_bytes what)) }
+/// Why an end differs from a line, by what it gives there, and what it waits for.
+fn why(
+    alloc: Global,
+    exchange: &Exchange,
+    side: Side,
+    line: usize,
+    gives: &str,
+) -> Result<String, AllocError>
+    ensures { IfOk result (λ what. IsWhy exchange.now side line gives.now (string_bytes what)) }
 {
     if line == ATR_LINE {
         return atr_why(alloc, exchange);
     }
     let lines = exchange.lines().get().len() + ATR_LINE;
-    String::from_str(alloc, reason(gives, line > lines))
+    let mut what = String::from_str(alloc, reason(gives, line > lines))?;
+    push_waiting(&mut what, gives, waiting_at(alloc, exchange, side, line)?)?;
+    Ok(what)
 }
 
 /// Why no end begins from an answer to reset.

@@ -1,17 +1,19 @@
 //! Answers as objects of JSON.
 
 ghost use Rattle.std.specs.Prelude.{◌≡◌, ◌++◌, ℕ, List, codes, drop, IfOk, string_bytes};
+ghost use Rattle.card_kinds.specs.Verdicts.{kind_name};
 ghost use Rattle.card_kinds.specs.declared.status.Status.{Status as AnyStatus};
 ghost use Rattle.card_tool.specs.Answers as answers;
-ghost use Rattle.card_tool.specs.Answers.{json_object};
+ghost use Rattle.card_kinds.specs.Json.{with_member, with_notes};
+ghost use Rattle.card_tool.specs.Answers.{json_object, noted_as};
 ghost use Rattle.json_lines.specs.Answers.{json_text};
 ghost use Rattle.json_lines.specs.Strings.{line_strings};
 ghost use Rattle.card_tool.specs.Explained.{said_of};
-ghost use Rattle.card_tool.specs.InJson.{content_object, file_object, file_subject, judged_object, object_as, object_by, object_with_lines, request_object, subject, verdict_member, with_explanation, with_member};
+ghost use Rattle.card_tool.specs.InJson.{content_object, file_object, file_subject, judged_object, object_as, object_by, object_with_lines, request_object, subject, verdict_member, with_explanation, explanation_member, told_object};
 
 use crate::judged::WithNote;
-use card_kinds::{Answer, Status, kind_name, object_head};
-use card_words::{Ends, Fault, FileTask, Kind, Layout, Request};
+use card_kinds::{Answer, Status, kind_name, notes_member, object_head};
+use card_words::{Aim, Ends, Fault, FileTask, Layout, Request, Task};
 use json_lines::{json_line, json_string, line_strings};
 use octet_core::Octets;
 use std::alloc::{AllocError, Global};
@@ -22,8 +24,8 @@ const CLOSING: &[u8; 2] = b"}\n";
 /// How an answer becomes an object of JSON.
 #[derive(Clone, Copy)]
 pub(crate) enum Object {
-    /// What is told of octets of a kind: it is an object in this layout, unless it is the line of a fault.
-    Told(Layout, Kind),
+    /// What this task tells of octets: it is an object where its layout is JSON, unless it is the line of a fault.
+    Told(Task),
     /// Lines about this that report, of which each form has its members.
     Report(&'static str),
     /// The same of lines that don't have their verdict.
@@ -49,7 +51,7 @@ fn request_object(request: &Request) -> Object
         → object_as result ended told ≡ request_object request.now ended told }
 {
     match request {
-        Request::Tell(task, _) => Object::Told(task.layout, task.expected.kind),
+        Request::Tell(task, _) => Object::Told(*task),
         Request::File(task) => file_object(*task),
         Request::Judge { .. } => Object::Report(subject(request)),
         Request::BuildChain { .. }
@@ -131,12 +133,37 @@ pub(crate) fn explained(
 
 /// An object with an explanation as its last member.
 fn with_explanation(alloc: Global, object: Octets, note: String) -> Result<Octets, AllocError>
-    ensures { IfOk result (λ text. text ≡ with_member object (string_bytes note)) }
+    ensures { IfOk result (λ text.
+        text ≡ with_member object (explanation_member (string_bytes note))) }
+{
+    let member = explanation_member(alloc, note)?;
+    with_member(object, member.as_bytes())
+}
+
+/// The member that has an explanation, after a comma.
+fn explanation_member(alloc: Global, note: String) -> Result<String, AllocError>
+    ensures { IfOk result (λ member.
+        string_bytes member ≡ explanation_member (string_bytes note)) }
+{
+    let text = json_string(alloc, note)?;
+    format!(in alloc; ",\"explanation\":{text}")
+}
+
+/// An object with the notes on these lines as its last member.
+pub(crate) fn with_notes(alloc: Global, object: Octets, noted: &[u8]) -> Result<Octets, AllocError>
+    ensures { IfOk result (λ text. text ≡ with_notes object noted.now) }
+{
+    let member = notes_member(alloc, noted)?;
+    with_member(object, member.as_bytes())
+}
+
+/// An object with one more member at its end, which begins with a comma.
+fn with_member(object: Octets, member: &[u8]) -> Result<Octets, AllocError>
+    ensures { IfOk result (λ text. text ≡ with_member object member.now) }
 {
     let mut text = object.into_inner();
     text.truncate(text.len().saturating_sub(CLOSING.len()));
-    text.extend_from_slice(b",\"explanation\":")?;
-    text.extend_from_slice(json_string(alloc, note)?.as_bytes())?;
+    text.extend_from_slice(member)?;
     text.extend_from_slice(CLOSING)?;
     Ok(Octets::of(text))
 }
@@ -146,13 +173,23 @@ fn object_of(alloc: Global, object: Object, answer: Answer) -> Result<Octets, Al
     ensures { IfOk result (λ text. text ≡ object_as object answer.status answer.text) }
 {
     match object {
-        Object::Told(Layout::Json, kind) => object_told(alloc, kind, answer.status, answer.text),
-        Object::Told(Layout::Lines, kind) => {
-            object_of_lines(alloc, kind_name(kind), answer.text.get())
-        }
+        Object::Told(task) => told_object(alloc, task, answer),
         Object::Report(about) => object_of_lines(alloc, about, answer.text.get()),
         Object::Judged(about) => judged_object(alloc, about, answer),
         Object::Content(about) => content_object(alloc, about, answer),
+    }
+}
+
+/// What a task tells of octets as an object.
+fn told_object(alloc: Global, task: Task, answer: Answer) -> Result<Octets, AllocError>
+    ensures { IfOk result (λ text.
+        text ≡ told_object task.layout task answer.status answer.text) }
+{
+    match task.layout {
+        Layout::Json => object_told(alloc, task, answer.status, answer.text),
+        Layout::Lines => {
+            object_of_lines(alloc, kind_name(task.expected.kind), answer.text.get())
+        }
     }
 }
 
@@ -186,18 +223,31 @@ fn lines_after(alloc: Global, head: String, lines: &[u8]) -> Result<Octets, Allo
     Ok(Octets::of(text))
 }
 
-/// What is told of octets of a kind as an object: it is one, and the line of a fault becomes one.
+/// What a task tells of octets in JSON as an object: it is one, and the line of a fault becomes one.
 pub(crate) fn object_told(
     alloc: Global,
-    kind: Kind,
+    task: Task,
     status: Status,
     told: Octets,
 ) -> Result<Octets, AllocError>
-    ensures { IfOk result (λ text. text ≡ answers.object_of kind status told) }
+    ensures { IfOk result (λ text.
+        text ≡ answers.object_of task.aim task.expected.kind status told) }
 {
     match status {
         Status::Accepted | Status::Refused => Ok(told),
-        Status::Fault => object_of_lines(alloc, kind_name(kind), told.get()),
+        Status::Fault => fault_object(alloc, task, told.get()),
+    }
+}
+
+/// The line of a fault as an object: without a note where notes are asked for.
+fn fault_object(alloc: Global, task: Task, line: &[u8]) -> Result<Octets, AllocError>
+    ensures { IfOk result (λ text.
+        text ≡ noted_as task.aim (json_object (kind_name task.expected.kind) line.now) line.now) }
+{
+    let object = object_of_lines(alloc, kind_name(task.expected.kind), line)?;
+    match task.aim {
+        Aim::Check | Aim::Show => Ok(object),
+        Aim::Note => with_notes(alloc, object, line),
     }
 }
 

@@ -4,14 +4,15 @@ ghost use Rattle.std.specs.Prelude.{◌≡◌, ◌≤◌, ◌++◌, [], IfOk, Is
 ghost use Rattle.card_kinds.specs.Codec.{IsVerdict};
 ghost use Rattle.card_kinds.specs.ListTexts.{list_codec};
 ghost use Rattle.card_kinds.specs.Verdicts.{Checks, ChecksBy, IsFilled, ShowsBy, ShowsWhere, Tidies};
-ghost use Rattle.card_tool.specs.Answers.{IsTold, ShowsNoted, Tells};
+ghost use Rattle.card_tool.specs.Answers.{IsTold, ShowsNoted, ShowsNotedObject, Tells};
 ghost use Rattle.card_words.specs.declared.request.Aim.TheVariants as aim;
 ghost use Rattle.card_tool.specs.Explained.{said_of, IsFillNote};
+ghost use Rattle.command_line.specs.Form.{texts};
 ghost use Rattle.explainer.specs.Notes.{least_of, verdict_text};
-ghost use Rattle.card_tool.specs.Judged.{AreOf, IsForestNote, IsKindNote, IsNoteBy, SaysIf};
+ghost use Rattle.card_tool.specs.Judged.{AreAnnotatable, AreOf, IsForestNote, IsKindNote, IsNoteBy, IsRefusalBy, IsRefusalLine, SaysIf};
 ghost use Rattle.card_words.specs.declared.request.Layout.TheVariants as layout;
 
-use crate::annotated::{annotated, words_on};
+use crate::annotated::{annotated, annotated_object, refusal_line, words_on};
 use crate::telling::Telling;
 use apdu_core::{Command, Response};
 use atr_core::Atr;
@@ -23,6 +24,7 @@ use card_kinds::{
 use card_words::{Aim, Fault, Kind, Knowns, Layout, Task};
 use chain_core::Receiver;
 use explainer::{Explained, duplicate_note, known_note, least_wanting, verdict_note};
+use octet_core::Octets;
 use std::alloc::{AllocError, Global};
 use tlv_core::{Dol, DolReason, Forest};
 
@@ -33,10 +35,12 @@ pub(crate) struct WithNote {
     pub(crate) note: Result<String, AllocError>,
 }
 
-/// An answer with what is to be said after its text, and the words of a note on the line of a refusal.
+/// An answer with what is to be said after its text, and of a refusal the words of a note on its line.
 #[derive(Drop)]
 struct Annotatable {
     said: WithNote,
+    /// The line, where the answer is an object that is to have notes.
+    line: Octets,
     words: String,
 }
 
@@ -96,7 +100,7 @@ pub(crate) fn answer_about(
     }
 }
 
-/// The value itself with notes on its lines, or as an object, and a note.
+/// The value itself with the notes on its lines, as lines or as an object, and a note.
 fn noted_in(alloc: Global, telling: Telling, octets: &[u8]) -> Result<WithNote, AllocError>
     requires least { 1 ≤ telling.task.expected.ifs }
     requires most { telling.task.expected.ifs ≤ 254 }
@@ -106,7 +110,7 @@ fn noted_in(alloc: Global, telling: Telling, octets: &[u8]) -> Result<WithNote, 
 {
     match telling.task.layout {
         Layout::Lines => noted_value(alloc, telling, octets),
-        Layout::Json => Ok(shown(alloc, telling, false, octets)?.said),
+        Layout::Json => noted_object(alloc, telling, octets),
     }
 }
 
@@ -119,9 +123,24 @@ fn noted_value(alloc: Global, telling: Telling, octets: &[u8]) -> Result<WithNot
         octets.now)
         (SaysIf telling.explains (IsKindNote telling.task.expected.kind telling.task.expected octets.now))) }
 {
-    let Annotatable { said, words } = shown(alloc, telling, true, octets)?;
+    let Annotatable { said, words, .. } = shown(alloc, telling, true, octets)?;
     let WithNote { answer, note } = said;
     let answer = annotated(alloc, answer, words.as_str())?;
+    Ok(WithNote { answer, note })
+}
+
+/// The value itself as an object with the notes on its lines, and a note.
+fn noted_object(alloc: Global, telling: Telling, octets: &[u8]) -> Result<WithNote, AllocError>
+    requires least { 1 ≤ telling.task.expected.ifs }
+    requires most { telling.task.expected.ifs ≤ 254 }
+    requires object { telling.task.layout ≡ layout.Json }
+    ensures { IfOk result (AreOf (ShowsNotedObject telling.task.expected.kind telling.task.expected
+        octets.now)
+        (SaysIf telling.explains (IsKindNote telling.task.expected.kind telling.task.expected octets.now))) }
+{
+    let Annotatable { said, line, words } = shown(alloc, telling, true, octets)?;
+    let WithNote { answer, note } = said;
+    let answer = annotated_object(alloc, answer, line.get(), words.as_str())?;
     Ok(WithNote { answer, note })
 }
 
@@ -153,11 +172,11 @@ fn shown(
 ) -> Result<Annotatable, AllocError>
     requires least { 1 ≤ telling.task.expected.ifs }
     requires most { telling.task.expected.ifs ≤ 254 }
-    ensures { IfOk result (λ made. AreOf
+    ensures { IfOk result (AreAnnotatable noted telling.task.layout
         (ShowsWhere noted telling.task.layout telling.task.expected.kind telling.task.expected
         octets.now)
         (SaysIf telling.explains (IsKindNote telling.task.expected.kind telling.task.expected octets.now))
-        made.said) }
+        (IsRefusalLine telling.task.expected.kind telling.task.expected octets.now)) }
 {
     match telling.task.expected.kind {
         Kind::Atr => shown_by::<Atr>(alloc, telling, noted, octets),
@@ -199,8 +218,8 @@ where
     Ok(WithNote { answer, note })
 }
 
-/// The value of a codec, with notes on its lines where it is `noted`, and a note where it is asked for. The octets are
-/// decoded once.
+/// The value of a codec, with the notes on its lines where it is `noted`, and a note where it is asked for. The octets
+/// are decoded once.
 fn shown_by<C: Codec>(
     alloc: Global,
     telling: Telling,
@@ -211,10 +230,11 @@ where
     C::Reason: Explained,
     requires least { 1 ≤ telling.task.expected.ifs }
     requires most { telling.task.expected.ifs ≤ 254 }
-    ensures { IfOk result (λ made. AreOf (ShowsBy noted telling.task.layout
-        telling.task.expected.kind (C.codec telling.task.expected) octets.now)
+    ensures { IfOk result (AreAnnotatable noted telling.task.layout (ShowsBy noted
+        telling.task.layout telling.task.expected.kind (C.codec telling.task.expected) octets.now)
         (SaysIf telling.explains (IsNoteBy (C.codec telling.task.expected) C.Reason.says
-        (least_of telling.task.expected.kind octets.now) octets.now)) made.said) }
+        (least_of telling.task.expected.kind octets.now) octets.now))
+        (IsRefusalBy (C.codec telling.task.expected) octets.now)) }
 {
     let Task {
         layout,
@@ -227,9 +247,11 @@ where
         note: words,
     } = show_with_verdict::<C>(alloc, layout, noted, octets, expected)?;
     let note = asked_note(alloc, telling.explains, expected.kind, octets, verdict);
+    let line = refusal_line(alloc, noted, layout, verdict)?;
     let words = words_on(alloc, noted, expected.kind, octets, verdict, words)?;
     Ok(Annotatable {
         said: WithNote { answer, note },
+        line,
         words,
     })
 }
@@ -273,7 +295,8 @@ pub(crate) fn filled(
     list: &[u8],
     known: &Result<Knowns, Fault>,
 ) -> Result<WithNote, AllocError>
-    ensures { IfOk result (AreOf (IsFilled list.now known.now) (IsFillNote list.now known.now)) }
+    ensures { IfOk result (AreOf (IsFilled list.now known.now)
+        (IsFillNote (texts words.now) list.now known.now)) }
 {
     let Judged {
         answer,
@@ -294,7 +317,8 @@ fn fill_note(
     verdict: Verdict<DolReason>,
 ) -> Result<String, AllocError>
     requires { IsVerdict list_codec list.now verdict }
-    ensures { IfOk result (λ note. IsFillNote list.now known.now (string_bytes note)) }
+    ensures { IfOk result (λ note.
+        IsFillNote (texts words.now) list.now known.now (string_bytes note)) }
 {
     let note = verdict_note(alloc, list, verdict, None)?;
     if !note.is_empty() {

@@ -6,7 +6,7 @@ ghost use Rattle.clap.specs.Words.{fault_of};
 ghost use Rattle.clap.specs.declared.error.kind.ErrorKind.TheVariants.{DisplayHelp};
 ghost use Rattle.octet_core.specs.Failures.{most_failures};
 ghost use Rattle.octet_core.specs.Octets.{AreOctets};
-ghost use Rattle.card_tool.specs.Answers.{plain_asked, plain_text, IsAnswer, IsAnswerAsked, IsSameText};
+ghost use Rattle.card_tool.specs.Answers.{plain_asked, AreAlike, IsAnswer, IsAnswerAsked, IsPlain, IsSameText};
 ghost use Rattle.card_tool.specs.Conversations.{Event};
 ghost use Rattle.card_tool.specs.Files.{file_of, ReadsWhole};
 ghost use Rattle.card_tool.specs.LineAnswers.{AnswersLines, heard_by, IsHearing, IsUpToDate, told_by};
@@ -18,8 +18,8 @@ ghost use Rattle.card_words.specs.declared.request.Asked.{Asked as AnyAsked};
 ghost use Rattle.card_tool.specs.declared.telling.Telling.{Telling as AnyTelling};
 ghost use Rattle.card_kinds.specs.declared.status.Status.{Status as AnyStatus};
 
-/// What is asked for has one text and one status, and no other, with what reading standard input gave; a text with
-/// notes is one once it is cut at them, since their words are open. What is taken as it was read has to be octets.
+/// What is asked for has one text and one status, and no other, with what reading standard input gave; texts with notes
+/// are one without them, since the words on a refusal are open. What is taken as it was read has to be octets.
 pub fn one_answer()
     ensures some { (asked : AnyAsked) (file : Result (List ℕ) AnyFault) → AreSized asked
         → HaveOctets asked → (IsOnce NeedsOctets asked → IfOk file AreOctets) → (text : List ℕ)
@@ -28,20 +28,21 @@ pub fn one_answer()
         (ended different : AnyStatus) → AreSized asked → HaveOctets asked
         → (IsOnce NeedsOctets asked → IfOk file AreOctets)
         → IsAnswerAsked asked file text ended → IsAnswerAsked asked file other different
-        → (plain_text asked text ≡ plain_text asked other) × (ended ≡ different) }
+        → AreAlike asked text other × (ended ≡ different) }
 {}
 
-/// A text with notes is the one without them, where each line of its text is cut at its first note: with the same
-/// status, of lines too.
+/// A text with notes is the one without them, with the same status: where each line is cut at its first note, or each
+/// object has no member for them.
 pub fn notes_cut()
     ensures { (asked : AnyAsked) (file : Result (List ℕ) AnyFault) (text : List ℕ)
         (ended : AnyStatus) → IsAnswerAsked asked file text ended
-        → IsAnswerAsked (plain_asked asked) file (plain_text asked text) ended }
+        → (plain : List ℕ) × IsAnswerAsked (plain_asked asked) file plain ended
+        × IsPlain asked text plain }
 {}
 
 /// Every list of words has a text and a status, and no other, but where `clap` answers a call for help:
 /// the text of help is open, and where its word `help` is followed by others, help and `fault: words` both
-/// are right. Where notes are asked for, the text is one once it is cut at them.
+/// are right. Where notes are asked for, the text is one without them.
 pub fn one_text()
     ensures some { (words : List (List ℕ)) (file : Result (List ℕ) AnyFault)
         → (AskForOctets words → IfOk file AreOctets) → (text : List ℕ) × (ended : AnyStatus)

@@ -26,6 +26,7 @@ mod replies;
 mod simulation;
 pub mod telling;
 mod trace_place;
+mod waits;
 
 pub use card_kinds::Status;
 pub use card_words::{Aim, Expected, Fault, Layout, Task};

@@ -25,7 +25,7 @@ const PIECE: usize = 8_192;
 
 /// What is kept between two calls of the reader.
 #[derive(Drop)]
-struct LineSession {
+struct AnsweredLines {
     telling: Telling,
     /// The octets of the line under way, but no more than one past the limit.
     line: Vec<u8>,
@@ -53,7 +53,7 @@ pub fn answer_lines<C: Conversation>(
     requires most { telling.task.expected.ifs ≤ 254 }
     ensures { HasAnswered telling (C.said conversation.old) (C.said conversation.new) result }
 {
-    let mut told = LineSession {
+    let mut told = AnsweredLines {
         telling,
         line: Vec::new(alloc),
         text: Vec::new(alloc),
@@ -125,7 +125,7 @@ fn tell<C: Conversation>(text: &[u8], status: Status, conversation: &mut C) -> S
     }
 }
 
-impl LineSession {
+impl AnsweredLines {
     /// Takes the octets of a piece, and answers the lines that end in it.
     fn feed(&mut self, alloc: Global, piece: &[u8]) -> Result<(), AllocError>
         requires least { 1 ≤ self.old.telling.task.expected.ifs }
@@ -256,7 +256,7 @@ fn said_text(alloc: Global, task: Task, answer: Answer, note: String) -> Result<
     match task.layout {
         Layout::Lines => lines_text(task, with_indented(alloc, answer.text, note.as_str())?),
         Layout::Json => {
-            let object = object_told(alloc, task.expected.kind, answer.status, answer.text)?;
+            let object = object_told(alloc, task, answer.status, answer.text)?;
             explained(alloc, object, Ok(note))
         }
     }

@@ -1,9 +1,9 @@
 //! The program: from its words to the text that it writes.
 
-ghost use Rattle.std.specs.Prelude.{◌≡◌, ◌++◌, IfOk};
+ghost use Rattle.std.specs.Prelude.{◌≡◌, ◌++◌, IfErr, IfOk};
 ghost use Rattle.card_tool.specs.Answers.{IsReadFrom, IsWritten, Writes};
 ghost use Rattle.card_tool.specs.Explained.{said_of, Gives, IsSaid};
-ghost use Rattle.card_tool.specs.InJson.{IsRightAsked, IsRightJson};
+ghost use Rattle.card_tool.specs.InJson.{HaveAnswer, IsRightAsked, IsRightJson};
 ghost use Rattle.card_tool.specs.Files.{IsBegun};
 ghost use Rattle.card_tool.specs.LineAnswers.{AskForNoLines, WritesLines};
 ghost use Rattle.card_tool.specs.LineNotes.{telling_of};
@@ -185,6 +185,8 @@ fn whole_reply<R: Source>(
     ensures told { IfOk result (λ made. IsSaid (texts words.now) (R.remaining reader.old)
         (R.remaining reader.new) (R.failures reader.old) (R.failures reader.new) made.answer.text
         (said_of made.note) made.answer.status) }
+    ensures failed { IfErr result (λ _. HaveAnswer (texts words.now) (R.remaining reader.old)
+        (R.remaining reader.new) (R.failures reader.old) (R.failures reader.new)) }
     ensures unread { (AskForFile (texts words.now) → ⊥) → reader.new ≡ reader.old }
     ensures few { IsBegun (R.remaining reader.old) (R.remaining reader.new) 4194305 }
 {

@@ -3,13 +3,17 @@
 //! The text and the status are the same whether an explanation is asked for or not. The crate explainer makes it; where
 //! memory for it is refused it is left out.
 
-ghost use Rattle.std.specs.Prelude.{◌≡◌, ◌≤◌, [], IfOk, string_bytes};
+ghost use Rattle.std.specs.Prelude.{◌≡◌, ◌≢◌, ◌≤◌, ℕ, List, Ok, true, false, IfOk, string_bytes};
 ghost use Rattle.card_tool.specs.Answers.{IsReadFrom};
-ghost use Rattle.card_tool.specs.Explained.{octets_of, text_note, AreNoted, IsFaulted, IsFaultNote, IsTakenWith, Replies, RepliesTo};
-ghost use Rattle.card_tool.specs.Files.{IsBegun};
+ghost use Rattle.card_tool.specs.Explained.{octets_of, text_note, IsFaulted, IsNotedLine, IsTakenWith, Replies, RepliesTo, SaysOf};
+ghost use Rattle.card_tool.specs.Files.{largest_file, IsBegun};
+ghost use Rattle.explainer.specs.Notes.{large_note};
+ghost use Rattle.explainer.specs.Words.{IsWordsNote};
+ghost use Rattle.card_words.specs.declared.given.OctetSource.{OctetSource as AnySource};
+ghost use Rattle.card_words.specs.declared.request.Asked.TheVariants.{Once};
 ghost use Rattle.card_words.specs.Given.{octets_in, IsFromReader};
 ghost use Rattle.card_words.specs.Value.{UnlessMemory};
-ghost use Rattle.card_words.specs.Words.{AskForFile, IsSized, NeedsFile};
+ghost use Rattle.card_words.specs.Words.{AskForFile, IsRead, IsSized, NeedsFile};
 ghost use Rattle.card_words.specs.declared.request.Request.{Request as AnyRequest};
 ghost use Rattle.command_line.specs.Form.{texts};
 
@@ -38,35 +42,34 @@ pub(crate) fn reply<R: Source>(
     ensures unread { (AskForFile (texts words.now) → ⊥) → reader.new ≡ reader.old }
     ensures few { IsBegun (R.remaining reader.old) (R.remaining reader.new) 4194305 }
 {
-    let mut on_text = None;
-    let explains = asks_to_explain(words);
-    match replied(alloc, words, read, explains, reader, &mut on_text) {
-        Ok(made) if explains => Ok(made),
-        Ok(made) => Ok(WithNote::alone(alloc, made.answer)),
-        Err(fault) if explains => faulted(alloc, words, fault, on_text),
+    match read {
+        Ok(request) => request_reply(alloc, words, request, reader),
+        Err(fault) if asks_to_explain(words) => words_faulted(alloc, words, fault),
         Err(fault) => Err(fault),
     }
 }
 
-/// The same, whether an explanation is asked for or not; what is to be said of a text that isn't in its form is kept in
-/// `on_text`.
-fn replied<R: Source>(
+/// The answer to a request, with an explanation where the words ask for one.
+fn request_reply<R: Source>(
     alloc: Global,
     words: &[String],
-    read: Result<Request, Fault>,
-    explains: bool,
+    request: Request,
     reader: &mut R,
-    on_text: &mut Option<String>,
 ) -> Result<WithNote, Fault>
-    requires read { IsReadFrom (texts words.now) read }
-    requires sized { IfOk read IsSized }
-    ensures told { AreNoted (texts words.now) (R.remaining reader.old) (R.remaining reader.new)
+    requires read { IsRead (texts words.now) (Ok (Once request)) }
+    requires sized { IsSized request }
+    ensures told { Replies (texts words.now) (R.remaining reader.old) (R.remaining reader.new)
         (R.failures reader.old) (R.failures reader.new) result }
     ensures unread { (AskForFile (texts words.now) → ⊥) → reader.new ≡ reader.old }
     ensures few { IsBegun (R.remaining reader.old) (R.remaining reader.new) 4194305 }
 {
-    let request = read?;
-    replied_to(alloc, words, request, explains, reader, on_text)
+    let explains = asks_to_explain(words);
+    match replied_to(alloc, words, request, explains, reader) {
+        Ok(made) if explains => Ok(made),
+        Ok(made) => Ok(WithNote::alone(alloc, made.answer)),
+        Err(fault) if explains => read_faulted(alloc, fault),
+        Err(fault) => Err(fault),
+    }
 }
 
 /// The answer to a request, with what is to be said of what it was given.
@@ -76,17 +79,17 @@ fn replied_to<R: Source>(
     request: Request,
     explains: bool,
     reader: &mut R,
-    on_text: &mut Option<String>,
 ) -> Result<WithNote, Fault>
     requires sized { IsSized request }
-    ensures told { RepliesTo request (R.remaining reader.old) (R.remaining reader.new)
+    ensures told { RepliesTo (texts words.now) request (R.remaining reader.old)
+        (R.remaining reader.new)
         (R.failures reader.old) (R.failures reader.new) result }
     ensures unread { (NeedsFile request → ⊥) → reader.new ≡ reader.old }
     ensures few { IsBegun (R.remaining reader.old) (R.remaining reader.new) 4194305 }
 {
     match request {
         Request::Tell(task, given) => {
-            octets_told(alloc, Telling { task, explains }, given, reader, on_text)
+            octets_told(alloc, Telling { task, explains }, given, reader)
         }
         Request::BuildChain {
             ifs,
@@ -96,7 +99,7 @@ fn replied_to<R: Source>(
             let text = blocks(alloc, message.get(), ifs, number)?;
             Ok(WithNote::alone(alloc, Answer::told(text)))
         }
-        Request::BuildTidy(given) => octets_tidied(alloc, explains, given, reader, on_text),
+        Request::BuildTidy(given) => octets_tidied(alloc, explains, given, reader),
         Request::BuildFill { list, known } => Ok(filled(alloc, words, list.get(), &known)?),
         Request::File(task) => {
             let file = read_whole(alloc, reader)?;
@@ -129,18 +132,22 @@ fn octets_told<R: Source>(
     telling: Telling,
     given: OctetSource,
     reader: &mut R,
-    on_text: &mut Option<String>,
 ) -> Result<WithNote, Fault>
     requires least { 1 ≤ telling.task.expected.ifs }
     requires most { telling.task.expected.ifs ≤ 254 }
-    ensures told { RepliesTo (AnyRequest.Tell telling.task given) (R.remaining reader.old)
+    ensures told { (words : List (List ℕ))
+        → RepliesTo words (AnyRequest.Tell telling.task given) (R.remaining reader.old)
         (R.remaining reader.new) (R.failures reader.old) (R.failures reader.new) result }
     ensures unread { (IsFromReader given → ⊥) → reader.new ≡ reader.old }
     ensures few { IsBegun (R.remaining reader.old) (R.remaining reader.new) 4194305 }
 {
-    let taken = octets_taken(alloc, given, telling.explains, reader, on_text)?;
-    let made = answer_about(alloc, telling, taken.octets.get())?;
-    Ok(made.and(taken.note))
+    match octets_taken(alloc, given, telling.explains, reader)? {
+        Taken::Given(octets, note) => {
+            let made = answer_about(alloc, telling, octets.get())?;
+            Ok(made.and(note))
+        }
+        Taken::Refused(made) => Ok(made),
+    }
 }
 
 /// The forest that is given, in the shortest octets that say the same.
@@ -149,33 +156,38 @@ fn octets_tidied<R: Source>(
     explains: bool,
     given: OctetSource,
     reader: &mut R,
-    on_text: &mut Option<String>,
 ) -> Result<WithNote, Fault>
-    ensures told { RepliesTo (AnyRequest.BuildTidy given) (R.remaining reader.old)
+    ensures told { (words : List (List ℕ))
+        → RepliesTo words (AnyRequest.BuildTidy given) (R.remaining reader.old)
         (R.remaining reader.new) (R.failures reader.old) (R.failures reader.new) result }
     ensures unread { (IsFromReader given → ⊥) → reader.new ≡ reader.old }
     ensures few { IsBegun (R.remaining reader.old) (R.remaining reader.new) 4194305 }
 {
-    let taken = octets_taken(alloc, given, explains, reader, on_text)?;
-    let made = tidied(alloc, explains, taken.octets.get())?;
-    Ok(made.and(taken.note))
+    match octets_taken(alloc, given, explains, reader)? {
+        Taken::Given(octets, note) => {
+            let made = tidied(alloc, explains, octets.get())?;
+            Ok(made.and(note))
+        }
+        Taken::Refused(made) => Ok(made),
+    }
 }
 
-/// Octets, and what is to be said of the text that they were taken from, where memory for that isn't refused.
+/// What octets are taken from.
 #[derive(Drop)]
-struct Taken {
-    octets: Octets,
-    note: Result<String, AllocError>,
+enum Taken {
+    /// Octets, and what is to be said of the text that they were taken from, where memory for that isn't refused.
+    Given(Octets, Result<String, AllocError>),
+    /// A text that isn't in its form: the line of that fault, and what is to be said of the text.
+    Refused(WithNote),
 }
 
-/// The octets that are given, with what is to be said of their text where it `explains`. Of a text that isn't in its
-/// form that is put into `on_text`, where memory for it isn't refused. The reader is read only where the octets are its.
+/// The octets that are given, with what is to be said of their text where it `explains`. The reader is read only where the
+/// octets are its.
 fn octets_taken<R: Source>(
     alloc: Global,
     given: OctetSource,
     explains: bool,
     reader: &mut R,
-    on_text: &mut Option<String>,
 ) -> Result<Taken, Fault>
     ensures taken { IsTakenWith explains given (R.remaining reader.old) (R.remaining reader.new)
         (R.failures reader.old) (R.failures reader.new) result }
@@ -183,14 +195,11 @@ fn octets_taken<R: Source>(
     ensures few { IsBegun (R.remaining reader.old) (R.remaining reader.new) 4194305 }
 {
     match given {
-        OctetSource::Word(octets) => Ok(Taken {
-            octets,
-            note: Ok(String::new(alloc)),
-        }),
+        OctetSource::Word(octets) => Ok(Taken::Given(octets, Ok(String::new(alloc)))),
         OctetSource::Read(form) => {
             let text = read_whole(alloc, reader)?;
             if explains {
-                read_explained(alloc, form, text, on_text)
+                read_explained(alloc, form, text)
             } else {
                 read_as(alloc, form, text)
             }
@@ -201,33 +210,23 @@ fn octets_taken<R: Source>(
 /// The octets that a text in a form gives.
 fn read_as(alloc: Global, form: Form, text: Octets) -> Result<Taken, Fault>
     ensures octets { UnlessMemory (octets_of result) (octets_in form text) }
-    ensures note { IfOk result (λ taken. IfOk taken.note (λ note. string_bytes note ≡ [])) }
+    ensures note { IfOk result (SaysOf false (AnySource.Read form) (Ok text)) }
 {
     let octets = form.octets(alloc, text)?;
-    let note = Ok(String::new(alloc));
-    Ok(Taken { octets, note })
+    Ok(Taken::Given(octets, Ok(String::new(alloc))))
 }
 
-/// The same, with what is to be said of the text; in `on_text` where it isn't in the form.
-fn read_explained(
-    alloc: Global,
-    form: Form,
-    text: Octets,
-    on_text: &mut Option<String>,
-) -> Result<Taken, Fault>
+/// The same, with what is to be said of the text.
+fn read_explained(alloc: Global, form: Form, text: Octets) -> Result<Taken, Fault>
     ensures octets { UnlessMemory (octets_of result) (octets_in form text) }
-    ensures note { IfOk result (λ taken.
-        IfOk taken.note (λ note. string_bytes note ≡ text_note form text)) }
+    ensures note { IfOk result (SaysOf true (AnySource.Read form) (Ok text)) }
 {
     let kept = text.get().to_vec(alloc)?;
     match form.octets(alloc, text) {
-        Ok(octets) => Ok(Taken {
-            octets,
-            note: on_form(alloc, form, Octets::of(kept)),
-        }),
+        Ok(octets) => Ok(Taken::Given(octets, on_form(alloc, form, Octets::of(kept)))),
         Err(Fault::Hex) => {
-            *on_text = text_note(alloc, form, kept.as_slice()).ok();
-            Err(Fault::Hex)
+            let note = text_note(alloc, form, kept.as_slice());
+            Ok(Taken::Refused(fault_noted(alloc, Fault::Hex, note)?))
         }
         Err(fault) => Err(fault),
     }
@@ -243,32 +242,26 @@ fn on_form(alloc: Global, form: Form, text: Octets) -> Result<String, AllocError
     }
 }
 
-/// The line of a fault, with what is wrong with the words or with a text, or too large.
-fn faulted(
-    alloc: Global,
-    words: &[String],
-    fault: Fault,
-    on_text: Option<String>,
-) -> Result<WithNote, Fault>
-    ensures { IsFaulted fault result }
+/// The line of a fault of words, with what is wrong with them.
+fn words_faulted(alloc: Global, words: &[String], fault: Fault) -> Result<WithNote, Fault>
+    ensures told { IsFaulted fault (IsWordsNote (texts words.now)) result }
+    ensures other { IfOk result (λ _. fault ≢ Fault.Memory) }
 {
     match fault {
-        Fault::Words => fault_noted(alloc, fault, words_note(alloc, words)),
-        Fault::Hex => fault_noted(alloc, fault, on_digits(alloc, words, on_text)),
-        Fault::TooLarge => fault_noted(alloc, fault, large_note(alloc, LARGEST_FILE)),
-        Fault::Memory | Fault::Read => Err(fault),
+        Fault::Words => fault_noted(alloc, Fault::Words, words_note(alloc, words)),
+        Fault::Hex => fault_noted(alloc, Fault::Hex, words_note(alloc, words)),
+        Fault::Memory | Fault::Read | Fault::TooLarge => Err(fault),
     }
 }
 
-/// What is wrong with a text, or with a word.
-fn on_digits(
-    alloc: Global,
-    words: &[String],
-    on_text: Option<String>,
-) -> Result<String, AllocError> {
-    match on_text {
-        Some(note) => Ok(note),
-        None => words_note(alloc, words),
+/// The line of a fault of reading, with how many octets there may be where there are more.
+fn read_faulted(alloc: Global, fault: Fault) -> Result<WithNote, Fault>
+    ensures told { IsFaulted fault (λ note. note ≡ large_note largest_file) result }
+    ensures large { IfOk result (λ _. fault ≡ Fault.TooLarge) }
+{
+    match fault {
+        Fault::TooLarge => fault_noted(alloc, Fault::TooLarge, large_note(alloc, LARGEST_FILE)),
+        Fault::Words | Fault::Hex | Fault::Memory | Fault::Read => Err(fault),
     }
 }
 
@@ -278,8 +271,7 @@ fn fault_noted(
     fault: Fault,
     note: Result<String, AllocError>,
 ) -> Result<WithNote, Fault>
-    requires { IfOk note (λ text. IsFaultNote fault (string_bytes text)) }
-    ensures { IsFaulted fault result }
+    ensures { IsNotedLine fault note result }
 {
     match Answer::faulted(alloc, fault) {
         Ok(answer) => Ok(WithNote { answer, note }),

@@ -48,7 +48,8 @@ fn known_by(alloc: Global, format_word: &str, tag_word: &str, value: &str) -> Re
     Ok(Known { tag, format, value })
 }
 
-fn format(word: &str) -> Result<Format, Fault>
+/// The format that a word names: numeric, compressed numeric or another.
+pub fn format(word: &str) -> Result<Format, Fault>
     ensures { result ≡ format_of word.now }
 {
     match word {
@@ -60,7 +61,7 @@ fn format(word: &str) -> Result<Format, Fault>
 }
 
 /// The tag that a word gives in hexadecimal.
-fn tag(alloc: Global, word: &str) -> Result<Tag, Fault>
+pub fn tag(alloc: Global, word: &str) -> Result<Tag, Fault>
     ensures { UnlessMemory result (tag_of_word word.now) }
 {
     let octets = octets_of(alloc, word)?;

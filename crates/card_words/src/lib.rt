@@ -8,13 +8,13 @@
 
 pub mod fault;
 pub mod given;
-mod known;
+pub mod known;
 pub mod loose;
-mod numerals;
+pub mod numerals;
 pub mod pair_lines;
 pub mod request;
 pub mod session;
-mod value;
+pub mod value;
 pub mod words;
 
 pub use fault::Fault;

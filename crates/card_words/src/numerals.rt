@@ -8,7 +8,7 @@ use crate::fault::Fault;
 use block_core::Number;
 
 /// An information size, 254 where there is no word. `clap` has refused a word out of range.
-pub(crate) fn size(word: Option<&str>) -> Result<u8, Fault>
+pub fn size(word: Option<&str>) -> Result<u8, Fault>
     ensures { result ≡ size_of (option_map (λ word. word.now) word.entry) }
 {
     let Some(word) = word else {
@@ -43,7 +43,8 @@ pub(crate) fn number_or_zero(word: Option<&str>) -> Result<Number, Fault>
     }
 }
 
-pub(crate) fn number(word: &str) -> Result<Number, Fault>
+/// The number of a block.
+pub fn number(word: &str) -> Result<Number, Fault>
     ensures { result ≡ number_of_word word.now }
 {
     let value: u8 = word.parse().unwrap_or(2);

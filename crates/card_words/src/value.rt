@@ -39,7 +39,7 @@ fn digit_octets(alloc: Global, digits: &[u8]) -> Result<Octets, Fault>
 }
 
 /// What is before the first colon, and what is after it.
-pub(crate) fn parts(word: &str) -> Result<(&str, &str), Fault>
+pub fn parts(word: &str) -> Result<(&str, &str), Fault>
     ensures { result_map_both (λ p. (p.0.now, p.1.now)) (λ fault. fault) result ≡ parted word.now }
 {
     word.split_once(':').ok_or(Fault::Words)

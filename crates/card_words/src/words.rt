@@ -326,7 +326,8 @@ fn word<'a>(matches: &ArgMatches<'a>, id: &str) -> Option<&'a str>
     matches.get_str(id)
 }
 
-fn kind(word: &str) -> Result<Kind, Fault>
+/// The kind that a word names.
+pub fn kind(word: &str) -> Result<Kind, Fault>
     ensures { result ≡ kind_of word.now }
 {
     match word {
@@ -362,7 +363,7 @@ fn judged_ends(word: Option<&str>) -> Result<Ends, Fault>
 }
 
 /// The frequency of a clock, where there is a word for one.
-fn clock(word: Option<&str>) -> Result<Option<u64>, Fault>
+pub fn clock(word: Option<&str>) -> Result<Option<u64>, Fault>
     ensures { result ≡ clock_of (option_map (λ word. word.now) word.entry) }
 {
     match word {
@@ -382,7 +383,7 @@ fn hertz(number: Option<u64>) -> Result<Option<u64>, Fault>
 }
 
 /// One end of a line.
-fn one_end(word: &str) -> Result<Ends, Fault>
+pub fn one_end(word: &str) -> Result<Ends, Fault>
     ensures { result ≡ one_end word.now }
 {
     match word {

@@ -1,2 +1,5 @@
 pub mod Listing
 pub mod Pairing
+pub mod Placing
+pub mod Wording
+pub mod Twice

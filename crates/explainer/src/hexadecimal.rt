@@ -97,7 +97,7 @@ fn may_stand(ahead: u8, last: u8, octet: u8) -> bool
 }
 
 /// Whether two octets are a `0x`.
-fn is_mark(last: u8, octet: u8) -> bool
+pub(crate) fn is_mark(last: u8, octet: u8) -> bool
     ensures { result ≡ is_mark last octet }
 {
     last == b'0' && matches!(octet, b'x' | b'X')

@@ -1,61 +1,99 @@
 //! The notes on known values.
 
-ghost use Rattle.std.specs.Prelude.{◌≡◌, ◌⊎◌, [], IfOk, string_bytes};
+ghost use Rattle.std.specs.Prelude.{◌≡◌, ◌∷◌, bytes_eq, is_ok, IfOk, MatchOption, string_bytes};
+ghost use Rattle.std.specs.List.{position_or_len};
+ghost use Rattle.command_line.specs.Form.{texts};
 ghost use Rattle.tlv_core.specs.Fill.{HasDuplicate};
+ghost use Rattle.card_words.specs.Known.{tag_of_word};
+ghost use Rattle.explainer.specs.Known.{known_note, tag_note, tagged_note, twice_note, value_note, IsFirstTwice, IsTwiceNote};
 
+use crate::pairs::sum;
 use crate::place::{place_of, word_at};
 use crate::word::{digits_note, hex_note, said};
-use octet_core::{HexFault, hex_upper, octets_of};
+use card_words::Fault;
+use card_words::known::{format, tag};
+use card_words::value::parts;
+use octet_core::hex_upper;
 use std::alloc::{AllocError, Global};
 use std::collections::BTreeMap;
-use tlv_core::{Dol, FillFault, Known, Tag, fill};
+use tlv_core::{Known, Tag};
 
 /// How many words of `build fill` come before the known values: what is built, and the list.
 const BEFORE: usize = 2;
 
+/// What is said of a word that isn't parted by two colons.
+const WHOLE: &str = "a known value must have the form F:TAG:VALUE";
+
 /// What is wrong with the first word of `build fill` that says no known value; empty where each says one.
-pub fn known_note(alloc: Global, words: &[String]) -> Result<String, AllocError> {
+pub fn known_note(alloc: Global, words: &[String]) -> Result<String, AllocError>
+    ensures { IfOk result (λ note. string_bytes note ≡ known_note (texts words.now)) }
+{
     for nth in BEFORE..words.len() {
         let place = place_of(words, nth);
         if place >= words.len() {
-            break;
+            return Ok(String::new(alloc));
         }
         let note = value_note(alloc, place, word_at(words, place))?;
         if !note.is_empty() {
             return Ok(note);
         }
     }
-    String::from_str(alloc, "")
+    Ok(String::new(alloc))
 }
 
 /// What is wrong with a word F:TAG:VALUE.
-fn value_note(alloc: Global, number: usize, word: &str) -> Result<String, AllocError> {
-    let whole = "a known value must have the form F:TAG:VALUE";
-    let Some((format, rest)) = word.split_once(':') else {
-        return said(alloc, number, whole);
+fn value_note(alloc: Global, number: usize, word: &str) -> Result<String, AllocError>
+    ensures { IfOk result (λ note. string_bytes note ≡ value_note number word.now) }
+{
+    let Ok((format_word, rest)) = parts(word) else {
+        return said(alloc, number, WHOLE);
     };
-    let Some((tag, value)) = rest.split_once(':') else {
-        return said(alloc, number, whole);
+    let Ok((tag_word, value)) = parts(rest) else {
+        return said(alloc, number, WHOLE);
     };
-    if !matches!(format, "n" | "c" | "o") {
+    tagged_note(alloc, number, format_word, tag_word, value)
+}
+
+/// What is wrong with its parts.
+fn tagged_note(
+    alloc: Global,
+    number: usize,
+    format_word: &str,
+    tag_word: &str,
+    value: &str,
+) -> Result<String, AllocError>
+    ensures { IfOk result (λ note.
+        string_bytes note ≡ tagged_note number format_word.now tag_word.now value.now) }
+{
+    if format(format_word).is_err() {
         let what = "F must be n (numeric), c (compressed numeric) or o (any other)";
         return said(alloc, number, what);
     }
-    let note = digits_note(alloc, number, tag)?;
+    let note = tag_note(alloc, number, tag_word)?;
     if !note.is_empty() {
         return Ok(note);
-    }
-    if !is_tag(alloc, tag)? {
-        return said(alloc, number, "TAG must be one whole tag");
     }
     hex_note(alloc, number, value)
 }
 
+/// What is wrong with a tag.
+fn tag_note(alloc: Global, number: usize, word: &str) -> Result<String, AllocError>
+    ensures { IfOk result (λ note. string_bytes note ≡ tag_note number word.now) }
+{
+    let note = digits_note(alloc, number, word)?;
+    if !note.is_empty() || is_tag(alloc, word)? {
+        return Ok(note);
+    }
+    said(alloc, number, "TAG must be one whole tag")
+}
+
 /// Whether a word in hexadecimal is one whole tag.
-fn is_tag(alloc: Global, word: &str) -> Result<bool, AllocError> {
-    match octets_of(alloc, word) {
-        Ok(octets) => Ok(Tag::new(octets.as_slice()).is_some()),
-        Err(HexFault::Memory) => Err(AllocError),
+fn is_tag(alloc: Global, word: &str) -> Result<bool, AllocError>
+    ensures { IfOk result (λ is_so. is_so ≡ is_ok (tag_of_word word.now)) }
+{
+    match tag(alloc, word) {
+        Ok(_) => Ok(true),
+        Err(Fault::Memory) => Err(AllocError),
         Err(_) => Ok(false),
     }
 }
@@ -66,38 +104,54 @@ pub fn duplicate_note(
     words: &[String],
     known: &[Known],
 ) -> Result<String, AllocError>
-    ensures { IfOk result (λ note. (string_bytes note ≡ []) ⊎ HasDuplicate known.now) }
+    ensures { IfOk result (λ note.
+        IsTwiceNote (texts words.now) known.now (string_bytes note)) }
 {
-    match fill(alloc, &Dol::of(Vec::new(alloc)), known) {
-        Ok(_) => Ok(String::new(alloc)),
-        Err(FillFault::Duplicate) => twice_note(alloc, words, known),
-        Err(FillFault::Memory) => Err(AllocError),
+    match first_twice(alloc, known)? {
+        Some((first, second)) => twice_note(alloc, words, first, second, &known[second].tag),
+        None => Ok(String::new(alloc)),
     }
 }
 
-/// The first value of a tag that an earlier one has.
-fn twice_note(alloc: Global, words: &[String], known: &[Known]) -> Result<String, AllocError> {
+/// The first value of a tag that an earlier one has, after that one, by their places.
+fn first_twice(alloc: Global, known: &[Known]) -> Result<Option<(usize, usize)>, AllocError>
+    ensures { IfOk result (λ found. MatchOption found (HasDuplicate known.now → ⊥)
+        (λ places. IsFirstTwice known.now places.0 places.1)) }
+{
     let mut placed = BTreeMap::new(alloc);
     for (nth, one) in known.iter().enumerate() {
-        match placed.insert(one.tag.octets(), nth) {
+        match placed.insert(one.tag.octets(), one) {
             Ok(None) => {}
-            Ok(Some(first)) => return both_said(alloc, words, first, nth, &one.tag),
+            Ok(Some(_)) => return Ok(Some((place_with(known, &one.tag), nth))),
             Err(_) => return Err(AllocError),
         }
     }
-    Ok(String::new(alloc))
+    Ok(None)
+}
+
+/// The place of the first value with this tag; past all where none has it.
+fn place_with(known: &[Known], tag: &Tag) -> usize
+    ensures { result ≡ position_or_len (λ one. bytes_eq tag.now one.tag) known.now }
+{
+    known
+        .iter()
+        .position(|one| *tag == one.tag)
+        .unwrap_or(known.len())
 }
 
 /// Two known values by the numbers of their words, and their tag.
-fn both_said(
+fn twice_note(
     alloc: Global,
     words: &[String],
     first: usize,
     second: usize,
     tag: &Tag,
-) -> Result<String, AllocError> {
-    let first = place_of(words, first.saturating_add(BEFORE));
-    let second = place_of(words, second.saturating_add(BEFORE));
+) -> Result<String, AllocError>
+    ensures { IfOk result (λ note.
+        string_bytes note ≡ twice_note (texts words.now) first second tag.now) }
+{
+    let first = place_of(words, sum(first, BEFORE)?);
+    let second = place_of(words, sum(second, BEFORE)?);
     let tag = hex_upper(alloc, tag.octets())?;
     format!(in alloc; "words {first} and {second}: both give a value for tag {tag}\n")
 }

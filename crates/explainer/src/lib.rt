@@ -6,10 +6,13 @@
 //! `text_note` of a text that isn't in its form, `digits_note` of a line that isn't in hexadecimal, `offsets_note` of
 //! one in hexadecimal that is a dump too, `pairs_note` of one whose lines are no pairs, `session_note` of an answer to
 //! reset from which no session begins, `unsent_note` of blocks that were never sent, and `large_note` of what is too
-//! large. The texts are defined in `specs/Notes.antt`, and the sentence of each reason in `specs/Sentences.antt`.
+//! large. The texts are defined in `specs/Notes.antt`, those of words in `specs/Words.antt` and `specs/Known.antt`, and
+//! the sentence of each reason in `specs/Sentences.antt`.
 #![tactic(auto)]
 
 pub mod blocks;
+mod built;
+mod given;
 pub mod hexadecimal;
 mod known;
 pub mod line;
@@ -21,6 +24,7 @@ mod pairs;
 mod place;
 pub mod reason;
 pub mod session;
+mod session_words;
 pub mod text;
 mod word;
 mod words;

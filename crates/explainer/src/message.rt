@@ -1,5 +1,9 @@
 //! What the parser of command lines says, as it is shown.
 
+ghost use Rattle.std.specs.Prelude.{◌≡◌, IfOk, string_bytes};
+ghost use Rattle.command_line.specs.Form.{texts};
+ghost use Rattle.explainer.specs.Words.{shown_character, shown_word, shown_words};
+
 use std::alloc::{AllocError, Global};
 
 /// What comes before the word that the parser would take as a value after `--`. No value here begins with a dash, so
@@ -7,7 +11,9 @@ use std::alloc::{AllocError, Global};
 const ADVICE: &str = "\n  tip: to pass '";
 
 /// The words as they are shown: a question mark for each control character.
-pub(crate) fn shown_words(alloc: Global, words: &[String]) -> Result<Vec<String>, AllocError> {
+pub(crate) fn shown_words(alloc: Global, words: &[String]) -> Result<Vec<String>, AllocError>
+    ensures { IfOk result (λ shown. texts shown.items ≡ shown_words (texts words.now)) }
+{
     let mut shown = Vec::new(alloc);
     for word in words {
         shown.push(shown_word(alloc, word.as_str())?)?;
@@ -15,7 +21,9 @@ pub(crate) fn shown_words(alloc: Global, words: &[String]) -> Result<Vec<String>
     Ok(shown)
 }
 
-fn shown_word(alloc: Global, word: &str) -> Result<String, AllocError> {
+fn shown_word(alloc: Global, word: &str) -> Result<String, AllocError>
+    ensures { IfOk result (λ shown. string_bytes shown ≡ shown_word word.now) }
+{
     let mut shown = String::new(alloc);
     for character in word.chars() {
         shown.push(shown_character(character))?;
@@ -24,7 +32,9 @@ fn shown_word(alloc: Global, word: &str) -> Result<String, AllocError> {
 }
 
 /// A character as it is shown: a question mark for one that controls a terminal.
-pub(crate) fn shown_character(character: char) -> char {
+pub(crate) fn shown_character(character: char) -> char
+    ensures { result ≡ shown_character character }
+{
     match character {
         '\u{0}'..='\u{1F}' | '\u{7F}'..='\u{9F}' => '?',
         other => other,

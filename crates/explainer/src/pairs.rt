@@ -98,7 +98,7 @@ fn placed(start: usize, stop: Stop) -> Result<Stop, AllocError>
 }
 
 /// A sum; no text in memory has so many characters that there is none.
-fn sum(count: usize, more: usize) -> Result<usize, AllocError>
+pub(crate) fn sum(count: usize, more: usize) -> Result<usize, AllocError>
     ensures { IfOk result (λ sum. sum ≡ count + more) }
 {
     count.checked_add(more).ok_or(AllocError)

@@ -1,11 +1,11 @@
 //! The notes on a text of standard input: that it isn't in its form, or that it is a dump too.
 
 ghost use Rattle.std.specs.Prelude.{◌≡◌, IfOk, string_bytes};
+ghost use Rattle.explainer.specs.Sentences.{form_text};
 ghost use Rattle.explainer.specs.Texts.{begins_with_mark, first_note, has_other_octets, is_form, mark_said, offsets_note, other_text, takes, text_note};
 
 use crate::hexadecimal::hexadecimal_note;
 use crate::misread::{dump_note, source_note};
-use crate::words::what_form;
 use card_words::{Fault, Form};
 use dumps::{begins_with_offset, is_octal_words};
 use octet_core::Octets;
@@ -45,6 +45,22 @@ fn first_note(alloc: Global, form: Form, text: &[u8]) -> Result<String, AllocErr
         Form::Dump => dump_note(alloc, text),
         Form::Source => source_note(alloc, text),
         Form::Octets => Ok(String::new(alloc)),
+    }
+}
+
+/// What a text in a form is, as a line; nothing of octets, which any text is.
+fn what_form(form: Form) -> &'static str
+    ensures { result.now ≡ form_text form }
+{
+    match form {
+        Form::Hex => {
+            "standard input: an octet is two hexadecimal digits, and blanks separate groups of octets\n"
+        }
+        Form::Octets => "",
+        Form::Dump =>
+            "standard input: a dump is the whole output of xxd, hexdump -C, od -tx1, tshark -x, gdb, HxD or Format-Hex\n",
+        Form::Source =>
+            "standard input: write each octet as 0x3B, \\x3b, 3Bh or 3B, and all in the same way\n",
     }
 }
 

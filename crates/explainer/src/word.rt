@@ -1,8 +1,10 @@
 //! The note on one word.
 
-ghost use Rattle.std.specs.Prelude.{◌≡◌, IfOk, string_bytes};
+ghost use Rattle.std.specs.Prelude.{◌≡◌, IfOk, chars, string_bytes};
 ghost use Rattle.explainer.specs.Notes.{digit_note, odd_note, word_note};
+ghost use Rattle.explainer.specs.Words.{digits_note, hex_note, stray_from};
 
+use crate::line::one_more;
 use crate::message::shown_character;
 use std::alloc::{AllocError, Global};
 
@@ -14,7 +16,9 @@ pub(crate) fn said(alloc: Global, number: usize, what: &str) -> Result<String, A
 }
 
 /// What is wrong with a word that stands for octets, in hexadecimal or `none`, empty where nothing is.
-pub(crate) fn hex_note(alloc: Global, number: usize, word: &str) -> Result<String, AllocError> {
+pub(crate) fn hex_note(alloc: Global, number: usize, word: &str) -> Result<String, AllocError>
+    ensures { IfOk result (λ text. string_bytes text ≡ hex_note number word.now) }
+{
     if word == "none" {
         return Ok(String::new(alloc));
     }
@@ -23,18 +27,30 @@ pub(crate) fn hex_note(alloc: Global, number: usize, word: &str) -> Result<Strin
 
 /// What is wrong with octets in hexadecimal, empty where nothing is: the first character that is no hexadecimal digit,
 /// at its place, or an odd number of digits.
-pub(crate) fn digits_note(alloc: Global, number: usize, word: &str) -> Result<String, AllocError> {
-    let mut place: usize = 0;
-    for character in word.chars() {
-        if !character.is_ascii_hexdigit() {
-            return digit(alloc, number, shown_character(character), place);
-        }
-        place = place.saturating_add(1);
+pub(crate) fn digits_note(alloc: Global, number: usize, word: &str) -> Result<String, AllocError>
+    ensures { IfOk result (λ text. string_bytes text ≡ digits_note number word.now) }
+{
+    if let Some((place, character)) = stray(word)? {
+        return digit(alloc, number, shown_character(character), place);
     }
     if word.len() % 2 == 1 {
         return odd(alloc, number, word.len());
     }
     Ok(String::new(alloc))
+}
+
+/// The first character that is no hexadecimal digit, and its place in characters.
+fn stray(word: &str) -> Result<Option<(usize, char)>, AllocError>
+    ensures { IfOk result (λ found. found ≡ stray_from 0 (chars word.now)) }
+{
+    let mut place = 0;
+    for character in word.chars() {
+        if !character.is_ascii_hexdigit() {
+            return Ok(Some((place, character)));
+        }
+        place = one_more(place)?;
+    }
+    Ok(None)
 }
 
 fn digit(alloc: Global, number: usize, character: char, place: usize) -> Result<String, AllocError>

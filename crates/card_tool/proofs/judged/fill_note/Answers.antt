@@ -1,31 +1,43 @@
-use Rattle.std.proofs.Common.{◌≡◌, ◌∙◌, IfOk, List, Result, Ok, ap, arith, false, inl, inr, length, string_bytes, subst, sym, true}
+use Rattle.std.proofs.Common.{◌≡◌, ◌∙◌, IfOk, List, Result, String, Ok, ap, arith, false, length, nat_eq, string_bytes, subst, sym, true, Bool, inl, inr}
+use Rattle.std.specs.declared.alloc.Global.{Global}
 use Rattle.std.proofs.lemmas.Bool.Decides.{eqb_tells}
+use Rattle.std.proofs.lemmas.Result.{IfOk-weaker}
 use Rattle.std.specs.String.{string_len}
+use Rattle.command_line.specs.Form.{texts}
 use Rattle.card_words.specs.declared.fault.Fault.{Fault}
-use Rattle.tlv_core.specs.Fill.{HasDuplicate}
 use Rattle.tlv_core.specs.declared.known.Known.{Known}
-use Rattle.card_tool.proofs.Explaining.{on-known, on-values}
+use Rattle.card_tool.specs.Explained.{on_list, IsKnownNote}
+use Rattle.card_tool.proofs.Explaining.{known-noted}
 use Rattle.card_tool.proofs.judged.fill_note.Goals as goal
 
+none-in : (note : String Global) (empty : Bool) → empty ≡ true → empty ≡ nat_eq (string_len note) 0
+    → length (string_bytes note) ≡ 0
+none-in note empty is same = elim (eqb_tells (string_len note) 0) [
+  | inl h ↦ omega (arith, h.1, note.bytes.ok.0)
+  | inr h ↦ absurd (let bad : true ≡ false = sym is ∙ same ∙ h.0 in cc)
+]
+
+some-in : (note : String Global) (empty : Bool) → empty ≡ false → empty ≡ nat_eq (string_len note) 0
+    → length (string_bytes note) ≡ 0 → ⊥
+some-in note empty is same none = elim (eqb_tells (string_len note) 0) [
+  | inl h ↦ let bad : true ≡ false = sym h.0 ∙ sym same ∙ is in absurd cc
+  | inr h ↦ h.1 (omega (arith, none, note.bytes.ok.0))
+]
+
 pub returns-then-not-is_empty : goal.returns-then-not-is_empty
-returns-then-not-is_empty c = inl (c.args.verdict, c.requires, c.in_ok-note.ensures)
+returns-then-not-is_empty c = on_list (c.args.verdict, c.requires, c.in_ok-note.ensures)
+    (some-in c.in_ok-note.note c.is_empty.result c.if-not-is_empty.true c.is_empty.ensures)
 
 pub returns-in-Ok : goal.returns-in-Ok
 returns-in-Ok c =
-    let none : length (string_bytes c.in_ok-note.note) ≡ 0 = elim (eqb_tells (string_len c.in_ok-note.note) 0) [
-      | inl h ↦ omega (arith, h.1, c.in_ok-note.note.bytes.ok.0)
-      | inr h ↦ absurd (let bad : true ≡ false = sym c.if-not-is_empty.false ∙ c.is_empty.ensures ∙ h.0 in cc)
-    ] in
-    on-values c.duplicate_note.result c.args.list.now c.args.known.now c.get.result.now
+    let none = none-in c.in_ok-note.note c.is_empty.result c.if-not-is_empty.false c.is_empty.ensures in
+    known-noted c.duplicate_note.result (texts c.args.words.now) c.args.list.now c.args.known.now
     (string_bytes c.in_ok-note.note) none (c.args.verdict, c.requires, c.in_ok-note.ensures)
-    (c.in-Ok.is ∙ ap (λ (v : List Known). Ok v) (sym c.get.ensures)) c.duplicate_note.ensures
+    (rw (c.in-Ok.is, sym c.get.ensures) c.duplicate_note.ensures)
 
 pub returns : goal.returns
 returns c =
-    let none : length (string_bytes c.in_ok-note.note) ≡ 0 = elim (eqb_tells (string_len c.in_ok-note.note) 0) [
-      | inl h ↦ omega (arith, h.1, c.in_ok-note.note.bytes.ok.0)
-      | inr h ↦ absurd (let bad : true ≡ false = sym c.if-not-is_empty.false ∙ c.is_empty.ensures ∙ h.0 in cc)
-    ] in
-    on-known c.known_note.result c.args.list.now c.args.known.now (string_bytes c.in_ok-note.note) none
-    (c.args.verdict, c.requires, c.in_ok-note.ensures)
-    (subst (λ (r : Result (List Known) Fault). IfOk r HasDuplicate) (sym c.in-Err.is) tt)
+    let none = none-in c.in_ok-note.note c.is_empty.result c.if-not-is_empty.false c.is_empty.ensures in
+    known-noted c.known_note.result (texts c.args.words.now) c.args.list.now c.args.known.now
+    (string_bytes c.in_ok-note.note) none (c.args.verdict, c.requires, c.in_ok-note.ensures)
+    (rw c.in-Err.is c.known_note.ensures)

@@ -1,6 +1,5 @@
-use Rattle.card_tool.proofs.Explaining.{faulted}
+use Rattle.std.proofs.Common.{refl}
 use Rattle.card_tool.proofs.replies.fault_noted.Goals as goal
 
 pub returns-in-Ok : goal.returns-in-Ok
-returns-in-Ok c = faulted c.args.fault (record { answer = c.in-Ok.answer; note = c.args.note }) c.in-Ok.ensures.text
-    c.in-Ok.ensures.status c.requires
+returns-in-Ok c = (record { status = c.in-Ok.ensures.status; text = c.in-Ok.ensures.text }, refl)

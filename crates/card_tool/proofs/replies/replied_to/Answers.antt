@@ -1,11 +1,13 @@
 use Rattle.std.proofs.Common.{◌∙◌, [], Ok}
+use Rattle.command_line.specs.Form.{texts}
 use Rattle.card_words.specs.declared.request.Request.TheVariants.{BuildChain, BuildFill, Judge, Simulate, Help, Version}
 use Rattle.card_tool.proofs.Explaining.{alone, with-note}
 use Rattle.card_tool.proofs.replies.replied_to.Goals as goal
 
 pub returns-in_ok-text-in-BuildChain-clause-told : goal.returns-in_ok-text-in-BuildChain-clause-told
 returns-in_ok-text-in-BuildChain-clause-told g c =
-    rw c.in-BuildChain.is (alone (BuildChain c.in-BuildChain.ifs c.in-BuildChain.number c.in-BuildChain.message)
+    rw c.in-BuildChain.is (alone (texts c.args.words.now)
+    (BuildChain c.in-BuildChain.ifs c.in-BuildChain.number c.in-BuildChain.message)
     (g.R.Source.remaining c.args.reader.now) (g.R.Source.remaining c.args.reader.now)
     (g.R.Source.failures c.args.reader.now) (g.R.Source.failures c.args.reader.now) c.alone.result (Ok [])
     (λ needs. absurd needs) (rw c.alone.ensures.answer (
@@ -16,7 +18,7 @@ returns-in_ok-text-in-BuildChain-clause-told g c =
 pub returns-in_ok-filled-in-BuildFill-clause-told : goal.returns-in_ok-filled-in-BuildFill-clause-told
 returns-in_ok-filled-in-BuildFill-clause-told g c =
     let made = rw c.get-in-BuildFill.ensures at c.in_ok-filled-in-BuildFill.ensures in
-    rw c.in-BuildFill.is (with-note (BuildFill c.in-BuildFill.list c.in-BuildFill.known)
+    rw c.in-BuildFill.is (with-note (texts c.args.words.now) (BuildFill c.in-BuildFill.list c.in-BuildFill.known)
     (g.R.Source.remaining c.args.reader.now) (g.R.Source.remaining c.args.reader.now)
     (g.R.Source.failures c.args.reader.now) (g.R.Source.failures c.args.reader.now)
     c.in_ok-filled-in-BuildFill.field-0 (Ok []) (λ needs. absurd needs) made.0 made.1)
@@ -24,7 +26,7 @@ returns-in_ok-filled-in-BuildFill-clause-told g c =
 pub returns-in_ok-judged-in-Judge-clause-told : goal.returns-in_ok-judged-in-Judge-clause-told
 returns-in_ok-judged-in-Judge-clause-told g c =
     let made = rw (c.get-in-Judge.ensures, c.get-in-Judge-2.ensures) at c.in_ok-judged-in-Judge.ensures in
-    rw c.in-Judge.is (with-note (Judge c.in-Judge.atr c.in-Judge.judging)
+    rw c.in-Judge.is (with-note (texts c.args.words.now) (Judge c.in-Judge.atr c.in-Judge.judging)
     (g.R.Source.remaining c.args.reader.now) (g.R.Source.remaining c.read_whole-in-Judge.new.reader)
     (g.R.Source.failures c.args.reader.now) (g.R.Source.failures c.read_whole-in-Judge.new.reader)
     c.in_ok-judged-in-Judge.field-0 (Ok c.in_ok-text-in-Judge.text) (λ needs. c.in_ok-text-in-Judge.ensures)
@@ -32,23 +34,29 @@ returns-in_ok-judged-in-Judge-clause-told g c =
 
 pub returns-in_ok-simulated-in-Simulate-clause-told : goal.returns-in_ok-simulated-in-Simulate-clause-told
 returns-in_ok-simulated-in-Simulate-clause-told g c =
-    rw c.in-Simulate.is (with-note (Simulate c.in-Simulate.session)
+    rw c.in-Simulate.is (with-note (texts c.args.words.now) (Simulate c.in-Simulate.session)
     (g.R.Source.remaining c.args.reader.now) (g.R.Source.remaining c.args.reader.now)
     (g.R.Source.failures c.args.reader.now) (g.R.Source.failures c.args.reader.now)
     c.in_ok-simulated-in-Simulate.field-0 (Ok []) (λ needs. absurd needs)
     c.in_ok-simulated-in-Simulate.ensures.0 c.in_ok-simulated-in-Simulate.ensures.1)
 
 pub returns-in-Help-clause-told : goal.returns-in-Help-clause-told
-returns-in-Help-clause-told g c = rw c.in-Help.is (alone (Help c.in-Help.text)
+returns-in-Help-clause-told g c = rw c.in-Help.is (alone (texts c.args.words.now) (Help c.in-Help.text)
     (g.R.Source.remaining c.args.reader.now) (g.R.Source.remaining c.args.reader.now)
     (g.R.Source.failures c.args.reader.now) (g.R.Source.failures c.args.reader.now) c.alone-in-Help.result (Ok [])
     (λ needs. absurd needs) (rw c.alone-in-Help.ensures.answer
     (c.told-in-Help.ensures.text ∙ c.into_inner.ensures, c.told-in-Help.ensures.status)) c.alone-in-Help.ensures.note)
 
 pub returns-in_ok-line-in-Version-clause-told : goal.returns-in_ok-line-in-Version-clause-told
-returns-in_ok-line-in-Version-clause-told g c = rw c.in-Version.is (alone Version
+returns-in_ok-line-in-Version-clause-told g c = rw c.in-Version.is (alone (texts c.args.words.now) Version
     (g.R.Source.remaining c.args.reader.now) (g.R.Source.remaining c.args.reader.now)
     (g.R.Source.failures c.args.reader.now) (g.R.Source.failures c.args.reader.now) c.alone-in-Version.result (Ok [])
     (λ needs. absurd needs) (rw c.alone-in-Version.ensures.answer
     (c.told-in-Version.ensures.text ∙ c.in_ok-line-in-Version.ensures.ok, c.told-in-Version.ensures.status))
     c.alone-in-Version.ensures.note)
+
+pub returns-in-Tell-clause-told : goal.returns-in-Tell-clause-told
+returns-in-Tell-clause-told g c = rw c.in-Tell.is (c.octets_told.ensures.told (texts c.args.words.now))
+
+pub returns-in-BuildTidy-clause-told : goal.returns-in-BuildTidy-clause-told
+returns-in-BuildTidy-clause-told g c = rw c.in-BuildTidy.is (c.octets_tidied.ensures.told (texts c.args.words.now))
