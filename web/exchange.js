@@ -1,7 +1,7 @@
-// Recorded exchanges: the text of a file is read, and both ends of T=1 are called as its lines say.
+// Recorded exchanges: reads the text of a file, and calls both ends of T=1 as its lines say.
 //
-// The ends are the module's, over memory that is lent to them. docs/EXCHANGE-FILE.md has the grammar of a text, the
-// order of its faults, and what each line is to each end.
+// The ends are those of the module, with state and buffers in its memory. docs/EXCHANGE-FILE.md has the grammar of a
+// text, the order of its faults, and the meaning of each line to each end.
 "use strict";
 
 const LONGEST_COMMAND = 65544;
@@ -10,12 +10,12 @@ const SHOWN_OF_LINE = 80;
 
 const HEADERS = ["scard-exchange 1", "scard-exchange 2"];
 
-// What comes after the first word of a line.
+// What follows the first word of a line.
 const FORMS = { command: "octets", ifsd: "octet", quiet: "alone", answer: "octets", "ifs-set": "alone",
   "given-up": "alone", dead: "alone", reply: "octets", time: "octet", ifsc: "octet", asked: "octets", t: "block",
   c: "block", at: "moment", note: "note" };
 
-// What is expected of a line, by its form and the fault in it.
+// What is expected of a line, by its form and by the name of the fault in it.
 const EXPECTED = {
   octets: () => "this word and OCTETS",
   octet: () => "this word and HH",
@@ -32,18 +32,29 @@ const WRONG = {
   Falls: "a number that isn't below that of an earlier line at N",
 };
 
-// Each end: the letter of its blocks, the line that tells its message, and what a line is to it, the call that it
-// makes or a turn of the end. Any other line passes.
+// Each end: the letter of its blocks, the word of the line with its message, the lines that are a turn of the end, and
+// the call that each other line makes. Lines that aren't listed don't concern the end.
 const ENDS = {
   terminal: { letter: "t", message: "answer", turns: ["t", "answer", "ifs-set", "given-up", "dead"],
     called: { command: "transmit", ifsd: "ask_ifs", quiet: "quiet", c: "received" } },
   card: { letter: "c", message: "asked", turns: ["c", "asked"],
     called: { reply: "reply", time: "more_time", ifsc: "ask_ifs", t: "received" } },
 };
-// The numbers of an end's state that are shown, by their names in the header, and where each is.
+// The numbers of an end's state that the page shows, by their names in the header, with the place of each.
 const NUMBERS = {
   terminal: { number: 0, expected: 1, failures: 2, ifsc: 3, ifsd: 4 },
   card: { number: 0, expected: 1, ifsc: 4, ifsd: 5 },
+};
+
+// What an end waits for, by the number that its state has for it, and the place of that number.
+const WAITS = {
+  terminal: { at: 6, states: ["a call (state Idle", "the acknowledgment of a block of its command (state Ack",
+    "the answer (state Answer", "the next block of the answer (state More",
+    "the response to its IFS request (state Ifs", "the response to its RESYNCH request (state Resynch",
+    "nothing (state Dead"] },
+  card: { at: 7, states: ["a block of a command (state Command", "a block of a command (state Command",
+    "its host (state Host", "the acknowledgment of a block of its reply (state Reply",
+    "the response to its IFS request (state Asking", "the response to its WTX request (state Asking"] },
 };
 
 const LACKS = {
@@ -56,7 +67,7 @@ const NOTHING = "this line has a turn of the end, which has none to give here";
 const UNMET = "the file ends here, and no line has the last turn of the end";
 const OTHER = "the end's turn has to be met by a line before anything else happens to it, and this is another line";
 
-// What is wrong with a text, and in which line.
+// A fault of a text: what is wrong, and in which line.
 class Fault extends Error {
   constructor(name, line) {
     super(name);
@@ -64,7 +75,7 @@ class Fault extends Error {
   }
 }
 
-// Refuses a line unless something holds of it.
+// Refuses a line unless a condition holds.
 function need(holds, name) {
   if (!holds) throw new Fault(name);
 }
@@ -80,7 +91,8 @@ function octetSaid(word) {
   return parseInt(word, 16);
 }
 
-// How a block arrived, by the words after the first one: lost, as other octets, or undefined where nothing is said.
+// Returns how a block arrived, from the words after the first one: `lost`, `as` other octets, or undefined if the line
+// doesn't say.
 function wayOf([sent, way, other, ...more]) {
   const isLost = way === "lost" && other === undefined;
   const isChanged = way === "as" && other !== undefined && !more.length;
@@ -88,7 +100,7 @@ function wayOf([sent, way, other, ...more]) {
   return way;
 }
 
-// What arrived of a block: null of a lost one.
+// Returns the octets that arrived of a block, or null if it was lost.
 function arrivedOf(words) {
   const way = wayOf(words);
   const octets = octetsSaid(words[0]);
@@ -96,13 +108,13 @@ function arrivedOf(words) {
   return way === "as" ? octetsSaid(words[2]) : octets;
 }
 
-// A moment, which is alone in its line.
+// Returns a moment, the only word after the first one.
 function momentOf(words) {
   need(words.length === 1 && /^(0|[1-9][0-9]{0,14})$/.test(words[0]), "Word");
   return Number(words[0]);
 }
 
-// What the words after the first one say, by the form of their line.
+// Functions that read the words after the first one, by the form of their line.
 const SAID = {
   alone: (words) => need(words.length === 0, "Word"),
   octets: (words) => {
@@ -121,7 +133,7 @@ const SAID = {
   note: (words, version) => need(version === 2 && /^[ -~]{1,200}$/.test(words.join(" ")), "Word"),
 };
 
-// A line: its first word, what the others say, and its text as an end gives it.
+// Reads a line. Returns its text, its first word, the meaning of the other words, and the line as an end gives it.
 function lineOf(text, version) {
   const [name, ...words] = text.split(" ");
   need(Object.hasOwn(FORMS, name), "Word");
@@ -129,14 +141,15 @@ function lineOf(text, version) {
   return { text, name, said, given: [name, ...words.slice(0, 1)].join(" ") };
 }
 
-// The answer to reset that the second line has.
+// Returns the answer to reset in the second line.
 function atrOf(text) {
   const [name, ...words] = text.split(" ");
   need(name === "atr", "Word");
   return SAID.octets(words);
 }
 
-// The exchange that a text is: its answer to reset, and its lines from the third on. It stops after each.
+// Reads the exchange in a text: its answer to reset, and its lines from the third on. The generator stops after each
+// line.
 function* exchangeOf(text) {
   const texts = text.split("\n");
   const rest = texts.pop();
@@ -162,20 +175,20 @@ function* exchangeOf(text) {
   return exchange;
 }
 
-// The line of a text with a number, as far as it is shown, and what there is to say of it.
+// Returns notes: the line of a text with this number, cut to what the page shows, and the other notes.
 function lineNote(text, number, ...what) {
   const line = (text.split("\n")[number - 1] ?? "").slice(0, SHOWN_OF_LINE).replace(/[^ -~]/g, "?");
   return [`line ${number} of the file: ${line}`, ...what];
 }
 
-// What is expected in a line with a fault of this name.
+// Returns what is expected in a line with a fault of this name.
 function expectedAt(line, number, name) {
   const first = line.split(" ")[0];
   const form = Object.hasOwn(FORMS, first) ? FORMS[first] : "none";
   return WRONG[name] ?? (number === 2 ? "atr OCTETS" : EXPECTED[form](first));
 }
 
-// What is wrong with a line, and what is expected.
+// Returns what is wrong with a line, and what is expected.
 function wrongWith(line, number, name) {
   const isMarked = name === "Header" && /^(\uFEFF|\xEF\xBB\xBF)/.test(line);
   if (isMarked) return `it begins with a byte order mark; expected: ${WRONG.Header}`;
@@ -184,14 +197,14 @@ function wrongWith(line, number, name) {
   return `expected: ${expectedAt(line, number, name)}`;
 }
 
-// What there is to say of a text that is no exchange.
+// Answers a text that isn't an exchange.
 function faultOf(text, { message: name, line: number }) {
   const line = text.split("\n")[number - 1] ?? "";
   const check = name === "Header" ? "fault: Header" : `fault: line ${number}: ${name}`;
   return { is: "fault", check, notes: lineNote(text, number, wrongWith(line, number, name)) };
 }
 
-// An end of T=1 in the module, over memory from a place on: its state, its two buffers and the block that it sends.
+// An end of T=1 in the module. Its memory starts at a place: its state, its two buffers and the block that it sends.
 class End {
   static ROOM = 64 + 2 * LONGEST_COMMAND + 264;
 
@@ -209,8 +222,8 @@ class End {
     if (this.exported("begin", ifsc, bwi, cwi).status !== OK) throw new Error("an end doesn't begin");
   }
 
-  // Makes the call that a line is, and gives the line that the end gives then, and how long it waits after that. A turn
-  // lies in memory as a verdict does.
+  // Makes the call that a line stands for. Returns the line that the end gives then, and the timeout after it. A turn
+  // has the layout of a verdict in memory.
   call(name, said, room) {
     const { memory } = this.scard;
     const given = said instanceof Uint8Array ? memory.lend(said, room) : said === undefined ? [] : [said];
@@ -219,7 +232,7 @@ class End {
     return { gives: this.gives(kind, count), wait };
   }
 
-  // The line that a turn of this kind is, with so many octets.
+  // Returns the line for a turn of this kind with `count` octets.
   gives(kind, count) {
     const { memory } = this.scard;
     const { letter, message } = ENDS[this.name];
@@ -231,20 +244,27 @@ class End {
     return `refused ${more.map((word) => word[0].toUpperCase() + word.slice(1)).join("")}`;
   }
 
-  // The terminal's answer, or the command that the card's host is given.
+  // Returns the terminal's answer, or the command that the card passes to its host.
   message() {
     const [name, at] = this.name === "terminal" ? ["answer", this.answer] : ["command", this.command];
     return this.scard.memory.at(at, this.exported(name).place);
   }
 
-  // The numbers of its state.
+  // Returns the numbers of its state.
   state() {
     const numbers = Object.entries(NUMBERS[this.name]);
     return numbers.map(([name, at]) => `${name} ${this.scard.memory.at(this.at + at, 1)[0]}`).join(" ");
   }
 
-  // What a line is to it: what it does then, in words. Where it does otherwise, `differs` is what it gives.
-  step(line, room) {
+  // Returns what it waits for.
+  waits() {
+    const { at, states } = WAITS[this.name];
+    return `${states[this.scard.memory.at(this.at + at, 1)[0]]} in SESSION.md)`;
+  }
+
+  // Takes the line with this number. Returns what the end does then, in words, or null if the line doesn't concern it.
+  // If the end differs from the line, `differs` is what the end gives.
+  step(line, number, room) {
     const { turns, called } = ENDS[this.name];
     const isTurn = turns.includes(line.name);
     const isCall = Object.hasOwn(called, line.name) && line.said !== null;
@@ -254,9 +274,11 @@ class End {
       return "gave this";
     }
     if (isTurn || this.pending !== null) return this.differ(this.pending ?? "nothing");
+    const waited = this.waits();
     const { gives, wait } = this.call(called[line.name], line.said, room);
     if (gives.startsWith("refused")) return this.differ(gives);
     this.pending = gives;
+    this.lastCall = `; line ${number} called it while it waited for ${waited}`;
     return `${called[line.name]}, gives ${gives}${wait ? `, and waits ${wait} times BWT` : ""}`;
   }
 
@@ -266,18 +288,20 @@ class End {
   }
 }
 
-// The verdict on an end that gives something else than a line of the file says, and why.
+// Returns the verdict on an end that differs from a line of the file, and why.
 function difference(text, number, gives, ...why) {
   return { is: "differs", check: `line ${number}: engine gives ${gives}`, notes: lineNote(text, number, ...why) };
 }
 
-// Why an end differs from a line after that of the answer to reset, by what it gives there.
-function whyOf(gives) {
-  if (gives.startsWith("refused ")) return REFUSED;
-  return gives === "nothing" ? NOTHING : OTHER;
+// Returns why an end differs from a line after the answer to reset, and what it waits for, or waited for when it was
+// last called.
+function whyOf(end) {
+  const now = `; it waits for ${end.waits()}`;
+  if (end.differs.startsWith("refused ")) return REFUSED + now;
+  return end.differs === "nothing" ? NOTHING + now : OTHER + end.lastCall;
 }
 
-// The replay of an exchange at both ends. Each end has its `verdict` once `run` is done, which stops after each line.
+// Replays an exchange at both ends. `run` stops after each line. At its end each end has its `verdict`.
 class Replay {
   constructor(scard, text, exchange) {
     const { memory } = scard;
@@ -296,7 +320,7 @@ class Replay {
     }
   }
 
-  // The ends that did all that the lines so far say.
+  // The ends that agree with all lines so far.
   get agreeing() {
     return this.ends.filter((end) => !end.verdict);
   }
@@ -309,24 +333,25 @@ class Replay {
     }
     for (const end of this.agreeing) {
       end.verdict = end.pending === null ? { is: "ok", check: `ok ${count} lines`, notes: [] }
-        : difference(this.text, count + 1, end.pending, UNMET);
+        : difference(this.text, count + 1, end.pending, UNMET + end.lastCall);
     }
   }
 
-  // Takes a line at each end, and notes what that does, and after a block in which state it is.
+  // Passes a line to each end, and adds what the ends do to the steps. After a block it also adds the state of each
+  // end.
   step(line, number) {
     this.steps.push(`${number}  ${line.text}`);
     for (const end of this.agreeing) {
-      const does = end.step(line, this.room);
+      const does = end.step(line, number, this.room);
       if (does !== null) this.steps.push(`     ${end.name}: ${does}`);
-      if (end.differs) end.verdict = difference(this.text, number, end.differs, whyOf(end.differs));
+      if (end.differs) end.verdict = difference(this.text, number, end.differs, whyOf(end));
     }
     if (FORMS[line.name] !== "block") return;
     for (const end of this.agreeing) this.steps.push(`     ${end.name}: at ${end.state()}`);
   }
 }
 
-// What there is to say of an answer to reset that no session begins from.
+// Returns why no session can begin from an answer to reset.
 function atrWhy(scard, atr, name) {
   if (Object.hasOwn(LACKS, name)) return [`the answer to reset ${LACKS[name]}`];
   const told = { octets: atr, ...finished(scard.telling("atr", atr)) };

@@ -1,32 +1,33 @@
-// The page: what is given in its form, and how what scard.js says of it is shown.
+// The page: what is given in its form, and how the page shows the answers of scard.js. The tests cut the script here.
 "use strict";
 
 const SHOWN_VALUES = 200;
 const SHOWN_LINES = 5000;
 const PART_LINES = 100;
 const WAIT = 150;
-// For how many milliseconds it answers at a time, before what is typed has its turn.
+// The script works for this number of milliseconds at a time. Then the browser handles what was typed.
 const PIECE = 10;
 
-const WHERE = "This browser takes no module of this page: one needs WebAssembly with a 64-bit memory (Memory64), which"
-  + " Chromium has from version 133 on and Firefox from version 134 on; the other, which not each page has, needs bulk"
-  + " memory and 64-bit numbers in calls, which Chromium, Firefox and Safari have had since 2021.";
-const LOWERED = "This browser has no 64-bit memory, so the module runs here after the tool wasm-opt has changed it for a"
-  + " 32-bit one. Nobody has proved that tool.";
-// What the text is of a kind that isn't octets, and of all others, and what there is to say of it.
+const WHERE = "This browser can't run a module of this page. The first module needs WebAssembly with a 64-bit memory"
+  + " (Memory64). Chromium has that from version 133 on, and Firefox from version 134 on. The second module, which not"
+  + " every page has, needs bulk memory and 64-bit numbers in calls. Chromium, Firefox and Safari have had these since"
+  + " 2021.";
+const LOWERED = "This browser has no 64-bit memory. So the page runs a second module, which the tool wasm-opt made"
+  + " from the first for a 32-bit memory. Nobody has proved that tool.";
+// The label of the text and the note about it: for each kind that isn't octets, and for all other kinds.
 const LABELS = { exchange: "Text of a recorded exchange", trace: "Lines of a trace", octets: "Octets in hexadecimal" };
 const NOTES = { exchange: "exchange-note", trace: "trace-note", octets: "text-note" };
 
 const part = (id) => document.getElementById(id);
 
-// An element with what is in it.
+// Makes an element with its contents.
 function made(name, ...inside) {
   const element = document.createElement(name);
   element.append(...inside);
   return element;
 }
 
-// Text that is wider than a narrow screen: it can be scrolled by keys too.
+// Makes a block of text that may be wider than the screen. Keys can scroll it too.
 function block(label, ...inside) {
   const pre = made("pre", ...inside.flatMap(inParts));
   pre.tabIndex = 0;
@@ -35,7 +36,7 @@ function block(label, ...inside) {
   return pre;
 }
 
-// A long text in parts. The style has a browser lay out only those that are on the screen.
+// Splits a long text into parts. The style makes a browser lay out only the parts on the screen.
 function inParts(inside) {
   if (typeof inside !== "string") return [inside];
   const lines = inside.split("\n");
@@ -48,19 +49,19 @@ function inParts(inside) {
   });
 }
 
-// Lines, no more than a page can take.
+// Joins lines into a text, at most as many lines as the page shows.
 function text(lines) {
   return [...lines.slice(0, SHOWN_LINES), ...rest(lines.length, SHOWN_LINES)].join("\n");
 }
 
-// The octets around the place where they are refused, with a mark that needs no colour.
+// Shows the octets around a refused octet, with a mark that needs no colour.
 function marked(answer) {
   const { from, before, there, after, mark } = around(answer.octets, answer.place);
   const [first, last] = [`octets from place ${from}:\n${before}`, `${after}\n${mark}`];
   return block("The octets around that place", first, made("mark", there), last);
 }
 
-// What there is to say of a value below its verdict.
+// Returns what the page shows of a value below its verdict.
 function shown(answer) {
   const found = [];
   if (answer.sentence) found.push(made("p", answer.sentence));
@@ -70,33 +71,33 @@ function shown(answer) {
   return found;
 }
 
-// A value of several: its line, its verdict and what there is to say of it.
+// Shows one of several values: the number of its line, its verdict and what follows it.
 function article(answer, number) {
   const head = made("h3", `line ${number}: `, verdictOf(answer));
   return made("article", head, ...shown(answer));
 }
 
-// The line of a verdict, in the colour of its kind.
+// Shows the line of a verdict, in the colour of its kind.
 function verdictOf(answer) {
   const span = made("span", answer.check);
   span.className = answer.is === "ok" ? "yes" : "no";
   return span;
 }
 
-// What is said first of several values.
+// Returns the line above several values.
 function summary(accepted, count) {
   const more = count - SHOWN_VALUES;
-  const rest = more > 0 ? `; of the last ${more} only this is said` : "";
+  const rest = more > 0 ? `; the last ${more} are only counted` : "";
   return `${accepted} of ${count} lines are accepted${rest}`;
 }
 
-// An end: its verdict, and where it does otherwise why.
+// Shows an end: its verdict, and if the end differs, why.
 function endOf({ name, verdict }) {
   const why = verdict.notes.length ? [block(`Why the ${name} differs`, text(verdict.notes))] : [];
   return made("article", made("h3", `${name}: `, verdictOf(verdict)), ...why);
 }
 
-// Shows what a kind has use for, and no more.
+// Shows only those parts of the form that a kind uses.
 function asks(kind) {
   const form = Object.hasOwn(LABELS, kind) ? kind : "octets";
   part("first-part").hidden = kind !== "chain";
@@ -108,7 +109,7 @@ function asks(kind) {
   part("text").setAttribute("aria-describedby", NOTES[form]);
 }
 
-// What is given in the form.
+// Returns what the form contains.
 function given() {
   const kind = part("kind").value;
   asks(kind);
@@ -119,7 +120,7 @@ function given() {
   return { kind, text: part("text").value, ifs, first, atr, each, notes };
 }
 
-// Shows what there is to say of what is given, in pieces.
+// Shows the answer to what the form contains, in pieces.
 function* answered(scard) {
   const { kind, text, ifs, first, atr, each, notes } = given();
   part("shared").textContent = "";
@@ -143,7 +144,7 @@ function* severally(answers) {
 }
 
 function replayed({ is, check, notes, replay }) {
-  if (is === "fault") return show("no", check, block("The line that is wrong", text(notes)));
+  if (is === "fault") return show("no", check, block("The wrong line", text(notes)));
   const { ends, steps } = replay;
   const isSame = ends.every((end) => end.verdict.is === "ok");
   const said = ends.map(({ name, verdict }) => `${name}: ${verdict.check}`).join("; ");
@@ -152,18 +153,18 @@ function replayed({ is, check, notes, replay }) {
 
 function judged({ is, check, notes, lines, steps }) {
   if (notes) return show("no", check, block("Why the trace isn't judged", text(notes)));
-  const told = lines.length > 1 ? [block("What is said of it", text(lines))] : [];
+  const told = lines.length > 1 ? [block("The judgments", text(lines))] : [];
   return show(is === "ok" ? "yes" : "no", check, ...told, block("The trace, line by line", text(steps)));
 }
 
-// Shows a line, and what is below it.
+// Shows a line, and other elements below it.
 function show(kind, line, ...below) {
   part("status").className = kind;
   part("status").textContent = line;
   part("out").replaceChildren(...below);
 }
 
-// Answers in pieces, until all is said or something else is asked.
+// Answers in pieces, until the answer is complete or the input changes.
 class Answering {
   begin(pieces) {
     clearTimeout(this.waiting);
@@ -178,14 +179,14 @@ class Answering {
     if (!done) this.waiting = setTimeout(() => this.go());
   }
 
-  // Leaves what is under way, and begins where nothing else comes for a while.
+  // Stops the current answer, and begins a new one if the input doesn't change for a while.
   later(pieces) {
     clearTimeout(this.waiting);
     this.waiting = setTimeout(() => this.begin(pieces), WAIT);
   }
 }
 
-// Puts what is given into the form.
+// Puts values into the form.
 function fill({ kind, text, ifs, first, atr, each, notes }) {
   if ([...KINDS, "exchange", "trace"].includes(kind)) part("kind").value = kind;
   if (text !== undefined && text !== null) part("text").value = text;
@@ -196,23 +197,24 @@ function fill({ kind, text, ifs, first, atr, each, notes }) {
   part("notes").checked = notes !== "0";
 }
 
-// Puts what the address has into the form, if anything.
+// Puts the values in the address into the form, if there are any.
 function fromAddress() {
   const address = new URLSearchParams(location.hash.slice(1));
   if (address.has("kind")) fill(Object.fromEntries(address));
 }
 
-// Puts what is given into the address. Only a button calls it: octets may be secret, and a browser keeps addresses.
+// Puts the values of the form into the address. Only a button calls it: octets may be secret, and a browser keeps a
+// history of addresses.
 function share() {
   const { kind, text, ifs, first, atr, each, notes } = given();
   const isPlain = !notes && !part("octets-part").hidden;
   const address = new URLSearchParams({ kind, text, ...(ifs !== 254 && { ifs }), ...(first && { first }),
     ...(atr && { atr }), ...(each && { each: "1" }), ...(isPlain && { notes: "0" }) });
   history.replaceState(null, "", `#${address}`);
-  part("shared").textContent = "The address of this page has the octets now.";
+  part("shared").textContent = "The address of this page now contains the octets.";
 }
 
-// Begins to answer, each time that something else is given.
+// Begins an answer each time that the input changes.
 function start(scard) {
   const answering = new Answering();
   const now = () => answering.begin(answered(scard));
@@ -234,13 +236,13 @@ function start(scard) {
   now();
 }
 
-// A module of the page, ready to be called.
+// Returns an instance of a module of the page.
 async function instanceOf(id) {
   const octets = Uint8Array.from(atob(part(id).textContent.trim()), (character) => character.charCodeAt(0));
   return (await WebAssembly.instantiate(octets, {})).instance;
 }
 
-// The module, or where the browser has no 64-bit memory the one for a 32-bit memory.
+// Returns an instance of the module, or if the browser has no 64-bit memory, of the module for a 32-bit memory.
 async function instance() {
   try {
     return await instanceOf("module");

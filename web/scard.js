@@ -1,7 +1,8 @@
-// What scard says of octets, by the calls of the proved module. It runs in the page and, for its test, in node.
+// Decodes octets with the calls of the proved module, and answers what the program scard answers. It runs in the page,
+// and in node for its test.
 //
-// The module's exports are those of include/scard.h that take no memory. A struct that a call gives is written where
-// its first argument points, and pointers and sizes have 64 bits.
+// The module exports the calls of include/scard.h that allocate no memory. If a call returns a struct, its first
+// argument says where the call writes that struct. Pointers and sizes have 64 bits.
 "use strict";
 
 const LARGEST_FOREST = 1048576;
@@ -12,11 +13,11 @@ const LONGEST_TEXT = 4194304;
 const [OK, SHORT, AT, MORE] = [0, 1, 2, 6];
 const CODECS = { atr: 1, block: 2, chain: 3, command: 4, response: 5, tlv: 6, dol: 7 };
 const KINDS = Object.keys(CODECS);
-// The structs of the header that are read here, by their numbers, with the sizes that this page reckons with.
+// The structs of the header that this script reads, by their numbers, with the sizes that it expects.
 const SIZES = { 1: 16, 4: 243, 5: 3, 6: 4, 7: 4, 8: 32, 9: 16, 10: 16, 11: 4, 12: 24, 15: 56, 16: 64, 19: 32, 20: 16,
   21: 5, 22: 40, 29: 592, 30: 5, 31: 32 };
 
-// What one or two octets are, as the header numbers it for scard_note_of.
+// The kinds of octets that scard_note_of explains, by the numbers of the header.
 const NOTED = { status: 1, instruction: 2, class: 3, pcb: 4, nad: 5, td: 6, ta2: 7, tag: 8 };
 
 const SUBJECTS = ["RESYNCH", "IFS", "ABORT", "WTX"];
@@ -28,7 +29,7 @@ const NO_T1 = ["", "NoT1", "ReservedIfsc", "Crc"];
 const TOO_LARGE = `a text has at most ${LONGEST_TEXT} characters`;
 const FORM = "an octet is two hexadecimal digits, and blanks separate groups of octets";
 
-// What is expected where an octet is refused, by the kind and the name that the module has for the reason.
+// What is expected in place of a refused octet, by the kind and the module's name of the reason.
 const SENTENCES = {
   atr: {
     BadTs: "TS must be 3B (direct convention) or 3F (inverse convention)",
@@ -71,32 +72,32 @@ const SENTENCES = {
 };
 
 const PAIRS = Array.from({ length: 256 }, (_, octet) => octet.toString(16).toUpperCase().padStart(2, "0"));
-// The value of a digit by its code.
+// The value of each hexadecimal digit, by its character code.
 const DIGITS = Uint8Array.from({ length: 128 }, (_, code) => parseInt(String.fromCharCode(code), 16) || 0);
 
-// Octets as upper-case hexadecimal.
+// Encodes octets as upper-case hexadecimal.
 function hexOf(octets) {
   let text = "";
   for (let i = 0; i < octets.length; i++) text += PAIRS[octets[i]];
   return text;
 }
 
-// The same, or that there are none.
+// Encodes octets in the same way, or returns the word none if there are no octets.
 function wordOf(octets) {
   return octets.length ? hexOf(octets) : "none";
 }
 
-// So many octets, in words.
+// Returns a number of octets in words.
 function counted(count) {
   return count === 1 ? "1 octet" : `${count} octets`;
 }
 
-// The same where there are some, and else nothing.
+// Returns a number of octets in words, or nothing for 0.
 function someCounted(count) {
   return count ? counted(count) : "";
 }
 
-// A line without its note, and with it, if it has one: what a kind's lines are made by.
+// Make a line of an answer: the first without its note, the second with its note if it has one.
 function plain(line) {
   return line;
 }
@@ -105,8 +106,8 @@ function annotated(line, note) {
   return words ? `${line}  # ${words}` : line;
 }
 
-// The octets of a text, as the program's `--stdin hex` has them: two digits each, in groups that blanks part, each
-// with or without 0x before it; `none` alone is no octets. null for any other text.
+// Decodes the octets of a text in the form of the program's `--stdin hex`. An octet has two digits. Blanks separate
+// groups, each with or without 0x before it. `none` alone gives no octets. Returns null for any other text.
 function octetsOf(text) {
   const words = text.split(/[ \t\n\r]+/).filter((word) => word !== "");
   if (words.length === 1 && words[0] === "none") return new Uint8Array(0);
@@ -120,7 +121,7 @@ function octetsOf(text) {
   return octets;
 }
 
-// A place in the module's memory for each struct, and the memory after them for octets.
+// The memory of the module: a place for each struct, and room for octets after them.
 class Memory {
   constructor(exports) {
     this.memory = exports.memory;
@@ -132,27 +133,27 @@ class Memory {
     this.room(this.octets);
   }
 
-  // Has the memory grow until it has this place.
+  // Grows the memory until it contains this place.
   room(end) {
     const pages = Math.ceil((end - this.memory.buffer.byteLength) / 65536);
     if (pages <= 0) return;
     try {
       this.memory.grow(BigInt(pages));
     } catch (fault) {
-      // Before the last draft of Memory64 pages were a plain number.
+      // Before the last draft of Memory64 a number of pages was a plain number.
       if (fault.name !== "TypeError") throw fault;
       this.memory.grow(pages);
     }
   }
 
-  // Puts octets into the memory, and gives their place and number as arguments.
+  // Copies octets into the memory. Returns their place and number as arguments of a call.
   lend(octets, at = this.octets) {
     this.room(at + octets.length);
     new Uint8Array(this.memory.buffer).set(octets, at);
     return [BigInt(at), BigInt(octets.length)];
   }
 
-  // Octets from a place on, which go with the next call.
+  // Returns octets from a place on. The next call may overwrite them.
   at(place, count) {
     return new Uint8Array(this.memory.buffer, place, count);
   }
@@ -162,18 +163,18 @@ class Memory {
     return this.seen;
   }
 
-  // A size or a place, whose upper half is 0 in a memory of less than 4 GiB.
+  // Reads a size or a place. Its upper half is 0 in a memory of less than 4 GiB.
   number(place) {
     return this.view().getUint32(place, true);
   }
 
-  // The text to which a pointer and a length at this place lead.
+  // Reads the text at a pointer and a length, which are at this place.
   text(at) {
     return String.fromCharCode(...this.at(this.number(at), this.number(at + 8)));
   }
 }
 
-// The calls of the module: `answering` has what there is to say of octets, `replay` of a recorded exchange.
+// The calls of the module. `answering` answers octets, `replay` a recorded exchange, and `judge` a trace.
 class Scard {
   constructor(instance) {
     this.calls = instance.exports;
@@ -185,7 +186,7 @@ class Scard {
     }
   }
 
-  // Makes a call that gives a verdict: its first argument is where that goes.
+  // Makes a call that returns a verdict. Its first argument says where the call writes the verdict.
   verdict(name, ...given) {
     const { memory } = this;
     this.calls[name](BigInt(memory.verdict), ...given);
@@ -193,13 +194,13 @@ class Scard {
     return { status, reason, place: memory.number(memory.verdict + 8) };
   }
 
-  // The name that a call gives, which a 0 ends.
+  // Returns the name that a call looks up. In the memory a 0 ends it.
   name(call, ...given) {
     this.calls[call](...given, BigInt(this.memory.other));
     return this.memory.text(this.memory.other).slice(0, -1);
   }
 
-  // What one or two octets say in words. It is kept, since a value asks for the same words again and again.
+  // Returns the explanation of one or two octets. The map keeps it, since a value needs the same words again and again.
   note(about, first, second = 0) {
     const key = (NOTED[about] << 16) | (first << 8) | second;
     if (!this.notes.has(key)) this.notes.set(key, this.noted(NOTED[about], first, second));
@@ -214,15 +215,15 @@ class Scard {
     return memory.text(at) + number + memory.text(at + 16);
   }
 
-  // Octets in the module's memory between quotation marks, where they are shown as text too.
+  // Returns octets of the module's memory between quotation marks if they are text, otherwise nothing.
   quoted(at, count) {
     const isText = this.calls.scard_is_text(BigInt(at), BigInt(count));
     return isText ? `"${String.fromCharCode(...this.memory.at(at, count))}"` : "";
   }
 
-  // What there is to say of octets of a kind. `check` is the line of the program's `check`, `lines` are those of its
-  // `show`, the first `most` of them, and `left` is how many octets come after the value. Of what is refused `place` is
-  // where, and `sentence` is what is expected there. It stops after each line.
+  // Answers octets of a kind. `check` is the line of the program's `check`. `lines` are the lines of its `show`, at
+  // most the first `most`. `left` is the number of octets after the value. If an octet is refused, `place` is its place
+  // and `sentence` says what is expected there. The generator stops after each line.
   *telling(kind, octets, ifs = 254, first = 0, notes = false, most = Infinity) {
     const { verdict, lines } = this[kind](octets, ifs, first);
     const { status, reason, place } = verdict;
@@ -245,7 +246,7 @@ class Scard {
     return { is: "refused", check, lines: [check], place, sentence };
   }
 
-  // The same of a text in hexadecimal, with its octets, or that it is none.
+  // Answers a text in hexadecimal. The answer also has its octets, or says that the text isn't hexadecimal.
   *answering(kind, text, ...more) {
     if (text.length > LONGEST_TEXT) return { is: "fault", check: "fault: TooLarge", sentence: TOO_LARGE };
     const octets = octetsOf(text);
@@ -253,8 +254,8 @@ class Scard {
     return { octets, ...(yield* this.telling(kind, octets, ...more)) };
   }
 
-  // What there is to say of the text of a recorded exchange: its replay at both ends, or its first fault. It stops
-  // after each line.
+  // Answers the text of a recorded exchange: its replay at both ends, or its first fault. The generator stops after
+  // each line.
   *replay(text) {
     if (text.length > LONGEST_TEXT) return { is: "fault", check: "fault: TooLarge", notes: [TOO_LARGE] };
     try {
@@ -267,8 +268,9 @@ class Scard {
     }
   }
 
-  // What there is to say of a trace, for a card with this answer to reset in hexadecimal: the lines of the program's
-  // `judge`, of which `check` is the last, or why there are none. It stops after each line.
+  // Answers a trace. `atr` is the answer to reset of the card, in hexadecimal. `lines` are the lines of the program's
+  // `judge`, and `check` is the last of them. Without lines, the answer says why there are none. The generator stops
+  // after each line.
   *judge(atr, text) {
     const octets = octetsOf(atr);
     if (!octets) return { is: "fault", check: "fault: hex", notes: [FORM] };
@@ -286,7 +288,7 @@ class Scard {
     }
   }
 
-  // The answers to the lines of a text, each by itself, one after another.
+  // Answers each line of a text by itself, one after another.
   *answers(kind, text, ...more) {
     const lines = text.split("\n");
     if (lines.at(-1) === "") lines.pop();
@@ -298,7 +300,7 @@ class Scard {
     return { verdict, lines: (say) => this.atrLines(say) };
   }
 
-  // The lines of the answer to reset that was decoded last.
+  // Returns the lines of the answer to reset that was decoded last.
   atrLines(say) {
     const { memory } = this;
     const atr = memory.at(memory.value, 243);
@@ -328,14 +330,14 @@ class Scard {
     return lines;
   }
 
-  // F and D of the answer to reset that was decoded last.
+  // Returns F and D of the answer to reset that was decoded last.
   decodedRates() {
     const { memory, calls } = this;
     calls.scard_atr_rates(BigInt(memory.value), BigInt(memory.other));
     return [memory.other, memory.other + 2].map((at) => memory.view().getUint16(at, true) || "reserved");
   }
 
-  // F and D of an octet that is as TA1: those of an answer to reset that has this one, and offers T=0 alone.
+  // Returns F and D for an octet in the form of TA1: those of an answer to reset with this TA1 that offers only T=0.
   rates(octet) {
     const { memory } = this;
     const atr = memory.lend(Uint8Array.of(0x3b, 0x10, octet), memory.other);
@@ -343,7 +345,7 @@ class Scard {
     return this.decodedRates();
   }
 
-  // The parameters of T=1 of the answer to reset that was decoded last, or the name of what is wrong.
+  // Returns the T=1 parameters of the answer to reset that was decoded last, or the name of what is wrong.
   t1() {
     const { memory, calls } = this;
     const refused = calls.scard_atr_t1_params(BigInt(memory.value), BigInt(memory.other));
@@ -351,13 +353,13 @@ class Scard {
     return refused ? { refused: NO_T1[refused] } : { ifsc, bwi, cwi };
   }
 
-  // The same of octets that are one whole answer to reset.
+  // Returns the T=1 parameters of octets that are one whole answer to reset, or the name of what is wrong.
   params(octets) {
     const { status, place } = this.atr(octets).verdict;
     return status === OK && place === octets.length ? this.t1() : { refused: "BadAtr" };
   }
 
-  // The verdict on the block with which octets begin, and what was decoded of it.
+  // Returns the verdict on the block at the start of the octets, and its decoded fields.
   decoded(octets, ifs) {
     const { memory } = this;
     const verdict = this.verdict("scard_block_decode", ...memory.lend(octets), ifs, BigInt(memory.value));
@@ -393,7 +395,7 @@ class Scard {
     return { verdict, lines };
   }
 
-  // How many blocks there are in octets of the module's memory that are blocks alone.
+  // Returns the number of blocks in octets of the module's memory that consist of blocks.
   blocks(at, count, ifs) {
     const [end, value] = [at + count, BigInt(this.memory.value)];
     let found = 0;
@@ -422,7 +424,7 @@ class Scard {
     return { verdict, lines };
   }
 
-  // The instruction of a command by its name, if it has one, and the class in words.
+  // Returns the name of the command's instruction, if it has one, and the class in words.
   headerNote(cla, ins) {
     const [instruction, ofClass] = [this.note("instruction", cla, ins), this.note("class", cla)];
     return instruction ? `${instruction}, ${ofClass}` : ofClass;
@@ -454,7 +456,7 @@ class Scard {
     yield* rest(count, most);
   }
 
-  // The line of an object: its tag, its length field as it is spelled, and its value, or that it is constructed.
+  // Returns the line of an object: its tag, the octets of its length field, and its value or the word constructed.
   objectLine(say, octets, object) {
     const { memory } = this;
     const [depth, isConstructed, width, ...tag] = memory.at(object, 7);
@@ -485,8 +487,8 @@ class Scard {
     yield* rest(count, most);
   }
 
-  // Has a call write its structs, of so many octets each, into memory after the octets that it is lent: how many there
-  // are, and the places of the first ones. There are at most half as many as octets.
+  // Makes a call that writes an array of structs, each of `size` octets, after the octets that the call reads. Returns
+  // the number of structs and the places of the first ones. There are at most half as many structs as octets.
   written(name, given, octets, size, most = Infinity) {
     const { memory } = this;
     const at = Math.ceil((memory.octets + octets) / 8) * 8;
@@ -497,17 +499,17 @@ class Scard {
   }
 }
 
-// The octets of a tag, of the four that the struct has: three, and how many it is.
+// Returns the octets of a tag. The struct has four octets: three of the tag, and their number.
 function tagOf(tag) {
   return hexOf(tag.slice(0, tag[3]));
 }
 
-// The last line, where a value has more than so many.
+// Returns the last line if a value has more lines than the page shows.
 function rest(count, most) {
   return count > most ? [`(and ${count - most} more lines)`] : [];
 }
 
-// What work that is done in pieces comes to.
+// Runs a generator to its end, and returns its result.
 function finished(work) {
   for (;;) {
     const { done, value } = work.next();
@@ -515,15 +517,15 @@ function finished(work) {
   }
 }
 
-// What a control octet of a block says.
+// Returns what the control octet of a block means.
 function pcbLine(pcb) {
   if (pcb < 0x80) return `I number ${(pcb >> 6) & 1} more ${(pcb >> 5) & 1}`;
   if (pcb < 0xc0) return `R number ${(pcb >> 4) & 1} error ${pcb & 3}`;
   return `S ${pcb & 0x20 ? "response" : "request"} ${SUBJECTS[pcb & 3]}`;
 }
 
-// The octets around a place, at most 24 and of these 16 before it: where they begin, those before the place, the one
-// there, if any, and those after it.
+// Returns the octets around a place: at most 24, and at most 16 of them before it. `from` is the place of the first
+// one. `before`, `there` and `after` are the octets before the place, the one at the place, if any, and those after it.
 function around(octets, place) {
   const from = Math.max(0, place - 16);
   const shown = octets.subarray(from, from + 24);
@@ -532,7 +534,7 @@ function around(octets, place) {
     after: hexOf(shown.subarray(at + 1)), mark: "  ".repeat(at) + "^^" };
 }
 
-// The same as lines.
+// Returns the octets around a place as lines.
 function aroundLines({ octets, place }) {
   const { from, before, there, after, mark } = around(octets, place);
   return [`octets from place ${from}:`, before + there + after, mark];

@@ -1,7 +1,7 @@
-// Traces: the text of what was seen on a line is read, and each block of it is judged.
+// Traces: reads the text of what was seen on a line, and judges each block of it.
 //
-// The judge is the module's, scard_lent_judge_*, over memory that is lent to it. docs/RECORDED.md has the lines of a
-// trace, the order of its faults and the lines that are printed, docs/JUDGE.md the rules.
+// The judge is that of the module, scard_lent_judge_*, with its state in the module's memory. docs/RECORDED.md has the
+// lines of a trace, the order of its faults and the lines that are printed. docs/JUDGE.md has the rules.
 "use strict";
 
 const [JUDGED_UNSEEN, JUDGED_DEVIATION] = [2, 3];
@@ -9,15 +9,15 @@ const [SILENCE_POSSIBLE, SILENCE_CERTAIN] = [1, 2];
 const [ARRIVAL_UNSAID, ARRIVAL_LOST, ARRIVAL_CAME] = [0, 1, 2];
 const RULE_SILENCE = 22;
 const JUDGE_SIZE = SIZES[29];
-// The ends by the letters of their lines, with the names and the numbers that the header has for them.
+// The ends, by the letters of their lines, with their names and their numbers in the header.
 const SENDERS = { t: { side: "terminal", end: 0 }, c: { side: "card", end: 1 } };
-// What PPS has in place of a node address; the bits by which PPS0 says that PPS1, PPS2 and PPS3 are there; and what
-// counts where PPS1 isn't.
+// The first octet of PPS, which is in the place of a node address. The bits of PPS0 that say which of PPS1, PPS2 and
+// PPS3 are present. The value of PPS1 if it is absent.
 const PPSS = 0xff;
 const PPS_BITS = [0x10, 0x20, 0x40];
 const USUAL_RATES = 0x11;
 
-// What is expected of a line, by the fault in it.
+// What is expected of a line, by the name of the fault in it.
 const WANTED = {
   Word: "t HEX or c HEX, with lost or as HEX after it or not, quiet, reset, or at N",
   Hex: "an even number of hexadecimal digits",
@@ -28,14 +28,14 @@ const iBlock = ({ next }) => `I-block ${next}`;
 const rBlock = ({ expects }) => `R-block ${expects}`;
 const either = (due) => `${iBlock(due)} or ${rBlock(due)}`;
 const REQUESTS = ["its", "IFS", "WTX", "ABORT", "RESYNCH"];
-// What was due of an end, by the numbers that the header has for what it owed.
+// What an end owed, in words, by the numbers of the header.
 const DUE = [() => "", iBlock, iBlock, rBlock, ({ next }) => `${iBlock({ next: 1 - next })} again`, rBlock, rBlock,
   ({ asked }) => `${REQUESTS[asked]} request again`, ...SUBJECTS.map((name) => () => `${name} response`),
   either, () => "any block", either, iBlock, rBlock];
 
-// So many things, in words.
+// Returns a number of things in words.
 const several = (count, name) => `${count} ${name}${count === 1 ? "" : "s"}`;
-// The lines that are said of a trace.
+// The lines of an answer to a trace.
 const TOLD = {
   deviation: (number, side, rule, due, clause) => `block ${number} ${side}: ${rule}, due ${due}  (${clause})`,
   unseen: (number, side, before) => `block ${number} ${side}: permitted if block ${before} was damaged or lost unseen`,
@@ -48,13 +48,13 @@ const TOLD = {
     + `${several(terminal + card, "deviation")}: terminal ${terminal}, card ${card}, unseen ${unseen}`,
 };
 
-// Octets in hexadecimal of either case.
+// Decodes hexadecimal in upper or lower case.
 function hexSaid(word) {
   need(word.length % 2 === 0 && !/[^0-9A-Fa-f]/.test(word), "Hex");
   return octetsOf(word);
 }
 
-// Octets of an end, and how they reached the other one.
+// Returns the octets of an end, and how they reached the other end.
 function seenOf(words) {
   const way = wayOf(words);
   const octets = hexSaid(words[0]);
@@ -62,7 +62,7 @@ function seenOf(words) {
   return { octets, arrival: way === "lost" ? ARRIVAL_LOST : ARRIVAL_UNSAID, came: new Uint8Array(0) };
 }
 
-// What the words after the first one say, by that.
+// Functions that read the words after the first one, by the first word.
 const ENTRIES = {
   t: seenOf,
   c: seenOf,
@@ -71,7 +71,7 @@ const ENTRIES = {
   at: momentOf,
 };
 
-// What a line says: its first word, and what the others say. null where it says nothing.
+// Reads a line. Returns its first word and the meaning of the others, or null for an empty line or a remark.
 function entryOf(line) {
   const [name, ...words] = line.split(/[ \t\r]+/).filter((word) => word !== "");
   if (name === undefined || name.startsWith("#")) return null;
@@ -79,14 +79,14 @@ function entryOf(line) {
   return { name, said: ENTRIES[name](words) };
 }
 
-// What there is to say of a text that is no trace.
+// Answers a text that isn't a trace.
 function faultOfTrace(text, { message: name, line: number }) {
   const notes = lineNote(text, number, `expected: ${WANTED[name]}`);
   return { is: "fault", check: `fault: line ${number}: ${name}`, notes };
 }
 
-// A judge in the module's memory, for a card that takes fields of so many octets. `lines` are what it says of a trace,
-// and `steps` the trace with these lines at their places.
+// A judge in the module's memory, for a card with this IFSC. `lines` are its lines about a trace, and `steps` the trace
+// with each of these lines at its place.
 class Judge {
   constructor(scard, ifsc) {
     const { octets } = scard.memory;
@@ -96,7 +96,7 @@ class Judge {
     this.reset();
   }
 
-  // Blocks are counted on after a reset, and the module counts them from the last one.
+  // The page counts blocks over all resets, and the module counts them from the last reset.
   reset() {
     if (this.scard.verdict("scard_lent_judge_begin", this.state, this.ifsc).status !== OK) {
       throw new Error("a judge doesn't begin");
@@ -105,7 +105,8 @@ class Judge {
     this.begun = false;
   }
 
-  // Takes the lines of a text one after another, and says at its end what they come to. It stops after each line.
+  // Takes the lines of a text one after another, and adds the last line, which sums them up. The generator stops after
+  // each line.
   *run(text) {
     const lines = text.split("\n");
     if (lines.at(-1) === "") lines.pop();
@@ -151,14 +152,15 @@ class Judge {
     else this.block(sender, said);
   }
 
-  // Octets before the first block that begin as PPS does. What the card answers holds.
+  // Handles octets before the first block that begin with PPSS. The rates of the card's response apply.
   before({ side }, octets, number) {
     const rates = octets[1] & PPS_BITS[0] ? octets[2] : USUAL_RATES;
     if (!this.isPps(octets)) this.tell(TOLD.neither(number));
     else if (side === "card") this.tell(TOLD.pps(...this.scard.rates(rates)));
   }
 
-  // PPSS, PPS0, an octet for each of three bits of it, and PCK, by which the exclusive-or of all is 00.
+  // Returns whether octets are PPS: PPSS, PPS0, an octet for each of the three bits that is set, and PCK. Their
+  // exclusive-or is 00.
   isPps(octets) {
     const count = PPS_BITS.filter((bit) => octets[1] & bit).length;
     const { calls, memory } = this.scard;
@@ -177,7 +179,7 @@ class Judge {
     this.tellVerdict(side, judgment);
   }
 
-  // Where a call writes a judgment, and the one that was written.
+  // `out` is where a call writes a judgment, and `judgment` reads it.
   out() {
     return BigInt(this.scard.memory.value);
   }

@@ -1,9 +1,9 @@
-/* The first call: whether octets are a block of T=1, by the rules of ISO/IEC 7816-3. It needs no toolchain and no
- * installed library:
+/* A first program: it checks whether octets are a block of T=1 (ISO/IEC 7816-3). It needs no toolchain and no installed
+ * library:
  *
  *     cc -Idist/c examples/c/FIRST.c dist/c/scard.c && ./a.out
  *
- * prints `ok 9 octets`.
+ * It prints `ok 9 octets`.
  */
 #include "scard.h"
 

@@ -1,4 +1,4 @@
-/* A card simulator: each command is answered with its own octets and 9000. */
+/* A card simulator. It replies to each command with the octets of the command and 9000. */
 #include "line.h"
 
 #include <stdlib.h>
@@ -9,16 +9,16 @@ enum { LONGEST_COMMAND = 65544, LONGEST_REPLY = 65538 };
 struct card {
     struct scard_card_session session;
     uint8_t command[LONGEST_COMMAND], reply[LONGEST_REPLY];
-    uint8_t made[LONGEST_REPLY]; /* the reply, as the host makes it */
+    uint8_t made[LONGEST_REPLY]; /* the reply that the host makes */
 };
 
-/* The host of the card: the reply to a command. */
+/* The host of the card: it makes the reply to a command. */
 static struct scard_host_turn echo(void *context, const uint8_t *command, size_t count, size_t granted)
 {
     struct card *card = context;
     struct scard_command parts;
     struct scard_host_turn turn = {SCARD_HOST_REPLY, 0, card->made, 2};
-    (void)granted; /* it never asks for anything */
+    (void)granted; /* this host never asks for time or for a field size */
     if (scard_command_decode(command, count, &parts).status != SCARD_OK || count > sizeof card->made - 2) {
         memcpy(card->made, "\x67\x00", 2);
         return turn;

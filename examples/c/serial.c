@@ -1,4 +1,4 @@
-/* A POSIX serial port as the line of a session. */
+/* Uses a POSIX serial port as the line of a session. */
 #include "serial.h"
 #include "line.h"
 
@@ -8,8 +8,8 @@
 #include <termios.h>
 #include <unistd.h>
 
-/* Characters as T=1 has them: eight bits, even parity, two stop bits, 12 etu in all. No octet means anything to the
- * port, and one of wrong parity is read as 00: the check octet finds it.
+/* Sets the port up for the characters of T=1: eight bits, even parity and two stop bits, so 12 etu in all. The port
+ * treats no octet as special. It reads an octet of wrong parity as 00, and the check octet then detects the error.
  */
 static int set_up(int descriptor)
 {
@@ -55,7 +55,9 @@ void serial_close(struct serial *serial)
     serial->descriptor = -1;
 }
 
-/* Waits for an event of the port at most so long: more than 0 where it is there, 0, or -1. A signal is no end of it. */
+/* Waits for an event of the port, at most until the time `until`. Returns more than 0 if the event came, 0 on a
+ * timeout, or -1. A signal doesn't end the wait.
+ */
 static int await(struct serial *serial, short event, uint64_t until)
 {
     struct pollfd waits;
@@ -78,7 +80,7 @@ static int drain(int descriptor)
     return said;
 }
 
-/* The waiting times count from the end of the last octet, so this returns once the wire has it. */
+/* The waiting times count from the end of the last octet. So this returns only after the port has sent it. */
 static int send_octets(void *context, const uint8_t *octets, size_t count)
 {
     struct serial *serial = context;

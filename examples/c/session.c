@@ -1,5 +1,6 @@
-/* A terminal and a card at the two ends of a pair of sockets, which hand over a whole block or nothing: each word is a
- * command, each line its answer. The session is begun once, with the power up of the card. Run it as: session HEX.. */
+/* A terminal and a card at the two ends of a pair of sockets, which deliver a whole block or nothing. Each word is a
+ * command, and each line of output is its answer. The session begins once, when the card is powered up. Run it as:
+ * session HEX.. */
 #include "line.h"
 
 #include <stdio.h>
@@ -11,14 +12,14 @@
 
 enum { MOST = 1024 };
 
-/* The card, at its end of the pair. */
+/* Runs the card at its end of the pair. */
 static int be_card(int *descriptor)
 {
     struct scard_line line = line_over(descriptor);
     return card_serve(&line, SCARD_SILENCE_NONE) == 0 ? 0 : 1;
 }
 
-/* Sends the command that a word says, and prints the answer. */
+/* Sends the command that a word has in hexadecimal, and prints the answer. */
 static int exchange(struct terminal *terminal, const char *word)
 {
     uint8_t command[MOST];
@@ -26,7 +27,7 @@ static int exchange(struct terminal *terminal, const char *word)
     struct scard_verdict decoded = scard_hex_decode(word, strlen(word), command, MOST), put;
     long count;
     if (decoded.status != SCARD_OK) {
-        fprintf(stderr, "no octets, or more than %d: %s\n", MOST, word);
+        fprintf(stderr, "not octets in hexadecimal, or more than %d: %s\n", MOST, word);
         return -1;
     }
     count = terminal_exchange(terminal, command, decoded.place);

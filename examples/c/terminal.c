@@ -1,10 +1,12 @@
-/* A terminal: it takes a card's answer to reset, and exchanges commands and answers with it. */
+/* A terminal. It receives the answer to reset of a card, and exchanges commands and answers with it. */
 #include "line.h"
 
-/* A card begins its answer to reset within 40,000 cycles, and each octet follows within 9,600 etu: a second. */
+/* The timeout for the answer to reset: one second. A card begins its answer within 40,000 cycles, and each octet
+ * follows within 9,600 etu.
+ */
 enum { RESET_TIME = 1000000, LONGEST_ATR = 33 };
 
-/* Takes the answer to reset, which says itself where it ends. */
+/* Receives the answer to reset, whose octets say where it ends. */
 static int take_atr(const struct scard_line *line, struct scard_atr *atr)
 {
     uint8_t octets[LONGEST_ATR];

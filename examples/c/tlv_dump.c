@@ -1,4 +1,4 @@
-/* The data objects of octets, a line each, those inside an object further to the right. Run it as: tlv_dump HEX */
+/* Prints the data objects in octets, one on each line. Objects inside another are indented. Run it as: tlv_dump HEX */
 #include "scard.h"
 
 #include <stdio.h>
@@ -14,7 +14,7 @@ static void print_hex(const uint8_t *octets, size_t count)
     }
 }
 
-/* Prints objects, each before those inside it. */
+/* Prints objects, each before the objects inside it. */
 static void dump(const uint8_t *octets, const struct scard_part *parts, size_t count)
 {
     size_t part;
@@ -32,7 +32,7 @@ static void dump(const uint8_t *octets, const struct scard_part *parts, size_t c
 int main(int count, char **words)
 {
     static uint8_t octets[MOST];
-    static struct scard_part parts[MOST / 2]; /* an object has two octets at the least */
+    static struct scard_part parts[MOST / 2]; /* an object has at least two octets */
     struct scard_verdict read, found;
     if (count != 2) {
         fputs("usage: tlv_dump HEX\n", stderr);
@@ -40,7 +40,7 @@ int main(int count, char **words)
     }
     read = scard_hex_decode(words[1], strlen(words[1]), octets, MOST);
     if (read.status != SCARD_OK) {
-        fprintf(stderr, "no octets: %s at %zu\n", scard_reason_name(SCARD_CODEC_HEX, read.reason), read.place);
+        fprintf(stderr, "invalid octets: %s at %zu\n", scard_reason_name(SCARD_CODEC_HEX, read.reason), read.place);
         return 2;
     }
     found = scard_tlv_parts(octets, read.place, MOST, parts, MOST / 2);

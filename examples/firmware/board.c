@@ -1,4 +1,4 @@
-/* The board's UART, timer and start: see board.h. */
+/* The UART, the timer and the startup code of the board. board.h describes the functions. */
 #include "board.h"
 
 /* ---- registers ---- */
@@ -29,7 +29,7 @@ void board_begin(void)
     seen = TIMER->value;
 }
 
-/* The timer counts down, and is around in 171 seconds: it is looked at more often than that. */
+/* The timer counts down, and wraps after 171 seconds. The program has to read it more often than that. */
 uint64_t board_now(void)
 {
     uint32_t value = TIMER->value;
@@ -165,14 +165,16 @@ static void fault(void)
     board_end(4);
 }
 
-/* What scard.c calls where an access would leave its buffer, which can't happen: SCARD_OWN_TRAP. */
+/* scard.c calls this if an access would leave its buffer, which can't happen. The macro SCARD_OWN_TRAP says that the
+ * program defines it.
+ */
 void scard_trap(void)
 {
     board_say("trap\n");
     board_end(3);
 }
 
-/* The table that the processor begins with: where the stack ends, and the functions for the first exceptions. */
+/* The vector table of the processor: the end of the stack, and the handlers of the first exceptions. */
 __attribute__((section(".vectors"), used)) static const struct {
     uint32_t *stack;
     void (*handlers[15])(void);

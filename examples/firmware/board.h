@@ -1,37 +1,37 @@
-/* The board: a UART as the line of a session, a timer, and the way to the debugger, for Arm's MPS2 with a Cortex-M4
- * (AN386), as qemu has it.
+/* The board: a UART as the line of a session, a timer, and the connection to the debugger. It is Arm's MPS2 with a
+ * Cortex-M4 (AN386), as qemu emulates it.
  */
 #ifndef BOARD_H
 #define BOARD_H
 
 #include "scard_session.h"
 
-/* The line over the first UART. Of the octets that it sends it loses `in_million` in a million and changes as many, by a
- * fixed sequence: that tries the session.
+/* The line over the first UART. To test the session, it disturbs the octets that it sends: of a million octets it loses
+ * `in_million` and changes `in_million`, by a fixed sequence.
  */
 struct board_line {
-    uint64_t last;        /* when the last octet was sent or came, in microseconds */
-    uint32_t in_million;  /* the octets that are lost, and as many that are damaged */
-    uint32_t die;
+    uint64_t last;        /* when the last octet was sent or received, in microseconds */
+    uint32_t in_million;  /* how many octets of a million are lost, and how many are changed */
+    uint32_t die;         /* the state of the fixed sequence */
 };
 
 /* Starts the UART and the timer. */
 void board_begin(void);
 
-/* The time in microseconds since then. */
+/* Returns the time in microseconds since board_begin. */
 uint64_t board_now(void);
 
-/* The functions of a session's line. */
+/* Returns the line of a session over the UART. */
 struct scard_line board_line_of(struct board_line *line);
 
 /* Writes a text, or a number in decimal digits, to the debugger. */
 void board_say(const char *text);
 void board_say_number(uint32_t number);
 
-/* Ends the program: the debugger, which is qemu, ends with this status. */
+/* Ends the program. The debugger, which is qemu, exits with this status. */
 void board_end(int status);
 
-/* The next number of a fixed sequence. */
+/* Returns the next number of a fixed sequence. */
 uint32_t board_any(uint32_t *die);
 
 #endif

@@ -1,5 +1,5 @@
-/* The card's image: it answers each command once. A command whose number it has answered before is answered 6F 00, which
- * the terminal counts as wrong: no command may be acted on twice.
+/* The image of the card. It acts on each command once. If a command has a number that the card has answered before, it
+ * answers 6F 00, which the terminal counts as wrong: a card may not act on a command twice.
  */
 #include "trial.h"
 
@@ -22,7 +22,7 @@ static struct scard_host_turn serve(void *context, const uint8_t *command, size_
     memset(&turn, 0, sizeof turn);
     turn.kind = SCARD_HOST_REPLY;
     if (granted == 0 && count % 16 == 0) {
-        turn.kind = SCARD_HOST_TIME; /* now and then it asks for more time, before it acts */
+        turn.kind = SCARD_HOST_TIME; /* the card sometimes asks for more time before it acts */
         turn.number = 2;
         return turn;
     }

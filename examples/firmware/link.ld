@@ -1,4 +1,4 @@
-/* 256 KB of flash and 32 KB of RAM, of which the stack has what the variables leave. */
+/* 256 KB of flash and 32 KB of RAM. The stack gets the RAM that the variables leave. */
 MEMORY {
     FLASH (rx) : ORIGIN = 0x00000000, LENGTH = 256K
     RAM (rwx) : ORIGIN = 0x20000000, LENGTH = 32K

@@ -1,6 +1,6 @@
-/* The terminal's image: exchanges with the card's over a line that loses and damages octets. An exchange is right where
- * its answer is that of its command; an answer that is another one is wrong. One that is given up is neither: the
- * terminal knows that it has no answer. It prints `N right, M given up, 0 wrong`.
+/* The image of the terminal. It exchanges commands with the card over a line that loses and damages octets. An exchange
+ * is right if its answer belongs to its command. It is wrong if it has another answer. If the session gives it up, it
+ * is neither: the terminal knows that it has no answer. The program prints `N right, M given up, 0 wrong`.
  */
 #include "trial.h"
 
@@ -22,7 +22,7 @@ static size_t make_command(uint32_t number)
     return count;
 }
 
-/* One exchange: 1 where it is right, 0 where it is given up, -1 where it is wrong. */
+/* Makes one exchange. Returns 1 if it is right, 0 if it was given up, and -1 if it is wrong. */
 static int exchange(uint32_t number)
 {
     size_t count = make_command(number), answers = trial_answer(command, count, wanted);
@@ -33,7 +33,7 @@ static int exchange(uint32_t number)
     if (turn.kind == SCARD_SESSION_NO_STATUS) {
         return -1;
     }
-    /* a card that is found dead can't be reset here: it is asked to begin anew until it does */
+    /* the terminal can't reset a dead card here, so it sends RESYNCH until the card answers */
     while (turn.kind != SCARD_GIVEN_UP) {
         turn = scard_session_resync(&session, &setup);
     }

@@ -1,13 +1,15 @@
-/* What both images of the trial know: the parameters of the session, what a command looks like, and its answer. */
+/* What both images share: the parameters of the session, the form of a command, and its answer. */
 #ifndef TRIAL_H
 #define TRIAL_H
 
 #include "board.h"
 
-/* A command has the number of its exchange in its first octets, an answer the same and 90 00 in its last. */
+/* A command has the number of its exchange in its first octets. Its answer has the octets of the command, changed, and
+ * 90 00 at its end.
+ */
 enum { EXCHANGES = 1000, NUMBER = 4, SHORTEST = NUMBER + 1, LONGEST = 200, ROOM = 256, IN_MILLION = 150 };
 
-/* An answer is each octet of the command, changed, and the status bytes. */
+/* Writes the answer: each octet of the command, changed, and the status bytes. Returns its length. */
 static inline size_t trial_answer(const uint8_t *command, size_t count, uint8_t *answer)
 {
     size_t place;
@@ -19,7 +21,8 @@ static inline size_t trial_answer(const uint8_t *command, size_t count, uint8_t 
     return count + 2;
 }
 
-/* Everything of a setup but the buffers. An etu is 74.4 microseconds, BWT some 290 milliseconds, CWT 39. */
+/* Returns a setup without the buffers. An etu is 74.4 microseconds, BWT some 290 milliseconds and CWT 39 milliseconds.
+ */
 static inline struct scard_setup trial_setup(struct board_line *line)
 {
     struct scard_setup setup;

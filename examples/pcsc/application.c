@@ -1,4 +1,4 @@
-/* A card to try clients with: a file of 65,536 octets, an echo, and a count of the commands since the reset. */
+/* A card to try clients with. It has a file of 65,536 octets, an echo, and a count of the commands since the reset. */
 #include "application.h"
 #include "scard.h"
 
@@ -10,7 +10,7 @@ enum { FILE_SIZE = 65536 };
 static const uint8_t name[] = {0xF0, 0x53, 0x43, 0x41, 0x52, 0x44, 0x01};
 static uint32_t served; /* commands since the reset */
 
-/* Ends a reply of so many octets of data with its status bytes. */
+/* Appends the status bytes to a reply with `count` octets of data. Returns its length. */
 static size_t ended(uint8_t *reply, size_t count, uint16_t status)
 {
     reply[count] = (uint8_t)(status >> 8);
@@ -18,7 +18,8 @@ static size_t ended(uint8_t *reply, size_t count, uint16_t status)
     return count + 2;
 }
 
-/* T=1 twice, so that IFSC 254, BWI 4 and CWI 5 come after TD2. The historical bytes tell of extended lengths. */
+/* The answer offers T=1 twice, so that IFSC 254, BWI 4 and CWI 5 come after TD2. The historical bytes say that the card
+ * accepts extended lengths. */
 static size_t answer_to_reset(uint8_t *reply)
 {
     static const uint8_t historical[] = {0x80, 0x73, 0x80, 0x01, 0x40};
@@ -52,7 +53,7 @@ static size_t select_by_name(const struct scard_command *command, const uint8_t 
     return ended(reply, sizeof information, 0x9000);
 }
 
-/* The octet at a place of the file is 7 times the place and 13 times its high octet and 5. */
+/* An octet of the file is the sum of 7 times its offset, 13 times the high octet of the offset, and 5. */
 static size_t read_binary(uint32_t from, uint32_t wanted, uint8_t *reply)
 {
     uint32_t count = FILE_SIZE - from < wanted ? FILE_SIZE - from : wanted, at;
@@ -65,7 +66,7 @@ static size_t read_binary(uint32_t from, uint32_t wanted, uint8_t *reply)
     return ended(reply, count, count < wanted ? 0x6282 : 0x9000);
 }
 
-/* GET DATA 0101: how many commands came before this one. */
+/* GET DATA 0101: the number of commands before this one. */
 static size_t count_of_commands(uint32_t tag, uint8_t *reply)
 {
     int octet;
@@ -78,7 +79,7 @@ static size_t count_of_commands(uint32_t tag, uint8_t *reply)
     return ended(reply, 4, 0x9000);
 }
 
-/* An instruction of this card's own: it answers after so many tenths of a second, and asks for no time. */
+/* An instruction of this card alone: it answers after this number of tenths of a second, and doesn't ask for time. */
 static size_t late(uint32_t tenths, uint8_t *reply)
 {
     for (; tenths > 0; tenths--) {
@@ -107,7 +108,7 @@ size_t application(const uint8_t *octets, size_t count, uint8_t *reply)
         return read_binary(parameters, command.le, reply);
     case 0x00CA:
         return count_of_commands(parameters, reply);
-    case 0x00CB: /* the data field comes back, so that both directions have long messages */
+    case 0x00CB: /* the echo returns the data field, so both directions have long messages */
         if (command.le < command.data_len) {
             return ended(reply, 0, 0x6700);
         }

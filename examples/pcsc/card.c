@@ -1,5 +1,5 @@
-/* The card: a process that a reader powers up over a Unix socket. Starting it puts the card in, ending it takes it out.
- * One reader has it at a time. Run it as: card SOCKET [time=N] */
+/* The card: a process that a reader powers up over a Unix socket. To put the card in, start the process. To take it
+ * out, end the process. The card serves one reader at a time. Run it as: card SOCKET [time=N] */
 #include "simulated.h"
 #include "wire.h"
 
@@ -12,9 +12,9 @@
 /* The line to the reader that is connected. */
 struct reader {
     int socket;
-    bool is_reset, is_gone; /* a reset came, or the reader went */
+    bool is_reset, is_gone; /* a reset came, or the reader went away */
     uint8_t octets[WIRE_ROOM];
-    size_t place, count; /* what isn't taken yet of a block */
+    size_t place, count; /* the part of a block that isn't read yet */
 };
 
 static int send_block(void *context, const uint8_t *octets, size_t count)
@@ -23,7 +23,7 @@ static int send_block(void *context, const uint8_t *octets, size_t count)
     return wire_send(reader->socket, WIRE_BLOCK, octets, count) == 0 ? 0 : SCARD_LINE_FAILED;
 }
 
-/* Waits for a message: a block, a reset or the reader's end. */
+/* Waits for a message: a block, a reset, or the end of the reader. */
 static void wait_for_message(struct reader *reader, int milliseconds)
 {
     uint8_t kind = 0;
@@ -34,7 +34,7 @@ static void wait_for_message(struct reader *reader, int milliseconds)
     reader->count = count > 0 && kind == WIRE_BLOCK ? (size_t)count : 0;
 }
 
-/* A message has all that comes of a block, so nobody waits for its rest. A reset ends the session. */
+/* Receives octets. A message holds all of a block, so no rest can follow. A reset ends the session. */
 static int receive_octets(void *context, uint8_t *octets, size_t room, uint64_t microseconds)
 {
     struct reader *reader = context;
@@ -58,12 +58,12 @@ static void tell(void *context, const char *word, const uint8_t *octets, size_t 
     wire_send(reader->socket, kind, octets, count);
 }
 
-/* Serves a reader from one reset to the next, until it goes. */
+/* Serves a reader from one reset to the next, until the reader goes away. */
 static void serve(struct simulated *card, struct reader *reader)
 {
     uint8_t unwanted[SCARD_BLOCK_ROOM];
     while (!reader->is_gone) {
-        if (!reader->is_reset) { /* without power a card hears nothing */
+        if (!reader->is_reset) { /* without power a card receives nothing */
             receive_octets(reader, unwanted, sizeof unwanted, SCARD_LINE_FOREVER);
             continue;
         }

@@ -7,7 +7,9 @@
 #include <time.h>
 #include <unistd.h>
 
-/* In milliseconds. pcscd asks for the card each 400 and at other times too, so one that goes stays away for longer. */
+/* In milliseconds. pcscd polls for the card every 400 milliseconds, and at other times too. So a card that was taken
+ * out stays away for longer than that.
+ */
 enum { RESET_TIME = 1000, AWAY_TIME = 1000 };
 
 enum { LONGEST_ATR = 33 };
@@ -70,7 +72,7 @@ static int send_block(void *context, const uint8_t *octets, size_t count)
     return wire_send(contact->socket, WIRE_BLOCK, arrives, arriving) == 0 ? 0 : SCARD_LINE_FAILED;
 }
 
-/* A block came: it is lost, or nobody awaits it, or it is there to be taken. */
+/* Handles a block from the card. The block is lost, or ignored if nobody waits for it, or ready to be read. */
 static void take_block(struct contact *contact, size_t count)
 {
     uint8_t sent[SCARD_BLOCK_ROOM];
@@ -86,7 +88,7 @@ static void take_block(struct contact *contact, size_t count)
     record_block(&contact->record, 'c', sent, count, contact->message, contact->count);
 }
 
-/* What the card's host does, for the recording. */
+/* Records what the card's host does. */
 static void take_word(struct contact *contact, uint8_t kind, size_t count)
 {
     const char *word = kind == WIRE_ASKED ? "asked" : kind == WIRE_REPLY ? "reply" : "time";
@@ -106,7 +108,9 @@ static long take_message(struct contact *contact, int wait)
     return count;
 }
 
-/* Nothing came within the waiting time. Where that is known beforehand it goes by only if the plan says so. */
+/* Handles a timeout: no octet came within the waiting time. If a block was lost, the time passes only if the plan says
+ * so.
+ */
 static int silence(struct contact *contact, uint64_t microseconds)
 {
     if (contact->is_lost && contact->plan.waits) {
@@ -121,8 +125,9 @@ static int silence(struct contact *contact, uint64_t microseconds)
     return 0;
 }
 
-/* Waits until a block is there, is known to be lost, or the time went by: 0, or WIRE_GONE. Where no block is awaited it
- * takes what is there already: a message has all of its block, so nobody waits for the rest of one. */
+/* Waits until a block is there, a block is known to be lost, or the time is over. Returns 0, or WIRE_GONE. If the
+ * terminal waits for no block, it only reads what is there already: a message holds all of a block, so no rest can
+ * follow. */
 static long wait_for_block(struct contact *contact, uint64_t microseconds)
 {
     uint64_t until = milliseconds() + (microseconds + 999) / 1000, now = milliseconds();
@@ -167,7 +172,7 @@ struct scard_line contact_line(struct contact *contact)
 
 /* ---- power ---- */
 
-/* Takes the answer to reset; what the card sent before it is dropped. */
+/* Receives the answer to reset. Discards what the card sent before it. */
 static size_t take_atr(struct contact *contact, uint8_t atr[33])
 {
     uint64_t until = milliseconds() + RESET_TIME, now = milliseconds();

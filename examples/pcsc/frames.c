@@ -18,7 +18,7 @@ bool frames_open(struct frames *frames, const char *link)
     if (frames->line < 0 || grantpt(frames->line) != 0 || unlockpt(frames->line) != 0) {
         return false;
     }
-    host = open(ptsname(frames->line), O_RDWR | O_NOCTTY | O_CLOEXEC); /* so the line lives while no driver has it */
+    host = open(ptsname(frames->line), O_RDWR | O_NOCTTY | O_CLOEXEC); /* keeps the line open while no driver has it */
     if (host < 0 || tcgetattr(host, &raw) != 0) {
         return false;
     }
@@ -56,7 +56,7 @@ static void write_message(struct frames *frames, size_t data)
     write_octets(frames, frame, count + 1);
 }
 
-/* Reads a frame's message: how much data it has; -1 where that is wrong, or the line ended. */
+/* Reads the message of a frame. Returns the length of its data, or -1 if the frame is wrong or the line ended. */
 static long read_message(struct frames *frames)
 {
     uint8_t check;
@@ -99,6 +99,6 @@ void frames_answer(struct frames *frames, uint8_t kind, size_t data, bool has_po
     message[3] = message[4] = 0;
     message[7] = (uint8_t)((error != 0 ? 0x40 : 0) | (has_power ? 0 : 1));
     message[8] = error;
-    message[9] = kind == 0x82 ? 1 : 0; /* parameters are those of T=1 */
+    message[9] = kind == 0x82 ? 1 : 0; /* the parameters are those of T=1 */
     write_message(frames, data);
 }

@@ -1,5 +1,5 @@
-/* The frames of a serial CCID reader: 03 06, a message, and the exclusive-or of all that. The reader gives each frame
- * of the host back before it answers. */
+/* The frames of a serial CCID reader: 03 06, a message, and the exclusive-or of all these octets. The reader echoes
+ * each frame of the host before it answers. */
 #ifndef FRAMES_H
 #define FRAMES_H
 
@@ -7,7 +7,7 @@
 #include <stddef.h>
 #include <stdint.h>
 
-/* A message has a head, whose first octet is its kind, and data after it. */
+/* A message is a head and data after it. The first octet of the head is the kind of the message. */
 enum { FRAME_HEAD = 10, FRAME_DATA = 512 };
 
 struct frames {
@@ -16,14 +16,14 @@ struct frames {
     uint8_t message[FRAME_HEAD + FRAME_DATA];
 };
 
-/* Opens a pseudo-terminal, to which LINK becomes a symbolic link: false where it can't. */
+/* Opens a pseudo-terminal, and makes `link` a symbolic link to it. Returns false if it can't. */
 bool frames_open(struct frames *frames, const char *link);
 
-/* The next message of the host: how much data it has, or -1 at the line's end. */
+/* Reads the next message of the host. Returns the length of its data, or -1 at the end of the line. */
 long frames_next(struct frames *frames);
 
-/* Answers the message under way by one of this kind, with data that is in it already. An error is one of the reader's
- * slot, 0 for none. */
+/* Answers the current message with a message of this kind. The data is in it already. `error` is an error of the slot
+ * of the reader, or 0 for none. */
 void frames_answer(struct frames *frames, uint8_t kind, size_t data, bool has_power, uint8_t error);
 
 #endif

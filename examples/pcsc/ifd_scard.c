@@ -1,6 +1,6 @@
-/* A reader for pcscd (IFD handler 3.0): the terminal is scard's, and the card the process `card` at a Unix socket,
- * which is the reader's DEVICENAME. What is done to the blocks between them is the text of the file DEVICENAME.plan,
- * read at each power up, or what a client sets by the control code CONTROL_PLAN. */
+/* A reader for pcscd (IFD handler 3.0). The terminal is that of scard. The card is the process `card` at a Unix socket,
+ * the DEVICENAME of the reader. A plan says how the blocks between them are disturbed. The driver reads it from the
+ * file DEVICENAME.plan at each power up, or a client sends it with the control code CONTROL_PLAN. */
 #include "application.h"
 #include "contact.h"
 
@@ -14,13 +14,13 @@
 enum {
     READERS = 8,
     IFSD = 254,
-    CONTROL_PLAN = SCARD_CTL_CODE(2049),  /* takes a plan, whose blocks count from here on */
-    CONTROL_COUNTS = SCARD_CTL_CODE(2050) /* gives what was done to blocks so far, as a text */
+    CONTROL_PLAN = SCARD_CTL_CODE(2049),  /* sets a plan, whose blocks count from here on */
+    CONTROL_COUNTS = SCARD_CTL_CODE(2050) /* returns the faults of the blocks so far, as a text */
 };
 
 struct reader {
     bool is_open, has_power, has_t1, is_size_set;
-    bool is_over; /* the session: nothing but a reset goes on */
+    bool is_over; /* the session is over: only a reset works */
     DWORD lun;
     struct contact contact;
     uint8_t atr[MAX_ATR_SIZE];
@@ -51,14 +51,14 @@ static bool power_up(struct reader *reader)
                                 .command = reader->command, .command_room = sizeof reader->command,
                                 .answer = reader->answer, .answer_room = sizeof reader->answer,
                                 .clock = {372, 1, 3571200},
-                                .silence = SCARD_SILENCE_NONE}; /* a message is a whole burst */
+                                .silence = SCARD_SILENCE_NONE}; /* each message is a whole burst */
     struct scard_atr atr;
     bool is_plan = true;
     reader->has_power = reader->has_t1 = reader->is_size_set = false;
     reader->is_over = true;
     reader->atr_count = contact_reset(&reader->contact, reader->atr, &is_plan);
     if (!is_plan) {
-        Log2(PCSC_LOG_ERROR, "no plan: %s.plan", reader->contact.device);
+        Log2(PCSC_LOG_ERROR, "invalid plan: %s.plan", reader->contact.device);
     }
     if (scard_atr_decode(reader->atr, reader->atr_count, &atr).status != SCARD_OK) {
         return false;
@@ -72,19 +72,19 @@ static bool power_up(struct reader *reader)
 
 /* ---- exchanges ---- */
 
-/* What the client is told where there is no answer. */
+/* Returns the error that the client gets if there is no answer. */
 static RESPONSECODE no_answer(const struct reader *reader)
 {
     return contact_is_made(&reader->contact) ? IFD_COMMUNICATION_ERROR : IFD_ICC_NOT_PRESENT;
 }
 
-/* The same at a turn that isn't an answer, and the recording of it. */
+/* Records a turn that isn't an answer, and returns the error that the client gets. */
 static RESPONSECODE failed(struct reader *reader, struct scard_turn turn)
 {
     Log2(PCSC_LOG_ERROR, "no answer: turn %d", turn.kind);
     reader->is_over = turn.kind != SCARD_GIVEN_UP;
     if (turn.kind == SCARD_GIVEN_UP) {
-        reader->is_size_set = false; /* RESYNCH set it back */
+        reader->is_size_set = false; /* RESYNCH reset it */
         record_word(&reader->contact.record, "given-up");
     } else if (turn.kind == SCARD_DEAD) {
         record_word(&reader->contact.record, "dead");
@@ -92,7 +92,7 @@ static RESPONSECODE failed(struct reader *reader, struct scard_turn turn)
     return no_answer(reader);
 }
 
-/* Tells the card of the reader's size, once a session and after each RESYNCH. */
+/* Tells the card the field size of the reader, once in a session and after each RESYNCH. */
 static RESPONSECODE set_size(struct reader *reader)
 {
     const uint8_t size = IFSD;
@@ -144,7 +144,7 @@ RESPONSECODE IFDHSetProtocolParameters(DWORD Lun, DWORD Protocol, UCHAR Flags, U
     if (Protocol != SCARD_PROTOCOL_T1 || reader == NULL) {
         return IFD_PROTOCOL_NOT_SUPPORTED;
     }
-    /* pcscd takes the card for powered, so it won't reset it by itself where an earlier session is over. */
+    /* pcscd believes that the card has power. So it won't reset the card by itself if the session before is over. */
     if (reader->is_over && !power_up(reader)) {
         return IFD_ERROR_PTS_FAILURE;
     }
@@ -175,7 +175,7 @@ RESPONSECODE IFDHCreateChannelByName(DWORD Lun, LPSTR DeviceName)
 RESPONSECODE IFDHCreateChannel(DWORD Lun, DWORD Channel)
 {
     (void)Lun, (void)Channel;
-    return IFD_NOT_SUPPORTED; /* a reader of this driver has a name */
+    return IFD_NOT_SUPPORTED; /* this driver opens a reader only by its name */
 }
 
 RESPONSECODE IFDHCloseChannel(DWORD Lun)
@@ -250,7 +250,7 @@ RESPONSECODE IFDHPowerICC(DWORD Lun, DWORD Action, PUCHAR Atr, PDWORD AtrLength)
     return IFD_SUCCESS;
 }
 
-/* What was done to blocks, as words and numbers: how many characters. */
+/* Writes the faults of the blocks so far, as words and numbers. Returns the number of characters. */
 static int counts_of(const struct plan *plan, char *text, size_t room)
 {
     const uint32_t *faults = plan->faults;
@@ -271,7 +271,7 @@ RESPONSECODE IFDHControl(DWORD Lun, DWORD dwControlCode, PUCHAR TxBuffer, DWORD 
     }
     switch (dwControlCode) {
     case CM_IOCTL_GET_FEATURE_REQUEST:
-        return IFD_SUCCESS; /* it has none */
+        return IFD_SUCCESS; /* the reader has no features */
     case CONTROL_PLAN:
         memcpy(text, TxBuffer, TxLength);
         text[TxLength] = 0;
@@ -298,7 +298,7 @@ RESPONSECODE IFDHICCPresence(DWORD Lun)
         return IFD_ICC_PRESENT;
     }
     if (reader->contact.socket >= 0) {
-        contact_break(&reader->contact); /* the card was taken out; another one is looked for at the next question */
+        contact_break(&reader->contact); /* the card was taken out; the next call looks for another one */
         return IFD_ICC_NOT_PRESENT;
     }
     return contact_make(&reader->contact) ? IFD_ICC_PRESENT : IFD_ICC_NOT_PRESENT;

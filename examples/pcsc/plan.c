@@ -16,7 +16,7 @@ static uint32_t throw_die(struct plan *plan)
     return (uint32_t)(plan->die >> 11);
 }
 
-/* Numbers parted by commas, of blocks with a fault: false where it is no such list. */
+/* Reads the numbers of blocks with a fault, separated by commas. Returns false if the text is no such list. */
 static bool read_list(struct plan *plan, enum fault fault, char *text)
 {
     char *end;
@@ -104,7 +104,7 @@ static enum fault fault_of(struct plan *plan)
     return FAULT_NONE;
 }
 
-/* Octets follow a block, a few or as many as there is room for. */
+/* Adds octets after a block: 1 to 16, as far as there is room. */
 static size_t extend(struct plan *plan, uint8_t *octets, size_t count)
 {
     size_t more = 1 + throw_die(plan) % 16;
@@ -114,7 +114,7 @@ static size_t extend(struct plan *plan, uint8_t *octets, size_t count)
     return count;
 }
 
-/* A change of the octet at a place: into each other one as often. */
+/* Changes an octet to another one, each with the same probability. */
 static void change(struct plan *plan, uint8_t *octet)
 {
     *octet = (uint8_t)(*octet ^ (1 + throw_die(plan) % 255));

@@ -5,7 +5,8 @@
 #include <string.h>
 #include <time.h>
 
-/* An exchange file has at most 4,194,304 octets, and the longest exchange under faults has less than half of these. */
+/* When a file is full, in octets. An exchange file has at most 4,194,304, and the longest exchange under faults has
+ * less than half of these. */
 enum { FULL = 2000000 };
 
 static uint64_t now(void)
@@ -57,7 +58,7 @@ static void put_octets(FILE *file, const uint8_t *octets, size_t count)
     }
 }
 
-/* The file of the session, which is made at its first line. */
+/* Returns the file of the session, and creates it at the first line. */
 static FILE *opened(struct record *record)
 {
     char name[sizeof record->name + 16];
@@ -75,7 +76,7 @@ static FILE *opened(struct record *record)
     return record->file;
 }
 
-/* A line with the moment, where that is another one than before. */
+/* Writes a line with the moment, if it differs from the last one. */
 static void put_moment(struct record *record, FILE *file)
 {
     uint64_t moment = now() - record->began + record->jumped;
@@ -85,7 +86,7 @@ static void put_moment(struct record *record, FILE *file)
     }
 }
 
-/* Whether a command may be written: a file that is full ends before one, with a remark. */
+/* Returns true if there is room for a command. A full file ends before a command, with a note. */
 static bool has_room(struct record *record)
 {
     if (opened(record) != NULL && !record->is_full && ftell(record->file) > FULL) {
@@ -96,7 +97,7 @@ static bool has_room(struct record *record)
     return record->file != NULL && !record->is_full;
 }
 
-/* Where the next line goes, its first word written; NULL for nowhere. */
+/* Begins the next line with its first word. Returns where the line goes, or NULL if it isn't written. */
 static FILE *line(struct record *record, const char *word)
 {
     FILE *file = record->held;

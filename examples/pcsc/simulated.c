@@ -3,7 +3,7 @@
 #include <stdlib.h>
 #include <string.h>
 
-/* The application acts when the command is new; the reply is given when no more time is asked for. */
+/* The application acts when the command is new. The card sends the reply once it needs no more time. */
 static struct scard_host_turn host(void *context, const uint8_t *command, size_t count, size_t granted)
 {
     struct simulated *card = context;
@@ -26,7 +26,7 @@ bool simulated_reset(struct simulated *card)
 {
     struct scard_setup setup = {.line = card->line, .command = card->command, .command_room = LONGEST_COMMAND,
                                 .answer = card->reply, .answer_room = LONGEST_REPLY, .clock = {372, 1, 3571200},
-                                .silence = SCARD_SILENCE_NONE}; /* a message is a whole burst */
+                                .silence = SCARD_SILENCE_NONE}; /* each message is a whole burst */
     struct scard_host acts = {card, host};
     struct scard_atr atr;
     card->atr_count = application(NULL, 0, card->made);
@@ -42,7 +42,7 @@ bool simulated_reset(struct simulated *card)
 void simulated_serve(struct simulated *card)
 {
     struct scard_turn ended = scard_card_session_serve(&card->session);
-    (void)ended; /* the reader went, or a reset came: its next one begins the session */
+    (void)ended; /* the reader went away, or a reset came: the next reset begins a session */
 }
 
 bool simulated_word(struct simulated *card, const char *word)

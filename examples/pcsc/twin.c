@@ -1,7 +1,7 @@
-/* A GemPC Twin at a pseudo-terminal with our card in it: libccid's driver for serial readers takes it for one, and does
- * T=1 by itself, since that reader exchanges blocks. Run it as: twin LINK [time=N] [lost=parity]
- * LINK becomes a symbolic link to the terminal, and LINK.plan says what is done to blocks. A block that is lost is told
- * to the host as a mute card, as such a reader does, or with lost=parity as a block with a parity error. */
+/* A GemPC Twin at a pseudo-terminal, with our card in it. libccid's driver for serial readers takes it for such a
+ * reader. The driver runs T=1 by itself, since the reader exchanges blocks. Run it as: twin LINK [time=N] [lost=parity]
+ * LINK becomes a symbolic link to the pseudo-terminal. LINK.plan says how blocks are disturbed. The reader reports a
+ * lost block to the host as a mute card, as such a reader does, or with lost=parity as a block with a parity error. */
 #include "frames.h"
 #include "plan.h"
 #include "record.h"
@@ -20,9 +20,9 @@ struct twin {
     struct frames frames;
     const char *link;
     uint8_t when_lost;
-    bool has_power, is_reset; /* the card has power; and a power up came, which ends the session */
-    bool owes;                /* an answer to a block */
-    size_t place, count;      /* what the card hasn't taken yet of the block in the message */
+    bool has_power, is_reset; /* the card has power; a power up came, which ends the session */
+    bool owes;                /* the reader owes the answer to a block */
+    size_t place, count;      /* the part of the block in the message that the card hasn't read yet */
     struct plan plan;
     struct record record;
     struct watch watch;
@@ -34,13 +34,13 @@ static void answer(struct twin *twin, uint8_t kind, size_t data, uint8_t error)
     frames_answer(&twin->frames, kind, data, twin->has_power, error);
 }
 
-/* Answers a message that is no block and no power up. */
+/* Answers a message that has no block and isn't a power up. */
 static void serve_message(struct twin *twin, size_t count)
 {
     static const char version[] = "GemTwin-V2.00-scrd";
     uint8_t *data = twin->frames.message + FRAME_HEAD;
     switch (twin->frames.message[0]) {
-    case ESCAPE: /* the reader's version is asked for, or else how many more slots there are */
+    case ESCAPE: /* asks for the version of the reader, or how many more slots it has */
         count = count > 0 && data[0] == 0x02 ? sizeof version - 1 : 1;
         memcpy(data, count == 1 ? "\0" : version, count);
         answer(twin, ESCAPED, count, 0);
@@ -60,7 +60,7 @@ static void serve_message(struct twin *twin, size_t count)
 
 /* ---- the line of the card ---- */
 
-/* Nothing comes in answer to the host's block. */
+/* Reports that no answer came to the block of the host. */
 static void answer_lost(struct twin *twin)
 {
     record_word(&twin->record, "quiet");
@@ -68,7 +68,7 @@ static void answer_lost(struct twin *twin)
     answer(twin, DATA_BLOCK, 0, twin->when_lost);
 }
 
-/* The host sends a block, which arrives or doesn't. */
+/* Handles a block of the host, which arrives or doesn't. */
 static void take_block(struct twin *twin, size_t count)
 {
     uint8_t sent[FRAME_DATA], *block = twin->frames.message + FRAME_HEAD;
@@ -78,12 +78,12 @@ static void take_block(struct twin *twin, size_t count)
     arriving = plan_next(&twin->plan, block, count);
     record_block(&twin->record, 't', sent, count, block, arriving);
     watch_recorded(&twin->watch);
-    twin->owes = true; /* for a block that is lost too: it is answered before the next message is taken */
+    twin->owes = true; /* for a lost block too: the reader answers it before it reads the next message */
     twin->place = 0;
     twin->count = arriving;
 }
 
-/* Serves the host until it sends a block that arrives, or a power up, or goes. */
+/* Serves the host until the host sends a block that arrives, powers the card up, or goes away. */
 static void wait_for_block(struct twin *twin)
 {
     while (twin->place == twin->count && !twin->is_reset && !twin->frames.is_gone) {
@@ -105,7 +105,7 @@ static int receive_octets(void *context, uint8_t *octets, size_t room, uint64_t 
 {
     struct twin *twin = context;
     size_t count;
-    if (microseconds == SCARD_LINE_FOREVER) { /* a message has all of a block, so nobody waits for its rest */
+    if (microseconds == SCARD_LINE_FOREVER) { /* a message holds all of a block, so no rest can follow */
         wait_for_block(twin);
     }
     if (twin->is_reset || twin->frames.is_gone) {
@@ -141,7 +141,7 @@ static void tell(void *context, const char *word, const uint8_t *octets, size_t 
     record_octets(&((struct twin *)context)->record, word, octets, count);
 }
 
-/* Powers the card up, and gives the host its answer to reset. */
+/* Powers the card up, and sends its answer to reset to the host. */
 static void power_up(struct twin *twin)
 {
     char name[256];
@@ -150,7 +150,7 @@ static void power_up(struct twin *twin)
     watch_end(&twin->watch);
     snprintf(name, sizeof name, "%s.plan", twin->link);
     if (!plan_load(&twin->plan, name)) {
-        fprintf(stderr, "twin: no plan: %s\n", name);
+        fprintf(stderr, "twin: invalid plan: %s\n", name);
     }
     twin->has_power = simulated_reset(&twin->card);
     record_begin(&twin->record, twin->plan.record, twin->card.atr, twin->card.atr_count);

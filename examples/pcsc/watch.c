@@ -10,7 +10,7 @@ void watch_begin(struct watch *watch, struct record *record)
     watch->record = record;
 }
 
-/* Adds a field to a message; one that is too long isn't added to. */
+/* Adds a field to a message, if the message has room for it. */
 static void join(uint8_t *message, size_t *count, size_t room, const uint8_t *block, const struct scard_block *parts)
 {
     if (room - *count >= parts->inf_len) {
@@ -24,7 +24,7 @@ static int number_of(const struct scard_block *parts)
     return parts->pcb >> 6 & 1;
 }
 
-/* An I-block of a command: a new one, or the last once more. */
+/* Handles an I-block of a command: the next block, or the last one again. */
 static void send_field(struct watch *watch, const uint8_t *block, const struct scard_block *parts)
 {
     bool is_first = !watch->is_open;
@@ -61,7 +61,7 @@ void watch_recorded(struct watch *watch)
     }
 }
 
-/* An I-block of an answer; what the terminal takes twice isn't looked for. */
+/* Handles an I-block of an answer. It doesn't look for blocks that the terminal accepts twice. */
 static void take_field(struct watch *watch, const uint8_t *block, const struct scard_block *parts)
 {
     if (!watch->is_open || number_of(parts) != watch->expected) {
@@ -87,7 +87,7 @@ void watch_came(struct watch *watch, const uint8_t *block, size_t count)
         record_word(watch->record, "ifs-set");
         watch->asks_size = false;
     } else if (parts.pcb == 0xE0) {
-        watch->expected = 0; /* an exchange that was under way has failed, and what comes now is seen in the replay */
+        watch->expected = 0; /* an open exchange has failed; the replay shows what comes now */
     }
 }
 

@@ -1,5 +1,5 @@
-/* What goes between the reader and the card: messages over a Unix socket of packets, each an octet that says its kind,
- * and octets. */
+/* The messages between the reader and the card, over a Unix socket of packets. A message is one octet that gives its
+ * kind, and octets. */
 #ifndef WIRE_H
 #define WIRE_H
 
@@ -10,18 +10,18 @@ enum wire_kind {
     WIRE_POWER = 'P', /* to the card: power up, or reset */
     WIRE_ATR = 'A',   /* from the card: its answer to reset */
     WIRE_BLOCK = 'B', /* octets on the line, either way */
-    WIRE_ASKED = 'Q', /* from the card, for a recording: the command that its host is asked about, */
-    WIRE_REPLY = 'R', /* its host's reply, */
-    WIRE_TIME = 'T'   /* or how many waiting times its host asks for */
+    WIRE_ASKED = 'Q', /* from the card, for a recording: the command that its host gets */
+    WIRE_REPLY = 'R', /* likewise: the reply of its host */
+    WIRE_TIME = 'T'   /* likewise: how many waiting times its host asks for */
 };
 
 enum { WIRE_ROOM = 65544 };
 
-/* Sends a message: 0, or -1 where the other end is gone. */
+/* Sends a message. Returns 0, or -1 if the other end is gone. */
 int wire_send(int socket, enum wire_kind kind, const uint8_t *octets, size_t count);
 
-/* Takes the next message, which comes within so many milliseconds (-1: as long as it takes): how many octets it has, or
- * WIRE_NOTHING, WIRE_GONE. */
+/* Receives the next message. Waits at most this number of milliseconds, or without limit if it is -1. Returns the
+ * number of octets after the kind, or WIRE_NOTHING, WIRE_GONE. */
 enum { WIRE_NOTHING = -1, WIRE_GONE = -2 };
 long wire_receive(int socket, int milliseconds, uint8_t *kind, uint8_t octets[WIRE_ROOM]);
 

@@ -1,21 +1,21 @@
-"""scard from Python, by ctypes over the shared library: answers to reset, commands, forests, and a terminal.
+"""scard from Python: answers to reset, commands, forests, and a terminal, over the shared library with ctypes.
 
     python3 scard.py atr 3B858131FE458073800140BC      (or: command 00A4040000, tlv 6F048402A000)
 
-The library is libscard.so.1, or what SCARD_LIBRARY names.
+The library is libscard.so.1, or the file that SCARD_LIBRARY names.
 """
 import ctypes
 import os
 import sys
 from ctypes import POINTER, byref, c_bool, c_char_p, c_size_t, c_uint8, c_uint16, c_uint32, c_uint64, c_void_p
 
-OK, SHORT, AT, SEND, DONE = 0, 1, 2, 0, 1  # three statuses, two turns
-ATR, COMMAND, TLV = 1, 4, 6  # codecs, for the names of reasons
+OK, SHORT, AT, SEND, DONE = 0, 1, 2, 0, 1  # three statuses and two kinds of turns
+ATR, COMMAND, TLV = 1, 4, 6  # the codecs, for the names of reasons
 BLOCK_ROOM, LONGEST_ANSWER, LONGEST_FOREST, VERSION = 258, 65544, 1048576, 1000000
 
 
 def struct(name, **fields):
-    """A struct of scard.h, with its fields in their order."""
+    """Makes the class of a struct of scard.h, with its fields in their order."""
     return type(name, (ctypes.Structure,), {"_fields_": list(fields.items())})
 
 
@@ -54,22 +54,23 @@ lib = ctypes.CDLL(os.environ.get("SCARD_LIBRARY", "libscard.so.1"))
 for call, (result, *arguments) in CALLS.items():
     getattr(lib, f"scard_{call}").restype, getattr(lib, f"scard_{call}").argtypes = result, arguments
 if lib.scard_version() // 1000000 != VERSION // 1000000:
-    raise ImportError("the library has another first number in its version")
+    raise ImportError("the version of the library begins with another number")
 
 
 class Refused(ValueError):
-    """Octets that are no spelling, with the place and the reason; or a turn with which an exchange ended."""
+    """Octets are invalid or too short, and the text has the place and the reason. Or an exchange ended without an
+    answer, and the text has the turn."""
 
 
 def name_of(call, *numbers):
-    """The name that a call of the library gives to numbers."""
+    """Returns the name that a call of the library gives to numbers."""
     name = Text()
     call(*numbers, byref(name))
     return name.text.decode()
 
 
 def checked(verdict, codec=0):
-    """How many octets were taken or written, or the refusal as an exception."""
+    """Returns the number of octets that a call read or wrote. Raises Refused for any other verdict."""
     if verdict.status == AT:
         raise Refused(f"refused at {verdict.place}: {name_of(lib.scard_reason_text, codec, verdict.reason)}")
     if verdict.status != OK:
@@ -78,7 +79,8 @@ def checked(verdict, codec=0):
 
 
 def atr(octets):
-    """The answer to reset with which octets begin: protocols, historical bytes, and of T=1 its parameters and BWT."""
+    """Decodes the answer to reset at the start of octets: its protocols, its historical bytes, and the parameters and
+    BWT of T=1."""
     read, t1 = Atr(), T1()
     checked(lib.scard_atr_decode(octets, len(octets), byref(read)), ATR)
     said = {"protocols": [it.protocol for it in read.indicated[:read.indicated_count]],
@@ -89,7 +91,7 @@ def atr(octets):
 
 
 def command(octets):
-    """The command that the octets are: its header, its data field and how many octets are expected back."""
+    """Decodes a command: its header, its data field, and the number of octets expected in the response."""
     read = Command()
     checked(lib.scard_command_decode(octets, len(octets), byref(read)), COMMAND)
     end = read.data_place + read.data_len
@@ -97,7 +99,8 @@ def command(octets):
 
 
 def forest(octets):
-    """The objects of a forest, each before those inside it: its depth, its tag, and its value or None."""
+    """Lists the objects of a forest, each before the objects inside it: its depth, its tag, and its value, or None if
+    it is constructed."""
     parts = (Part * (len(octets) // 2 + 1))()
     count = checked(lib.scard_tlv_parts(octets, len(octets), LONGEST_FOREST, parts, len(parts)), TLV)
     return [(it.depth, bytes(it.tag.octets[:it.tag.count]),
@@ -105,9 +108,9 @@ def forest(octets):
 
 
 class Terminal:
-    """A terminal over a line, begun at a reset of its card. `line.send(octets)` sends a block, and
-    `line.receive(wait)` returns all octets that come until the line is silent, also after a whole block, or b"" once
-    `wait` block waiting times have gone by."""
+    """A terminal over a line. Create it at a reset of its card. `line.send(octets)` sends a block. `line.receive(wait)`
+    returns all octets that come until the line is silent, even after a whole block, or b"" if none came within `wait`
+    block waiting times."""
 
     def __init__(self, line, ifsc=32, bwi=4, cwi=13):
         self.line, self.handle, self.block = line, Handle(), ctypes.create_string_buffer(BLOCK_ROOM)
@@ -117,7 +120,7 @@ class Terminal:
         return call(byref(self.handle), *octets, self.block, BLOCK_ROOM)
 
     def exchange(self, octets):
-        """The answer to a command."""
+        """Sends a command, and returns its answer. Raises Refused if there is no answer."""
         turn = self._turn(lib.scard_terminal_transmit, octets, len(octets))
         while turn.kind == SEND:
             self.line.send(self.block.raw[:turn.count])
@@ -131,12 +134,12 @@ class Terminal:
         return answer.raw[:count]
 
     def close(self):
-        """Frees the terminal; its buffers are overwritten."""
+        """Frees the terminal. The library overwrites its buffers first."""
         lib.scard_close(byref(self.handle))
 
 
 def main(words):
-    """Checks and shows octets."""
+    """Checks octets, and prints what they are."""
     kinds = {"atr": atr, "command": command, "tlv": forest}
     if len(words) != 2 or words[0] not in kinds:
         sys.exit(__doc__)
