@@ -987,7 +987,8 @@ INLINE void begin(struct call *m, u8 *stack, u32 size, struct shaped *shaped)
 static u32 rattle_enter(struct call *m);
 static void rattle_leave(struct call *m);
 static void rattle_trap(struct call *m);
-static void atr_core_decoding_check(struct call *m, u64 v0, u64 v1, u64 v2);
+static void atr_core_length_whole_len(struct call *m, u64 v0, u64 v1, u64 v2);
+static void atr_core_decoding_len_by_octets(struct call *m, u64 v0, u64 v1, u64 v2);
 static void atr_core_decoding_by_octets(struct call *m, u64 v0, u64 v1, u64 v2);
 static void c_lent_atr_atr_decode(struct call *m, u64 v0, u64 v1, u64 v2, u64 v3);
 static void atr_core_encoding_checked_octets(struct call *m, u64 v0, u64 v1);
@@ -1021,6 +1022,7 @@ static void c_lent_kept_receiver_CReceiver_fitting(struct call *m, u64 v0, u64 v
 static void c_lent_kept_CTerminal_fitting(struct call *m, u64 v0, u64 v1, u64 v2, u64 v3);
 static void c_lent_lent_terminal_turn(struct call *m, u64 v0, u64 v1, u64 v2, u64 v3, u64 v4, u64 v5, u64 v6, u64 v7,
     u64 v8);
+static void tlv_core_part_walk_next_part(struct call *m, u64 v0, u64 v1, u64 v2, u64 v3);
 static void tlv_core_tidy_form_put_objects(struct call *m, u64 v0, u64 v1, u64 v2, u64 v3, u64 v4, u64 v5);
 static void tlv_core_tidy_form_TidyForm_close_to(struct call *m, u64 v0, u64 v1, u64 v2, u64 v3);
 static void module_scard_atr_check(struct call *m, u64 v0, u64 v1, u64 v2);
@@ -1220,136 +1222,149 @@ static void rattle_trap(struct call *m)
     UNREACHABLE;
 }
 
-static void atr_core_decoding_check(struct call *m, u64 v0, u64 v1, u64 v2)
+static void atr_core_length_whole_len(struct call *m, u64 v0, u64 v1, u64 v2)
 {
-    u64 v3 = 0;
     u64 v4 = 0;
     u64 v5 = 0;
-    u64 v8 = 0;
-    u64 v10 = 0;
+    u64 v6 = 0;
+    u64 v9 = 0;
     u64 v11 = 0;
     u64 v12 = 0;
-    u64 v13 = 0;
-    u32 v6 = 0;
+    u32 v3 = 0;
     u32 v7 = 0;
-    u32 v9 = 0;
+    u32 v8 = 0;
+    u32 v10 = 0;
     u32 t0 = 0;
     u32 t4 = 0;
     u64 w0 = 0;
-    u8 *f13 = NULL;
-    u8 *p216 = NULL;
-    u8 *p310 = NULL;
-    u8 *p338 = NULL;
+    u8 *p218 = NULL;
+    u8 *p317 = NULL;
     u64 n11;
     const u8 *q11;
     u64 n12;
     const u8 *q12;
-    v13 = m->g0 - 288ull;
-    f13 = at(m, v13, 288);
-    v3 = v13;
-    m->g0 = v3;
-    memset(f13 + 8, (int)(0u & 255u), 280);
-    if (v2 == 0) { goto after3; }
-    v4 = v2 + 0xFFFFFFFFFFFFFFFFull;
-    if (v4 == 0) { goto after3; }
+    v3 = 0u;
+    v4 = 0ull;
+    if (v2 == 0) { goto after2; }
+    v5 = v2 + 0xFFFFFFFFFFFFFFFFull;
+    if (v5 == 0) { goto after2; }
     switch (load8(m, v1, 0) + 0xFFFFFFC5u) {
-        case 0: goto after4;
-        case 4: goto after4;
-        default: goto after3;
+        case 0: goto after3;
+        case 4: goto after3;
+        default: goto after2;
     }
-after4:;
-    v5 = v1 + 1ull;
-    v6 = spread32(load8(m, v5, 0), 8);
-    v7 = ((((v6 >> 6) & 1u) + ((v6 >> 5) & 1u)) + ((v6 >> 4) & 1u)) + 1u;
-    if ((v6 ^ 0x80000000u) > (0xFFFFFFFFu ^ 0x80000000u)) { goto after8; }
-    v8 = (u64)v7;
-    v9 = 0u;
-again9:;
-    v10 = v8;
-    if (v10 >= v4) { goto after3; }
-    v7 = spread32(load8(m, v5 + v10, 0), 8);
-    v8 = v10 + ((u64)(((((v7 >> 6) & 1u) + ((v7 >> 5) & 1u)) + ((v7 >> 4) & 1u)) + 1u));
-    v9 = v9 | ((u32)((v7 & 15u) != 0u));
-    if ((v7 ^ 0x80000000u) < (0u ^ 0x80000000u)) { goto again9; }
-    v11 = ((u64)v6) & 15ull;
-    v12 = v8 + v11;
-    if (v4 < v12) { goto after3; }
-    v4 = v4 - v12;
-    if ((v9 & 1u) == 0) { goto after5; }
-    if (v4 == 0) { goto after3; }
-    v6 = load8(m, v5 + v12, 0);
-    if (v12) { goto after7; }
-    v9 = 0u;
-    goto after6;
+after3:;
+    v6 = v1 + 1ull;
+    v7 = spread32(load8(m, v6, 0), 8);
+    v8 = ((((v7 >> 6) & 1u) + ((v7 >> 5) & 1u)) + ((v7 >> 4) & 1u)) + 1u;
+    if ((v7 ^ 0x80000000u) > (0xFFFFFFFFu ^ 0x80000000u)) { goto after6; }
+    v9 = (u64)v8;
+    v3 = 0u;
+    v10 = 0u;
+again7:;
+    v1 = v9;
+    if (v1 >= v5) { goto after2; }
+    v8 = spread32(load8(m, v6 + v1, 0), 8);
+    v9 = v1 + ((u64)(((((v8 >> 6) & 1u) + ((v8 >> 5) & 1u)) + ((v8 >> 4) & 1u)) + 1u));
+    v10 = v10 | ((u32)((v8 & 15u) != 0u));
+    if ((v8 ^ 0x80000000u) < (0u ^ 0x80000000u)) { goto again7; }
+    v11 = ((u64)v7) & 15ull;
+    v12 = v9 + v11;
+    if (v5 >= v12) { goto after5; }
+    v3 = 0u;
+    goto after2;
+after6:;
+    v1 = (u64)(v8 + (v7 & 15u));
+    if (v5 < v1) { goto after2; }
+    v5 = v5 - v1;
+    goto after4;
+after5:;
+    v5 = v5 - v12;
+    if ((v10 & 1u) == 0) { goto after4; }
+    if (v5) { goto after8; }
+    v3 = 0u;
+    goto after2;
 after8:;
-    v10 = (u64)(v7 + (v6 & 15u));
-    if (v4 < v10) { goto after3; }
-    v4 = v4 - v10;
-    goto after5;
-after7:;
-    v8 = v12 & 7ull;
-    v9 = 0u;
-    w0 = ((v11 + v10) + ((u64)((((v7 > 63u) ? 2u : 1u) + ((v7 >> 5) & 1u)) + ((v7 >> 4) & 1u)))) +
+    v7 = load8(m, v6 + v12, 0);
+    v3 = 0u;
+    v10 = 0u;
+    if (v12 == 0) { goto after9; }
+    v9 = v12 & 7ull;
+    v10 = 0u;
+    w0 = ((v11 + v1) + ((u64)((((v8 > 63u) ? 2u : 1u) + ((v8 >> 5) & 1u)) + ((v8 >> 4) & 1u)))) +
         0xFFFFFFFFFFFFFFFFull;
     if (w0 < 7ull) { goto after10; }
-    v10 = v12 & 0xFFFFFFFFFFFFFFF8ull;
-    v9 = 0u;
-    n11 = v10 - 8ull;
-    q11 = span(m, v5, n11, 8, 8);
+    v1 = v12 & 0xFFFFFFFFFFFFFFF8ull;
+    v10 = 0u;
+    n11 = v1 - 8ull;
+    q11 = span(m, v6, n11, 8, 8);
     if (q11) {
         n11 /= 8;
-        v9 ^= exclusive_or(q11, (n11 + 1u) * 8);
-        v5 = v5 + 8ull + 8ull * n11;
-        v10 = v10 - 8ull + 0xFFFFFFFFFFFFFFF8ull * n11;
+        v10 ^= exclusive_or(q11, (n11 + 1u) * 8);
+        v6 = v6 + 8ull + 8ull * n11;
+        v1 = v1 - 8ull + 0xFFFFFFFFFFFFFFF8ull * n11;
     } else {
 again11:;
-        p216 = held(m, v5, 8);
-        t4 = held8(p216, 3, m, v5) ^ (held8(p216, 2, m, v5) ^ (held8(p216, 1, m, v5) ^ (held8(p216, 0, m, v5) ^ v9)));
-        t0 = held8(p216, 7, m, v5) ^ (held8(p216, 6, m, v5) ^ (held8(p216, 5, m, v5) ^ (held8(p216, 4, m, v5) ^ t4)));
-        v9 = t0;
-        v5 = v5 + 8ull;
-        v10 = v10 + 0xFFFFFFFFFFFFFFF8ull;
-        if (v10 != 0ull) { goto again11; }
+        p218 = held(m, v6, 8);
+        t4 = held8(p218, 3, m, v6) ^ (held8(p218, 2, m, v6) ^ (held8(p218, 1, m, v6) ^ (held8(p218, 0, m, v6) ^
+            v10)));
+        t0 = held8(p218, 7, m, v6) ^ (held8(p218, 6, m, v6) ^ (held8(p218, 5, m, v6) ^ (held8(p218, 4, m, v6) ^ t4)));
+        v10 = t0;
+        v6 = v6 + 8ull;
+        v1 = v1 + 0xFFFFFFFFFFFFFFF8ull;
+        if (v1 != 0ull) { goto again11; }
     }
-    if (v8 == 0) { goto after6; }
+    if (v9 == 0) { goto after9; }
 after10:;
-    n12 = v8 - 1ull;
-    q12 = span(m, v5, n12, 1, 1);
+    n12 = v9 - 1ull;
+    q12 = span(m, v6, n12, 1, 1);
     if (q12) {
-        v9 ^= exclusive_or(q12, (n12 + 1u) * 1);
-        v5 = v5 + 1ull + 1ull * n12;
-        v8 = v8 - 1ull + 0xFFFFFFFFFFFFFFFFull * n12;
+        v10 ^= exclusive_or(q12, (n12 + 1u) * 1);
+        v6 = v6 + 1ull + 1ull * n12;
+        v9 = v9 - 1ull + 0xFFFFFFFFFFFFFFFFull * n12;
     } else {
 again12:;
-        v9 = load8(m, v5, 0) ^ v9;
-        v5 = v5 + 1ull;
-        v8 = v8 + 0xFFFFFFFFFFFFFFFFull;
-        if (v8 != 0ull) { goto again12; }
+        v10 = load8(m, v6, 0) ^ v10;
+        v6 = v6 + 1ull;
+        v9 = v9 + 0xFFFFFFFFFFFFFFFFull;
+        if (v9 != 0ull) { goto again12; }
     }
-after6:;
-    if ((v6 & 255u) != (v9 & 255u)) { goto after3; }
-    v4 = v4 + 0xFFFFFFFFFFFFFFFFull;
-after5:;
-    v10 = v2 - v4;
-    if (v10 >= 34ull) { goto after3; }
-    p310 = held(m, v0, 25);
-    put_held64(p310, 0, m, v0, 0ull);
-    put_held8(p310, 24, m, v0, 0u);
-    put_held64(p310, 16, m, v0, 0ull);
-    put_held64(p310, 8, m, v0, v10);
-    goto after1;
-after3:;
-    atr_core_decoding_by_octets(m, v13 + 8ull, v1, v2);
-    v10 = (u64)get8(f13 + 8);
-    p338 = held(m, v0, 25);
-    put_held64(p338, 0, m, v0, v10);
-    v7 = (u32)(v10 == 0);
-    put_held8(p338, 24, m, v0, v7 ? 0u : get8(f13 + 32));
-    put_held64(p338, 16, m, v0, v7 ? 0ull : get64(f13 + 24));
-    put_held64(p338, 8, m, v0, v7 ? get64(f13 + 280) : (u64)get8(f13 + 16));
-    goto after1;
-after1:;
-    m->g0 = v13 + 288ull;
+after9:;
+    if ((v7 & 255u) != (v10 & 255u)) { goto after2; }
+    v5 = v5 + 0xFFFFFFFFFFFFFFFFull;
+after4:;
+    v1 = v2 - v5;
+    v3 = (u32)(v1 < 34ull);
+    v4 = v3 ? v1 : 0ull;
+after2:;
+    p317 = held(m, v0, 16);
+    put_held64(p317, 8, m, v0, v4);
+    put_held8(p317, 0, m, v0, v3);
+    return;
+}
+
+static void atr_core_decoding_len_by_octets(struct call *m, u64 v0, u64 v1, u64 v2)
+{
+    u64 v3 = 0;
+    u64 v5 = 0;
+    u32 v4 = 0;
+    u8 *f5 = NULL;
+    u8 *p27 = NULL;
+    v5 = m->g0 - 288ull;
+    f5 = at(m, v5, 288);
+    v3 = v5;
+    m->g0 = v3;
+    memset(f5 + 8, (int)(0u & 255u), 280);
+    atr_core_decoding_by_octets(m, v5 + 8ull, v1, v2);
+    v2 = (u64)get8(f5 + 8);
+    p27 = held(m, v0, 25);
+    put_held64(p27, 0, m, v0, v2);
+    v4 = (u32)(v2 == 0);
+    put_held8(p27, 24, m, v0, v4 ? 0u : get8(f5 + 32));
+    put_held64(p27, 16, m, v0, v4 ? 0ull : get64(f5 + 24));
+    put_held64(p27, 8, m, v0, v4 ? get64(f5 + 280) : (u64)get8(f5 + 16));
+    m->g0 = v5 + 288ull;
+    return;
 }
 
 static void atr_core_decoding_by_octets(struct call *m, u64 v0, u64 v1, u64 v2)
@@ -12249,352 +12264,496 @@ after1:;
     m->g0 = v35 + 112ull;
 }
 
+static void tlv_core_part_walk_next_part(struct call *m, u64 v0, u64 v1, u64 v2, u64 v3)
+{
+    u64 v4 = 0;
+    u64 v5 = 0;
+    u64 v6 = 0;
+    u64 v7 = 0;
+    u64 v8 = 0;
+    u64 v9 = 0;
+    u64 v10 = 0;
+    u64 v11 = 0;
+    u64 v17 = 0;
+    u64 v18 = 0;
+    u64 v19 = 0;
+    u64 v20 = 0;
+    u64 v21 = 0;
+    u32 v12 = 0;
+    u32 v13 = 0;
+    u32 v14 = 0;
+    u32 v15 = 0;
+    u32 v16 = 0;
+    u32 t2 = 0;
+    u64 w0 = 0;
+    u8 *f21 = NULL;
+    u8 *p50 = NULL;
+    u8 *p146 = NULL;
+    u8 *p308 = NULL;
+    u8 *p560 = NULL;
+    u8 *p582 = NULL;
+    u8 *p600 = NULL;
+    u8 *p622 = NULL;
+    v21 = m->g0 - 32ull;
+    f21 = at(m, v21, 32);
+    v4 = v21;
+    m->g0 = v4;
+    v5 = load64(m, v1 + 8ull, 0);
+    if (v5 >= v3) { goto after6; }
+    v6 = v1 + 16ull;
+    v7 = v1 + 12ull;
+again7:;
+    v8 = load64(m, v1 + 112ull, 0);
+    if (v8 != 0ull) { goto after9; }
+    v8 = v2 + v5;
+    p50 = held(m, v1 + 88ull, 9);
+    v9 = held64(p50, 0, m, v1 + 88ull);
+    if (held8(p50, 8, m, v1 + 88ull)) { goto after10; }
+    if (v9 > 15ull) { goto after10; }
+    put64(f21 + 8, 0ull);
+    v10 = v8;
+    v11 = v3 - v5;
+    if (v11 > 7ull) { goto after11; }
+    tlv_core_short_front_of_few(m, v21 + 8ull, v8, v11);
+    v10 = v21 + 8ull;
+after11:;
+    v10 = load64(m, v10, 0);
+    put64(f21, v10);
+    v12 = (u32)v10;
+    v13 = v12 & 31u;
+    v14 = (u32)(v13 == 31u);
+    v15 = (u32)(v10 >> 8);
+    v16 = v14 & ((u32)(((spread32(v15, 8)) ^ 0x80000000u) < (0u ^ 0x80000000u)));
+    if (v16 & ((u32)((v10 & 0x800000ull) >> 23))) { goto after10; }
+    if ((v12 & 255u) == 0) { goto after10; }
+    if (v14 & ((u32)((v15 & 127u) == 0))) { goto after10; }
+    v14 = 1u;
+    v15 = ((v13 == 31u) ? 2u : 1u) + v16;
+    v17 = (u64)v15;
+    v18 = v21 | v17;
+    p146 = held(m, v18, 2);
+    v19 = (u64)held8(p146, 1, m, v18);
+    v13 = held8(p146, 0, m, v18);
+    switch (v13 + 0xFFFFFF80u) {
+        case 0: goto after10;
+        case 1: goto after12;
+        case 2: goto after14;
+        default: goto after13;
+    }
+after14:;
+    v19 = (v19 << 8) | (u64)load8(m, v18, 2);
+    v14 = 2u;
+    goto after12;
+after13:;
+    v14 = 0u;
+    if (((spread32(v13, 8)) ^ 0x80000000u) < (0u ^ 0x80000000u)) { goto after10; }
+    v19 = (u64)v13;
+after12:;
+    v12 = v12 & 32u;
+    v18 = (u64)((v15 + v14) + 1u);
+    if (v11 < ((v12 ? 0ull : v19) + v18)) { goto after10; }
+    v11 = v19 + v18;
+    if (v9 != 0ull) { goto after16; }
+    v20 = load64(m, v1, 0);
+    goto after15;
+after16:;
+    v20 = (u64)load32(m, v7 + (v9 << 2), 0);
+after15:;
+    if ((v20 - v5) < v11) { goto after10; }
+    w0 = (((v15 == 3u) ? (v10 & 0xFF0000ull) : 0ull) | (v17 << 24)) | ((v15 > 1u) ? (v10 & 65280ull) : 0ull);
+    v8 = w0 | (v10 & 255ull);
+    v3 = v5 + v18;
+    v10 = ((u64)v14) << 32;
+    v2 = v12 ? v18 : v11;
+    if (v2 != v11) { goto after18; }
+    if (v9 != 0ull) { goto after18; }
+    store64(m, v1 + 8ull, 0, v11 + v5);
+    v5 = 0ull;
+    goto after17;
+after18:;
+    store32(m, v6 + ((v2 < v11) ? (v9 << 2) : 64ull), 0, (u32)(v11 + v5));
+    v5 = v5 + v2;
+    p308 = held(m, v1 + 8ull, 72);
+    put_held64(p308, 0, m, v1 + 8ull, v5);
+    v12 = (u32)v5;
+    w0 = ((u64)((u32)((held32(p308, 8, m, v1 + 8ull) ^ 0x80000000u) > (v12 ^ 0x80000000u)))) +
+        ((u64)((u32)((held32(p308, 12, m, v1 + 8ull) ^ 0x80000000u) > (v12 ^ 0x80000000u))));
+    w0 = (w0 + ((u64)((u32)((held32(p308, 16, m, v1 + 8ull) ^ 0x80000000u) > (v12 ^ 0x80000000u))))) +
+        ((u64)((u32)((held32(p308, 20, m, v1 + 8ull) ^ 0x80000000u) > (v12 ^ 0x80000000u))));
+    w0 = (w0 + ((u64)((u32)((held32(p308, 24, m, v1 + 8ull) ^ 0x80000000u) > (v12 ^ 0x80000000u))))) +
+        ((u64)((u32)((held32(p308, 28, m, v1 + 8ull) ^ 0x80000000u) > (v12 ^ 0x80000000u))));
+    w0 = (w0 + ((u64)((u32)((held32(p308, 32, m, v1 + 8ull) ^ 0x80000000u) > (v12 ^ 0x80000000u))))) +
+        ((u64)((u32)((held32(p308, 36, m, v1 + 8ull) ^ 0x80000000u) > (v12 ^ 0x80000000u))));
+    w0 = (w0 + ((u64)((u32)((held32(p308, 40, m, v1 + 8ull) ^ 0x80000000u) > (v12 ^ 0x80000000u))))) +
+        ((u64)((u32)((held32(p308, 44, m, v1 + 8ull) ^ 0x80000000u) > (v12 ^ 0x80000000u))));
+    w0 = (w0 + ((u64)((u32)((held32(p308, 48, m, v1 + 8ull) ^ 0x80000000u) > (v12 ^ 0x80000000u))))) +
+        ((u64)((u32)((held32(p308, 52, m, v1 + 8ull) ^ 0x80000000u) > (v12 ^ 0x80000000u))));
+    w0 = (w0 + ((u64)((u32)((held32(p308, 56, m, v1 + 8ull) ^ 0x80000000u) > (v12 ^ 0x80000000u))))) +
+        ((u64)((u32)((held32(p308, 60, m, v1 + 8ull) ^ 0x80000000u) > (v12 ^ 0x80000000u))));
+    w0 = (w0 + ((u64)((u32)((held32(p308, 64, m, v1 + 8ull) ^ 0x80000000u) > (v12 ^ 0x80000000u))))) +
+        ((u64)((u32)((held32(p308, 68, m, v1 + 8ull) ^ 0x80000000u) > (v12 ^ 0x80000000u))));
+    v5 = w0;
+after17:;
+    put_held64(p50, 0, m, v1 + 88ull, v5);
+    v1 = (v3 & 0xFFFFFFFFull) | (v19 << 32);
+    v5 = (((v9 << 40) | v10) + v8) + 0x10000000000ull;
+    goto after2;
+after10:;
+    put32(f21 + 24, 0u);
+    put64(f21 + 16, 0ull);
+    put64(f21 + 8, 0ull);
+    t2 = load8(m, v8, 0);
+    tlv_core_progress_Progress_take(m, v21 + 8ull, v1, t2);
+    if (get8(f21 + 8)) { goto after5; }
+    if (get8(f21 + 12) != 2u) { goto after8; }
+    v1 = (u64)load32(m, v1 + 8ull, 0) | ((u64)get32(f21 + 24) << 32);
+    w0 = (((u64)get8(f21 + 20) << 32) | (((v9 << 40) + 0x10000000000ull) & 0xFF0000000000ull)) | (u64)get32(f21 + 16);
+    v5 = w0;
+    goto after2;
+after9:;
+    v5 = v3 - v5;
+    tlv_core_progress_Progress_skip(m, v1, (v5 < v8) ? v5 : v8);
+after8:;
+    v5 = load64(m, v1 + 8ull, 0);
+    if (v5 < v3) { goto again7; }
+after6:;
+    if (load64(m, v1 + 88ull, 0) != 0ull) { goto after4; }
+    if (load8(m, v1 + 96ull, 0)) { goto after4; }
+    if (load64(m, v1 + 112ull, 0) != 0ull) { goto after4; }
+    p560 = held(m, v0, 25);
+    put_held8(p560, 24, m, v0, 0u);
+    put_held64(p560, 16, m, v0, 0ull);
+    put_held64(p560, 8, m, v0, 0ull);
+    put_held64(p560, 0, m, v0, 0ull);
+    goto after1;
+after5:;
+    v1 = load64(m, v1 + 8ull, 0);
+    p582 = held(m, v0, 25);
+    put_held8(p582, 24, m, v0, get8(f21 + 9));
+    put_held64(p582, 16, m, v0, v1);
+    put_held64(p582, 8, m, v0, 1ull);
+    put_held64(p582, 0, m, v0, 1ull);
+    goto after1;
+after4:;
+    p600 = held(m, v0, 25);
+    put_held64(p600, 0, m, v0, 1ull);
+    put_held8(p600, 24, m, v0, 0u);
+    put_held64(p600, 16, m, v0, v5);
+    put_held64(p600, 8, m, v0, 0ull);
+    goto after1;
+after2:;
+    p622 = held(m, v0, 25);
+    put_held64(p622, 0, m, v0, 0x100000000ull);
+    put_held8(p622, 24, m, v0, 0u);
+    put_held64(p622, 16, m, v0, v1);
+    put_held64(p622, 8, m, v0, v5);
+after1:;
+    m->g0 = v21 + 32ull;
+}
+
 static void tlv_core_tidy_form_put_objects(struct call *m, u64 v0, u64 v1, u64 v2, u64 v3, u64 v4, u64 v5)
 {
     u64 v6 = 0;
     u64 v7 = 0;
+    u64 v8 = 0;
     u64 v9 = 0;
     u64 v10 = 0;
     u64 v11 = 0;
     u64 v12 = 0;
-    u64 v13 = 0;
-    u64 v14 = 0;
-    u64 v16 = 0;
+    u64 v20 = 0;
     u64 v21 = 0;
     u64 v22 = 0;
     u64 v23 = 0;
     u64 v24 = 0;
     u64 v25 = 0;
     u64 v26 = 0;
-    u32 v8 = 0;
+    u32 v13 = 0;
+    u32 v14 = 0;
     u32 v15 = 0;
+    u32 v16 = 0;
     u32 v17 = 0;
     u32 v18 = 0;
     u32 v19 = 0;
-    u32 v20 = 0;
-    u32 t2 = 0;
+    u32 t0 = 0;
     u64 w0 = 0;
-    u64 w1 = 0;
     u8 *f26 = NULL;
-    u8 *p325 = NULL;
-    u8 *p671 = NULL;
-    u8 *p1009 = NULL;
-    u8 *p1010 = NULL;
-    u8 *p1141 = NULL;
-    u8 *p1160 = NULL;
-    v26 = m->g0 - 272ull;
-    f26 = at(m, v26, 272);
+    u8 *p178 = NULL;
+    u8 *p521 = NULL;
+    u8 *p543 = NULL;
+    u8 *p570 = NULL;
+    u8 *p909 = NULL;
+    u8 *p910 = NULL;
+    v26 = m->g0 - 288ull;
+    f26 = at(m, v26, 288);
     v6 = v26;
     m->g0 = v6;
-    v7 = 0ull;
     put64(f26 + 32, 0ull);
     put64(f26 + 24, 0ull);
     put64(f26 + 16, 0ull);
     put64(f26 + 8, 0ull);
     put64(f26 + 120, v3);
-    v8 = 0u;
     memset(f26 + 128, (int)(0u & 255u), 112);
     memset(f26 + 40, (int)(0u & 255u), 80);
-    v3 = get64(f26 + 128);
-    if (v3 >= v2) { goto after4; }
-    v9 = (v26 + 120ull) + 16ull;
-    v10 = v26 + 132ull;
-    v11 = (v26 + 8ull) | 5ull;
-again5:;
-    v12 = get64(f26 + 232);
-    if (v12 == 0) { goto after7; }
-    v13 = v2 - v3;
-    v13 = (v13 < v12) ? v13 : v12;
-    put64(f26 + 232, v12 - v13);
-    v12 = get64(f26 + 208);
-    if (v12 != 0ull) { goto after9; }
-    v12 = get64(f26 + 120);
-    goto after8;
-after9:;
-    v12 = (u64)load32(m, v10 + (v12 << 2), 0);
-after8:;
-    v14 = v13 + v3;
-    put64(f26 + 128, v14);
-    if (v13 < (v12 - v3)) { goto after6; }
-    v15 = (u32)v14;
-    w1 = ((u64)((u32)((get32(f26 + 140) ^ 0x80000000u) > (v15 ^ 0x80000000u)))) + ((u64)((u32)((get32(f26 + 136) ^
-        0x80000000u) > (v15 ^ 0x80000000u))));
-    w1 = (w1 + ((u64)((u32)((get32(f26 + 144) ^ 0x80000000u) > (v15 ^ 0x80000000u))))) + ((u64)((u32)((get32(f26 +
-        148) ^ 0x80000000u) > (v15 ^ 0x80000000u))));
-    w1 = (w1 + ((u64)((u32)((get32(f26 + 152) ^ 0x80000000u) > (v15 ^ 0x80000000u))))) + ((u64)((u32)((get32(f26 +
-        156) ^ 0x80000000u) > (v15 ^ 0x80000000u))));
-    w1 = (w1 + ((u64)((u32)((get32(f26 + 160) ^ 0x80000000u) > (v15 ^ 0x80000000u))))) + ((u64)((u32)((get32(f26 +
-        164) ^ 0x80000000u) > (v15 ^ 0x80000000u))));
-    w1 = (w1 + ((u64)((u32)((get32(f26 + 168) ^ 0x80000000u) > (v15 ^ 0x80000000u))))) + ((u64)((u32)((get32(f26 +
-        172) ^ 0x80000000u) > (v15 ^ 0x80000000u))));
-    w1 = (w1 + ((u64)((u32)((get32(f26 + 176) ^ 0x80000000u) > (v15 ^ 0x80000000u))))) + ((u64)((u32)((get32(f26 +
-        180) ^ 0x80000000u) > (v15 ^ 0x80000000u))));
-    w1 = (w1 + ((u64)((u32)((get32(f26 + 184) ^ 0x80000000u) > (v15 ^ 0x80000000u))))) + ((u64)((u32)((get32(f26 +
-        188) ^ 0x80000000u) > (v15 ^ 0x80000000u))));
-    w1 = (w1 + ((u64)((u32)((get32(f26 + 192) ^ 0x80000000u) > (v15 ^ 0x80000000u))))) + ((u64)((u32)((get32(f26 +
-        196) ^ 0x80000000u) > (v15 ^ 0x80000000u))));
-    put64(f26 + 208, w1);
-    goto after6;
-after7:;
-    v12 = v1 + v3;
-    v13 = get64(f26 + 208);
-    if (get8(f26 + 216)) { goto after11; }
-    if (v13 > 15ull) { goto after11; }
-    put64(f26 + 248, 0ull);
-    v14 = v12;
-    v16 = v2 - v3;
-    if (v16 > 7ull) { goto after12; }
-    tlv_core_short_front_of_few(m, v26 + 248ull, v12, v16);
-    v14 = v26 + 248ull;
-after12:;
-    v14 = load64(m, v14, 0);
-    put64(f26 + 240, v14);
-    v15 = (u32)v14;
-    v17 = v15 & 31u;
-    v18 = (u32)(v17 == 31u);
-    v19 = (u32)(v14 >> 8);
-    v20 = v18 & ((u32)(((spread32(v19, 8)) ^ 0x80000000u) < (0u ^ 0x80000000u)));
-    if (v20 & ((u32)((v14 & 0x800000ull) >> 23))) { goto after11; }
-    if ((v15 & 255u) == 0) { goto after11; }
-    if (v18 & ((u32)((v19 & 127u) == 0))) { goto after11; }
-    v18 = 1u;
-    v19 = ((v17 == 31u) ? 2u : 1u) + v20;
-    v21 = (u64)v19;
-    v22 = (v26 + 240ull) | v21;
-    p325 = held(m, v22, 2);
-    v23 = (u64)held8(p325, 1, m, v22);
-    v17 = held8(p325, 0, m, v22);
-    switch (v17 + 0xFFFFFF80u) {
-        case 0: goto after11;
-        case 1: goto after13;
-        case 2: goto after15;
-        default: goto after14;
-    }
-after15:;
-    v23 = (v23 << 8) | (u64)load8(m, v22, 2);
-    v18 = 2u;
-    goto after13;
-after14:;
-    v18 = 0u;
-    if (((spread32(v17, 8)) ^ 0x80000000u) < (0u ^ 0x80000000u)) { goto after11; }
-    v23 = (u64)v17;
-after13:;
-    v15 = v15 & 32u;
-    v22 = (u64)((v19 + v18) + 1u);
-    if (v16 < ((v15 ? 0ull : v23) + v22)) { goto after11; }
-    v16 = v23 + v22;
-    if (v13 != 0ull) { goto after17; }
-    v24 = get64(f26 + 120);
-    goto after16;
-after17:;
-    v24 = (u64)load32(m, v10 + (v13 << 2), 0);
-after16:;
-    if ((v24 - v3) < v16) { goto after11; }
-    w0 = (((v19 == 3u) ? (v14 & 0xFF0000ull) : 0ull) | (v21 << 24)) | ((v19 > 1u) ? (v14 & 65280ull) : 0ull);
-    v14 = w0 | (v14 & 255ull);
-    v12 = v3 + v22;
-    v21 = ((u64)v18) << 32;
-    v22 = v15 ? v22 : v16;
-    if (v22 != v16) { goto after19; }
-    if (v13 != 0ull) { goto after19; }
-    put64(f26 + 128, v16 + v3);
-    v3 = 0ull;
-    goto after18;
-after19:;
-    store32(m, v9 + ((v22 < v16) ? (v13 << 2) : 64ull), 0, (u32)(v16 + v3));
-    v3 = v3 + v22;
-    put64(f26 + 128, v3);
-    v15 = (u32)v3;
-    w0 = ((u64)((u32)((get32(f26 + 136) ^ 0x80000000u) > (v15 ^ 0x80000000u)))) + ((u64)((u32)((get32(f26 + 140) ^
-        0x80000000u) > (v15 ^ 0x80000000u))));
-    w0 = (w0 + ((u64)((u32)((get32(f26 + 144) ^ 0x80000000u) > (v15 ^ 0x80000000u))))) + ((u64)((u32)((get32(f26 +
-        148) ^ 0x80000000u) > (v15 ^ 0x80000000u))));
-    w0 = (w0 + ((u64)((u32)((get32(f26 + 152) ^ 0x80000000u) > (v15 ^ 0x80000000u))))) + ((u64)((u32)((get32(f26 +
-        156) ^ 0x80000000u) > (v15 ^ 0x80000000u))));
-    w0 = (w0 + ((u64)((u32)((get32(f26 + 160) ^ 0x80000000u) > (v15 ^ 0x80000000u))))) + ((u64)((u32)((get32(f26 +
-        164) ^ 0x80000000u) > (v15 ^ 0x80000000u))));
-    w0 = (w0 + ((u64)((u32)((get32(f26 + 168) ^ 0x80000000u) > (v15 ^ 0x80000000u))))) + ((u64)((u32)((get32(f26 +
-        172) ^ 0x80000000u) > (v15 ^ 0x80000000u))));
-    w0 = (w0 + ((u64)((u32)((get32(f26 + 176) ^ 0x80000000u) > (v15 ^ 0x80000000u))))) + ((u64)((u32)((get32(f26 +
-        180) ^ 0x80000000u) > (v15 ^ 0x80000000u))));
-    w0 = (w0 + ((u64)((u32)((get32(f26 + 184) ^ 0x80000000u) > (v15 ^ 0x80000000u))))) + ((u64)((u32)((get32(f26 +
-        188) ^ 0x80000000u) > (v15 ^ 0x80000000u))));
-    w0 = (w0 + ((u64)((u32)((get32(f26 + 192) ^ 0x80000000u) > (v15 ^ 0x80000000u))))) + ((u64)((u32)((get32(f26 +
-        196) ^ 0x80000000u) > (v15 ^ 0x80000000u))));
-    v3 = w0;
-after18:;
-    put64(f26 + 208, v3);
-    v12 = (v12 & 0xFFFFFFFFull) | (v23 << 32);
-    v3 = (((v13 << 40) | v21) + v14) + 0x10000000000ull;
-    goto after10;
-after11:;
-    put32(f26 + 264, 0u);
+    v7 = (v26 + 8ull) | 5ull;
+    v8 = (v26 + 120ull) + 16ull;
+    v9 = v26 + 132ull;
+again2:;
+    put64(f26 + 264, 0ull);
     put64(f26 + 256, 0ull);
     put64(f26 + 248, 0ull);
-    t2 = load8(m, v12, 0);
-    tlv_core_progress_Progress_take(m, v26 + 248ull, v26 + 120ull, t2);
-    if (get8(f26 + 248)) { goto after20; }
-    if (get8(f26 + 252) != 2u) { goto after6; }
-    w0 = (((u64)get8(f26 + 260) << 32) | (((v13 << 40) + 0x10000000000ull) & 0xFF0000000000ull)) | (u64)get32(f26 +
-        256);
-    v3 = w0;
-    v12 = (u64)get32(f26 + 128) | ((u64)get32(f26 + 264) << 32);
-    goto after10;
-after20:;
+    put64(f26 + 240, 0ull);
+    if (get64(f26 + 232) != 0ull) { goto after4; }
     v3 = get64(f26 + 128);
-    v8 = get8(f26 + 249);
-    v7 = 1ull;
-    goto after3;
+    if (v2 <= v3) { goto after4; }
+    if (get8(f26 + 216)) { goto after4; }
+    v10 = get64(f26 + 208);
+    if (v10 > 15ull) { goto after4; }
+    v11 = v1 + v3;
+    put64(f26 + 280, 0ull);
+    v12 = v2 - v3;
+    if (v12 > 7ull) { goto after5; }
+    tlv_core_short_front_of_few(m, v26 + 280ull, v11, v12);
+    v11 = v26 + 280ull;
+after5:;
+    v11 = load64(m, v11, 0);
+    put64(f26 + 272, v11);
+    v13 = (u32)v11;
+    v14 = v13 & 31u;
+    v15 = (u32)(v14 == 31u);
+    v16 = (u32)(v11 >> 8);
+    v17 = spread32(v16, 8);
+    v18 = v15 & ((u32)((v17 ^ 0x80000000u) < (0u ^ 0x80000000u)));
+    v19 = spread32(v13 >> 16, 8);
+    if (v18 & ((u32)((v19 ^ 0x80000000u) < (0u ^ 0x80000000u)))) { goto after4; }
+    if ((v13 & 255u) == 0) { goto after4; }
+    if (v15 & ((u32)((v16 & 127u) == 0))) { goto after4; }
+    v15 = 1u;
+    v16 = ((v14 == 31u) ? 2u : 1u) + v18;
+    v11 = (v26 + 272ull) | ((u64)v16);
+    p178 = held(m, v11, 2);
+    v14 = held8(p178, 1, m, v11);
+    v18 = held8(p178, 0, m, v11);
+    switch (v18 + 0xFFFFFF80u) {
+        case 0: goto after4;
+        case 1: goto after9;
+        case 2: goto after8;
+        default: goto after7;
+    }
+after9:;
+    v14 = v14 & 255u;
+    goto after6;
+after8:;
+    v14 = (v14 << 8) | load8(m, v11, 2);
+    v15 = 2u;
+    goto after6;
+after7:;
+    v15 = 0u;
+    v14 = spread32(v18, 8);
+    if ((v14 ^ 0x80000000u) < (0u ^ 0x80000000u)) { goto after4; }
+after6:;
+    v20 = ((u64)v14) & 65535ull;
+    v18 = v13 & 32u;
+    v11 = (u64)((v16 + v15) + 1u);
+    if (v12 < ((v18 ? 0ull : v20) + v11)) { goto after4; }
+    v12 = v11 + v20;
+    if (v10 != 0ull) { goto after11; }
+    v20 = get64(f26 + 120);
+    goto after10;
+after11:;
+    v20 = (u64)load32(m, v9 + (v10 << 2), 0);
 after10:;
-    p671 = held(m, v11, 3);
-    put_held16(p671, 0, m, v11, 0u);
-    put_held8(p671, 2, m, v11, 0u);
-    v16 = v12 & 0xFFFFFFFFull;
-    put64(f26 + 16, v16);
+    if ((v20 - v3) < v12) { goto after4; }
+    t0 = (((((v16 == 3u) ? v19 : 0u) & 255u) << 16) | (v16 << 24)) | ((((v16 > 1u) ? v17 : 0u) & 255u) << 8);
+    v16 = t0 | (v13 & 255u);
+    v14 = v14 & 65535u;
+    v17 = ((u32)v10) + 1u;
+    v19 = (u32)(v3 + v11);
+    v20 = v18 ? v11 : v12;
+    if (v20 != v12) { goto after13; }
+    v11 = 0ull;
+    if (v10 != 0ull) { goto after13; }
+    put64(f26 + 128, v12 + v3);
+    goto after12;
+after13:;
+    store32(m, v8 + ((v20 < v12) ? (v10 << 2) : 64ull), 0, (u32)(v12 + v3));
+    v3 = v3 + v20;
+    put64(f26 + 128, v3);
+    v13 = (u32)v3;
+    w0 = ((u64)((u32)((get32(f26 + 136) ^ 0x80000000u) > (v13 ^ 0x80000000u)))) + ((u64)((u32)((get32(f26 + 140) ^
+        0x80000000u) > (v13 ^ 0x80000000u))));
+    w0 = (w0 + ((u64)((u32)((get32(f26 + 144) ^ 0x80000000u) > (v13 ^ 0x80000000u))))) + ((u64)((u32)((get32(f26 +
+        148) ^ 0x80000000u) > (v13 ^ 0x80000000u))));
+    w0 = (w0 + ((u64)((u32)((get32(f26 + 152) ^ 0x80000000u) > (v13 ^ 0x80000000u))))) + ((u64)((u32)((get32(f26 +
+        156) ^ 0x80000000u) > (v13 ^ 0x80000000u))));
+    w0 = (w0 + ((u64)((u32)((get32(f26 + 160) ^ 0x80000000u) > (v13 ^ 0x80000000u))))) + ((u64)((u32)((get32(f26 +
+        164) ^ 0x80000000u) > (v13 ^ 0x80000000u))));
+    w0 = (w0 + ((u64)((u32)((get32(f26 + 168) ^ 0x80000000u) > (v13 ^ 0x80000000u))))) + ((u64)((u32)((get32(f26 +
+        172) ^ 0x80000000u) > (v13 ^ 0x80000000u))));
+    w0 = (w0 + ((u64)((u32)((get32(f26 + 176) ^ 0x80000000u) > (v13 ^ 0x80000000u))))) + ((u64)((u32)((get32(f26 +
+        180) ^ 0x80000000u) > (v13 ^ 0x80000000u))));
+    w0 = (w0 + ((u64)((u32)((get32(f26 + 184) ^ 0x80000000u) > (v13 ^ 0x80000000u))))) + ((u64)((u32)((get32(f26 +
+        188) ^ 0x80000000u) > (v13 ^ 0x80000000u))));
+    w0 = (w0 + ((u64)((u32)((get32(f26 + 192) ^ 0x80000000u) > (v13 ^ 0x80000000u))))) + ((u64)((u32)((get32(f26 +
+        196) ^ 0x80000000u) > (v13 ^ 0x80000000u))));
+    v11 = w0;
+after12:;
+    put16(f26 + 254, 0u);
+    put8(f26 + 253, v17);
+    put8(f26 + 252, v15);
+    put32(f26 + 248, v16);
+    put32(f26 + 260, v14);
+    put32(f26 + 256, v19);
+    put64(f26 + 208, v11);
+    v3 = get64(f26 + 248);
+    v11 = get64(f26 + 256);
+    goto after3;
+after4:;
+    tlv_core_part_walk_next_part(m, v26 + 240ull, v26 + 120ull, v1, v2);
+    v11 = get64(f26 + 256);
+    v3 = get64(f26 + 248);
+    if (get8(f26 + 240)) { goto after15; }
+    if ((get8(f26 + 244) & 255u) == 1u) { goto after3; }
+    tlv_core_tidy_form_TidyForm_close_to(m, v26 + 40ull, 1ull, v4, v5);
+    p521 = held(m, v0, 25);
+    put_held8(p521, 24, m, v0, 0u);
+    put_held64(p521, 16, m, v0, 0ull);
+    put_held64(p521, 0, m, v0, 0ull);
+    put_held64(p521, 8, m, v0, (u64)get32(f26 + 112));
+    goto after14;
+after15:;
+    v13 = get8(f26 + 264);
+    p543 = held(m, v0, 25);
+    put_held64(p543, 0, m, v0, 1ull);
+    put_held8(p543, 24, m, v0, v13);
+    put_held64(p543, 16, m, v0, v11);
+    put_held64(p543, 8, m, v0, v3 & 255ull);
+after14:;
+    m->g0 = v26 + 288ull;
+    return;
+after3:;
+    p570 = held(m, v7, 3);
+    put_held16(p570, 0, m, v7, 0u);
+    put_held8(p570, 2, m, v7, 0u);
+    v21 = v11 & 0xFFFFFFFFull;
+    put64(f26 + 16, v21);
     put32(f26 + 8, (u32)v3);
     put8(f26 + 12, (u32)(v3 >> 32));
-    v23 = v1 + v16;
-    put64(f26 + 24, v23);
-    v12 = v12 >> 32;
-    v13 = v2 - v16;
-    v13 = (v12 < v13) ? v12 : v13;
-    put64(f26 + 32, v13);
-    tlv_core_tidy_form_TidyForm_close_to(m, v26 + 40ull, v3 >> 40, v4, v5);
-    v14 = (v3 >> 24) & 255ull;
+    v20 = v1 + v21;
+    put64(f26 + 24, v20);
+    v11 = v11 >> 32;
+    v10 = v2 - v21;
+    v10 = (v11 < v10) ? v11 : v10;
+    put64(f26 + 32, v10);
+    tlv_core_tidy_form_TidyForm_close_to(m, v26 + 40ull, (v3 >> 40) & 255ull, v4, v5);
+    v12 = (v3 >> 24) & 255ull;
     v22 = (u64)get32(f26 + 112);
-    v12 = v14 + v22;
-    if (v12 > v5) { goto after21; }
-    if (v14 == 0) { goto after21; }
-    copy(m, v4 + v22, v26 + 8ull, v14);
-after21:;
-    v12 = (v12 < 0xFFFFFFFFull) ? v12 : 0xFFFFFFFFull;
-    v15 = (u32)v12;
-    put32(f26 + 112, v15);
-    if ((v3 & 32ull) == 0) { goto after23; }
+    v11 = v12 + v22;
+    if (v11 > v5) { goto after16; }
+    if (v12 == 0) { goto after16; }
+    copy(m, v4 + v22, v26 + 8ull, v12);
+after16:;
+    v11 = (v11 < 0xFFFFFFFFull) ? v11 : 0xFFFFFFFFull;
+    v13 = (u32)v11;
+    put32(f26 + 112, v13);
+    if ((v3 & 32ull) == 0) { goto after17; }
     v3 = get64(f26 + 104);
-    if (v3 > 15ull) { goto after22; }
-    store32(m, (v26 + 40ull) + (v3 << 2), 0, v15);
+    if (v3 > 15ull) { goto again2; }
+    store32(m, (v26 + 40ull) + (v3 << 2), 0, v13);
     put64(f26 + 104, v3 + 1ull);
-    goto after22;
-after23:;
-    if (v13 > 127ull) { goto after25; }
-    v15 = (u32)v13;
+    goto again2;
+after17:;
+    if (v10 > 127ull) { goto after19; }
+    v13 = (u32)v10;
     v3 = 1ull;
-    v14 = 0ull;
-    v18 = 0u;
-    v19 = 0u;
-    v17 = 0u;
+    v12 = 0ull;
+    v15 = 0u;
+    v16 = 0u;
+    v14 = 0u;
+    goto after18;
+after19:;
+    if (v10 > 255ull) { goto after20; }
+    v15 = (u32)v10;
+    v3 = 2ull;
+    v12 = 0ull;
+    v16 = 0u;
+    v13 = 129u;
+    v14 = 0u;
+    goto after18;
+after20:;
+    v18 = (u32)(v10 >> 8);
+    if (v10 > 65535ull) { goto after21; }
+    v16 = (u32)v10;
+    v3 = 3ull;
+    v12 = 0ull;
+    v14 = 0u;
+    v13 = 130u;
+    v15 = v18;
+    goto after18;
+after21:;
+    v3 = v10 >> 16;
+    if (v10 > 0xFFFFFFull) { goto after22; }
+    v13 = (u32)v10;
+    v15 = right32(v13 & 255u, 8u);
+    v16 = (v15 | ((v13 << 8) & 0xFF0000u)) >> 16;
+    v14 = v15 >> 24;
+    v15 = (u32)v3;
+    v3 = 4ull;
+    v12 = 0ull;
+    v13 = 131u;
+    goto after18;
+after22:;
+    v12 = (v10 << 32) & 0xFF00000000ull;
+    v15 = (u32)(v10 >> 24);
+    v16 = (u32)v3;
+    v3 = 5ull;
+    v13 = 132u;
+    v14 = v18;
+after18:;
+    put64(f26 + 240, v12 | ((u64)((((v15 & 255u) << 8) | v13) | ((v14 << 24) | ((v16 << 16) & 0xFF0000u)))));
+    put64(f26 + 248, v3);
+    v12 = v3 + v11;
+    if (v12 > v5) { goto after23; }
+    if (v3 == 0) { goto after23; }
+    copy(m, v4 + v11, v26 + 240ull, v3);
+after23:;
+    v23 = (v12 < 0xFFFFFFFFull) ? v12 : 0xFFFFFFFFull;
+    v24 = v23 + v10;
+    if (v24 > v5) { goto after24; }
+    v22 = v4 + v23;
+    if ((v22 - v20) >= v10) { goto after25; }
+    v12 = v10 & 3ull;
+    v11 = 0ull;
+    if (v10 < 4ull) { goto after26; }
+    v25 = v10 & 0xFFFFFFFCull;
+    v11 = 0ull;
+again27:;
+    v3 = v22 + v11;
+    v10 = v20 + v11;
+    p909 = held(m, v10, 4);
+    p910 = held(m, v3, 4);
+    put_held8(p910, 0, m, v3, held8(p909, 0, m, v10));
+    put_held8(p910, 1, m, v3, held8(p909, 1, m, v10));
+    put_held8(p910, 2, m, v3, held8(p909, 2, m, v10));
+    put_held8(p910, 3, m, v3, held8(p909, 3, m, v10));
+    v11 = v11 + 4ull;
+    if (v25 != v11) { goto again27; }
+    if (v12 == 0) { goto after24; }
+after26:;
+    v3 = v4 + (v11 + v23);
+    v11 = v1 + (v11 + v21);
+again28:;
+    store8(m, v3, 0, load8(m, v11, 0));
+    v3 = v3 + 1ull;
+    v11 = v11 + 1ull;
+    v12 = v12 + 0xFFFFFFFFFFFFFFFFull;
+    if (v12 != 0ull) { goto again28; }
     goto after24;
 after25:;
-    if (v13 > 255ull) { goto after26; }
-    v18 = (u32)v13;
-    v3 = 2ull;
-    v14 = 0ull;
-    v19 = 0u;
-    v15 = 129u;
-    v17 = 0u;
-    goto after24;
-after26:;
-    v20 = (u32)(v13 >> 8);
-    if (v13 > 65535ull) { goto after27; }
-    v19 = (u32)v13;
-    v3 = 3ull;
-    v14 = 0ull;
-    v17 = 0u;
-    v15 = 130u;
-    v18 = v20;
-    goto after24;
-after27:;
-    v3 = v13 >> 16;
-    if (v13 > 0xFFFFFFull) { goto after28; }
-    v15 = (u32)v13;
-    v18 = right32(v15 & 255u, 8u);
-    v19 = (v18 | ((v15 << 8) & 0xFF0000u)) >> 16;
-    v17 = v18 >> 24;
-    v18 = (u32)v3;
-    v3 = 4ull;
-    v14 = 0ull;
-    v15 = 131u;
-    goto after24;
-after28:;
-    v14 = (v13 << 32) & 0xFF00000000ull;
-    v18 = (u32)(v13 >> 24);
-    v19 = (u32)v3;
-    v3 = 5ull;
-    v15 = 132u;
-    v17 = v20;
+    if (v10 == 0) { goto after24; }
+    copy(m, v22, v20, v10);
 after24:;
-    put64(f26 + 248, v14 | ((u64)((((v18 & 255u) << 8) | v15) | ((v17 << 24) | ((v19 << 16) & 0xFF0000u)))));
-    put64(f26 + 256, v3);
-    v14 = v3 + v12;
-    if (v14 > v5) { goto after29; }
-    if (v3 == 0) { goto after29; }
-    copy(m, v4 + v12, v26 + 248ull, v3);
-after29:;
-    v25 = (v14 < 0xFFFFFFFFull) ? v14 : 0xFFFFFFFFull;
-    v24 = v25 + v13;
-    if (v24 > v5) { goto after30; }
-    v22 = v4 + v25;
-    if ((v22 - v23) >= v13) { goto after31; }
-    v14 = v13 & 3ull;
-    v12 = 0ull;
-    if (v13 < 4ull) { goto after32; }
-    v21 = v13 & 0xFFFFFFFCull;
-    v12 = 0ull;
-again33:;
-    v3 = v22 + v12;
-    v13 = v23 + v12;
-    p1009 = held(m, v13, 4);
-    p1010 = held(m, v3, 4);
-    put_held8(p1010, 0, m, v3, held8(p1009, 0, m, v13));
-    put_held8(p1010, 1, m, v3, held8(p1009, 1, m, v13));
-    put_held8(p1010, 2, m, v3, held8(p1009, 2, m, v13));
-    put_held8(p1010, 3, m, v3, held8(p1009, 3, m, v13));
-    v12 = v12 + 4ull;
-    if (v21 != v12) { goto again33; }
-    if (v14 == 0) { goto after30; }
-after32:;
-    v3 = v4 + (v12 + v25);
-    v12 = v1 + (v12 + v16);
-again34:;
-    store8(m, v3, 0, load8(m, v12, 0));
-    v3 = v3 + 1ull;
-    v12 = v12 + 1ull;
-    v14 = v14 + 0xFFFFFFFFFFFFFFFFull;
-    if (v14 != 0ull) { goto again34; }
-    goto after30;
-after31:;
-    if (v13 == 0) { goto after30; }
-    copy(m, v22, v23, v13);
-after30:;
     put32(f26 + 112, (u32)((v24 < 0xFFFFFFFFull) ? v24 : 0xFFFFFFFFull));
-after22:;
-    v3 = get64(f26 + 128);
-    if (v3 < v2) { goto again5; }
-    goto after4;
-after6:;
-    v3 = get64(f26 + 128);
-    if (v3 < v2) { goto again5; }
-after4:;
-    if (get64(f26 + 208) != 0ull) { goto after3; }
-    if (get8(f26 + 216) & 255u) { goto after3; }
-    if (get64(f26 + 232)) { goto after3; }
-    tlv_core_tidy_form_TidyForm_close_to(m, v26 + 40ull, 1ull, v4, v5);
-    p1141 = held(m, v0, 25);
-    put_held8(p1141, 24, m, v0, 0u);
-    put_held64(p1141, 16, m, v0, 0ull);
-    put_held64(p1141, 0, m, v0, 0ull);
-    put_held64(p1141, 8, m, v0, (u64)get32(f26 + 112));
-    goto after2;
-after3:;
-    p1160 = held(m, v0, 25);
-    put_held64(p1160, 0, m, v0, 1ull);
-    put_held8(p1160, 24, m, v0, v8);
-    put_held64(p1160, 16, m, v0, v3);
-    put_held64(p1160, 8, m, v0, v7);
-after2:;
-    m->g0 = v26 + 272ull;
-    return;
+    goto again2;
 }
 
 static void tlv_core_tidy_form_TidyForm_close_to(struct call *m, u64 v0, u64 v1, u64 v2, u64 v3)
@@ -12747,32 +12906,36 @@ static void rattle_export_scard_atr_check(struct call *m, u64 v0, u64 v1, u64 v2
 {
     u64 v3 = 0;
     u64 v4 = 0;
-    u64 v6 = 0;
-    u32 v5 = 0;
-    u8 *f6 = NULL;
-    u8 *p73 = NULL;
-    v6 = m->g0 - 32ull;
-    f6 = at(m, v6, 32);
-    v3 = v6;
+    u8 *f4 = NULL;
+    u8 *p91 = NULL;
+    v4 = m->g0 - 48ull;
+    f4 = at(m, v4, 48);
+    v3 = v4;
     m->g0 = v3;
-    v4 = 0ull;
-    put64(f6 + 24, 0ull);
-    put64(f6 + 16, 0ull);
-    put64(f6 + 8, 0ull);
-    put64(f6, 0ull);
-    atr_core_decoding_check(m, v6, v1 + ((v1 == 0) ? 4096ull : 0ull), v2);
-    if (get8(f6)) { goto after2; }
-    v1 = get64(f6 + 8);
+    put64(f4 + 40, 0ull);
+    put64(f4 + 32, 0ull);
+    put64(f4 + 24, 0ull);
+    put64(f4 + 16, 0ull);
+    v1 = v1 + ((v1 == 0) ? 4096ull : 0ull);
+    atr_core_length_whole_len(m, v4, v1, v2);
+    if (get8(f4) != 1u) { goto after4; }
+    v1 = get64(f4 + 8);
+    v2 = 0ull;
+    goto after1;
+after4:;
+    atr_core_decoding_len_by_octets(m, v4 + 16ull, v1, v2);
+    v1 = get64(f4 + 24);
+    if (get8(f4 + 16)) { goto after2; }
+    v2 = 0ull;
     goto after1;
 after2:;
-    v5 = get8(f6 + 8);
-    v4 = ((((u64)(v5 ? (get8(f6 + 24) + 1u) : 0u)) & 255ull) << 8) | (v5 ? 2ull : 1ull);
-    v1 = get64(f6 + 16);
+    v2 = ((v1 & 255ull) == 0) ? 1ull : (((((u64)(get8(f4 + 40) + 1u)) & 255ull) << 8) | 2ull);
+    v1 = get64(f4 + 32);
 after1:;
-    p73 = held(m, v0, 16);
-    put_held64(p73, 8, m, v0, v1);
-    put_held64(p73, 0, m, v0, v4);
-    m->g0 = v6 + 32ull;
+    p91 = held(m, v0, 16);
+    put_held64(p91, 8, m, v0, v1);
+    put_held64(p91, 0, m, v0, v2);
+    m->g0 = v4 + 48ull;
 }
 
 static void module_scard_atr_decode(struct call *m, u64 v0, u64 v1, u64 v2, u64 v3)
@@ -14975,12 +15138,12 @@ static void rattle_export_scard_lent_atr_reader_feed(struct call *m, u64 v0, u64
     u8 *f5 = NULL;
     u8 *p86 = NULL;
     u8 *p87 = NULL;
-    u8 *p253 = NULL;
-    v16 = m->g0 - 32ull;
+    u8 *p279 = NULL;
+    v16 = m->g0 - 48ull;
     v4 = v16;
     m->g0 = v4;
     v5 = v16;
-    f5 = at(m, v5, 32);
+    f5 = at(m, v5, 48);
     v6 = v1 + 4ull;
     v7 = load32(m, v1, 0);
     v8 = (u64)((v7 < 33u) ? v7 : 33u);
@@ -15022,34 +15185,42 @@ after5:;
     if (v12 == 0) { goto after4; }
     copy(m, v9, v11, v12);
 after4:;
-    v4 = 0ull;
+    put64(f5 + 40, 0ull);
+    put64(f5 + 32, 0ull);
     put64(f5 + 24, 0ull);
     put64(f5 + 16, 0ull);
-    put64(f5 + 8, 0ull);
-    put64(f5, 0ull);
-    atr_core_decoding_check(m, v5, v6, v12 + v8);
-    if (get8(f5)) { goto after9; }
+    v3 = v12 + v8;
+    atr_core_length_whole_len(m, v5, v6, v3);
+    if (get8(f5) != 1u) { goto after11; }
     v3 = get64(f5 + 8);
+    goto after10;
+after11:;
+    atr_core_decoding_len_by_octets(m, v5 + 16ull, v6, v3);
+    v4 = get64(f5 + 24);
+    if (get8(f5 + 16)) { goto after9; }
+    v3 = v4;
+after10:;
+    v4 = 0ull;
     v9 = v3 - v8;
     v9 = (v9 > v3) ? 0ull : v9;
     goto after1;
 after9:;
-    v3 = get64(f5 + 16);
-    if (get8(f5 + 8)) { goto after2; }
+    v3 = get64(f5 + 32);
+    if ((v4 & 255ull) != 0ull) { goto after2; }
     v4 = v3 - v8;
     v9 = (v4 > v3) ? 0ull : v4;
     v4 = 6ull;
     goto after1;
 after2:;
-    v4 = ((((u64)(get8(f5 + 24) + 1u)) & 255ull) << 8) | 2ull;
+    v4 = ((((u64)(get8(f5 + 40) + 1u)) & 255ull) << 8) | 2ull;
     v9 = v3;
     v3 = v3 + 1ull;
 after1:;
     store32(m, v1, 0, (u32)v3);
-    p253 = held(m, v0, 16);
-    put_held64(p253, 8, m, v0, v9);
-    put_held64(p253, 0, m, v0, v4);
-    m->g0 = v5 + 32ull;
+    p279 = held(m, v0, 16);
+    put_held64(p279, 8, m, v0, v9);
+    put_held64(p279, 0, m, v0, v4);
+    m->g0 = v5 + 48ull;
 }
 
 static void module_scard_lent_atr_reader_finish(struct call *m, u64 v0, u64 v1)
@@ -15067,32 +15238,39 @@ after1:;
 static void rattle_export_scard_lent_atr_reader_finish(struct call *m, u64 v0, u64 v1)
 {
     u64 v2 = 0;
-    u64 v3 = 0;
+    u64 v4 = 0;
     u64 v5 = 0;
-    u32 v4 = 0;
-    u8 *f5 = NULL;
-    u8 *p72 = NULL;
-    v5 = m->g0 - 32ull;
-    f5 = at(m, v5, 32);
-    v2 = v5;
+    u64 v6 = 0;
+    u32 v3 = 0;
+    u8 *f6 = NULL;
+    u8 *p88 = NULL;
+    v6 = m->g0 - 48ull;
+    f6 = at(m, v6, 48);
+    v2 = v6;
     m->g0 = v2;
-    v3 = 0ull;
-    put64(f5 + 24, 0ull);
-    put64(f5 + 16, 0ull);
-    put64(f5 + 8, 0ull);
-    put64(f5, 0ull);
-    v4 = load32(m, v1, 0);
-    atr_core_decoding_check(m, v5, v1 + 4ull, (u64)((v4 < 33u) ? v4 : 33u));
+    v3 = load32(m, v1, 0);
+    v4 = 0ull;
+    put64(f6 + 40, 0ull);
+    put64(f6 + 32, 0ull);
+    put64(f6 + 24, 0ull);
+    put64(f6 + 16, 0ull);
+    v1 = v1 + 4ull;
+    v5 = (u64)((v3 < 33u) ? v3 : 33u);
+    atr_core_length_whole_len(m, v6, v1, v5);
+    if (get8(f6) != 1u) { goto after3; }
     v1 = 0ull;
-    if (get8(f5) == 0) { goto after2; }
-    v4 = get8(f5 + 8);
-    v1 = ((((u64)(v4 ? (get8(f5 + 24) + 1u) : 0u)) & 255ull) << 8) | (v4 ? 2ull : 1ull);
-    v3 = get64(f5 + 16);
+    goto after2;
+after3:;
+    atr_core_decoding_len_by_octets(m, v6 + 16ull, v1, v5);
+    v1 = 0ull;
+    if (get8(f6 + 16) == 0) { goto after2; }
+    v4 = get64(f6 + 32);
+    v1 = ((u64)get8(f6 + 24) == 0) ? 1ull : (((((u64)(get8(f6 + 40) + 1u)) & 255ull) << 8) | 2ull);
 after2:;
-    p72 = held(m, v0, 16);
-    put_held64(p72, 8, m, v0, v3);
-    put_held64(p72, 0, m, v0, v1);
-    m->g0 = v5 + 32ull;
+    p88 = held(m, v0, 16);
+    put_held64(p88, 8, m, v0, v4);
+    put_held64(p88, 0, m, v0, v1);
+    m->g0 = v6 + 48ull;
     return;
 }
 
@@ -18950,224 +19128,303 @@ static void rattle_export_scard_tlv_parts(struct call *m, u64 v0, u64 v1, u64 v2
     u64 v10 = 0;
     u64 v11 = 0;
     u64 v12 = 0;
+    u64 v13 = 0;
     u64 v14 = 0;
-    u64 v19 = 0;
-    u64 v20 = 0;
-    u64 v21 = 0;
-    u64 v22 = 0;
-    u64 v23 = 0;
-    u32 v13 = 0;
-    u32 v15 = 0;
+    u64 v15 = 0;
+    u64 v24 = 0;
+    u64 v25 = 0;
+    u64 v26 = 0;
+    u64 v27 = 0;
     u32 v16 = 0;
     u32 v17 = 0;
     u32 v18 = 0;
-    u32 t2 = 0;
+    u32 v19 = 0;
+    u32 v20 = 0;
+    u32 v21 = 0;
+    u32 v22 = 0;
+    u32 v23 = 0;
+    u32 t0 = 0;
+    u32 t1 = 0;
     u64 w0 = 0;
-    u64 w1 = 0;
-    u8 *f23 = NULL;
-    u8 *p331 = NULL;
-    u8 *p709 = NULL;
-    u8 *p789 = NULL;
-    v23 = m->g0 - 160ull;
-    f23 = at(m, v23, 160);
-    v6 = v23;
+    u8 *f27 = NULL;
+    u8 *p216 = NULL;
+    u8 *p454 = NULL;
+    u8 *p641 = NULL;
+    u8 *p992 = NULL;
+    u8 *p1077 = NULL;
+    v27 = m->g0 - 176ull;
+    f27 = at(m, v27, 176);
+    v6 = v27;
     m->g0 = v6;
-    v7 = 4ull;
-    if (v3 <= 0x100000ull) { goto after3; }
-    v3 = 0ull;
-    goto after2;
-after3:;
-    memset(f23 + 16, (int)(0u & 255u), 112);
-    put64(f23 + 8, v3);
-    v8 = 0ull;
-    v3 = 0ull;
-    if (v2 == 0) { goto after4; }
+    v7 = 0ull;
+    v8 = 4ull;
+    if (v3 > 0x100000ull) { goto after1; }
     v9 = v4 + ((v4 == 0) ? 4096ull : 0ull);
     v10 = v1 + ((v1 == 0) ? 4096ull : 0ull);
-    v11 = v23 + 24ull;
-    v12 = v23 + 20ull;
+    memset(f27 + 16, (int)(0u & 255u), 112);
+    put64(f27 + 8, v3);
+    v11 = v27 + 24ull;
+    v12 = v27 + 20ull;
     v3 = 0ull;
-    v8 = 0ull;
+    v7 = 0ull;
 again5:;
-    v7 = get64(f23 + 120);
-    if (v7 == 0) { goto after9; }
-    v4 = v2 - v3;
-    v4 = (v4 < v7) ? v4 : v7;
-    put64(f23 + 120, v7 - v4);
-    v7 = get64(f23 + 96);
-    if (v7 != 0ull) { goto after11; }
-    v1 = get64(f23 + 8);
-    goto after10;
-after11:;
-    v1 = (u64)load32(m, v12 + (v7 << 2), 0);
-after10:;
-    v7 = v4 + v3;
-    put64(f23 + 16, v7);
-    if (v4 >= (v1 - v3)) { goto after12; }
-    v3 = v7;
-    goto after8;
+    if (v3 != 0ull) { goto after10; }
+    v4 = v9 + (v7 * 24ull);
+    v13 = get64(f27 + 8);
+    v3 = get64(f27 + 16);
+again11:;
+    if (v2 <= v3) { goto after8; }
+    if (get8(f27 + 104) == 0) { goto after12; }
+    put64(f27 + 152, 0ull);
+    put64(f27 + 144, 0ull);
+    put64(f27 + 136, 0ull);
+    put64(f27 + 128, 0ull);
+    goto after7;
 after12:;
-    v13 = (u32)v7;
-    w1 = ((u64)((u32)((get32(f23 + 28) ^ 0x80000000u) > (v13 ^ 0x80000000u)))) + ((u64)((u32)((get32(f23 + 24) ^
-        0x80000000u) > (v13 ^ 0x80000000u))));
-    w1 = (w1 + ((u64)((u32)((get32(f23 + 32) ^ 0x80000000u) > (v13 ^ 0x80000000u))))) + ((u64)((u32)((get32(f23 + 36)
-        ^ 0x80000000u) > (v13 ^ 0x80000000u))));
-    w1 = (w1 + ((u64)((u32)((get32(f23 + 40) ^ 0x80000000u) > (v13 ^ 0x80000000u))))) + ((u64)((u32)((get32(f23 + 44)
-        ^ 0x80000000u) > (v13 ^ 0x80000000u))));
-    w1 = (w1 + ((u64)((u32)((get32(f23 + 48) ^ 0x80000000u) > (v13 ^ 0x80000000u))))) + ((u64)((u32)((get32(f23 + 52)
-        ^ 0x80000000u) > (v13 ^ 0x80000000u))));
-    w1 = (w1 + ((u64)((u32)((get32(f23 + 56) ^ 0x80000000u) > (v13 ^ 0x80000000u))))) + ((u64)((u32)((get32(f23 + 60)
-        ^ 0x80000000u) > (v13 ^ 0x80000000u))));
-    w1 = (w1 + ((u64)((u32)((get32(f23 + 64) ^ 0x80000000u) > (v13 ^ 0x80000000u))))) + ((u64)((u32)((get32(f23 + 68)
-        ^ 0x80000000u) > (v13 ^ 0x80000000u))));
-    w1 = (w1 + ((u64)((u32)((get32(f23 + 72) ^ 0x80000000u) > (v13 ^ 0x80000000u))))) + ((u64)((u32)((get32(f23 + 76)
-        ^ 0x80000000u) > (v13 ^ 0x80000000u))));
-    w1 = (w1 + ((u64)((u32)((get32(f23 + 80) ^ 0x80000000u) > (v13 ^ 0x80000000u))))) + ((u64)((u32)((get32(f23 + 84)
-        ^ 0x80000000u) > (v13 ^ 0x80000000u))));
-    put64(f23 + 96, w1);
-    v3 = v7;
-    goto after8;
-after9:;
-    v7 = v10 + v3;
-    v4 = get64(f23 + 96);
-    if (get8(f23 + 104)) { goto after13; }
-    if (v4 > 15ull) { goto after13; }
-    put64(f23 + 136, 0ull);
-    v1 = v7;
-    v14 = v2 - v3;
-    if (v14 > 7ull) { goto after14; }
-    tlv_core_short_front_of_few(m, v23 + 136ull, v7, v14);
-    v1 = v23 + 136ull;
+    v1 = get64(f27 + 96);
+    if (v1 < 16ull) { goto after13; }
+    put64(f27 + 152, 0ull);
+    put64(f27 + 144, 0ull);
+    put64(f27 + 136, 0ull);
+    put64(f27 + 128, 0ull);
+    goto after7;
+after13:;
+    put64(f27 + 128, 0ull);
+    v14 = v10 + v3;
+    v8 = v14;
+    v15 = v2 - v3;
+    if (v15 > 7ull) { goto after14; }
+    tlv_core_short_front_of_few(m, v27 + 128ull, v14, v15);
+    v8 = v27 + 128ull;
 after14:;
-    v1 = load64(m, v1, 0);
-    put64(f23 + 128, v1);
-    v13 = (u32)v1;
-    v15 = v13 & 31u;
-    v16 = (u32)(v15 == 31u);
-    v17 = (u32)(v1 >> 8);
-    v18 = v16 & ((u32)(((spread32(v17, 8)) ^ 0x80000000u) < (0u ^ 0x80000000u)));
-    if ((v13 >> 23) & v18) { goto after13; }
-    if ((v13 & 255u) == 0) { goto after13; }
-    if (v16 & ((u32)((v17 & 127u) == 0))) { goto after13; }
-    v16 = 1u;
-    v17 = ((v15 == 31u) ? 2u : 1u) + v18;
-    v19 = (u64)v17;
-    v20 = (v23 + 128ull) | v19;
-    p331 = held(m, v20, 2);
-    v21 = (u64)held8(p331, 1, m, v20);
-    v15 = held8(p331, 0, m, v20);
-    switch (v15 + 0xFFFFFF80u) {
-        case 0: goto after13;
+    v8 = load64(m, v8, 0);
+    put64(f27 + 168, v8);
+    v16 = (u32)v8;
+    v17 = spread32(v16 >> 16, 8);
+    v18 = v16 & 31u;
+    v19 = (u32)(v18 == 31u);
+    v20 = (u32)(v8 >> 8);
+    v21 = spread32(v20, 8);
+    v22 = v19 & ((u32)((v21 ^ 0x80000000u) < (0u ^ 0x80000000u)));
+    if (((u32)((v17 ^ 0x80000000u) < (0u ^ 0x80000000u))) & v22) { goto after9; }
+    if ((v16 & 255u) == 0) { goto after9; }
+    if (v19 & ((u32)((v20 & 127u) == 0))) { goto after9; }
+    v23 = 1u;
+    v20 = ((v18 == 31u) ? 2u : 1u) + v22;
+    v8 = (v27 + 168ull) | ((u64)v20);
+    p216 = held(m, v8, 2);
+    v24 = (u64)held8(p216, 1, m, v8);
+    v19 = held8(p216, 0, m, v8);
+    switch (v19 + 0xFFFFFF80u) {
+        case 0: goto after9;
         case 1: goto after15;
         case 2: goto after17;
         default: goto after16;
     }
 after17:;
-    v21 = (v21 << 8) | (u64)load8(m, v20, 2);
-    v16 = 2u;
+    v24 = (v24 << 8) | (u64)load8(m, v8, 2);
+    v23 = 2u;
     goto after15;
 after16:;
-    v16 = 0u;
-    if (((spread32(v15, 8)) ^ 0x80000000u) < (0u ^ 0x80000000u)) { goto after13; }
-    v21 = (u64)v15;
+    v23 = 0u;
+    if (((spread32(v19, 8)) ^ 0x80000000u) < (0u ^ 0x80000000u)) { goto after9; }
+    v24 = (u64)v19;
 after15:;
-    v13 = v13 & 32u;
-    v20 = (u64)((v17 + v16) + 1u);
-    if (v14 < ((v13 ? 0ull : v21) + v20)) { goto after13; }
-    v14 = v21 + v20;
-    if (v4 != 0ull) { goto after19; }
-    v22 = get64(f23 + 8);
-    goto after18;
-after19:;
-    v22 = (u64)load32(m, v12 + (v4 << 2), 0);
+    v19 = v16 >> 5;
+    v25 = (u64)((v20 + v23) + 1u);
+    if (v15 < (((v19 & 1u) ? 0ull : v24) + v25)) { goto after9; }
+    v8 = v24 + v25;
+    v26 = v13;
+    if (v1 == 0) { goto after18; }
+    v26 = (u64)load32(m, v12 + (v1 << 2), 0);
 after18:;
-    if ((v22 - v3) < v14) { goto after13; }
-    w0 = (((v17 == 3u) ? (v1 & 0xFF0000ull) : 0ull) | (v19 << 24)) | ((v17 > 1u) ? (v1 & 65280ull) : 0ull);
-    v19 = w0 | (v1 & 255ull);
-    v7 = v13 ? v20 : v14;
-    v22 = ((u64)v16) << 32;
-    if (v4 != 0ull) { goto after21; }
-    if (v7 != v14) { goto after21; }
-    v14 = v14 + v3;
-    v7 = 0ull;
-    goto after20;
-after21:;
-    store32(m, v11 + ((v7 < v14) ? (v4 << 2) : 64ull), 0, (u32)(v14 + v3));
-    v14 = v7 + v3;
-    v13 = (u32)v14;
-    w0 = ((u64)((u32)((get32(f23 + 28) ^ 0x80000000u) > (v13 ^ 0x80000000u)))) + ((u64)((u32)((get32(f23 + 24) ^
-        0x80000000u) > (v13 ^ 0x80000000u))));
-    w0 = (w0 + ((u64)((u32)((get32(f23 + 32) ^ 0x80000000u) > (v13 ^ 0x80000000u))))) + ((u64)((u32)((get32(f23 + 36)
-        ^ 0x80000000u) > (v13 ^ 0x80000000u))));
-    w0 = (w0 + ((u64)((u32)((get32(f23 + 40) ^ 0x80000000u) > (v13 ^ 0x80000000u))))) + ((u64)((u32)((get32(f23 + 44)
-        ^ 0x80000000u) > (v13 ^ 0x80000000u))));
-    w0 = (w0 + ((u64)((u32)((get32(f23 + 48) ^ 0x80000000u) > (v13 ^ 0x80000000u))))) + ((u64)((u32)((get32(f23 + 52)
-        ^ 0x80000000u) > (v13 ^ 0x80000000u))));
-    w0 = (w0 + ((u64)((u32)((get32(f23 + 56) ^ 0x80000000u) > (v13 ^ 0x80000000u))))) + ((u64)((u32)((get32(f23 + 60)
-        ^ 0x80000000u) > (v13 ^ 0x80000000u))));
-    w0 = (w0 + ((u64)((u32)((get32(f23 + 64) ^ 0x80000000u) > (v13 ^ 0x80000000u))))) + ((u64)((u32)((get32(f23 + 68)
-        ^ 0x80000000u) > (v13 ^ 0x80000000u))));
-    w0 = (w0 + ((u64)((u32)((get32(f23 + 72) ^ 0x80000000u) > (v13 ^ 0x80000000u))))) + ((u64)((u32)((get32(f23 + 76)
-        ^ 0x80000000u) > (v13 ^ 0x80000000u))));
-    w0 = (w0 + ((u64)((u32)((get32(f23 + 80) ^ 0x80000000u) > (v13 ^ 0x80000000u))))) + ((u64)((u32)((get32(f23 + 84)
-        ^ 0x80000000u) > (v13 ^ 0x80000000u))));
-    v7 = w0;
+    if ((v26 - v3) < v8) { goto after9; }
+    v18 = v19 & 7u;
+    v26 = (v18 & 1u) ? v25 : v8;
+    if (v1 != 0ull) { goto after20; }
+    if (v26 != v8) { goto after20; }
+    v8 = v8 + v3;
+    v26 = 0ull;
+    goto after19;
 after20:;
-    put64(f23 + 96, v7);
-    put64(f23 + 16, v14);
-    v1 = ((v3 + v20) & 0xFFFFFFFFull) | (v21 << 32);
-    v7 = (((v4 << 40) | v22) + v19) + 0x10000000000ull;
-    v3 = v14;
-    goto after6;
-after13:;
-    put32(f23 + 152, 0u);
-    put64(f23 + 144, 0ull);
-    put64(f23 + 136, 0ull);
-    t2 = load8(m, v7, 0);
-    tlv_core_progress_Progress_take(m, v23 + 136ull, v23 + 8ull, t2);
-    if (get8(f23 + 136)) { goto after7; }
-    if (get8(f23 + 140) != 2u) { goto after22; }
-    v3 = get64(f23 + 16);
-    v1 = (v3 & 0xFFFFFFFFull) | ((u64)get32(f23 + 152) << 32);
-    w0 = (((u64)get8(f23 + 148) << 32) | (((v4 << 40) + 0x10000000000ull) & 0xFF0000000000ull)) | (u64)get32(f23 +
-        144);
-    v7 = w0;
-    goto after6;
-after22:;
-    v3 = get64(f23 + 16);
-after8:;
-    if (v3 < v2) { goto again5; }
-    goto after4;
-after7:;
-    v7 = ((((u64)(get8(f23 + 137) + 1u)) & 255ull) << 8) | 2ull;
-    v3 = get64(f23 + 16);
-    goto after2;
-after6:;
-    if (v8 >= v5) { goto after23; }
-    v4 = v9 + (v8 * 24ull);
-    p709 = held(m, v4, 24);
-    put_held8(p709, 0, m, v4, (u32)(v7 >> 40));
-    put_held64(p709, 16, m, v4, v1 >> 32);
-    put_held64(p709, 8, m, v4, v1 & 0xFFFFFFFFull);
-    put_held32(p709, 3, m, v4, (u32)v7);
-    put_held8(p709, 2, m, v4, ((u32)(v7 >> 32)) + 1u);
-    put_held8(p709, 1, m, v4, (((u32)v7) >> 5) & 1u);
-after23:;
-    v8 = v8 + 1ull;
-    if (v3 < v2) { goto again5; }
-after4:;
-    v7 = 1ull;
-    if (get64(f23 + 96) != 0ull) { goto after2; }
-    if (get8(f23 + 104) & 255u) { goto after2; }
-    if (get64(f23 + 120)) { goto after2; }
-    v7 = (v8 > v5) ? 4ull : 0ull;
+    store32(m, v11 + ((v26 < v8) ? (v1 << 2) : 64ull), 0, (u32)(v8 + v3));
+    v8 = v26 + v3;
+    v19 = (u32)v8;
+    w0 = ((u64)((u32)((get32(f27 + 28) ^ 0x80000000u) > (v19 ^ 0x80000000u)))) + ((u64)((u32)((get32(f27 + 24) ^
+        0x80000000u) > (v19 ^ 0x80000000u))));
+    w0 = (w0 + ((u64)((u32)((get32(f27 + 32) ^ 0x80000000u) > (v19 ^ 0x80000000u))))) + ((u64)((u32)((get32(f27 + 36)
+        ^ 0x80000000u) > (v19 ^ 0x80000000u))));
+    w0 = (w0 + ((u64)((u32)((get32(f27 + 40) ^ 0x80000000u) > (v19 ^ 0x80000000u))))) + ((u64)((u32)((get32(f27 + 44)
+        ^ 0x80000000u) > (v19 ^ 0x80000000u))));
+    w0 = (w0 + ((u64)((u32)((get32(f27 + 48) ^ 0x80000000u) > (v19 ^ 0x80000000u))))) + ((u64)((u32)((get32(f27 + 52)
+        ^ 0x80000000u) > (v19 ^ 0x80000000u))));
+    w0 = (w0 + ((u64)((u32)((get32(f27 + 56) ^ 0x80000000u) > (v19 ^ 0x80000000u))))) + ((u64)((u32)((get32(f27 + 60)
+        ^ 0x80000000u) > (v19 ^ 0x80000000u))));
+    w0 = (w0 + ((u64)((u32)((get32(f27 + 64) ^ 0x80000000u) > (v19 ^ 0x80000000u))))) + ((u64)((u32)((get32(f27 + 68)
+        ^ 0x80000000u) > (v19 ^ 0x80000000u))));
+    w0 = (w0 + ((u64)((u32)((get32(f27 + 72) ^ 0x80000000u) > (v19 ^ 0x80000000u))))) + ((u64)((u32)((get32(f27 + 76)
+        ^ 0x80000000u) > (v19 ^ 0x80000000u))));
+    w0 = (w0 + ((u64)((u32)((get32(f27 + 80) ^ 0x80000000u) > (v19 ^ 0x80000000u))))) + ((u64)((u32)((get32(f27 + 84)
+        ^ 0x80000000u) > (v19 ^ 0x80000000u))));
+    v26 = w0;
+after19:;
+    put64(f27 + 96, v26);
+    put64(f27 + 16, v8);
+    if (v7 >= v5) { goto after21; }
+    p454 = held(m, v4, 24);
+    put_held8(p454, 0, m, v4, ((u32)v1) + 1u);
+    put_held64(p454, 16, m, v4, v24);
+    put_held64(p454, 8, m, v4, (v3 + v25) & 0xFFFFFFFFull);
+    put_held8(p454, 2, m, v4, v23 + 1u);
+    put_held8(p454, 1, m, v4, v18 & 1u);
+    t1 = (((((v20 == 3u) ? v17 : 0u) & 255u) << 16) | (v20 << 24)) | ((((v20 > 1u) ? v21 : 0u) & 255u) << 8);
+    put_held32(p454, 3, m, v4, t1 | (v16 & 255u));
+after21:;
+    v4 = v4 + 24ull;
+    v7 = v7 + 1ull;
     v3 = v8;
+    if (get64(f27 + 120) == 0) { goto again11; }
+after10:;
+    put64(f27 + 152, 0ull);
+    put64(f27 + 144, 0ull);
+    put64(f27 + 136, 0ull);
+    put64(f27 + 128, 0ull);
+    goto after7;
+after9:;
+    put64(f27 + 152, 0ull);
+    put64(f27 + 144, 0ull);
+    put64(f27 + 136, 0ull);
+    put64(f27 + 128, 0ull);
+    put64(f27 + 168, 0ull);
+    if (v15 > 7ull) { goto after22; }
+    tlv_core_short_front_of_few(m, v27 + 168ull, v14, v15);
+    v14 = v27 + 168ull;
+after22:;
+    v8 = load64(m, v14, 0);
+    put64(f27 + 160, v8);
+    v19 = (u32)v8;
+    v22 = spread32(v19 >> 16, 8);
+    v23 = v19 & 31u;
+    v16 = (u32)(v23 == 31u);
+    v20 = (u32)(v8 >> 8);
+    v17 = spread32(v20, 8);
+    v18 = v16 & ((u32)((v17 ^ 0x80000000u) < (0u ^ 0x80000000u)));
+    if (((u32)((v22 ^ 0x80000000u) < (0u ^ 0x80000000u))) & v18) { goto after7; }
+    if ((v19 & 255u) == 0) { goto after7; }
+    if (v16 & ((u32)((v20 & 127u) == 0))) { goto after7; }
+    v16 = 1u;
+    v20 = ((v23 == 31u) ? 2u : 1u) + v18;
+    v8 = (v27 + 160ull) | ((u64)v20);
+    p641 = held(m, v8, 2);
+    v23 = held8(p641, 1, m, v8);
+    v18 = held8(p641, 0, m, v8);
+    switch (v18 + 0xFFFFFF80u) {
+        case 0: goto after7;
+        case 1: goto after26;
+        case 2: goto after25;
+        default: goto after24;
+    }
+after26:;
+    v23 = v23 & 255u;
+    goto after23;
+after25:;
+    v23 = (v23 << 8) | load8(m, v8, 2);
+    v16 = 2u;
+    goto after23;
+after24:;
+    v16 = 0u;
+    v23 = spread32(v18, 8);
+    if ((v23 ^ 0x80000000u) < (0u ^ 0x80000000u)) { goto after7; }
+after23:;
+    v4 = ((u64)v23) & 65535ull;
+    v18 = v19 & 32u;
+    v8 = (u64)((v20 + v16) + 1u);
+    if (v15 < ((v18 ? 0ull : v4) + v8)) { goto after7; }
+    v4 = v8 + v4;
+    if (v1 == 0) { goto after27; }
+    v13 = (u64)load32(m, v12 + (v1 << 2), 0);
+after27:;
+    if ((v13 - v3) < v4) { goto after7; }
+    t0 = (((((v20 == 3u) ? v22 : 0u) & 255u) << 16) | (v20 << 24)) | ((((v20 > 1u) ? v17 : 0u) & 255u) << 8);
+    v20 = t0 | (v19 & 255u);
+    v24 = v18 ? v8 : v4;
+    v23 = v23 & 65535u;
+    v18 = ((u32)v1) + 1u;
+    v22 = (u32)(v3 + v8);
+    if (v1 != 0ull) { goto after29; }
+    if (v24 != v4) { goto after29; }
+    v3 = v4 + v3;
+    v8 = 0ull;
+    goto after28;
+after29:;
+    store32(m, v11 + ((v24 < v4) ? (v1 << 2) : 64ull), 0, (u32)(v4 + v3));
+    v3 = v24 + v3;
+    v19 = (u32)v3;
+    w0 = ((u64)((u32)((get32(f27 + 28) ^ 0x80000000u) > (v19 ^ 0x80000000u)))) + ((u64)((u32)((get32(f27 + 24) ^
+        0x80000000u) > (v19 ^ 0x80000000u))));
+    w0 = (w0 + ((u64)((u32)((get32(f27 + 32) ^ 0x80000000u) > (v19 ^ 0x80000000u))))) + ((u64)((u32)((get32(f27 + 36)
+        ^ 0x80000000u) > (v19 ^ 0x80000000u))));
+    w0 = (w0 + ((u64)((u32)((get32(f27 + 40) ^ 0x80000000u) > (v19 ^ 0x80000000u))))) + ((u64)((u32)((get32(f27 + 44)
+        ^ 0x80000000u) > (v19 ^ 0x80000000u))));
+    w0 = (w0 + ((u64)((u32)((get32(f27 + 48) ^ 0x80000000u) > (v19 ^ 0x80000000u))))) + ((u64)((u32)((get32(f27 + 52)
+        ^ 0x80000000u) > (v19 ^ 0x80000000u))));
+    w0 = (w0 + ((u64)((u32)((get32(f27 + 56) ^ 0x80000000u) > (v19 ^ 0x80000000u))))) + ((u64)((u32)((get32(f27 + 60)
+        ^ 0x80000000u) > (v19 ^ 0x80000000u))));
+    w0 = (w0 + ((u64)((u32)((get32(f27 + 64) ^ 0x80000000u) > (v19 ^ 0x80000000u))))) + ((u64)((u32)((get32(f27 + 68)
+        ^ 0x80000000u) > (v19 ^ 0x80000000u))));
+    w0 = (w0 + ((u64)((u32)((get32(f27 + 72) ^ 0x80000000u) > (v19 ^ 0x80000000u))))) + ((u64)((u32)((get32(f27 + 76)
+        ^ 0x80000000u) > (v19 ^ 0x80000000u))));
+    w0 = (w0 + ((u64)((u32)((get32(f27 + 80) ^ 0x80000000u) > (v19 ^ 0x80000000u))))) + ((u64)((u32)((get32(f27 + 84)
+        ^ 0x80000000u) > (v19 ^ 0x80000000u))));
+    v8 = w0;
+after28:;
+    put16(f27 + 142, 0u);
+    put8(f27 + 141, v18);
+    put8(f27 + 140, v16);
+    put32(f27 + 136, v20);
+    put32(f27 + 148, v23);
+    put32(f27 + 144, v22);
+    put64(f27 + 96, v8);
+    put64(f27 + 16, v3);
+    v3 = get64(f27 + 136);
+    v4 = get64(f27 + 144);
+    goto after6;
+after8:;
+    put64(f27 + 152, 0ull);
+    put64(f27 + 144, 0ull);
+    put64(f27 + 136, 0ull);
+    put64(f27 + 128, 0ull);
+after7:;
+    tlv_core_part_walk_next_part(m, v27 + 128ull, v27 + 8ull, v10, v2);
+    v4 = get64(f27 + 144);
+    v3 = get64(f27 + 136);
+    if (get8(f27 + 128)) { goto after4; }
+    if ((get8(f27 + 132) & 255u) != 1u) { goto after2; }
+after6:;
+    if (v7 >= v5) { goto after30; }
+    v8 = v9 + (v7 * 24ull);
+    p992 = held(m, v8, 24);
+    put_held8(p992, 0, m, v8, (u32)(v3 >> 40));
+    put_held64(p992, 16, m, v8, v4 >> 32);
+    put_held64(p992, 8, m, v8, v4 & 0xFFFFFFFFull);
+    put_held32(p992, 3, m, v8, (u32)v3);
+    put_held8(p992, 2, m, v8, ((u32)(v3 >> 32)) + 1u);
+    put_held8(p992, 1, m, v8, (((u32)v3) >> 5) & 1u);
+after30:;
+    v7 = v7 + 1ull;
+    v3 = get64(f27 + 120);
+    goto again5;
+after4:;
+    v8 = ((v3 & 255ull) == 0) ? 1ull : (((((u64)(get8(f27 + 152) + 1u)) & 255ull) << 8) | 2ull);
+    v7 = v4;
+    goto after1;
 after2:;
-    p789 = held(m, v0, 16);
-    put_held64(p789, 8, m, v0, v3);
-    put_held64(p789, 0, m, v0, v7);
-    m->g0 = v23 + 160ull;
-    return;
+    v8 = (v7 > v5) ? 4ull : 0ull;
+after1:;
+    p1077 = held(m, v0, 16);
+    put_held64(p1077, 8, m, v0, v7);
+    put_held64(p1077, 0, m, v0, v8);
+    m->g0 = v27 + 176ull;
 }
 
 static void module_scard_tlv_tidy(struct call *m, u64 v0, u64 v1, u64 v2, u64 v3, u64 v4, u64 v5)
@@ -20057,16 +20314,16 @@ struct scard_verdict scard_hex_decode(const char *text, size_t length, uint8_t *
 struct scard_verdict scard_atr_check(const uint8_t *octets, size_t count)
 {
     struct call m;
-    u8 stack[1872];
+    u8 stack[1888];
     struct shaped *shaped = NULL;
     struct scard_verdict result;
     begin(&m, stack, sizeof stack, shaped);
     lend(&m, 2, octets, count);
     m.g0 -= 16;
     module_scard_atr_check(&m, m.g0, ADDRESS(2), (u64)count);
-    result.status = (uint8_t)get8(stack + 1856);
-    result.reason = (uint8_t)get8(stack + 1856 + 1);
-    result.place = (scard_size)get64(stack + 1856 + 8);
+    result.status = (uint8_t)get8(stack + 1872);
+    result.reason = (uint8_t)get8(stack + 1872 + 1);
+    result.place = (scard_size)get64(stack + 1872 + 8);
     return result;
 }
 
@@ -20387,7 +20644,7 @@ struct scard_verdict scard_tlv_check(const uint8_t *octets, size_t count, size_t
 struct scard_verdict scard_tlv_tidy(const uint8_t *octets, size_t count, size_t max, uint8_t *out, size_t room)
 {
     struct call m;
-    u8 stack[400];
+    u8 stack[448];
     struct shaped *shaped = NULL;
     struct scard_verdict result;
     begin(&m, stack, sizeof stack, shaped);
@@ -20395,9 +20652,9 @@ struct scard_verdict scard_tlv_tidy(const uint8_t *octets, size_t count, size_t 
     lend(&m, 3, out, room);
     m.g0 -= 16;
     module_scard_tlv_tidy(&m, m.g0, ADDRESS(2), (u64)count, (u64)max, ADDRESS(3), (u64)room);
-    result.status = (uint8_t)get8(stack + 384);
-    result.reason = (uint8_t)get8(stack + 384 + 1);
-    result.place = (scard_size)get64(stack + 384 + 8);
+    result.status = (uint8_t)get8(stack + 432);
+    result.reason = (uint8_t)get8(stack + 432 + 1);
+    result.place = (scard_size)get64(stack + 432 + 8);
     return result;
 }
 
@@ -20405,7 +20662,7 @@ struct scard_verdict scard_tlv_parts(const uint8_t *octets, size_t count, size_t
     room)
 {
     struct call m;
-    u8 stack[208];
+    u8 stack[256];
     SHAPED_HERE
     struct scard_verdict result;
     begin(&m, stack, sizeof stack, shaped);
@@ -20413,9 +20670,9 @@ struct scard_verdict scard_tlv_parts(const uint8_t *octets, size_t count, size_t
     LEND(&m, 3, parts, room, shape_of_part(0));
     m.g0 -= 16;
     module_scard_tlv_parts(&m, m.g0, ADDRESS(2), (u64)count, (u64)max, ADDRESS(3), (u64)room);
-    result.status = (uint8_t)get8(stack + 192);
-    result.reason = (uint8_t)get8(stack + 192 + 1);
-    result.place = (scard_size)get64(stack + 192 + 8);
+    result.status = (uint8_t)get8(stack + 240);
+    result.reason = (uint8_t)get8(stack + 240 + 1);
+    result.place = (scard_size)get64(stack + 240 + 8);
     return result;
 }
 
@@ -20917,7 +21174,7 @@ struct scard_verdict scard_lent_atr_reader_feed(struct scard_lent_atr_reader *st
     count)
 {
     struct call m;
-    u8 stack[1872];
+    u8 stack[1888];
     SHAPED_HERE
     struct scard_verdict result;
     begin(&m, stack, sizeof stack, shaped);
@@ -20925,25 +21182,25 @@ struct scard_verdict scard_lent_atr_reader_feed(struct scard_lent_atr_reader *st
     lend(&m, 3, octets, count);
     m.g0 -= 16;
     module_scard_lent_atr_reader_feed(&m, m.g0, ADDRESS(2), ADDRESS(3), (u64)count);
-    result.status = (uint8_t)get8(stack + 1856);
-    result.reason = (uint8_t)get8(stack + 1856 + 1);
-    result.place = (scard_size)get64(stack + 1856 + 8);
+    result.status = (uint8_t)get8(stack + 1872);
+    result.reason = (uint8_t)get8(stack + 1872 + 1);
+    result.place = (scard_size)get64(stack + 1872 + 8);
     return result;
 }
 
 struct scard_verdict scard_lent_atr_reader_finish(const struct scard_lent_atr_reader *state)
 {
     struct call m;
-    u8 stack[1872];
+    u8 stack[1888];
     SHAPED_HERE
     struct scard_verdict result;
     begin(&m, stack, sizeof stack, shaped);
     LEND(&m, 2, state, 1, shape_of_lent_atr_reader(0));
     m.g0 -= 16;
     module_scard_lent_atr_reader_finish(&m, m.g0, ADDRESS(2));
-    result.status = (uint8_t)get8(stack + 1856);
-    result.reason = (uint8_t)get8(stack + 1856 + 1);
-    result.place = (scard_size)get64(stack + 1856 + 8);
+    result.status = (uint8_t)get8(stack + 1872);
+    result.reason = (uint8_t)get8(stack + 1872 + 1);
+    result.place = (scard_size)get64(stack + 1872 + 8);
     return result;
 }
 

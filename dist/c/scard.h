@@ -1,26 +1,30 @@
 /* scard: the proved smart card stack for programs in C and C++.
  *
  * This header declares codecs for answers to reset, T=1 blocks and chains (ISO/IEC 7816-3), commands and responses
- * (ISO/IEC 7816-4) and data objects (EMV 4.3 Book 3). It also declares readers for octets that arrive in pieces, and
- * both ends of a T=1 session. Link with libscard.a. docs/C.md says how to link, and what is proved.
+ * (ISO/IEC 7816-4) and data objects (EMV 4.3 Book 3). It also declares readers for octets that arrive in pieces, both
+ * ends of a T=1 session, a framer, and a judge of the blocks on a line. Link with libscard.a. docs/C.md says how to
+ * link, and what is proved.
  *
- * Units. Lengths and places count octets; a place is an offset and starts at 0. The length of an array of structs
- * counts structs. Input is a pointer and a length; an output buffer is a pointer and its room, the capacity. A pointer
- * may be null where its length or room is 0.
+ * Units. A length is a number of octets. A place is the offset of an octet, and starts at 0. The length of an array of
+ * structs counts structs. Input is a pointer and a length. An output buffer is a pointer and its room, the capacity. A
+ * pointer may be null if its length or room is 0.
  *
- * Memory. The caller owns the memory at every pointer that it passes. No call keeps a pointer after it returns, and
- * none reads or writes past a length. Input may not overlap a buffer that the same call writes. Each comment says what
- * its call writes, and when. In all other cases the call leaves what its pointers point to unchanged.
+ * Results. Most calls return a verdict: a status, a reason and a place. The comment of such a call lists the statuses
+ * that it can return, without their prefix SCARD_. After the word Room it says how large the output buffer has to be.
  *
- * Threads. The library has no state of its own. Two threads may be in any calls at the same time if each uses its own
- * handles, states and buffers. Only one call at a time may use a given handle, state or buffer. It may move to another
- * thread between two calls if the program orders them, by a lock or by a thread's start or join.
+ * Memory. The caller owns the memory at every pointer that it passes. No call keeps a pointer after it returns. No call
+ * reads or writes past a length. Input may not overlap a buffer that the same call writes. Each comment says what its
+ * call writes, and when. In all other cases the call leaves the memory at its pointers unchanged.
+ *
+ * Threads. The library has no state of its own. Two threads may call it at the same time if each uses its own handles,
+ * states and buffers. Only one call at a time may use a given handle, state or buffer. Another thread may use it for
+ * the next call if the program orders the two calls, by a lock or by the start or join of a thread.
  */
 #ifndef SCARD_H
 #define SCARD_H
 
-/* The version of this header. scard_version() returns the version of the linked library. The two numbers are equal if
- * the header belongs to the library.
+/* The version of this header. scard_version() returns the version of the linked library. If this header belongs to that
+ * library, the two numbers are equal.
  */
 #define SCARD_VERSION_MAJOR 1
 #define SCARD_VERSION_MINOR 5
@@ -32,8 +36,8 @@
 #include <stddef.h>
 #include <stdint.h>
 
-/* Marks a call whose result says what happened: the compiler warns if the program ignores it. To turn the warning off,
- * define SCARD_MUST_USE as nothing before you include this header.
+/* Marks a call whose result the program has to check. The compiler warns if the program ignores the result. To turn the
+ * warning off, define SCARD_MUST_USE as nothing before you include this header.
  */
 #ifndef SCARD_MUST_USE
 #if defined(__cplusplus) && __cplusplus >= 201703L
@@ -45,8 +49,8 @@
 #endif
 #endif
 
-/* The type of a count of octets in a struct. It has 64 bits on every machine, so the structs are the same everywhere.
- * Where size_t has 64 bits, the two are the same type.
+/* The type of a number of octets in a struct. It has 64 bits on every machine, so the structs are the same everywhere.
+ * If size_t has 64 bits too, the two are the same type.
  */
 #if SIZE_MAX > 0xFFFFFFFFu
 typedef size_t scard_size;
@@ -66,30 +70,30 @@ uint32_t scard_version(void);
 /* ---- verdicts ---- */
 
 enum scard_status {
-    /* Success. A decoder read a value that takes `place` octets; or a call wrote `place` octets. */
+    /* Success. The call decoded a value of `place` octets, or wrote `place` octets. */
     SCARD_OK = 0,
-    /* The input ends too early: after its `place` octets, more could still complete a value. */
+    /* The input ends too early. It has `place` octets, and more octets could still complete a value. */
     SCARD_SHORT = 1,
-    /* The input is invalid: no encoding continues after the octet at `place`, the first such. `reason` says why. */
+    /* The input is invalid. `place` is the first octet after which no encoding can continue. `reason` says why. */
     SCARD_AT = 2,
     /* Out of memory. */
     SCARD_MEMORY = 3,
-    /* An argument is out of range, and `place` is 0; or a buffer is too small, and `place` is the room needed. */
+    /* An argument is out of range, and `place` is 0. Or a buffer is too small, and `place` is the room needed. */
     SCARD_ARGUMENT = 4,
     /* Two known values have the same tag. */
     SCARD_DUPLICATE = 5,
-    /* A reader consumed the whole piece, `place` octets, and needs more. */
+    /* A reader consumed the whole piece, which has `place` octets, and needs more. */
     SCARD_MORE = 6
 };
 
 struct scard_verdict {
     uint8_t status; /* enum scard_status */
     uint8_t reason; /* the reason, from the codec's enum below; 0 unless the status is SCARD_AT */
-    scard_size place; /* depends on the status, so check that first: at SCARD_OK the octets written or consumed; at
-                         SCARD_ARGUMENT the room needed, with nothing written */
+    scard_size place; /* depends on the status, so check the status first. SCARD_OK: the number of octets written or
+                         consumed. SCARD_ARGUMENT: the room needed, and the call wrote nothing */
 };
 
-/* The codecs. Pass one to scard_reason_name. */
+/* The codecs, as numbers for scard_reason_name. */
 enum scard_codec {
     SCARD_CODEC_ATR = 1,
     SCARD_CODEC_BLOCK = 2,
@@ -157,21 +161,23 @@ enum scard_hex_reason {
 
 /* ---- names ---- */
 
-/* A constant text that the library owns. It never changes, and nobody frees it. */
+/* A constant string. The library owns it, so don't free it. */
 struct scard_text {
     const char *text; /* terminated by a 0 */
-    scard_size size;      /* its octets, with the terminating 0 */
+    scard_size size;  /* the number of its octets, including the terminating 0 */
 };
 
-/* Look up a name, and write it to *out. scard_status_text takes an enum scard_status ("SHORT"), scard_turn_text an enum
- * scard_turn_kind ("SEND"). scard_reason_text takes an enum scard_codec and a reason of that codec ("BadTck"). An
- * unknown number gives "". The library owns the text.
+/* Write the name of a number to *out. scard_status_text takes an enum scard_status ("SHORT"), scard_turn_text an enum
+ * scard_turn_kind ("SEND"). scard_reason_text takes an enum scard_codec and a reason of that codec ("BadTck"). For an
+ * unknown number the name is "". The library owns the text.
  */
 void scard_status_text(uint8_t status, struct scard_text *out);
 void scard_turn_text(uint8_t kind, struct scard_text *out);
 void scard_reason_text(uint8_t codec, uint8_t reason, struct scard_text *out);
 
-/* The same names as C strings, for C and C++. The library owns them; don't free them. An unknown number gives "". */
+/* Return the same names as C strings, for C and C++. The library owns the strings, so don't free them. For an unknown
+ * number the name is "".
+ */
 static inline const char *scard_status_name(int status)
 {
     struct scard_text name;
@@ -196,7 +202,9 @@ static inline const char *scard_reason_name(int codec, int reason)
 
 /* ---- explanations in words ---- */
 
-/* The kind of the octets that scard_note_of explains: the first octet, and the second where the kind has two. */
+/* The kinds of octets that scard_note_of explains. It reads `first` for every kind, and `second` for a kind of two
+ * octets.
+ */
 enum scard_noted {
     SCARD_NOTED_STATUS = 1,      /* SW1 and SW2 of a response (ISO/IEC 7816-4:2005, clause 5.1.3) */
     SCARD_NOTED_INSTRUCTION = 2, /* CLA and INS of a command (clause 5.1.2) */
@@ -209,8 +217,9 @@ enum scard_noted {
     SCARD_NOTED_TAG = 8          /* the first octet of a tag (ISO/IEC 7816-4:2005, clause 5.2.2.1) */
 };
 
-/* An explanation: `before`, then the number in decimal digits if has_number is 1, then `after`. The library owns both
- * texts. Neither is terminated by a 0. Without a number, `number` and `has_number` are 0 and `after` is empty.
+/* An explanation. Its text is `before`, then the number in decimal digits if has_number is 1, then `after`. The library
+ * owns both strings, and neither ends with a 0. Without a number, `number` and `has_number` are 0, and `after` is
+ * empty.
  */
 struct scard_note {
     const char *before;
@@ -221,93 +230,97 @@ struct scard_note {
     uint8_t has_number;
 };
 
-/* Writes to *out an explanation of one or two octets. `about` is an enum scard_noted. Status bytes give, for example,
- * "file or application not found"; a class gives "no secure messaging, channel " and a number. Both texts are empty if
- * the standard has no words for these octets, or if `about` is unknown.
+/* Writes an explanation of one or two octets to *out. `about` is an enum scard_noted. For example, status bytes give
+ * "file or application not found", and a class gives "no secure messaging, channel " and a number. Both strings are
+ * empty if the standard has no words for these octets, or if `about` is unknown.
  */
 void scard_note_of(uint8_t about, uint8_t first, uint8_t second, struct scard_note *out);
 
-/* Returns whether octets are shown as text beside their hexadecimal: 1 to 40 octets, each from 20 to 7E. */
+/* Returns true if the octets are text, which can be shown beside their hexadecimal digits: 1 to 40 octets, each 20 to
+ * 7E.
+ */
 bool scard_is_text(const uint8_t *octets, size_t count);
 
 /* ---- octets ---- */
 
-/* Returns the longitudinal redundancy check of `count` octets: their exclusive-or, or 0 if there are none (ISO/IEC
- * 7816-3, clause 11.3).
+/* Returns the longitudinal redundancy check of `count` octets: their exclusive-or (ISO/IEC 7816-3, clause 11.3). If
+ * `count` is 0, the result is 0.
  */
 uint8_t scard_lrc(const uint8_t *octets, size_t count);
 
-/* Writes `count` octets as upper-case hexadecimal text, two digits each, without a terminating 0. Room: 2 * count.
- * Returns OK, ARGUMENT.
+/* Encodes `count` octets as upper-case hexadecimal text, two digits each, and writes it to `text`, without a
+ * terminating 0. Room: 2 * count. Returns OK, ARGUMENT.
  */
 SCARD_MUST_USE
 struct scard_verdict scard_hex_encode(const uint8_t *octets, size_t count, char *text, size_t room);
 
-/* Decodes hexadecimal text, upper or lower case, and writes its octets. `length` counts characters. Room: length / 2.
- * AT: `place` is the first character that isn't a digit; or the length is odd, and `place` is the end of the text (enum
- * scard_hex_reason). Returns OK, AT, ARGUMENT.
+/* Decodes hexadecimal text, and writes its octets to `out`. The digits may be upper or lower case. `length` counts
+ * characters. Room: length / 2. AT: `place` is the first character that isn't a digit. If all are digits but their
+ * number is odd, `place` is the end of the text (enum scard_hex_reason). Returns OK, AT, ARGUMENT.
  */
 SCARD_MUST_USE
 struct scard_verdict scard_hex_decode(const char *text, size_t length, uint8_t *out, size_t room);
 
 /* ---- answers to reset (ISO/IEC 7816-3, clause 8) ---- */
 
-/* TA, TB and TC. Each is present if its `has_` field isn't 0. */
+/* The interface bytes TA, TB and TC. A byte is present if its `has_` field isn't 0. */
 struct scard_interface {
     uint8_t has_ta, ta;
     uint8_t has_tb, tb;
     uint8_t has_tc, tc;
 };
 
-/* One TD: the protocol T that it indicates, 0 to 15, and the interface bytes after it. */
+/* A TD byte: the protocol T that it indicates, 0 to 15, and the interface bytes that follow it. */
 struct scard_indicated {
     uint8_t protocol;
     struct scard_interface bytes;
 };
 
 struct scard_atr {
-    uint8_t convention;                    /* 0 is direct (TS is 3B), any other value inverse (TS is 3F) */
+    uint8_t convention;                    /* 0: direct (TS is 3B); any other value: inverse (TS is 3F) */
     struct scard_interface first;          /* TA1, TB1, TC1 */
-    uint8_t indicated_count;               /* how many TDs follow in `indicated`, in their order; at most 31 */
+    uint8_t indicated_count;               /* the number of TDs in `indicated`, at most 31 */
     struct scard_indicated indicated[31];
-    uint8_t historical_count;              /* how many historical bytes there are, at most 15 */
+    uint8_t historical_count;              /* the number of historical bytes, at most 15 */
     uint8_t historical[15];
-    uint8_t has_tck, tck;                  /* written by decode; no other call reads them */
+    uint8_t has_tck, tck;                  /* decoding writes them; no other call reads them */
 };
 
-/* Checks whether the octets begin with a valid answer to reset. It ignores what follows the answer. At OK, `place` is
- * the answer's length. Returns OK, SHORT, AT (enum scard_atr_reason).
+/* Checks whether the octets begin with a valid answer to reset. The call ignores octets after the answer. At OK,
+ * `place` is the length of the answer. Returns OK, SHORT, AT (enum scard_atr_reason).
  */
 SCARD_MUST_USE
 struct scard_verdict scard_atr_check(const uint8_t *octets, size_t count);
 
-/* Decodes an answer to reset: as scard_atr_check, and at OK writes the answer to *out. */
+/* Decodes the answer to reset at the start of the octets. The verdict is that of scard_atr_check. At OK the call writes
+ * the answer to *out.
+ */
 SCARD_MUST_USE
 struct scard_verdict scard_atr_decode(const uint8_t *octets, size_t count, struct scard_atr *out);
 
-/* Encodes an answer to reset, and writes its octets. Room: at most 33. ARGUMENT with place 0: a count is too large, a
+/* Encodes an answer to reset, and writes it to `out`. Room: at most 33. ARGUMENT with place 0: a count is too large, a
  * protocol is above 15, or the answer would have more than 33 octets. Returns OK, ARGUMENT.
  */
 SCARD_MUST_USE
 struct scard_verdict scard_atr_encode(const struct scard_atr *atr, uint8_t *out, size_t room);
 
-/* The results of scard_atr_t1_params. Any other number is SCARD_ARGUMENT: the struct holds no valid answer. */
+/* The results of scard_atr_t1_params. Its other result is SCARD_ARGUMENT: the struct holds no valid answer. */
 enum scard_t1_fault {
-    SCARD_T1_USABLE = 0,        /* success: *out is written; with any other result it is unchanged */
+    SCARD_T1_USABLE = 0,        /* success: the call wrote *out; otherwise *out is unchanged */
     SCARD_T1_NO_T1 = 1,         /* the answer doesn't offer T=1 */
     SCARD_T1_RESERVED_IFSC = 2, /* IFSC is 00 or FF */
     SCARD_T1_CRC = 3            /* the answer asks for the CRC, which this stack doesn't support */
 };
 
 struct scard_t1 {
-    uint8_t ifsc; /* the information size of the card, 1 to 254 octets */
-    uint8_t bwi;  /* the index of its block waiting time, 0 to 15; `cwi` is that of its character waiting time, 0 to
-                     15 */
-    uint8_t cwi;
+    uint8_t ifsc; /* IFSC, the information field size of the card, 1 to 254 octets */
+    uint8_t bwi;  /* BWI, the index of its block waiting time, 0 to 15 */
+    uint8_t cwi;  /* CWI, the index of its character waiting time, 0 to 15 */
 };
 
-/* Writes to *out the T=1 parameters of an answer to reset (ISO/IEC 7816-3, clause 11.4). Parameters that the answer
- * leaves out get their defaults: 32, 4 and 13. Returns an enum scard_t1_fault, or SCARD_ARGUMENT.
+/* Writes the T=1 parameters of an answer to reset to *out (ISO/IEC 7816-3, clause 11.4). A parameter that the answer
+ * leaves out gets its default: 32 for IFSC, 4 for BWI and 13 for CWI. Returns an enum scard_t1_fault, or
+ * SCARD_ARGUMENT.
  */
 SCARD_MUST_USE
 uint8_t scard_atr_t1_params(const struct scard_atr *atr, struct scard_t1 *out);
@@ -317,57 +330,59 @@ struct scard_rates {
     uint16_t di; /* 0 if reserved */
 };
 
-/* Writes to *out the integers Fi and Di of TA1 (clause 8.3); without a TA1, 372 and 1. Returns SCARD_OK, or
+/* Writes the integers Fi and Di of TA1 to *out (clause 8.3). Without a TA1 they are 372 and 1. Returns SCARD_OK, or
  * SCARD_ARGUMENT if the struct holds no valid answer.
  */
 SCARD_MUST_USE
 uint8_t scard_atr_rates(const struct scard_atr *atr, struct scard_rates *out);
 
-/* Returns CWT in etu: the longest time between the starts of two characters of one block (clause 11.4). It is 11 +
- * 2^cwi, so 12 to 32,779.
+/* Returns the character waiting time CWT in etu: the longest time between the starts of two characters of one block
+ * (clause 11.4). It is 11 + 2^cwi, so 12 to 32,779.
  *
- * For this call and the next: the result is exact, without rounding. It is 0 if the struct holds no valid parameters:
- * `ifsc` is 0 or 255, or an index is above 15. An elementary time unit, etu, is `fi` / `di` cycles of the card's clock.
- * `fi` and `di` are the integers in use: 372 and 1 until both ends agree on others. docs/C.md converts the times to
- * microseconds.
+ * This call and the next compute exact results, without rounding. The result is 0 if the struct holds no valid
+ * parameters: `ifsc` is 0 or 255, or an index is above 15. An elementary time unit, etu, is `fi` / `di` cycles of the
+ * card's clock. `fi` and `di` are the integers in use. They are 372 and 1 until both ends agree on others. docs/C.md
+ * says how to convert the times to microseconds.
  */
 uint32_t scard_t1_cwt(const struct scard_t1 *params);
 
-/* Returns BWT: the longest time from the start of the last character that the card received to the start of the first
- * one that it sends back (clause 11.4). The unit is a clock cycle divided by `di`, so an etu has `fi` units. The value
- * is 11 * fi + 2^bwi * 960 * 372 * di.
+/* Returns the block waiting time BWT: the longest time from the start of the last character that the card received to
+ * the start of the first one that it sends back (clause 11.4). The unit is a clock cycle divided by `di`, so an etu has
+ * `fi` units. BWT is 11 * fi + 2^bwi * 960 * 372 * di.
  */
 uint64_t scard_t1_bwt(const struct scard_t1 *params, uint16_t fi, uint16_t di);
 
 /* ---- blocks of T=1 (ISO/IEC 7816-3, clause 11.3) ---- */
 
-/* The room that fits every block, in octets. */
+/* The largest number of octets of a block. A buffer of this size holds any block. */
 #define SCARD_BLOCK_ROOM 258
 
 struct scard_block {
     uint8_t nad;
     uint8_t pcb;
-    uint8_t inf_place; /* the information field is `inf_len` octets of the input, starting at this place: 3 */
-    uint8_t inf_len;
+    uint8_t inf_place; /* the offset of the information field in the input: 3 */
+    uint8_t inf_len;   /* its length */
 };
 
 /* What an R-block reports about the block that it answers. */
 enum scard_block_fault { SCARD_FAULT_FREE = 0, SCARD_FAULT_REDUNDANCY = 1, SCARD_FAULT_OTHER = 2 };
 
-/* The kind of an S-block. IFS carries one octet, 1 to 254; WTX one octet of any value; the others carry none. */
+/* The kind of an S-block. IFS carries one octet, 1 to 254. WTX carries one octet of any value. The others carry none.
+ */
 enum scard_block_about { SCARD_S_RESYNCH = 0, SCARD_S_IFS = 1, SCARD_S_ABORT = 2, SCARD_S_WTX = 3 };
 
 /* Decodes the block at the start of the octets, and at OK writes it to *out. `ifs` is the largest information field of
- * an I-block, 1 to 254 octets. At OK, `place` is the block's length; what follows isn't read. Returns OK, SHORT, AT
- * (enum scard_block_reason), ARGUMENT (`ifs` is 0 or 255).
+ * an I-block, 1 to 254 octets. At OK, `place` is the length of the block. The call doesn't read the octets after it.
+ * Returns OK, SHORT, AT (enum scard_block_reason), ARGUMENT (`ifs` is 0 or 255).
  */
 SCARD_MUST_USE
 struct scard_verdict scard_block_decode(const uint8_t *octets, size_t count, uint8_t ifs, struct scard_block *out);
 
-/* Encode a block of one kind, and write its octets. `nad` is the node address, any octet. `ns` and `nr` are 0 or 1.
- * `more` says that more blocks of the chain follow. `fault` is an enum scard_block_fault, `about` an enum
- * scard_block_about. `inf` is the information field, at most 254 octets. Room: SCARD_BLOCK_ROOM always suffices;
- * exactly, the field's octets and 4. ARGUMENT with place 0: there is no such block. Return OK, ARGUMENT.
+/* Encode an I-block, an R-block, or an S-block that requests or responds, and write it to `out`. `nad` is the node
+ * address, any octet. `ns` and `nr` are 0 or 1. `more` says that more blocks of the chain follow. `fault` is an enum
+ * scard_block_fault, and `about` an enum scard_block_about. `inf` is the information field, at most 254 octets. Room:
+ * SCARD_BLOCK_ROOM always suffices. The block itself needs the octets of its field and 4 more. ARGUMENT with place 0:
+ * there is no block with these values. Return OK, ARGUMENT.
  */
 SCARD_MUST_USE
 struct scard_verdict scard_block_i(uint8_t nad, uint8_t ns, bool more, const uint8_t *inf, size_t count,
@@ -381,26 +396,26 @@ SCARD_MUST_USE
 struct scard_verdict scard_block_s_response(uint8_t nad, uint8_t about, const uint8_t *inf, size_t count,
                                             uint8_t *out, size_t room);
 
-/* Encodes a block of any kind, with its control octet given as `pcb`, one of 18 values. Otherwise as above. */
+/* Encodes a block of any kind. `pcb` is its control octet, one of 18 values. The rest is as for the calls above. */
 SCARD_MUST_USE
 struct scard_verdict scard_block_encode(uint8_t nad, uint8_t pcb, const uint8_t *inf, size_t count,
                                         uint8_t *out, size_t room);
 
 /* ---- chains of I-blocks (ISO/IEC 7816-3, clause 11.6) ---- */
 
-/* Encodes one block of a message's chain, and writes its octets. The block carries the octets from `start` on: `ifs` of
- * them, or all that are left if those are fewer. It says that more follow if octets are left after it. `ifs` is 1 to
- * 254 octets. `ns` is the block's number, 0 or 1. Room: SCARD_BLOCK_ROOM. ARGUMENT with place 0: `ifs` is 0 or 255,
- * `ns` isn't 0 or 1, or `start` is past the message. Returns OK, ARGUMENT.
+/* Encodes one block of a message's chain, and writes it to `out`. The block carries the octets of the message from
+ * `start` on: `ifs` of them, or the rest if fewer are left. If octets are left after the block, the block says that
+ * more blocks follow. `ifs` is 1 to 254 octets. `ns` is the number of the block, 0 or 1. Room: SCARD_BLOCK_ROOM.
+ * ARGUMENT with place 0: `ifs` is 0 or 255, `ns` isn't 0 or 1, or `start` is past the message. Returns OK, ARGUMENT.
  */
 SCARD_MUST_USE
 struct scard_verdict scard_chain_block(const uint8_t *message, size_t count, size_t start, uint8_t ifs, uint8_t ns,
                                        uint8_t *out, size_t room);
 
-/* Encodes the whole chain of a message, and writes its octets. The message has at most 131,072 octets. Its fields have
- * `ifs` octets, 1 to 254, except the last one. `ns` is the number of the first block, 0 or 1. Room: the message, and 4
- * octets for each block; the empty message has one block. ARGUMENT with place 0: an argument is out of its range.
- * Returns OK, ARGUMENT.
+/* Encodes the whole chain of a message, and writes its blocks to `out`. The message has at most 131,072 octets. Each
+ * information field has `ifs` octets, 1 to 254, except the last, which may have fewer. `ns` is the number of the first
+ * block, 0 or 1. Room: the message, and 4 octets for each block. The empty message has one block. ARGUMENT with place
+ * 0: an argument is out of its range. Returns OK, ARGUMENT.
  */
 SCARD_MUST_USE
 struct scard_verdict scard_chain_cut(const uint8_t *message, size_t count, uint8_t ifs, uint8_t ns,
@@ -420,36 +435,36 @@ enum scard_shape {
 
 struct scard_command {
     uint8_t cla, ins, p1, p2;
-    uint8_t shape; /* enum scard_shape */
-    uint8_t has_le;    /* 1 if there is an Le field, else 0 */
-    uint32_t le;       /* the most octets expected in the response; 0 if there is no Le */
-    scard_size data_place; /* the data field is `data_len` octets of the input, starting at this place */
-    scard_size data_len;
+    uint8_t shape;  /* enum scard_shape */
+    uint8_t has_le; /* 1 if the command has an Le field, else 0 */
+    uint32_t le;    /* the largest number of octets expected in the response; 0 without an Le field */
+    scard_size data_place; /* the offset of the data field in the input */
+    scard_size data_len;   /* its length */
 };
 
 struct scard_response {
     uint8_t sw1, sw2;
-    scard_size data_len; /* the data field is this many octets, at the start of the input */
+    scard_size data_len; /* the length of the data field, which is at the start of the input */
 };
 
-/* Decode a command, or a response, that takes all the octets; at OK they write it to *out. Return OK, SHORT, AT (enum
- * scard_command_reason, enum scard_response_reason).
+/* Decode a command or a response, which has to take all the octets, and at OK write it to *out. Return OK, SHORT, AT
+ * (enum scard_command_reason, enum scard_response_reason).
  */
 SCARD_MUST_USE
 struct scard_verdict scard_command_decode(const uint8_t *octets, size_t count, struct scard_command *out);
 SCARD_MUST_USE
 struct scard_verdict scard_response_decode(const uint8_t *octets, size_t count, struct scard_response *out);
 
-/* Encodes a command, and writes its octets. It takes the header, the shape and Le from the struct, and ignores the
- * struct's other fields. `data` is the data field, caller-owned. Where a shape has no Le or no data field, pass 0 for
- * it. Room: at most the data field and 9. ARGUMENT with place 0: no length field can express these values. Returns OK,
- * ARGUMENT.
+/* Encodes a command, and writes it to `out`. The call takes the header, the shape and Le from the struct, and ignores
+ * the other fields of the struct. `data` is the caller-owned data field. If the shape has no Le, set `le` to 0. If it
+ * has no data field, set `count` to 0. Room: at most the data field and 9. ARGUMENT with place 0: no length field can
+ * express these values. Returns OK, ARGUMENT.
  */
 SCARD_MUST_USE
 struct scard_verdict scard_command_encode(const struct scard_command *command, const uint8_t *data, size_t count,
                                           uint8_t *out, size_t room);
 
-/* Encodes a response, and writes its octets. The data field has at most 65,536 octets. Room: the data field and 2.
+/* Encodes a response, and writes it to `out`. The data field has at most 65,536 octets. Room: the data field and 2.
  * Returns OK, ARGUMENT.
  */
 SCARD_MUST_USE
@@ -470,60 +485,61 @@ uint8_t scard_status_class(uint8_t sw1, uint8_t sw2);
 
 /* ---- data objects (EMV 4.3 Book 3, Annex B and clause 5.4) ---- */
 
-/* The most octets of a forest, which is a list of data objects and filler octets 00. */
+/* The largest number of octets of a forest. A forest is a list of data objects and filler octets 00. */
 #define SCARD_TLV_LARGEST 1048576
 
-/* Checks whether the octets are a valid forest of at most `max` octets, itself at most SCARD_TLV_LARGEST. Returns OK,
+/* Checks whether the octets are a valid forest of at most `max` octets. `max` is at most SCARD_TLV_LARGEST. Returns OK,
  * SHORT, AT (enum scard_tlv_reason), ARGUMENT (`max` is larger).
  */
 SCARD_MUST_USE
 struct scard_verdict scard_tlv_check(const uint8_t *octets, size_t count, size_t max);
 
-/* Writes the shortest encoding of the same objects: without fillers, and with each length in its shortest form. `max`
- * is as in scard_tlv_check. Room: `count` suffices. It allocates nothing. It makes two passes over the octets, and
- * moves those of an object once for each object that contains it. Returns OK, SHORT, AT, ARGUMENT.
+/* Writes the shortest encoding of a forest to `out`: the same objects without fillers, each length in its shortest
+ * form. `max` is as in scard_tlv_check. Room: `count` suffices. The call allocates nothing. It makes two passes over
+ * the octets, and moves the octets of an object once for each object that contains it. Returns OK, SHORT, AT, ARGUMENT.
  */
 SCARD_MUST_USE
 struct scard_verdict scard_tlv_tidy(const uint8_t *octets, size_t count, size_t max, uint8_t *out, size_t room);
 
-/* A tag: 1 to 3 octets, padded with 0, and their number. In an argument, the library ignores the octets after `count`,
- * and reads a count above 3 as 3.
+/* A tag: its octets, padded with 0, and their number, 1 to 3. If a tag is an argument, the library ignores the octets
+ * after `count`, and reads a count above 3 as 3.
  */
 struct scard_tag {
     uint8_t octets[3];
     uint8_t count;
 };
 
-/* An object of a forest. Its value is `len` octets of the forest, starting at `place`. The value of a constructed
- * object holds the objects inside it.
+/* An object of a forest. Its value is `len` octets of the forest, starting at the offset `place`. The value of a
+ * constructed object consists of the objects inside it.
  */
 struct scard_part {
-    uint8_t depth;          /* 1 to 16; an outermost object has 1 */
-    uint8_t is_constructed; /* 1 if it is constructed, else 0 */
-    uint8_t len_octets;     /* the octets of its length field, 1 to 5 */
+    uint8_t depth;          /* 1 for an outermost object, at most 16 */
+    uint8_t is_constructed; /* 1 if the object is constructed, else 0 */
+    uint8_t len_octets;     /* the number of octets of its length field, 1 to 5 */
     struct scard_tag tag;
     scard_size place;
     scard_size len;
 };
 
-/* Lists the objects of a forest in the array `parts`: each object before those inside it, and no fillers. `max` is as
- * in scard_tlv_check. At OK, `place` is the number of objects. Room, in structs: half of `count` suffices; if the room
- * is too small, the verdict's place says how many are needed. The call writes as it reads, so the contents of the array
- * are unspecified unless the status is OK. It allocates nothing. Returns OK, SHORT, AT, ARGUMENT.
+/* Lists the objects of a forest in the array `parts`. Each object comes before the objects inside it; fillers aren't
+ * listed. `max` is as in scard_tlv_check. At OK, `place` is the number of objects. Room, in structs: half of `count`
+ * suffices. If the room is too small, `place` is the number of structs needed. The call writes while it reads, so the
+ * contents of the array are unspecified unless the status is OK. The call allocates nothing. Returns OK, SHORT, AT,
+ * ARGUMENT.
  */
 SCARD_MUST_USE
 struct scard_verdict scard_tlv_parts(const uint8_t *octets, size_t count, size_t max,
                                      struct scard_part *parts, size_t room);
 
-/* Finds the first object on a path of tags. Returns its index in `parts`, or `count` if there is none. A path of one
- * tag matches the first outermost object with that tag. A longer path tries the outermost objects with its first tag in
- * order, and searches directly inside each for the rest of the path. `parts` must be those of one forest. It allocates
- * nothing.
+/* Finds the first object on a path of tags. Returns its index in `parts`, or `count` if there is no such object. A path
+ * of one tag matches the first outermost object with that tag. With a longer path, the call tries the outermost objects
+ * that have the first tag, in order, and searches directly inside each for the rest of the path. `parts` has to be the
+ * list of one forest. The call allocates nothing.
  */
 size_t scard_tlv_first(const struct scard_part *parts, size_t count, const struct scard_tag *path, size_t tags);
 
-/* Checks whether the octets are a valid data object list: tags, each followed by a length octet (EMV 4.3 Book 3, clause
- * 5.4). It allocates nothing. Returns OK, SHORT, AT (enum scard_dol_reason).
+/* Checks whether the octets are a valid data object list (EMV 4.3 Book 3, clause 5.4): tags, and a length octet after
+ * each. The call allocates nothing. Returns OK, SHORT, AT (enum scard_dol_reason).
  */
 SCARD_MUST_USE
 struct scard_verdict scard_dol_check(const uint8_t *octets, size_t count);
@@ -531,25 +547,25 @@ struct scard_verdict scard_dol_check(const uint8_t *octets, size_t count);
 /* An entry of a data object list. */
 struct scard_entry {
     struct scard_tag tag;
-    uint8_t len; /* the length that the list asks for, in octets */
+    uint8_t len; /* the length of the value that the list requests, in octets */
 };
 
-/* Lists the entries of a data object list, in their order, in the array `entries`. At OK, `place` is their number.
- * Room, in structs: half of `count` suffices; if the room is too small, the verdict's place says how many are needed.
- * The call writes as it reads, so the contents of the array are unspecified unless the status is OK. It allocates
- * nothing. Returns OK, SHORT, AT, ARGUMENT.
+/* Lists the entries of a data object list in the array `entries`, in their order. At OK, `place` is the number of
+ * entries. Room, in structs: half of `count` suffices. If the room is too small, `place` is the number of structs
+ * needed. The call writes while it reads, so the contents of the array are unspecified unless the status is OK. The
+ * call allocates nothing. Returns OK, SHORT, AT, ARGUMENT.
  */
 SCARD_MUST_USE
 struct scard_verdict scard_dol_entries(const uint8_t *octets, size_t count, struct scard_entry *entries, size_t room);
 
-/* How a value is cut or padded to the length that a list asks for. */
+/* How scard_dol_fill cuts or pads a value to the length that a list requests. */
 enum scard_format {
-    SCARD_NUMERIC = 0,            /* cut: loses leftmost octets; padded: gets leading 00 */
-    SCARD_COMPRESSED_NUMERIC = 1, /* cut: loses rightmost octets; padded: gets trailing FF */
-    SCARD_OTHER = 2               /* cut: loses rightmost octets; padded: gets trailing 00 */
+    SCARD_NUMERIC = 0,            /* cuts the leftmost octets; pads with leading 00 */
+    SCARD_COMPRESSED_NUMERIC = 1, /* cuts the rightmost octets; pads with trailing FF */
+    SCARD_OTHER = 2               /* cuts the rightmost octets; pads with trailing 00 */
 };
 
-/* A value for a tag. The caller owns the octets at `value`. */
+/* The value of a tag. The caller owns the octets at `value`. */
 struct scard_known {
     struct scard_tag tag;
     uint8_t format; /* enum scard_format */
@@ -557,14 +573,14 @@ struct scard_known {
     scard_size count;
 };
 
-/* Writes the octets that a data object list asks for. Each entry gets the known value of its tag, cut or padded to the
- * entry's length. It gets 00s if the tag is that of a constructed object, or has no known value. `known_count` counts
- * structs. Room: the sum of the lengths in the list, at most 255 for each two octets of the list. It allocates nothing.
- * It compares all pairs of known values, and searches them one by one for each entry.
+/* Writes to `out` the octets that a data object list requests. For each entry the call writes the known value of its
+ * tag, cut or padded to the entry's length. It writes 00s if the tag is that of a constructed object, or has no known
+ * value. `known_count` counts structs. Room: the sum of the lengths in the list, at most 255 for each two octets of the
+ * list. The call allocates nothing. It compares all pairs of known values, and searches them one by one for each entry.
  *
- * AT: the list is invalid (enum scard_dol_reason). DUPLICATE: two known values have the same tag, even one that the
- * list doesn't contain. ARGUMENT with place 0: a known tag is invalid, a format is above 2, or the list has more than
- * 2^48 octets. Returns OK, SHORT, AT, ARGUMENT, DUPLICATE.
+ * AT: the list is invalid (enum scard_dol_reason). DUPLICATE: two known values have the same tag, even if the list
+ * doesn't contain that tag. ARGUMENT with place 0: a known tag is invalid, a format is above 2, or the list has more
+ * than 2^48 octets. Returns OK, SHORT, AT, ARGUMENT, DUPLICATE.
  */
 SCARD_MUST_USE
 struct scard_verdict scard_dol_fill(const uint8_t *list, size_t count, const struct scard_known *known,
@@ -572,8 +588,8 @@ struct scard_verdict scard_dol_fill(const uint8_t *list, size_t count, const str
 
 /* ---- both ends of a T=1 session (ISO/IEC 7816-3, clause 11.6) ---- */
 
-/* A handle: it holds a terminal, a card or a reader. Initialize it with SCARD_HANDLE_EMPTY. scard_close frees what it
- * holds. Never copy a handle, and change it only by these calls.
+/* A handle. It holds a terminal, a card or a reader, or is empty. Initialize it with SCARD_HANDLE_EMPTY. scard_close
+ * frees what it holds. Never copy a handle, and change it only by these calls.
  */
 struct scard_handle {
     void *at;
@@ -585,72 +601,75 @@ struct scard_handle {
 enum scard_turn_kind {
     /* Send the first `count` octets of the buffer, and wait for the other end. */
     SCARD_SEND = 0,
-    /* Terminal: the answer is complete. Card: its host owes the reply to a command. scard_message returns either. */
+    /* Terminal: the answer is complete. Card: its host has to reply to a command. scard_message returns the answer or
+     * the command. */
     SCARD_DONE = 1,
     /* Terminal: the card accepted the information size. */
     SCARD_IFS_SET = 2,
-    /* Terminal: both ends were resynchronized, and the exchange or the IFS request was given up. */
+    /* Terminal: both ends resynchronized, and the terminal gave up the exchange or the IFS request. */
     SCARD_GIVEN_UP = 3,
     /* Terminal: the card no longer answers. */
     SCARD_DEAD = 4,
-    /* These refuse the call, and nothing changed. */
+    /* The end refused the call, and nothing changed. */
     SCARD_REFUSED_DEAD = 16,     /* the card no longer answers */
     SCARD_REFUSED_BUSY = 17,     /* an exchange or an IFS request is in progress */
-    SCARD_REFUSED_TOO_LONG = 18, /* a command is above 65,544 octets, a reply above 65,538, or either is above the
-                                    room of a lent buffer */
-    SCARD_REFUSED_RESERVED = 19, /* the sizes 0 and 255 are reserved */
+    SCARD_REFUSED_TOO_LONG = 18, /* a command has more than 65,544 octets, a reply has more than 65,538, or either has
+                                    more octets than its lent buffer */
+    SCARD_REFUSED_RESERVED = 19, /* the size is 0 or 255, which are reserved */
     SCARD_REFUSED_IDLE = 20,     /* the terminal isn't waiting for a block */
     SCARD_REFUSED_ORDER = 21,    /* it isn't the turn of the card's host; or it is, and a block came */
-    SCARD_NO_END = 32,           /* the handle holds no such end, or a lent state is invalid */
+    SCARD_NO_END = 32,           /* the handle holds no such end, or the lent state is invalid */
     SCARD_NO_ROOM = 33           /* the buffer has fewer than SCARD_BLOCK_ROOM octets */
 };
 
 struct scard_turn {
     uint8_t kind; /* enum scard_turn_kind */
-    uint8_t wait; /* terminal: how many block waiting times to wait for the answer after SCARD_SEND: 1, or the
-                     multiple that the terminal granted to the card, 1 to 255. 0 if there is no time limit: at a
-                     card, which waits for its terminal without limit, and in a turn that sends nothing */
-    scard_size count; /* the octets to send; at SCARD_NO_ROOM the room needed; else 0 */
+    uint8_t wait; /* terminal, SCARD_SEND: the timeout for the answer, in block waiting times. It is 1, or the
+                     multiple that the terminal granted to the card, 1 to 255. 0: there is no timeout, since a card
+                     waits for its terminal without limit, or since the turn sends nothing */
+    scard_size count; /* SCARD_SEND: the number of octets to send. SCARD_NO_ROOM: the room needed. Otherwise 0 */
 };
 
-/* Open a terminal, or a card, in a handle. `ifsc` is 1 to 254 octets, `bwi` and `cwi` are 0 to 15: the T=1 parameters
- * of the card. An end measures no time, so it only checks the range of the two indexes.
+/* Open a terminal or a card in a handle. `ifsc`, `bwi` and `cwi` are the T=1 parameters of the card: `ifsc` is 1 to 254
+ * octets, `bwi` and `cwi` are 0 to 15. An end measures no time, so the calls only check the range of the two indexes.
  *
- * These calls allocate all the memory of an end, some 131 KB. The handle owns it until scard_close. They free what the
- * handle held before. If it already holds an end of the same kind, they overwrite that one's contents and reuse its
- * memory, and allocate nothing. If they don't return OK, the handle is unchanged. Return OK, MEMORY, ARGUMENT (`ifsc`
- * is 0 or 255, or an index is above 15).
+ * These calls allocate all the memory of an end, some 131 KB. The handle owns it until scard_close. The calls free what
+ * the handle held before. If it already holds an end of the same kind, they overwrite that end, reuse its memory and
+ * allocate nothing. Unless the status is OK, the handle is unchanged. Return OK, MEMORY, ARGUMENT (`ifsc` is 0 or 255,
+ * or an index is above 15).
  *
- * Open a terminal at each reset of its card, and at no other time. A terminal and a card begin together. A terminal
- * that is opened while its card goes on doesn't know the number of the next block. The card may then take its first
- * command for a repeat of the last one. It doesn't pass that command to its host, and sends the last answer again,
- * which looks like a good exchange. So keep one terminal for as long as its card isn't reset.
+ * Open a terminal at each reset of its card, and at no other time. A terminal and a card begin together. If you open a
+ * terminal while its card goes on, the terminal doesn't know the number of the next block. The card may then take the
+ * first command for a repeat of the last one. Then the card doesn't pass that command to its host, and sends the last
+ * answer again, which looks like a good exchange. So keep one terminal until the next reset of its card.
  */
 SCARD_MUST_USE
 struct scard_verdict scard_terminal_open(struct scard_handle *handle, uint8_t ifsc, uint8_t bwi, uint8_t cwi);
 SCARD_MUST_USE
 struct scard_verdict scard_card_open(struct scard_handle *handle, uint8_t ifsc, uint8_t bwi, uint8_t cwi);
 
-/* Frees what the handle holds, and leaves it empty. The handle may be empty already. Before it frees the memory, it
- * overwrites the buffers of an end, and the message of a receiver of chains.
+/* Frees what the handle holds, and leaves the handle empty. The handle may be empty already. Before the call frees the
+ * memory of an end, it overwrites the buffers of that end. Before it frees a receiver of chains, it overwrites the
+ * message of that receiver.
  */
 void scard_close(struct scard_handle *handle);
 
-/* Drive an end: each call returns a turn, which says what to do next (enum scard_turn_kind). `out` is a caller-owned
- * buffer of at least SCARD_BLOCK_ROOM octets. Only with SCARD_SEND do the calls write a block to it. They borrow
- * `command`, `reply` and `octets` until they return. A refused call changes nothing; the names in parentheses say with
- * which SCARD_REFUSED_ kind each call may be refused. Every call may also return SCARD_NO_END and SCARD_NO_ROOM.
+/* Drive an end. Each call returns a turn, which says what to do next (enum scard_turn_kind). `out` is a caller-owned
+ * buffer of at least SCARD_BLOCK_ROOM octets. If the turn is SCARD_SEND, the call wrote a block to it. Otherwise `out`
+ * is unchanged. The calls borrow `command`, `reply` and `octets` until they return. A refused call changes nothing. The
+ * list names in parentheses the SCARD_REFUSED_ kinds with which each call may be refused. Every call may also return
+ * SCARD_NO_END and SCARD_NO_ROOM.
  *
- * - scard_terminal_transmit: begins an exchange with a command, at most 65,544 octets (DEAD, BUSY, TOO_LONG).
- * - scard_terminal_received: passes on what the line delivered as one block, whatever it is (DEAD, IDLE).
+ * - scard_terminal_transmit: begins an exchange with a command of at most 65,544 octets (DEAD, BUSY, TOO_LONG).
+ * - scard_terminal_received: passes to the terminal what the line delivered as one block, valid or not (DEAD, IDLE).
  * - scard_terminal_quiet: reports a timeout: nothing came within `wait` times BWT, which this library doesn't measure.
  *   Never call it earlier: all promises about the two ends rest on their taking turns (DEAD, IDLE).
- * - scard_terminal_ask_ifs: tells the card the largest field that the terminal takes, `size`, 1 to 254 octets (DEAD,
+ * - scard_terminal_ask_ifs: tells the card the largest field that the terminal accepts, `size`, 1 to 254 octets (DEAD,
  *   BUSY, RESERVED).
- * - scard_card_received: passes on what the line delivered as one block, whatever it is (ORDER).
- * - scard_card_reply: passes on the reply of the card's host, at most 65,538 octets (ORDER, TOO_LONG).
+ * - scard_card_received: passes to the card what the line delivered as one block, valid or not (ORDER).
+ * - scard_card_reply: passes to the card the reply of its host, at most 65,538 octets (ORDER, TOO_LONG).
  * - scard_card_more_time: asks the terminal for `multiple` block waiting times, any octet (ORDER).
- * - scard_card_ask_ifs: tells the terminal the largest field that the card takes, `size`, 1 to 254 octets (ORDER,
+ * - scard_card_ask_ifs: tells the terminal the largest field that the card accepts, `size`, 1 to 254 octets (ORDER,
  *   RESERVED).
  */
 SCARD_MUST_USE
@@ -675,10 +694,11 @@ struct scard_turn scard_card_more_time(struct scard_handle *handle, uint8_t mult
 SCARD_MUST_USE
 struct scard_turn scard_card_ask_ifs(struct scard_handle *handle, uint8_t size, uint8_t *out, size_t room);
 
-/* Writes the message that an end or a receiver has. For a terminal it is the answer, from the turn SCARD_DONE until it
- * accepts the next command. For a card it is the command, while its host owes the reply. For a receiver of chains it is
- * the message, once the chain is complete. Room: 65,544 suffices for an end, `max` for a receiver; if the room is too
- * small, the verdict's place says how much is needed. Returns OK, ARGUMENT (with place 0: there is no message).
+/* Writes the message of an end or of a receiver to `out`. For a terminal it is the answer, from the turn SCARD_DONE
+ * until the terminal accepts the next command. For a card it is the command, while its host has to reply to it. For a
+ * receiver of chains it is the message, once the chain is complete. Room: 65,544 suffices for an end, and `max` for a
+ * receiver. If the room is too small, `place` is the room needed. Returns OK, ARGUMENT (with place 0: there is no
+ * message).
  */
 SCARD_MUST_USE
 struct scard_verdict scard_message(struct scard_handle *handle, uint8_t *out, size_t room);
@@ -688,12 +708,12 @@ struct scard_verdict scard_message(struct scard_handle *handle, uint8_t *out, si
 /* The caller-owned state of an end. The fields belong to the library: `begin` writes them, and so does each call that
  * changes the end.
  *
- * An end is its state and two buffers, one for commands and one for answers, so each call takes all three. Pass the
- * same buffers each time, with the same sizes, and leave their octets unchanged between calls. A buffer of 65,544
- * octets fits any command, and one of 65,538 any answer. A smaller buffer takes shorter messages; a longer message is
- * refused as too long.
+ * An end consists of its state and two buffers, one for commands and one for answers, so each call takes all three.
+ * Pass the same buffers each time, with the same sizes, and leave their octets unchanged between calls. A buffer of
+ * 65,544 octets fits any command, and one of 65,538 any answer. With a smaller buffer, the end refuses a longer message
+ * as too long.
  *
- * A call is safe with any octets in the state. If they aren't the state of an end over buffers of these sizes, it
+ * A call is safe with any octets in the state. If they aren't the state of an end over buffers of these sizes, the call
  * returns SCARD_NO_END, or ARGUMENT, and changes nothing. These calls allocate nothing.
  */
 struct scard_lent_terminal {
@@ -732,16 +752,17 @@ struct scard_lent_card {
 };
 
 /* The first five arguments of these calls, made from a state and two arrays: SCARD_LENT(terminal, command, answer). If
- * you have only a pointer to a buffer, pass its size yourself: `sizeof` a pointer isn't the buffer's size.
+ * you have a pointer to a buffer in place of an array, pass its size yourself: `sizeof` a pointer isn't the size of the
+ * buffer.
  */
 #define SCARD_LENT(state, command, answer) &(state), (command), sizeof(command), (answer), sizeof(answer)
 
-/* Begin an end with these T=1 parameters, whatever the state held before. They also begin a new session over the same
- * buffers. `ifsc` is 1 to 254 octets, `bwi` and `cwi` are 0 to 15. They set both buffers to 0. Return OK with place 0;
- * or ARGUMENT (`ifsc` is 0 or 255, or an index is above 15), and then nothing changes.
+/* Begin an end with these T=1 parameters. The state may hold anything before. The calls also begin a new session over
+ * the same buffers. `ifsc` is 1 to 254 octets, `bwi` and `cwi` are 0 to 15. The calls set both buffers to 0. Return OK
+ * with place 0; or ARGUMENT (`ifsc` is 0 or 255, or an index is above 15), and then nothing changes.
  *
- * Begin a terminal together with its card, at a reset of the card, and at no other time. scard_terminal_open says what
- * happens otherwise.
+ * Begin a terminal together with its card, at a reset of the card, and at no other time. The comment of
+ * scard_terminal_open says why.
  */
 SCARD_MUST_USE
 struct scard_verdict scard_lent_terminal_begin(struct scard_lent_terminal *state,
@@ -754,7 +775,7 @@ struct scard_verdict scard_lent_card_begin(struct scard_lent_card *state,
                                            uint8_t *reply, size_t reply_room,
                                            uint8_t ifsc, uint8_t bwi, uint8_t cwi);
 
-/* Drive an end, like the calls on handles above. The input and `out` may not overlap either of the end's buffers. */
+/* Drive an end, as the calls on handles above do. The input and `out` may not overlap either buffer of the end. */
 SCARD_MUST_USE
 struct scard_turn scard_lent_terminal_transmit(struct scard_lent_terminal *state,
                                                uint8_t *command, size_t command_room,
@@ -793,9 +814,9 @@ struct scard_turn scard_lent_card_ask_ifs(struct scard_lent_card *state,
                                           uint8_t size, uint8_t *out, size_t room);
 
 /* Return the length of the terminal's answer, or of the card's command, as the verdict's place. The octets are at the
- * start of the end's own buffer; the calls copy them nowhere. The answer is there from the turn SCARD_DONE until the
- * terminal accepts the next command. The command is there while the card's host owes the reply. Return OK, ARGUMENT
- * (with place 0: there is none).
+ * start of the end's own buffer, and the calls don't copy them. The answer is there from the turn SCARD_DONE until the
+ * terminal accepts the next command. The command is there while the card's host has to reply to it. Return OK, ARGUMENT
+ * (with place 0: there is no answer or command).
  */
 SCARD_MUST_USE
 struct scard_verdict scard_lent_terminal_answer(const struct scard_lent_terminal *state,
@@ -810,14 +831,14 @@ struct scard_verdict scard_lent_card_command(const struct scard_lent_card *state
 
 /* Open a reader in a handle, for one answer to reset, one block, one chain or one forest.
  *
- * - scard_block_reader_open: I-blocks have at most `ifs` octets, 1 to 254.
- * - scard_receiver_open: `ifs` likewise; the first block has the number `ns`, 0 or 1; the message has at most `max`
- *   octets, itself at most 131,072.
- * - scard_tlv_check_open: the forest has at most `max` octets, itself at most SCARD_TLV_LARGEST.
+ * - scard_block_reader_open: an I-block has at most `ifs` octets, 1 to 254.
+ * - scard_receiver_open: an I-block has at most `ifs` octets, 1 to 254. The first block has the number `ns`, 0 or 1.
+ *   The message has at most `max` octets, and `max` is at most 131,072.
+ * - scard_tlv_check_open: the forest has at most `max` octets, and `max` is at most SCARD_TLV_LARGEST.
  *
  * These calls allocate all the memory of a reader: some 700 octets, and `max` more for a receiver. The handle owns it
- * until scard_close. They free what the handle held before. If they don't return OK, the handle is unchanged. To start
- * over, open the reader again. Return OK, MEMORY, ARGUMENT.
+ * until scard_close. The calls free what the handle held before. Unless the status is OK, the handle is unchanged. To
+ * start over, open the reader again. Return OK, MEMORY, ARGUMENT.
  */
 SCARD_MUST_USE
 struct scard_verdict scard_atr_reader_open(struct scard_handle *handle);
@@ -828,29 +849,29 @@ struct scard_verdict scard_receiver_open(struct scard_handle *handle, uint8_t if
 SCARD_MUST_USE
 struct scard_verdict scard_tlv_check_open(struct scard_handle *handle, size_t max);
 
-/* Feeds a reader the next octets, in pieces of any length. OK: the value is complete, and took `place` octets of this
- * piece; from then on the reader consumes none. MORE: the reader consumed the whole piece. AT: the input is invalid at
- * `place`, counted from the first octet ever fed; later calls return the same again. The reasons are those of the codec
- * that the reader is for. ARGUMENT: the handle holds no reader. A check of a forest never returns OK, since a forest
- * has no end of its own. Returns OK, MORE, AT, ARGUMENT.
+/* Feeds the next octets to a reader, in pieces of any length. OK: the value is complete, and took `place` octets of
+ * this piece. From then on the reader consumes no octet. MORE: the reader consumed the whole piece. AT: the input is
+ * invalid at `place`, which counts from the first octet ever fed. Later calls return the same verdict again. The reason
+ * is one of the codec that the reader is for. ARGUMENT: the handle holds no reader. A check of a forest never returns
+ * OK, since a forest has no end of its own. Returns OK, MORE, AT, ARGUMENT.
  */
 SCARD_MUST_USE
 struct scard_verdict scard_reader_feed(struct scard_handle *handle, const uint8_t *octets, size_t count);
 
-/* Returns the verdict on all octets that a reader consumed, and changes nothing. OK with place 0: they are complete.
- * SHORT: more could follow, and `place` is how many there are. AT: they were refused. ARGUMENT: the handle holds no
- * reader. Returns OK, SHORT, AT, ARGUMENT.
+/* Returns the verdict on all octets that a reader consumed, and changes nothing. OK with place 0: the value is
+ * complete. SHORT: more octets could follow, and `place` is the number of octets so far. AT: the reader refused the
+ * octets. ARGUMENT: the handle holds no reader. Returns OK, SHORT, AT, ARGUMENT.
  */
 SCARD_MUST_USE
 struct scard_verdict scard_reader_finish(struct scard_handle *handle);
 
-/* Writes to *out the answer to reset that a reader has, once it is complete. Returns OK with place 0, ARGUMENT. */
+/* Writes the answer to reset of a reader to *out, once it is complete. Returns OK with place 0, ARGUMENT. */
 SCARD_MUST_USE
 struct scard_verdict scard_atr_reader_value(struct scard_handle *handle, struct scard_atr *out);
 
-/* Copies the block that a reader has, once it is complete: its octets to `octets`, and to *out where the information
- * field is in them. Room: SCARD_BLOCK_ROOM. At OK both are written, otherwise neither. Returns OK, ARGUMENT (with place
- * 0: there is no block).
+/* Copies the block of a reader, once it is complete. The call writes its octets to `octets`, and the decoded block to
+ * *out. There `inf_place` is an offset in `octets`. Room: SCARD_BLOCK_ROOM. At OK the call writes both, otherwise
+ * neither. Returns OK, ARGUMENT (with place 0: there is no block).
  */
 SCARD_MUST_USE
 struct scard_verdict scard_block_reader_value(struct scard_handle *handle, struct scard_block *out,
@@ -859,11 +880,11 @@ struct scard_verdict scard_block_reader_value(struct scard_handle *handle, struc
 /* ---- a check of a forest in pieces, without an allocator ---- */
 
 /* The caller-owned state of a check, 92 octets. The fields belong to the library: `begin` writes them, and so does each
- * piece. The state keeps where the open objects end, at most 16. Of the input it keeps only the octets of an incomplete
- * header.
+ * piece. The state holds the ends of the open objects, at most 16. Of the input it holds only the octets of an
+ * incomplete header.
  *
- * A call is safe with any octets in the state. If they aren't the state of a check, it returns ARGUMENT and changes
- * nothing. These calls allocate nothing.
+ * A call is safe with any octets in the state. If they aren't the state of a check, the call returns ARGUMENT and
+ * changes nothing. These calls allocate nothing.
  */
 struct scard_lent_header {
     uint8_t kind;
@@ -884,15 +905,15 @@ struct scard_lent_check {
     uint8_t refused;
 };
 
-/* Begins a check of a forest, whatever the state held before. The forest has at most `max` octets, itself at most
- * SCARD_TLV_LARGEST. Returns OK with place 0; or ARGUMENT, and then nothing changes.
+/* Begins a check of a forest. The state may hold anything before. The forest has at most `max` octets, and `max` is at
+ * most SCARD_TLV_LARGEST. Returns OK with place 0; or ARGUMENT, and then nothing changes.
  */
 SCARD_MUST_USE
 struct scard_verdict scard_lent_check_begin(struct scard_lent_check *state, size_t max);
 
-/* Feed a check the next octets, and return the verdict on all that it consumed. They work as scard_reader_feed and
- * scard_reader_finish do with a check in a handle. `feed` returns MORE, AT, ARGUMENT. `finish` returns OK with place 0,
- * SHORT, AT, ARGUMENT. ARGUMENT (with place 0): the state isn't that of a check.
+/* Feed the next octets to a check, and return the verdict on all that it consumed. The calls work as scard_reader_feed
+ * and scard_reader_finish do with a check in a handle. `feed` returns MORE, AT, ARGUMENT. `finish` returns OK with
+ * place 0, SHORT, AT, ARGUMENT. ARGUMENT (with place 0): the state isn't that of a check.
  */
 SCARD_MUST_USE
 struct scard_verdict scard_lent_check_feed(struct scard_lent_check *state, const uint8_t *octets, size_t count);
@@ -902,10 +923,11 @@ struct scard_verdict scard_lent_check_finish(const struct scard_lent_check *stat
 /* ---- a chain in pieces, without an allocator ---- */
 
 /* The caller-owned state of a receiver of one chain, 32 octets. The fields belong to the library: `begin` writes them,
- * and so does each piece. The octets of the message go to the start of the caller's buffer as they arrive.
+ * and so does each piece. The receiver writes the octets of the message to the start of the caller's buffer as they
+ * arrive.
  *
- * A call is safe with any octets in the state. If they aren't the state of a receiver whose message fits the buffer, it
- * returns ARGUMENT and changes nothing. These calls allocate nothing.
+ * A call is safe with any octets in the state. If they aren't the state of a receiver whose message fits the buffer,
+ * the call returns ARGUMENT and changes nothing. These calls allocate nothing.
  */
 struct scard_lent_receiver {
     scard_size refused_at;
@@ -922,18 +944,19 @@ struct scard_lent_receiver {
     uint8_t refused;
 };
 
-/* Begins a receiver of one chain, whatever the state held before. I-blocks have at most `ifs` octets, 1 to 254. The
- * first has the number `ns`, 0 or 1. The message has at most `max` octets, itself at most 131,072. Returns OK with
- * place 0; or ARGUMENT, and then nothing changes.
+/* Begins a receiver of one chain. The state may hold anything before. An I-block has at most `ifs` octets, 1 to 254.
+ * The first block has the number `ns`, 0 or 1. The message has at most `max` octets, and `max` is at most 131,072.
+ * Returns OK with place 0; or ARGUMENT, and then nothing changes.
  */
 SCARD_MUST_USE
 struct scard_verdict scard_lent_receiver_begin(struct scard_lent_receiver *state, uint8_t ifs, uint8_t ns, size_t max);
 
-/* Feed a receiver the next octets, and return the verdict on all that it consumed. They work as scard_reader_feed and
- * scard_reader_finish do with a receiver in a handle. `message` is the caller-owned buffer of the message, with room
- * for `max` octets: pass the same one each time. What it holds after the message so far belongs to the library. The
- * input may not overlap it. `feed` returns OK, MORE, AT, ARGUMENT. `finish` returns OK with place 0, SHORT, AT,
- * ARGUMENT. ARGUMENT (with place 0): the state isn't that of a receiver, or the buffer is too small for it.
+/* Feed the next octets to a receiver, and return the verdict on all that it consumed. The calls work as
+ * scard_reader_feed and scard_reader_finish do with a receiver in a handle. `message` is the caller-owned buffer of the
+ * message, with room for `max` octets. Pass the same buffer each time. What it holds after the message so far belongs
+ * to the library. The input may not overlap it. `feed` returns OK, MORE, AT, ARGUMENT. `finish` returns OK with place
+ * 0, SHORT, AT, ARGUMENT. ARGUMENT (with place 0): the state isn't that of a receiver, or the buffer is too small for
+ * it.
  */
 SCARD_MUST_USE
 struct scard_verdict scard_lent_receiver_feed(struct scard_lent_receiver *state, uint8_t *message, size_t room,
@@ -942,8 +965,8 @@ SCARD_MUST_USE
 struct scard_verdict scard_lent_receiver_finish(const struct scard_lent_receiver *state,
                                                 const uint8_t *message, size_t room);
 
-/* Returns the length of the message, once the chain is complete, as the verdict's place. Its octets are at the start of
- * the buffer; the call copies them nowhere. Returns OK, ARGUMENT (with place 0: the chain isn't complete).
+/* Returns the length of the message as the verdict's place, once the chain is complete. The octets are at the start of
+ * the buffer, and the call doesn't copy them. Returns OK, ARGUMENT (with place 0: the chain isn't complete).
  */
 SCARD_MUST_USE
 struct scard_verdict scard_lent_receiver_message(const struct scard_lent_receiver *state,
@@ -951,34 +974,34 @@ struct scard_verdict scard_lent_receiver_message(const struct scard_lent_receive
 
 /* ---- a block and an answer to reset in pieces, without an allocator ---- */
 
-/* The most octets of an answer to reset: TS and 32 more (ISO/IEC 7816-3, clause 8.2.1). */
+/* The largest number of octets of an answer to reset: TS and 32 more (ISO/IEC 7816-3, clause 8.2.1). */
 #define SCARD_ATR_ROOM 33
 
 /* The caller-owned readers of one block and of one answer to reset, 264 and 40 octets. The caller may read the fields,
- * but only the calls may change them. Each call decides afresh what the consumed octets are. So a call is safe with any
+ * but only the calls may change them. Each call decides anew what the consumed octets are. So a call is safe with any
  * octets in the state, and reads no more than `octets`. These calls allocate nothing.
  */
 struct scard_lent_block_reader {
-    uint32_t count;                     /* octets consumed; after a refusal, including the refused one */
+    uint32_t count;                     /* the number of octets consumed, including a refused one */
     uint8_t ifs;                        /* the information size */
-    uint8_t octets[SCARD_BLOCK_ROOM];   /* those consumed, at its start */
+    uint8_t octets[SCARD_BLOCK_ROOM];   /* the octets consumed, at the start */
 };
 
 struct scard_lent_atr_reader {
-    uint32_t count;                     /* octets consumed; after a refusal, including the refused one */
-    uint8_t octets[SCARD_ATR_ROOM];     /* those consumed, at its start */
+    uint32_t count;                     /* the number of octets consumed, including a refused one */
+    uint8_t octets[SCARD_ATR_ROOM];     /* the octets consumed, at the start */
 };
 
-/* Begin a reader of one block, or of one answer to reset, whatever the state held before. I-blocks have at most `ifs`
- * octets, 1 to 254. For a block the call returns OK with place 0; or ARGUMENT, and then nothing changes.
+/* Begin a reader of one block, or of one answer to reset. The state may hold anything before. An I-block has at most
+ * `ifs` octets, 1 to 254. For a block the call returns OK with place 0; or ARGUMENT, and then nothing changes.
  */
 SCARD_MUST_USE
 struct scard_verdict scard_lent_block_reader_begin(struct scard_lent_block_reader *state, uint8_t ifs);
 void scard_lent_atr_reader_begin(struct scard_lent_atr_reader *state);
 
-/* Feed a reader the next octets, and return the verdict on all that it consumed. They work as scard_reader_feed and
- * scard_reader_finish do with a reader in a handle. The input may not overlap the state. `feed` returns OK, MORE, AT.
- * `finish` returns OK with place 0, SHORT, AT. For a block they also return ARGUMENT (with place 0) if `ifs` of the
+/* Feed the next octets to a reader, and return the verdict on all that it consumed. The calls work as scard_reader_feed
+ * and scard_reader_finish do with a reader in a handle. The input may not overlap the state. `feed` returns OK, MORE,
+ * AT. `finish` returns OK with place 0, SHORT, AT. For a block they also return ARGUMENT (with place 0) if `ifs` of the
  * state is 0 or 255, and then nothing changes.
  */
 SCARD_MUST_USE
@@ -992,9 +1015,9 @@ struct scard_verdict scard_lent_atr_reader_feed(struct scard_lent_atr_reader *st
 SCARD_MUST_USE
 struct scard_verdict scard_lent_atr_reader_finish(const struct scard_lent_atr_reader *state);
 
-/* Write to *out the block, or the answer to reset, that a reader has, once it is complete. The verdict's place is its
- * length; its octets are at the start of `octets` in the state. For a block, *out says where the information field is
- * in them. Return OK, ARGUMENT (with place 0: it isn't complete).
+/* Write the block or the answer to reset of a reader to *out, once it is complete. The verdict's place is its length.
+ * Its octets are at the start of `octets` in the state. For a block, *out says where in these octets the information
+ * field is. Return OK, ARGUMENT (with place 0: it isn't complete).
  */
 SCARD_MUST_USE
 struct scard_verdict scard_lent_block_reader_value(const struct scard_lent_block_reader *state,
@@ -1004,46 +1027,48 @@ struct scard_verdict scard_lent_atr_reader_value(const struct scard_lent_atr_rea
 
 /* ---- framing ---- */
 
-/* The most octets of a burst that the framer keeps: one more than the longest block has. */
+/* The largest number of octets of a burst that the framer keeps: one more than the longest block has. */
 #define SCARD_BURST_ROOM 259
 
-/* A burst is a run of octets without a silence long enough to end it (ISO/IEC 7816-3, clause 11.4.3). A block is always
- * a whole burst. LEN alone doesn't say where a block ends, since LEN may be the octet that is wrong.
+/* The framer collects a burst. A burst is a run of octets without a silence long enough to end it (ISO/IEC 7816-3,
+ * clause 11.4.3). A block is always a whole burst. LEN alone doesn't say where a block ends, since LEN may be the octet
+ * that is wrong.
  *
  * The caller owns the struct, some 270 octets. The caller may read the fields, but only the calls may change them. A
  * call is safe with any octets in the struct. These calls allocate nothing.
  */
 struct scard_lent_framer {
-    scard_size count;                  /* octets of the burst so far, including those that aren't kept; it stops at
-                                          its largest value */
-    uint8_t octets[SCARD_BURST_ROOM];  /* the first of them */
+    scard_size count;                  /* the number of octets of the burst so far, including those that the framer
+                                          doesn't keep; it stops at its largest value */
+    uint8_t octets[SCARD_BURST_ROOM];  /* the first octets of the burst */
 };
 
-/* Begins a burst with no octets, whatever the struct held before. */
+/* Begins a burst without octets. The struct may hold anything before. */
 void scard_lent_framer_begin(struct scard_lent_framer *framer);
 
 /* Appends octets that arrived to the burst. */
 void scard_lent_framer_feed(struct scard_lent_framer *framer, const uint8_t *octets, size_t count);
 
-/* Returns whether the burst so far is a whole block: NAD, PCB, LEN, LEN octets and a check octet, with nothing after
+/* Returns true if the burst so far is a whole block: NAD, PCB, LEN, LEN octets and a check octet, with nothing after
  * them and an exclusive-or of 0.
  */
 bool scard_lent_framer_is_whole(const struct scard_lent_framer *framer);
 
-/* Returns the silence that ends the burst now, in the unit of its arguments. It is `first` before the first octet,
+/* Returns how long a silence now ends the burst, in the unit of the arguments. It is `first` before the first octet,
  * `after` once the burst is a whole block, and `inside` otherwise.
  */
 uint64_t scard_lent_framer_wait(const struct scard_lent_framer *framer, uint64_t first, uint64_t inside,
                                 uint64_t after);
 
-/* Returns how many octets to pass to an end once the burst has ended: those at the start of `octets`, at most 259. */
+/* Returns how many octets to pass to an end once the burst has ended, at most 259. They are at the start of `octets`.
+ */
 size_t scard_lent_framer_burst(const struct scard_lent_framer *framer);
 
 /* ---- a judge of the blocks on a line, without an allocator ---- */
 
 /* A judge checks each block on a line against the rules of T=1. For a deviation it says which end broke which rule, and
- * which block was due. Nobody can see on the line whether the other end received a block intact. So a block is
- * permitted if it is right for something that its sender may have received. docs/JUDGE.md has the rules.
+ * which block was due. The line doesn't show whether the other end received a block intact. So the judge permits a
+ * block if it is right for something that its sender may have received. docs/JUDGE.md has the rules.
  */
 
 /* An end of the line. */
@@ -1055,25 +1080,25 @@ enum scard_end {
 /* How octets reached the other end. */
 enum scard_arrival {
     SCARD_ARRIVAL_UNSAID = 0, /* unknown, as at a tap on the line */
-    SCARD_ARRIVAL_LOST = 1,   /* they didn't */
-    SCARD_ARRIVAL_CAME = 2    /* as the octets `came` */
+    SCARD_ARRIVAL_LOST = 1,   /* they didn't arrive */
+    SCARD_ARRIVAL_CAME = 2    /* they arrived as the octets `came` */
 };
 
 enum scard_judged {
     SCARD_JUDGED_PERMITTED = 0,
-    SCARD_JUDGED_DAMAGE = 1,   /* not a block: the check octet or the length is wrong, and no end broke a rule */
+    SCARD_JUDGED_DAMAGE = 1,   /* not a block: its check octet or length is wrong; no end broke a rule */
     SCARD_JUDGED_UNSEEN = 2,   /* permitted only if the block `before` was damaged or lost unseen */
-    SCARD_JUDGED_DEVIATION = 3 /* the block breaks `rule`; `due` is what was due */
+    SCARD_JUDGED_DEVIATION = 3 /* the block breaks `rule`; `due` says which block was due */
 };
 
-/* Whether a card that owed a block sent none, in answer to the block `unanswered`. */
+/* Whether the card owed a block in answer to the block `unanswered`, and sent none. */
 enum scard_silence {
     SCARD_SILENCE_NO = 0,
     SCARD_SILENCE_POSSIBLE = 1, /* it sent none, and may not have received that block intact */
-    SCARD_SILENCE_CERTAIN = 2   /* it sent none though it received that block intact, so it broke SCARD_RULE_SILENCE */
+    SCARD_SILENCE_CERTAIN = 2   /* it sent none although it received that block intact: it broke SCARD_RULE_SILENCE */
 };
 
-/* The rules, numbered. Their clauses are those of ISO/IEC 7816-3:2006. */
+/* The rules, by number. Their clauses are those of ISO/IEC 7816-3:2006. */
 enum scard_rule {
     SCARD_RULE_NODE_ADDRESS = 1,        /* the node address differs from that of the first block, or isn't swapped in
                                            an answer */
@@ -1110,8 +1135,8 @@ enum scard_owed {
     SCARD_OWED_CORRECTION = 5,        /* an R-block with the number `expects` after an error */
     SCARD_OWED_REFUSAL = 6,           /* the same R-block, to refuse an I-block that arrived intact */
     SCARD_OWED_SAME_REQUEST = 7,      /* its request `asked` again */
-    SCARD_OWED_RESYNCH_RESPONSE = 8,  /* like the next three, the response to a request; `octet` is what that
-                                         carried, else 0 */
+    SCARD_OWED_RESYNCH_RESPONSE = 8,  /* like the next three, the response to a request; `octet` is the octet that
+                                         the request carried, else 0 */
     SCARD_OWED_IFS_RESPONSE = 9,
     SCARD_OWED_ABORT_RESPONSE = 10,
     SCARD_OWED_WTX_RESPONSE = 11,
@@ -1135,13 +1160,15 @@ enum scard_asked {
 
 struct scard_due {
     uint8_t owed;    /* enum scard_owed */
-    uint8_t octet;   /* the size or multiple in a response, else 0 */
+    uint8_t octet;   /* the size or multiple that a response carries, else 0 */
     uint8_t next;    /* the number of the end's next new I-block, 0 or 1 */
     uint8_t expects; /* the number of the I-block that it expects, 0 or 1 */
     uint8_t asked;   /* enum scard_asked */
 };
 
-/* The judgment of a block, and of a card that sent none before it. Blocks are numbered from 1 over both ends. */
+/* The judgment of a block, and of a silence of the card before it. The numbers of the blocks start at 1 and count the
+ * blocks of both ends.
+ */
 struct scard_judgment {
     scard_size number;     /* the number of this block */
     scard_size before;     /* the number of the other end's last block, 0 before its first */
@@ -1153,8 +1180,8 @@ struct scard_judgment {
 };
 
 /* The caller-owned state of a judge, 592 octets. The fields belong to the library: `begin` writes them, and so does
- * each call. A call is safe with any octets in the state: it continues from some valid state of a judge. These calls
- * allocate nothing.
+ * each call. A call is safe with any octets in the state: the call continues from some valid state of a judge. These
+ * calls allocate nothing.
  */
 struct scard_lent_sender {
     uint8_t side;
@@ -1198,24 +1225,24 @@ struct scard_lent_judge {
     uint8_t nad;
 };
 
-/* Begins a judge at a reset of the card, whatever the state held before. `ifsc` is the largest field that the card
+/* Begins a judge at a reset of the card. The state may hold anything before. `ifsc` is the largest field that the card
  * accepts, 1 to 254 octets. Returns OK with place 0; or ARGUMENT (`ifsc` is 0 or 255), and then nothing changes.
  */
 SCARD_MUST_USE
 struct scard_verdict scard_lent_judge_begin(struct scard_lent_judge *state, uint8_t ifsc);
 
-/* Judges the octets that were on the line as one block, and writes the judgment to *out. `from` is the end that sent
- * them, an enum scard_end. `arrival`, an enum scard_arrival, says how they reached the other end; the call reads `came`
- * only with SCARD_ARRIVAL_CAME. Returns OK with place 0; or ARGUMENT (another end or arrival), and then nothing
- * changes.
+/* Judges the octets that were on the line as one block, and writes the judgment to *out. `from` is an enum scard_end:
+ * the end that sent them. `arrival` is an enum scard_arrival: how they reached the other end. The call reads `came`
+ * only if `arrival` is SCARD_ARRIVAL_CAME. Returns OK with place 0; or ARGUMENT (another end or arrival), and then
+ * nothing changes.
  */
 SCARD_MUST_USE
 struct scard_verdict scard_lent_judge_block(struct scard_lent_judge *state, uint8_t from,
                                             const uint8_t *octets, size_t count, uint8_t arrival,
                                             const uint8_t *came, size_t came_count, struct scard_judgment *out);
 
-/* Reports that the terminal's waiting time ended, and writes to *out whether the card owed a block and sent none. The
- * other fields of *out are 0.
+/* Reports a timeout of the terminal to the judge. Writes to *out whether the card owed a block and sent none. The other
+ * fields of *out are 0.
  */
 void scard_lent_judge_quiet(struct scard_lent_judge *state, struct scard_judgment *out);
 
@@ -1224,15 +1251,16 @@ void scard_lent_judge_quiet(struct scard_lent_judge *state, struct scard_judgmen
  */
 void scard_lent_judge_finish(const struct scard_lent_judge *state, struct scard_judgment *out);
 
-/* Look up a rule, an enum scard_rule, and write a text to *out: what breaks the rule ("sequence number"), or its clause
- * in ISO/IEC 7816-3:2006 ("11.6.2.3 rule 2.2"). An unknown number gives "". The library owns the text.
+/* Write to *out a text about a rule, an enum scard_rule. scard_judge_rule_text gives what breaks the rule ("sequence
+ * number"), and scard_judge_clause_text its clause in ISO/IEC 7816-3:2006 ("11.6.2.3 rule 2.2"). For an unknown number
+ * the text is "". The library owns the text.
  */
 void scard_judge_rule_text(uint8_t rule, struct scard_text *out);
 void scard_judge_clause_text(uint8_t rule, struct scard_text *out);
 
 /* ---- sizes of the structs ---- */
 
-/* The structs above, for scard_struct_size. */
+/* The structs above, as numbers for scard_struct_size. */
 enum scard_struct {
     SCARD_STRUCT_VERDICT = 1,
     SCARD_STRUCT_INTERFACE = 2,
@@ -1267,8 +1295,8 @@ enum scard_struct {
     SCARD_STRUCT_JUDGMENT = 31
 };
 
-/* Returns how many octets a struct has in the library, to compare with its sizeof. An unknown number gives 0. `number`
- * is an enum scard_struct.
+/* Returns the size in octets that a struct has in the library, to compare with its sizeof. `number` is an enum
+ * scard_struct. For an unknown number the size is 0.
  */
 size_t scard_struct_size(uint8_t number);
 

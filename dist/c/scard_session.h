@@ -1,19 +1,19 @@
 /* scard_session: a T=1 session in C, on top of the calls in scard.h that allocate nothing.
  *
- * This header implements both ends, the terminal and the card, with the loop around them. A driver supplies two
- * functions: one sends octets, one receives them within a waiting time. In return the driver gets whole exchanges of
- * commands and answers.
+ * This header implements both ends of a session, the terminal and the card, including the loop that sends and receives
+ * blocks. A driver supplies two functions: one sends octets, and the other receives them within a waiting time. Over
+ * these two functions the session exchanges whole commands and answers.
  *
- * This header is C and isn't proved, since a proved crate can't call functions of C. What each end does with a block is
- * proved, and so is which octets are a block (scard_lent_framer_is_whole). This header has no rule about LEN or the
- * check octet.
+ * This header is C and isn't proved, since a proved crate can't call functions of C. Two things are proved: what each
+ * end does with a block, and which octets are a block (scard_lent_framer_is_whole). This header has no rule about LEN
+ * or the check octet.
  *
- * Begin a session at a reset of its card: a new terminal and a new card, never one without the other. A card that goes
- * on under a new terminal takes the first command for a repeat of the one before. It sends the old answer again, as if
- * it were a good one. If you can't reset the card, begin with scard_session_resync.
+ * Begin a session at a reset of its card: a new terminal and a new card, never one without the other. If a card goes on
+ * under a new terminal, it takes the first command for a repeat of the one before. It sends the old answer again, as if
+ * that were a good one. If you can't reset the card, begin with scard_session_resync.
  *
  * No call allocates memory. Only one call at a time may use a session, from any thread. docs/C.md says how to use it,
- * docs/WIRING.md how to make a serial port its line, and examples/c has a terminal and a card.
+ * and docs/WIRING.md how to use a serial port as its line. examples/c has a terminal and a card.
  */
 #ifndef SCARD_SESSION_H
 #define SCARD_SESSION_H
@@ -30,21 +30,22 @@ extern "C" {
 
 enum scard_line_said {
     SCARD_LINE_FAILED = -1,     /* the line failed or ended, or the program ends it */
-    SCARD_LINE_INTERRUPTED = -2 /* the call was interrupted, for example by a signal: neither octets nor a timeout */
+    SCARD_LINE_INTERRUPTED = -2 /* a signal, for example, interrupted the call before octets or a timeout came */
 };
 
-/* Wait without a limit. */
+/* A waiting time without a limit. */
 #define SCARD_LINE_FOREVER UINT64_MAX
 
-/* The line to the other end, in three functions of the driver. Each function gets `context`, which is the driver's own.
+/* The line to the other end: three functions of the driver. The session passes `context`, which is the driver's own, to
+ * each function.
  *
  * `send` sends all the octets. It returns 0, or SCARD_LINE_FAILED.
  *
  * `receive` waits for octets, and returns as soon as there are any. It writes at most `room` of them to `octets`, and
- * returns how many. It returns 0 on a timeout, if no octet came within `microseconds`. It may wait longer than that,
- * but never shorter, and counts from the last octet that was sent or received. It returns SCARD_LINE_FAILED if the line
- * failed. It returns SCARD_LINE_INTERRUPTED if the call was interrupted; the session then calls it again with the same
- * time. If interrupts are frequent, `receive` should wait for the rest of its time by itself.
+ * returns their number. On a timeout, if no octet came within `microseconds`, it returns 0. It may wait longer than
+ * that, but never shorter. The time counts from the last octet that was sent or received. If the line failed, it
+ * returns SCARD_LINE_FAILED. If the call was interrupted, it returns SCARD_LINE_INTERRUPTED, and the session calls it
+ * again with the same time. If interrupts are frequent, `receive` should wait for the rest of its time by itself.
  *
  * `now` returns the time in microseconds, from a clock that never goes back. It may be null.
  */
@@ -55,8 +56,8 @@ struct scard_line {
     uint64_t (*now)(void *context);
 };
 
-/* The elementary time unit, etu: Fi/Di cycles of a clock of so many hertz. Fi is 372 and Di is 1 until both ends
- * negotiate others, whatever the answer to reset offers.
+/* The clock of the card, which sets the elementary time unit, etu: Fi/Di cycles of a clock with a frequency of `hertz`.
+ * Fi is 372 and Di is 1 until both ends negotiate others, whatever the answer to reset offers.
  */
 struct scard_clock {
     uint16_t fi;
@@ -65,13 +66,13 @@ struct scard_clock {
 };
 
 /* A value of `silence` for a line that delivers whole bursts, as a line of packets does. A burst that is a whole block
- * then ends at once. What sends the packets has to keep BGT.
+ * then ends at once. The sender of the packets has to keep BGT.
  */
 #define SCARD_SILENCE_NONE UINT64_MAX
 
-/* The limits of an exchange if the setup has 0. The longest exchange has 131,081 blocks of the terminal: a command of
- * 65,544 octets and an answer of 65,538, in fields of one octet, with every block except the answer's last one
- * acknowledged. At 9,600 bits a second it takes some 35 minutes. These limits are some two times that number of blocks,
+/* The limits of one exchange if the setup has 0. In the longest exchange the terminal sends 131,081 blocks: a command
+ * of 65,544 octets and an answer of 65,538, in fields of one octet, with every block except the answer's last one
+ * acknowledged. At 9,600 bits a second this takes some 35 minutes. The limits are some two times that number of blocks,
  * and more than one and a half times that time.
  */
 #define SCARD_MOST_BLOCKS 262144
@@ -80,13 +81,13 @@ struct scard_clock {
 /* The setup of a session, for either end. Set all of it to 0 first.
  *
  * The session borrows the two buffers for as long as it is in use. 65,544 octets fit any command, and 65,538 any
- * answer. With smaller buffers, longer messages are refused as too long.
+ * answer. With smaller buffers, the session refuses longer messages as too long.
  *
- * `silence` is the silence, in microseconds, that ends a burst which is a whole block: any time up to CWT. 0 means BGT,
- * 22 etu (ISO/IEC 7816-3, clause 11.4.3). A burst that isn't a whole block yet ends after a silence of CWT. If an octet
- * comes later than `silence` after the one before it, the block is cut there. The front may then pass for a block, but
- * only if LEN is wrong. A `silence` of CWT rules that out for ends that keep to CWT, but every block then waits that
- * long.
+ * `silence` is the silence, in microseconds, that ends a burst which is a whole block. It may be any time up to CWT. 0
+ * means BGT, 22 etu (ISO/IEC 7816-3, clause 11.4.3). A burst that isn't a whole block yet ends after a silence of CWT.
+ * If an octet of a block comes later than `silence` after the one before it, the session may cut the block there. The
+ * octets before the cut may then pass for a block, but only if LEN is wrong. A `silence` of CWT rules this out for ends
+ * that keep to CWT, but then the session waits that long after every block.
  */
 struct scard_setup {
     struct scard_line line;
@@ -94,21 +95,21 @@ struct scard_setup {
     size_t command_room;
     uint8_t *answer;
     size_t answer_room;
-    struct scard_t1 t1; /* the parameters in the card's answer to reset */
+    struct scard_t1 t1; /* the T=1 parameters of the card's answer to reset */
     struct scard_clock clock;
-    uint64_t silence;           /* in microseconds; 0 is BGT, SCARD_SILENCE_NONE no silence */
-    uint64_t most_microseconds; /* the limit of one exchange of a terminal; 0 is SCARD_MOST_MICROSECONDS,
-                                   SCARD_LINE_FOREVER no limit */
-    uint32_t most_blocks;       /* the limit of blocks that a terminal sends in one exchange; 0 is SCARD_MOST_BLOCKS */
-    bool echo;                  /* the line returns what is sent on it, as a UART on one wire does */
+    uint64_t silence;           /* in microseconds; 0: BGT; SCARD_SILENCE_NONE: no silence */
+    uint64_t most_microseconds; /* the time limit of one exchange of a terminal; 0: SCARD_MOST_MICROSECONDS;
+                                   SCARD_LINE_FOREVER: no limit */
+    uint32_t most_blocks;       /* how many blocks a terminal sends at most in one exchange; 0: SCARD_MOST_BLOCKS */
+    bool echo;                  /* true if the line returns what is sent on it, as a UART on one wire does */
 };
 
 /* Kinds of turns besides those of scard.h.
  *
  * - FAILED: the line failed. The exchange isn't over, so only a call that begins the session again works.
- * - USED_UP: one exchange has used up its blocks or its time. It isn't over either. Continue with a call that begins
- *   the session, such as scard_session_resync. Until then every other call is refused, _BUSY.
- * - NO_STATUS: the card answered with `count` octets, none or one; a response has at least two. The session goes on.
+ * - USED_UP: one exchange has used up its blocks or its time. The exchange isn't over either. Continue with a call that
+ *   begins the session, such as scard_session_resync. Until then the session refuses every other call, _BUSY.
+ * - NO_STATUS: the card answered with `count` octets, none or one. A response has at least two. The session goes on.
  */
 #define SCARD_SESSION_FAILED 64
 #define SCARD_SESSION_USED_UP 65
@@ -130,14 +131,17 @@ static inline uint64_t scard_clock_time(const struct scard_clock *clock, uint64_
     return parts / in_second * 1000000 + (parts % in_second * 1000000 + in_second - 1) / in_second;
 }
 
-/* Returns whether times can be computed from the clock: no number is 0, Di is at most 64, and it has at least 1,000
- * hertz.
+/* Returns true if times can be computed from the clock: none of its numbers is 0, Di is at most 64, and its frequency
+ * is at least 1,000 hertz.
  */
 static inline bool scard_clock_runs(const struct scard_clock *clock)
 {
     return clock->fi != 0 && clock->di != 0 && clock->di <= 64 && clock->hertz >= 1000;
 }
 
+/* Calls `receive` of the line, and calls it again after each interrupt. Returns the number of octets that came, 0 on a
+ * timeout, or SCARD_LINE_FAILED.
+ */
 static inline int scard_line_take(const struct scard_line *line, uint8_t *octets, size_t room, uint64_t microseconds)
 {
     int got;
@@ -152,19 +156,19 @@ static inline int scard_line_take(const struct scard_line *line, uint8_t *octets
 /* After this many octets without a silence, the session stops waiting for the line. */
 #define SCARD_BURST_MOST 65536
 
-/* What the calls of a wire return besides SCARD_LINE_FAILED. */
+/* The results of the calls on a wire, besides SCARD_LINE_FAILED. */
 enum scard_wire_said {
-    SCARD_WIRE_USED_UP = -3,  /* the time of the exchange is over */
+    SCARD_WIRE_USED_UP = -3,  /* the time of the exchange is used up */
     SCARD_WIRE_COLLISION = -4 /* the echo differs from what was sent, or is incomplete */
 };
 
-/* The state of an end's line. The fields belong to the session. Times are in microseconds. */
+/* The state of the line of an end. The fields belong to the session. Times are in microseconds. */
 struct scard_wire {
-    const void *self; /* the session that this struct is in, once begun; a copy of that session isn't valid */
-    uint32_t mark;    /* which end it is */
-    uint64_t bgt;     /* the pause between a block that came and the next one sent */
+    const void *self; /* the session that this struct is in, once begun; a copy of the session isn't valid */
+    uint32_t mark;    /* which end the session is: SCARD_WIRE_TERMINAL or SCARD_WIRE_CARD */
+    uint64_t bgt;     /* the pause between a received block and the next one sent */
     uint64_t after;   /* the silence that ends a whole block, or SCARD_SILENCE_NONE */
-    uint64_t owed;    /* the silence to wait for before the next block is sent, counted from the last octet */
+    uint64_t owed;    /* the silence to wait for before the end sends again, counted from the last octet */
     uint64_t most;    /* the current exchange: its time limit, its start, and the time that is known to be over */
     uint64_t began;
     uint64_t spent;
@@ -174,12 +178,13 @@ struct scard_wire {
 #define SCARD_WIRE_TERMINAL UINT32_C(0x5CA2D701)
 #define SCARD_WIRE_CARD UINT32_C(0x5CA2D702)
 
+/* Returns true if a session was begun as this end, and isn't a copy. */
 static inline bool scard_wire_is(const struct scard_wire *wire, const void *session, uint32_t mark)
 {
     return wire->self == session && wire->mark == mark;
 }
 
-/* Starts the time of an exchange. */
+/* Starts to measure the time of an exchange. */
 static inline void scard_wire_start(struct scard_wire *wire, const struct scard_line *line, uint64_t most)
 {
     wire->most = most;
@@ -187,8 +192,8 @@ static inline void scard_wire_start(struct scard_wire *wire, const struct scard_
     wire->began = line->now != NULL && most != SCARD_LINE_FOREVER ? line->now(line->context) : 0;
 }
 
-/* Returns what is left of that time. Without a clock, the session adds up the waits: each one that ended in a timeout,
- * and each one that the card extended, at full length.
+/* Returns what is left of that time. Without a clock, the session adds up the waits that ended in a timeout, and the
+ * full length of each wait that the card extended.
  */
 static inline uint64_t scard_wire_left(const struct scard_wire *wire, const struct scard_line *line)
 {
@@ -234,8 +239,8 @@ static inline int scard_wire_settle(struct scard_wire *wire, const struct scard_
     return wire->owed > 0 ? scard_wire_drain(wire, line, wire->owed) : 0;
 }
 
-/* Discards what the line holds though nobody waited for it. If there was anything, continues until the line is silent
- * for `silence`. Returns 0.
+/* Discards octets that came while the session didn't wait for any. If there were any, continues until the line is
+ * silent for `silence`. Returns 0.
  */
 static inline int scard_wire_late(struct scard_wire *wire, const struct scard_line *line, uint64_t silence)
 {
@@ -244,7 +249,7 @@ static inline int scard_wire_late(struct scard_wire *wire, const struct scard_li
     return got > 0 ? scard_wire_drain(wire, line, silence) : got;
 }
 
-/* Reads back the echo of what was just sent, each part within `microseconds`. Octets right after it begin the next
+/* Reads the echo of what was just sent, each part within `microseconds`. Octets right after the echo begin the next
  * burst.
  */
 static inline int scard_wire_hear(struct scard_wire *wire, const struct scard_line *line, const uint8_t *sent,
@@ -255,7 +260,7 @@ static inline int scard_wire_hear(struct scard_wire *wire, const struct scard_li
     while (came < count) {
         int got = scard_line_take(line, heard, sizeof heard, microseconds);
         size_t own = got > 0 && (size_t)got < count - came ? (size_t)got : count - came;
-        if (got < 0 || (got == 0 && came == 0)) { /* nothing at all: the line has no echo */
+        if (got < 0 || (got == 0 && came == 0)) { /* no octet at all: the line has no echo */
             return SCARD_LINE_FAILED;
         }
         if (got == 0 || memcmp(heard, sent + came, own) != 0) {
@@ -288,9 +293,9 @@ static inline int scard_wire_send(struct scard_wire *wire, const struct scard_se
     return scard_wire_hear(wire, line, octets, count, cwt);
 }
 
-/* Receives the rest of a burst. Returns how many of its octets to pass to an end, or 0 on a timeout, if none came
- * within `first`. If the line fails, it ignores what came before, since it didn't see the end of the burst. It cuts a
- * burst that never ends. Before the end sends again, the line has to be silent: for BGT after a whole block, for
+/* Receives the rest of a burst. Returns how many of its octets to pass to an end. On a timeout, if no octet came within
+ * `first`, it returns 0. If the line fails, it ignores the octets before, since it didn't see the end of the burst. It
+ * cuts a burst that never ends. Before the end sends again, the line has to be silent: for BGT after a whole block, for
  * `broken` after any other burst.
  */
 static inline int scard_wire_burst(struct scard_wire *wire, const struct scard_line *line, uint64_t first, uint64_t cwt,
@@ -313,7 +318,7 @@ static inline int scard_wire_burst(struct scard_wire *wire, const struct scard_l
     return got < 0 ? got : (int)scard_lent_framer_burst(framer);
 }
 
-/* Returns whether an end can begin with a setup: both functions are there, times can be computed from the clock and the
+/* Returns true if an end can begin with a setup: both functions are there, times can be computed from the clock and the
  * parameters, and the silence is at most CWT.
  */
 static inline bool scard_setup_is(const struct scard_setup *setup)
@@ -326,8 +331,8 @@ static inline bool scard_setup_is(const struct scard_setup *setup)
     return cwt > 0 && (setup->silence <= cwt || setup->silence == SCARD_SILENCE_NONE);
 }
 
-/* Initializes the wire of an end from a valid setup, and computes its waiting times. BWT is at least 4/3 of CWT. A card
- * answers a broken block after three quarters of BWT, and this keeps that time at CWT or more.
+/* Initializes the wire of an end from a valid setup, and computes its waiting times. It makes BWT at least 4/3 of CWT.
+ * A card answers a broken block after three quarters of BWT, so that time is CWT or more.
  */
 static inline void scard_wire_begin(struct scard_wire *wire, const struct scard_setup *setup, uint64_t *bwt,
                                     uint64_t *cwt)
@@ -350,20 +355,20 @@ static inline void scard_wire_begin(struct scard_wire *wire, const struct scard_
 struct scard_session {
     struct scard_lent_terminal terminal;
     struct scard_setup setup;
-    uint64_t bwt; /* the waiting times in microseconds; a driver may lengthen them, never shorten them */
+    uint64_t bwt; /* BWT and CWT in microseconds; a driver may lengthen them, but never shorten them */
     uint64_t cwt;
-    uint32_t blocks; /* how many blocks were sent in this exchange */
+    uint32_t blocks; /* the number of blocks sent in this exchange */
     struct scard_wire wire;
 };
 
-/* The state and the buffers, in the form that each call of an end takes. */
+/* The state and the buffers of an end, as the first five arguments of its calls. */
 #define SCARD_SESSION_END(state, setup) \
     (state), (setup)->command, (setup)->command_room, (setup)->answer, (setup)->answer_room
 
-/* Begins a session with a card that was just reset. It sends nothing. The caller owns the session, and may not move it:
- * a copy refuses all calls. The session borrows the setup's buffers, and copies the setup itself. Returns OK; or
- * ARGUMENT if the parameters are invalid, a function of the line is missing, the clock doesn't run, or `silence` is
- * above CWT. With ARGUMENT the session stays as it was.
+/* Begins a session with a card that was just reset. The call sends nothing. The caller owns the session, and may not
+ * move it: a copy refuses all calls. The session borrows the buffers of the setup, and copies the setup itself. Returns
+ * OK; or ARGUMENT if the parameters are invalid, a function of the line is missing, the clock doesn't run, or `silence`
+ * is above CWT. With ARGUMENT the session is unchanged.
  */
 SCARD_MUST_USE
 static inline struct scard_verdict scard_session_begin(struct scard_session *session, const struct scard_setup *setup)
@@ -384,10 +389,10 @@ static inline struct scard_verdict scard_session_begin(struct scard_session *ses
     return verdict;
 }
 
-/* Sends a block, and receives the burst that comes within `times` times BWT; it returns as scard_wire_burst does. After
- * a broken burst it discards everything until the line is silent for that long. So no late rest of the burst passes for
- * a block, and no block of a card that is still working crosses the next one. A rest that is later still is a burst of
- * its own.
+/* Sends a block, and receives the burst that comes within `times` times BWT. Returns as scard_wire_burst does. After a
+ * broken burst the call discards all octets until the line is silent for that long. So no late rest of the burst passes
+ * for a block, and no block of a card that is still working crosses the next one. If a rest comes even later, it is a
+ * burst of its own.
  */
 static inline int scard_session_talk(struct scard_session *session, const uint8_t *octets, size_t count,
                                      uint8_t times)
@@ -396,7 +401,7 @@ static inline int scard_session_talk(struct scard_session *session, const uint8_
     const struct scard_line *line = &session->setup.line;
     uint64_t first = session->bwt * times;
     int said = scard_wire_send(wire, &session->setup, session->cwt, octets, count);
-    if (said == SCARD_WIRE_COLLISION) { /* whether the card heard it isn't known: as if no answer came */
+    if (said == SCARD_WIRE_COLLISION) { /* it isn't known whether the card received it: as if no answer came */
         return scard_wire_drain(wire, line, first);
     }
     if (said == 0) {
@@ -406,7 +411,7 @@ static inline int scard_session_talk(struct scard_session *session, const uint8_
     return said;
 }
 
-/* Returns the terminal's turn after what came. */
+/* Returns the terminal's turn after a burst of `count` octets, or after a timeout if `count` is 0. */
 static inline struct scard_turn scard_session_came(struct scard_session *session, size_t count,
                                                    uint8_t out[SCARD_BLOCK_ROOM])
 {
@@ -419,7 +424,7 @@ static inline struct scard_turn scard_session_came(struct scard_session *session
                                         SCARD_BLOCK_ROOM);
 }
 
-/* Sends the block of a turn, and continues until a turn has none, or a limit of the exchange is reached. */
+/* Sends the block of a turn, and continues until a turn has no block, or a limit of the exchange is reached. */
 static inline struct scard_turn scard_session_run(struct scard_session *session, struct scard_turn turn,
                                                   uint8_t out[SCARD_BLOCK_ROOM])
 {
@@ -448,15 +453,15 @@ static inline struct scard_turn scard_session_run(struct scard_session *session,
     return turn;
 }
 
-/* Sends a command, and waits for its answer. The command may not overlap the session's buffers. The results:
+/* Sends a command, and waits for its answer. The command may not overlap the buffers of the session. The results:
  *
- * - SCARD_DONE: the answer is `count` octets, at least two. They are at the start of the answer buffer until the next
+ * - SCARD_DONE: the answer has `count` octets, at least two. They are at the start of the answer buffer until the next
  *   call.
  * - SCARD_SESSION_NO_STATUS: the answer has one octet or none.
  * - SCARD_GIVEN_UP: there is no answer, and it isn't known whether the card acted on the command. The field sizes are
- *   those of the start.
+ *   again those of the start.
  * - SCARD_DEAD, SCARD_SESSION_FAILED, SCARD_SESSION_USED_UP: the session is over.
- * - Refused, and nothing was sent: _DEAD, _BUSY (the line failed before, or a limit was reached), _TOO_LONG,
+ * - The call was refused, and sent nothing: _DEAD, _BUSY (the line failed before, or a limit was reached), _TOO_LONG,
  *   SCARD_NO_END (the session was never begun, or is a copy).
  */
 SCARD_MUST_USE
@@ -482,8 +487,9 @@ static inline struct scard_turn scard_session_exchange(struct scard_session *ses
     return turn;
 }
 
-/* Tells the card the largest field that the terminal takes from now on: `size`, 1 to 254 octets. A new session takes
- * 32. Returns SCARD_IFS_SET, or another result of scard_session_exchange. 0 and 255 are refused, _RESERVED.
+/* Tells the card the largest field that the terminal accepts from now on: `size`, 1 to 254 octets. A new session
+ * accepts 32. Returns SCARD_IFS_SET, or another result of scard_session_exchange. The call refuses 0 and 255,
+ * _RESERVED.
  */
 SCARD_MUST_USE
 static inline struct scard_turn scard_session_ask_ifs(struct scard_session *session, uint8_t size)
@@ -499,9 +505,9 @@ static inline struct scard_turn scard_session_ask_ifs(struct scard_session *sess
 }
 
 /* Begins a session with a card that can't be reset, and whose state isn't known. It also recovers a session that failed
- * or was used up. First it discards what the line holds until the line is silent for BWT, so that no earlier block
- * passes for an answer. Then it asks the card for RESYNCH (ISO/IEC 7816-3, clause 11.6.3.2), at most three times, and
- * sends nothing else. It counts no limit of an exchange. The results:
+ * or was used up. First the call discards octets until the line is silent for BWT, so that no earlier block passes for
+ * an answer. Then it sends RESYNCH to the card (ISO/IEC 7816-3, clause 11.6.3.2), at most three times, and sends
+ * nothing else. No limit of an exchange applies. The results:
  *
  * - SCARD_GIVEN_UP: the card answered, so it is as at its start, and the session has begun. It isn't known whether the
  *   card's host acted on a command that was in progress.
@@ -538,10 +544,10 @@ static inline struct scard_turn scard_session_resync(struct scard_session *sessi
 /* ---- the card ---- */
 
 enum scard_host_kind {
-    SCARD_HOST_REPLY = 0, /* the reply, `count` octets at `octets`, outside the session's buffers */
-    SCARD_HOST_TIME = 1,  /* it needs `number` times the waiting time */
-    SCARD_HOST_IFS = 2,   /* it takes fields of up to `number` octets from now on, 1 to 254 */
-    SCARD_HOST_END = 3    /* it stops serving */
+    SCARD_HOST_REPLY = 0, /* the host replies: `count` octets at `octets`, outside the session's buffers */
+    SCARD_HOST_TIME = 1,  /* the host needs `number` times the waiting time */
+    SCARD_HOST_IFS = 2,   /* the card accepts fields of up to `number` octets from now on, 1 to 254 */
+    SCARD_HOST_END = 3    /* the host stops serving */
 };
 
 struct scard_host_turn {
@@ -551,10 +557,10 @@ struct scard_host_turn {
     size_t count;
 };
 
-/* The host: the card's application. The session calls `serve` with a command. It copies the octets of a reply.
- * `granted` counts the host's requests about this command that the terminal granted. If it is 0, the command is new, so
- * act on it now. Otherwise it is the same command, so continue with it. If the terminal gives a command up while the
- * host's request is pending, the session doesn't call `serve` for it again.
+/* The host: the card's application. The session calls `serve` with a command, and copies the octets of a reply.
+ * `granted` is the number of the host's requests about this command that the terminal granted. If it is 0, the command
+ * is new, so act on it now. Otherwise it is the same command, so continue with it. If the terminal gives a command up
+ * while a request of the host is pending, the session doesn't call `serve` for that command again.
  */
 struct scard_host {
     void *context;
@@ -567,12 +573,12 @@ struct scard_card_session {
     struct scard_host host;
     uint64_t cwt; /* in microseconds */
     size_t granted;
-    uint64_t bwt; /* within which the terminal expects an answer */
+    uint64_t bwt; /* in microseconds; the terminal expects an answer within it */
     struct scard_wire wire;
 };
 
-/* Begins a session at a reset of the card. It copies the setup and the host, and borrows the setup's buffers. Returns
- * OK or ARGUMENT as scard_session_begin does; ARGUMENT also if the host has no function.
+/* Begins a session at a reset of the card. The session copies the setup and the host, and borrows the buffers of the
+ * setup. Returns OK or ARGUMENT as scard_session_begin does; ARGUMENT also if the host has no function.
  */
 SCARD_MUST_USE
 static inline struct scard_verdict scard_card_session_begin(struct scard_card_session *session,
@@ -596,7 +602,7 @@ static inline struct scard_verdict scard_card_session_begin(struct scard_card_se
     return verdict;
 }
 
-/* Calls the host about the command that it owes a reply to, and returns the card's turn. */
+/* Calls the host with the command that it has to reply to, and returns the card's turn. */
 static inline struct scard_turn scard_card_session_host(struct scard_card_session *session,
                                                         uint8_t out[SCARD_BLOCK_ROOM])
 {
@@ -621,7 +627,7 @@ static inline struct scard_turn scard_card_session_host(struct scard_card_sessio
     }
 }
 
-/* Calls the host, and discards what came meanwhile. */
+/* Calls the host, and discards octets that came during the call. */
 static inline struct scard_turn scard_card_session_ask(struct scard_card_session *session,
                                                        uint8_t out[SCARD_BLOCK_ROOM])
 {
@@ -632,8 +638,8 @@ static inline struct scard_turn scard_card_session_ask(struct scard_card_session
     return turn;
 }
 
-/* Returns the card's turn after a burst of `count` octets. If the card passes a command to its host, that is the host's
- * turn.
+/* Returns the card's turn after a burst of `count` octets. If the card passes a command to its host, the turn is that
+ * of the host.
  */
 static inline struct scard_turn scard_card_session_came(struct scard_card_session *session, size_t count,
                                                         uint8_t out[SCARD_BLOCK_ROOM])
@@ -642,12 +648,12 @@ static inline struct scard_turn scard_card_session_came(struct scard_card_sessio
         scard_lent_card_received(SCARD_SESSION_END(&session->card, &session->setup), session->wire.framer.octets,
                                  count, out, SCARD_BLOCK_ROOM);
     if (turn.kind == SCARD_SEND && out[1] == 0xE0) {
-        session->granted = 0; /* it answers RESYNCH: its host owes no reply any more */
+        session->granted = 0; /* the card answers RESYNCH: its host no longer has to reply */
     }
     return turn.kind == SCARD_DONE ? scard_card_session_ask(session, out) : turn;
 }
 
-/* Returns the silence that a card waits for after a broken burst. */
+/* Returns the silence for which a card waits after a broken burst, in microseconds. */
 static inline uint64_t scard_card_session_pause(const struct scard_card_session *session)
 {
     const uint64_t most = session->bwt / 4 * 3;
@@ -661,9 +667,9 @@ static inline uint64_t scard_card_session_pause(const struct scard_card_session 
  * - SCARD_REFUSED_TOO_LONG, _RESERVED: what the host returned is invalid.
  * - SCARD_NO_END: the session was never begun, or is a copy.
  *
- * A card has to answer within BWT. So after a broken burst it discards everything until the line is silent for three
- * quarters of BWT, or for CWT if that is longer, and then answers. If the terminal pauses inside a block for longer
- * than that, the rest of the block is a burst of its own.
+ * A card has to answer within BWT. So after a broken burst it discards all octets until the line is silent for three
+ * quarters of BWT, or for CWT if that is longer. Then it answers. If the terminal pauses inside a block for longer than
+ * that, the rest of the block is a burst of its own.
  */
 SCARD_MUST_USE
 static inline struct scard_turn scard_card_session_serve(struct scard_card_session *session)
@@ -675,7 +681,7 @@ static inline struct scard_turn scard_card_session_serve(struct scard_card_sessi
     if (!scard_wire_is(wire, session, SCARD_WIRE_CARD)) {
         return scard_session_turn(SCARD_NO_END);
     }
-    if (wire->owed > wire->bgt && scard_wire_settle(wire, line) < 0) { /* the call before ended in a broken burst */
+    if (wire->owed > wire->bgt && scard_wire_settle(wire, line) < 0) { /* the last call ended in a broken burst */
         return scard_session_turn(SCARD_SESSION_FAILED);
     }
     scard_lent_framer_begin(&wire->framer);
