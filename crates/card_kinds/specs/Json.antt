@@ -1,6 +1,6 @@
 -- What the program says of octets as an object of JSON: its members, in their order, with a comma between two.
 use Rattle.std.specs.Prelude.{ℕ, ◌-◌, List, [], ◌∷◌, ◌++◌, codes, decimal, length, take}
-use Rattle.json_lines.specs.Notes.{note_items}
+use Rattle.answer_json.specs.Notes.{note_items}
 use Rattle.notes.specs.Noted.{mark}
 use Rattle.octet_core.specs.declared.stop.Stop.{Stop}
 use Rattle.octet_core.specs.declared.stop.Stop.TheVariants.{Short, At}

@@ -4,8 +4,8 @@ ghost use Rattle.std.specs.Prelude.{◌≡◌, ◌++◌, IfOk, OnOk, string_byte
 ghost use Rattle.card_kinds.specs.Json.{accepted_members, notes_member, object_head, object_line, refused_at_members, refused_members, separator, short_members};
 ghost use Rattle.card_kinds.specs.Verdicts.{kind_name};
 
+use answer_json::note_items;
 use card_words::Kind;
-use json_lines::note_items;
 use notes::MARK;
 use octet_core::{Named, Stop};
 use std::alloc::{AllocError, Global};

@@ -1,7 +1,7 @@
 //! What holds of the definitions alone, as contracts.
 
 ghost use Rattle.std.specs.Prelude.{◌≡◌, ◌++◌, ℕ, List, Some, None};
-ghost use Rattle.json_lines.specs.Notes.{line_and_note};
+ghost use Rattle.answer_json.specs.Notes.{line_and_note};
 ghost use Rattle.notes.specs.Noted.{mark, LacksSign};
 
 /// A line without a number sign and the note after it come apart as they were, and without a note it has none. So the

@@ -11,7 +11,7 @@ use Rattle.card_tool.specs.ExchangeTexts.{TellsFile}
 use Rattle.card_tool.specs.SimulationTexts.{Simulates, SimulatesLines}
 use Rattle.card_tool.specs.RecordTexts.{Records}
 use Rattle.card_tool.specs.JudgeTexts.{JudgesTrace}
-use Rattle.json_lines.specs.Answers.{json_text}
+use Rattle.answer_json.specs.Answers.{json_text}
 use Rattle.card_kinds.specs.Json.{object_head, with_notes}
 use Rattle.card_tool.specs.Files.{ReadsWhole}
 use Rattle.card_tool.specs.Lines.{all_lines, line_octets, AreTold}

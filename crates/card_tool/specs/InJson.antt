@@ -18,8 +18,8 @@ use Rattle.card_words.specs.declared.request.Request.TheVariants.{BuildChain, Bu
 use Rattle.card_words.specs.declared.request.Task.{Task}
 use Rattle.card_kinds.specs.Json.{object_head, with_member}
 use Rattle.card_kinds.specs.Verdicts.{kind_name}
-use Rattle.json_lines.specs.Answers.{json_text}
-use Rattle.json_lines.specs.Strings.{json_string, line_strings}
+use Rattle.answer_json.specs.Answers.{json_text}
+use Rattle.answer_json.specs.Strings.{json_string, line_strings}
 use Rattle.card_kinds.specs.declared.status.Status.{Status}
 use Rattle.card_kinds.specs.declared.status.Status.TheVariants as status
 use Rattle.card_tool.specs.Answers.{json_object, object_of, IsReadFrom}

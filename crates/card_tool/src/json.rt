@@ -6,15 +6,15 @@ ghost use Rattle.card_kinds.specs.declared.status.Status.{Status as AnyStatus};
 ghost use Rattle.card_tool.specs.Answers as answers;
 ghost use Rattle.card_kinds.specs.Json.{with_member, with_notes};
 ghost use Rattle.card_tool.specs.Answers.{json_object, noted_as};
-ghost use Rattle.json_lines.specs.Answers.{json_text};
-ghost use Rattle.json_lines.specs.Strings.{line_strings};
+ghost use Rattle.answer_json.specs.Answers.{json_text};
+ghost use Rattle.answer_json.specs.Strings.{line_strings};
 ghost use Rattle.card_tool.specs.Explained.{said_of};
 ghost use Rattle.card_tool.specs.InJson.{content_object, file_object, file_subject, judged_object, object_as, object_by, object_with_lines, request_object, subject, verdict_member, with_explanation, explanation_member, told_object};
 
 use crate::judged::WithNote;
+use answer_json::{json_line, json_string, line_strings};
 use card_kinds::{Answer, Status, kind_name, notes_member, object_head};
 use card_words::{Aim, Ends, Fault, FileTask, Layout, Request, Task};
-use json_lines::{json_line, json_string, line_strings};
 use octet_core::Octets;
 use std::alloc::{AllocError, Global};
 

@@ -1,0 +1,37 @@
+-- The notes on lines as an array of objects.
+use Rattle.std.specs.Prelude.{ℕ, ◌==◌, List, [], ◌∷◌, ◌++◌, Option, Some, None, option_map, codes}
+use Rattle.std.specs.List.{slice_split}
+use Rattle.answer_json.specs.Forms.{or_else}
+use Rattle.answer_json.specs.Strings.{line_string, separator}
+use Rattle.answer_json.specs.Words.{after}
+
+-- what a line has before its first mark and after that, where it has one and begins with this
+abbrev pub note_after : List ℕ → List ℕ → List ℕ → Option (List ℕ × List ℕ)
+note_after mark front [] = None
+note_after mark front (x ∷ rest) =
+    or_else (option_map (λ note. (front, note)) (after mark (x ∷ rest))) (note_after mark (front ++ x ∷ []) rest)
+
+-- a line, and the note on it, where it has one
+abbrev pub line_and_note : List ℕ → List ℕ → Option (List ℕ × List ℕ)
+line_and_note mark line = note_after mark [] line
+
+-- both as an object
+abbrev pub note_object : List ℕ → List ℕ → List ℕ
+note_object line note =
+    codes "{\"line\":" ++ (line_string line ++ (codes ",\"note\":" ++ (line_string note ++ codes "}")))
+
+abbrev pub with_object : List ℕ → List ℕ → List ℕ → List ℕ
+with_object items line note = items ++ (separator items ++ note_object line note)
+
+-- the items of an array, and a line that has a note
+abbrev pub with_note : List ℕ → Option (List ℕ × List ℕ) → List ℕ
+with_note items None = items
+with_note items (Some (line, note)) = with_object items line note
+
+abbrev pub with_notes : List ℕ → List ℕ → List (List ℕ) → List ℕ
+with_notes mark items [] = items
+with_notes mark items (line ∷ lines) = with_notes mark (with_note items (line_and_note mark line)) lines
+
+-- the lines of a text that have notes, with a comma between two
+unfoldable pub note_items : List ℕ → List ℕ → List ℕ
+note_items mark text = with_notes mark [] (slice_split (λ x. x == 10) text)
