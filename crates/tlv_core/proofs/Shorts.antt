@@ -1,5 +1,8 @@
 -- Objects with a short header, taken at once.
 use Rattle.std.proofs.Common.{◌≡◌, ℕ, ◌+◌, ◌-◌, ◌<◌, ◌≤◌, List, [], ◌∷◌, ◌++◌, length, take, drop, refl, sym, ap, subst, ◌∙◌, arith, Bool, true, false, cond, zero, suc, append-nil, inl, inr}
+use Rattle.std.proofs.Common.{◌*◌, ◌^◌, bit_and, w32}
+use Rattle.std.specs.Int.{to_le_bytes}
+use Rattle.std.proofs.lemmas.Nat.{and_mask, le_bytes_4}
 use Rattle.std.specs.Prelude.{◌/◌, ◌%◌, ◌↔◌, IsTrue, slice_index}
 use Rattle.std.proofs.lemmas.Bool.{false≢true}
 use Rattle.std.proofs.lemmas.List.{length-take, length-drop, take-take}
@@ -248,31 +251,56 @@ tag_in_front front t three few = ap (take t) (first_three front three) ∙ take-
 -- ---- the tag that is made of three octets and a count
 
 -- what is kept of them is a whole tag, and it is that tag
-pub record IsMade (l : List ℕ) (count a b : ℕ) : Type 0 where
-  pub whole : IsWholeTag (record { octets = slice_index l 0 ∷ a ∷ b ∷ []; count = count })
-  pub same : take count (slice_index l 0 ∷ a ∷ b ∷ []) ≡ take count l
+pub record IsMade (l r : List ℕ) (count : ℕ) : Type 0 where
+  pub whole : IsWholeTag (record { octets = slice_index r 0 ∷ slice_index r 1 ∷ slice_index r 2 ∷ []; count = count })
+  pub same : take count (slice_index r 0 ∷ slice_index r 1 ∷ slice_index r 2 ∷ []) ≡ take count l
 
--- so it is where they are the octets of the tag, and 0 after it
-pub tag_made : (l : List ℕ) (count a b : ℕ) → length l ≡ 3 → count ≤ 3 → IsTag (take count l)
-    → (1 < count → a ≡ slice_index l 1) → (count ≤ 1 → a ≡ 0) → (2 < count → b ≡ slice_index l 2)
-    → (count ≤ 2 → b ≡ 0) → IsMade l count a b
-tag_made [] count a b three few is more none most fewer = absurd (omega arith)
-tag_made (x ∷ []) count a b three few is more none most fewer = absurd (omega arith)
-tag_made (x ∷ y ∷ []) count a b three few is more none most fewer = absurd (omega arith)
-tag_made (x ∷ y ∷ z ∷ w ∷ l) count a b three few is more none most fewer = absurd (omega arith)
-tag_made (x ∷ y ∷ z ∷ []) zero a b three few is more none most fewer = absurd is
-tag_made (x ∷ y ∷ z ∷ []) (suc zero) a b three few is more none most fewer =
-    let second : a ≡ 0 = none (omega arith) in
-    let third : b ≡ 0 = fewer (omega arith) in
-    record { whole = record { tag = is; count = refl; octets = cc }; same = refl }
-tag_made (x ∷ y ∷ z ∷ []) (suc (suc zero)) a b three few is more none most fewer =
-    let second : a ≡ y = more (omega arith) in
-    let third : b ≡ 0 = fewer (omega arith) in
-    let same : x ∷ a ∷ [] ≡ x ∷ y ∷ [] = cc in
-    record { whole = record { tag = subst IsTag (sym same) is; count = refl; octets = cc }; same = same }
-tag_made (x ∷ y ∷ z ∷ []) (suc (suc (suc zero))) a b three few is more none most fewer =
-    let second : a ≡ y = more (omega arith) in
-    let third : b ≡ z = most (omega arith) in
-    let same : x ∷ a ∷ b ∷ [] ≡ x ∷ y ∷ z ∷ [] = cc in
-    record { whole = record { tag = subst IsTag (sym same) is; count = refl; octets = refl }; same = same }
-tag_made (x ∷ y ∷ z ∷ []) (suc (suc (suc (suc count)))) a b three few is more none most fewer = absurd (omega arith)
+-- four octets of which the last is 0
+bounded : (a b c : ℕ) → a < 256 → b < 256 → c < 256 → AreOctets (a ∷ b ∷ c ∷ 0 ∷ [])
+bounded a b c a' b' c' zero = a'
+bounded a b c a' b' c' (suc zero) = b'
+bounded a b c a' b' c' (suc (suc zero)) = c'
+bounded a b c a' b' c' (suc (suc (suc zero))) = omega arith
+bounded a b c a' b' c' (suc (suc (suc (suc i)))) = omega arith
+
+-- they are those of a number, the lowest first
+octets_of_word : (a b c m : ℕ) → a < 256 → b < 256 → c < 256 → m ≡ a + b * 256 + c * 65536
+    → to_le_bytes w32 m ≡ a ∷ b ∷ c ∷ 0 ∷ []
+octets_of_word a b c m a' b' c' is =
+    le_bytes_4 (a ∷ b ∷ c ∷ 0 ∷ []) m refl (bounded a b c a' b' c') (omega arith)
+
+-- a mask of so many octets keeps the lowest of a number
+abbrev kept_of : ℕ → ℕ → ℕ
+kept_of n k = bit_and n ((1 * 2 ^ (8 * k)) % 4294967296 - 1)
+
+keeps_one : (n k : ℕ) → k ≡ 1 → kept_of n k ≡ n % 256
+keeps_one n k is = ap (kept_of n) is ∙ and_mask n 8
+
+keeps_two : (n k : ℕ) → k ≡ 2 → kept_of n k ≡ n % 65536
+keeps_two n k is = ap (kept_of n) is ∙ and_mask n 16
+
+keeps_three : (n k : ℕ) → k ≡ 3 → kept_of n k ≡ n % 16777216
+keeps_three n k is = ap (kept_of n) is ∙ and_mask n 24
+
+-- so it is where the mask keeps the octets of the tag
+pub tag_made : (x y z count k n : ℕ) (r : List ℕ) → x < 256 → y < 256 → z < 256 → count ≤ 3 → k ≡ count
+    → IsTag (take count (x ∷ y ∷ z ∷ [])) → n ≡ x + y * 256 + z * 65536 → r ≡ to_le_bytes w32 (kept_of n k)
+    → IsMade (x ∷ y ∷ z ∷ []) r count
+tag_made x y z zero k n r x' y' z' few at is word made = absurd is
+tag_made x y z (suc zero) k n r x' y' z' few at is word made =
+    let kept : kept_of n k ≡ x = omega (arith, keeps_one n k at) in
+    let octets : r ≡ x ∷ 0 ∷ 0 ∷ 0 ∷ [] = made ∙ octets_of_word x 0 0 (kept_of n k) x' (omega arith) (omega arith)
+    (omega arith) in
+    subst (λ (r : List ℕ). IsMade (x ∷ y ∷ z ∷ []) r 1) (sym octets)
+    (record { whole = record { tag = is; count = refl; octets = refl }; same = refl })
+tag_made x y z (suc (suc zero)) k n r x' y' z' few at is word made =
+    let kept : kept_of n k ≡ x + y * 256 = omega (arith, keeps_two n k at) in
+    let octets : r ≡ x ∷ y ∷ 0 ∷ 0 ∷ [] = made ∙ octets_of_word x y 0 (kept_of n k) x' y' (omega arith) (omega arith) in
+    subst (λ (r : List ℕ). IsMade (x ∷ y ∷ z ∷ []) r 2) (sym octets)
+    (record { whole = record { tag = is; count = refl; octets = refl }; same = refl })
+tag_made x y z (suc (suc (suc zero))) k n r x' y' z' few at is word made =
+    let kept : kept_of n k ≡ x + y * 256 + z * 65536 = omega (arith, keeps_three n k at) in
+    let octets : r ≡ x ∷ y ∷ z ∷ 0 ∷ [] = made ∙ octets_of_word x y z (kept_of n k) x' y' z' (omega arith) in
+    subst (λ (r : List ℕ). IsMade (x ∷ y ∷ z ∷ []) r 3) (sym octets)
+    (record { whole = record { tag = is; count = refl; octets = refl }; same = refl })
+tag_made x y z (suc (suc (suc (suc count)))) k n r x' y' z' few at is word made = absurd (omega arith)

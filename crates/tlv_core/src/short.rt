@@ -133,7 +133,7 @@ fn header_at(front: &[u8; FRONT]) -> Option<ShortHeader>
     let count = tag_at(front)?;
     let length = length_at(front, count)?;
     Some(ShortHeader {
-        tag: Tag::front([front[0], front[1], front[2]], count),
+        tag: Tag::front(front[0], front[1], front[2], count),
         form: length.form,
         header: count + 1 + length.form.further(),
         is_constructed: is_constructed(front[0]),

@@ -1,6 +1,6 @@
 //! Tags of data objects.
 
-ghost use Rattle.std.specs.Prelude.{◌≡◌, ◌<◌, ◌≤◌, ◌/◌, ◌%◌, ◌↔◌, IsTrue, MatchOption, take};
+ghost use Rattle.std.specs.Prelude.{◌≡◌, ◌<◌, ◌≤◌, ◌/◌, ◌%◌, ◌↔◌, [], ◌∷◌, IsTrue, MatchOption, take};
 ghost use Rattle.tlv_core.specs.Tag.{IsTag, IsLong, constructed_bit};
 ghost use Rattle.tlv_core.specs.TagView.{padded};
 
@@ -100,20 +100,18 @@ impl Tag {
         }
     }
 
-    /// The tag of the first `count` octets, made without a branch.
+    /// The tag of the first `count` of three octets, made without a branch: a mask clears the octets after it.
     #[inline(always)]
-    pub(crate) fn front(octets: [u8; 3], count: u8) -> Tag
+    pub(crate) fn front(first: u8, second: u8, third: u8, count: u8) -> Tag
         requires few { count ≤ 3 }
-        requires tag { IsTag (take count octets) }
-        ensures { result ≡ take count octets }
+        requires tag { IsTag (take count (first ∷ second ∷ third ∷ [])) }
+        ensures { result ≡ take count (first ∷ second ∷ third ∷ []) }
     {
-        let [first, second, third] = octets;
+        let mask = (1 << (8 * u32::from(count))) - 1;
+        let kept = u32::from_le_bytes([first, second, third, 0]) & mask;
+        let [first, second, third, _] = kept.to_le_bytes();
         Tag {
-            octets: [
-                first,
-                if count > 1 { second } else { 0 },
-                if count > 2 { third } else { 0 },
-            ],
+            octets: [first, second, third],
             count,
         }
     }
