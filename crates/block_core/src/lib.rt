@@ -14,6 +14,7 @@ pub mod laws;
 pub mod pcb;
 pub mod reader;
 pub mod reason;
+pub mod side;
 mod stage;
 
 pub use block::{Block, LONGEST_BLOCK, LONGEST_INF, block_len, encode};
@@ -22,3 +23,4 @@ pub use decoding::decode;
 pub use pcb::{Fault, Number, Pcb, S};
 pub use reader::BlockReader;
 pub use reason::BlockReason;
+pub use side::Side;

@@ -9,8 +9,8 @@ use Rattle.block_core.specs.declared.pcb.S.{S}
 use Rattle.block_core.specs.declared.pcb.S.TheVariants.{Resynch, Ifs, Abort, Wtx}
 use Rattle.block_core.specs.declared.pcb.Pcb.{Pcb}
 use Rattle.block_core.specs.declared.pcb.Pcb.TheVariants.{Info, Ready, Request, Response}
-use Rattle.judge_core.specs.declared.end.Side.{Side}
-use Rattle.judge_core.specs.declared.end.Side.TheVariants.{Terminal, Card}
+use Rattle.block_core.specs.declared.side.Side.{Side}
+use Rattle.block_core.specs.declared.side.Side.TheVariants.{Terminal, Card}
 use Rattle.judge_core.specs.declared.end.Pending.{Pending}
 use Rattle.judge_core.specs.declared.end.Pending.TheVariants.{Settled, Chain, Last}
 use Rattle.judge_core.specs.declared.end.Asked.{Asked}

@@ -4,7 +4,7 @@ use Rattle.std.specs.Borrow.{Bor}
 use Rattle.block_core.specs.Block.{number_bit}
 use Rattle.judge_core.specs.declared.rule.Rule.{Rule}
 use Rattle.judge_core.specs.declared.rule.Rule.TheVariants as rule
-use Rattle.judge_core.specs.declared.end.Side.{Side}
+use Rattle.block_core.specs.declared.side.Side.{Side}
 use Rattle.judge_core.specs.declared.end.After.{After}
 use Rattle.judge_core.specs.declared.courses.Verdict.TheVariants.{Permitted, Unseen, Deviates}
 use Rattle.judge_core.specs.declared.monitor.Monitor.{Monitor}

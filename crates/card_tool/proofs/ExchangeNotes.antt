@@ -10,8 +10,8 @@ use Rattle.exchange_core.specs.Replay.{IfDiffers, Replays}
 use Rattle.exchange_text.specs.declared.fault.ExchangeFault.{ExchangeFault}
 use Rattle.exchange_core.specs.declared.replaying.ReplayFault.{ReplayFault}
 use Rattle.exchange_core.specs.declared.replaying.ReplayFault.TheVariants.{Differs}
-use Rattle.exchange_core.specs.declared.replaying.Side.{Side}
-use Rattle.exchange_core.specs.declared.replaying.Side.TheVariants as side
+use Rattle.block_core.specs.declared.side.Side.{Side}
+use Rattle.block_core.specs.declared.side.Side.TheVariants as side
 use Rattle.card_tool.specs.Explained.{AreDifferenceNotes, IsDifferenceNote, IsFileNote, IsNoteSo}
 use Rattle.card_tool.specs.FileNotes.{fault_note}
 use Rattle.card_tool.specs.ExchangeTexts.{both_text, file_fault_text, AreReplayed, IsOutcome, IsReplayed, IsToldSo, TellsFile}

@@ -17,8 +17,8 @@ use Rattle.exchange_core.specs.Replay as replay
 use Rattle.exchange_text.specs.Text.{exchange_text}
 use Rattle.exchange_text.specs.declared.exchange.Version.{Version}
 use Rattle.exchange_text.specs.declared.fault.ExchangeFault.{ExchangeFault}
-use Rattle.exchange_core.specs.declared.replaying.Side.{Side}
-use Rattle.exchange_core.specs.declared.replaying.Side.TheVariants as side
+use Rattle.block_core.specs.declared.side.Side.{Side}
+use Rattle.block_core.specs.declared.side.Side.TheVariants as side
 use Rattle.exchange_core.proofs.Found.{one-replay, some-replay}
 use Rattle.exchange_text.proofs.Sound.{bind, octets-sound, same-ok}
 use Rattle.card_tool.specs.ExchangeTexts.{agrees_text, both_text, differs_text, drawn, file_fault_text, AreReplayed, IsReplayed, IsReplayedAt, IsToldSo, TellsFile, agrees, differs}

@@ -26,7 +26,7 @@ use Rattle.card_tool.specs.ExchangeTexts.{IsOutcome}
 use Rattle.exchange_text.specs.Exchange.{ExchangeParts}
 use Rattle.exchange_core.specs.Replay.{IfDiffers, Replays}
 use Rattle.exchange_core.specs.declared.replaying.ReplayFault.{ReplayFault}
-use Rattle.exchange_core.specs.declared.replaying.Side.{Side}
+use Rattle.block_core.specs.declared.side.Side.{Side}
 use Rattle.octet_core.specs.declared.stop.Stop.{Stop}
 use Rattle.card_kinds.specs.Codec.{Codec, IsVerdict}
 use Rattle.explainer.specs.Notes.{large_note, verdict_text}

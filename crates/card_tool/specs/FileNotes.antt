@@ -6,7 +6,7 @@ use Rattle.exchange_text.specs.Exchange.{ExchangeParts}
 use Rattle.exchange_text.specs.declared.fault.ExchangeFault.{ExchangeFault}
 use Rattle.exchange_text.specs.declared.fault.ExchangeFault.TheVariants.{Header, End, Word, Hex, Falls, Memory}
 use Rattle.exchange_core.specs.Waiting.{IsWaiting}
-use Rattle.exchange_core.specs.declared.replaying.Side.{Side}
+use Rattle.block_core.specs.declared.side.Side.{Side}
 use Rattle.exchange_core.specs.declared.waiting.Waiting.{Waiting}
 use Rattle.explainer.specs.Notes.{line_note, IsSessionNote}
 use Rattle.explainer.specs.Texts.{character}

@@ -11,8 +11,8 @@ use Rattle.atr_core.specs.T1.{t1_params_of}
 use Rattle.exchange_core.specs.Replay.{IsFound}
 use Rattle.exchange_text.specs.declared.fault.ExchangeFault.{ExchangeFault}
 use Rattle.exchange_text.specs.declared.fault.ExchangeFault.TheVariants.{Memory}
-use Rattle.judge_core.specs.declared.end.Side.{Side}
-use Rattle.judge_core.specs.declared.end.Side.TheVariants as side
+use Rattle.block_core.specs.declared.side.Side.{Side}
+use Rattle.block_core.specs.declared.side.Side.TheVariants as side
 use Rattle.trace_judge.specs.Judging.{Judges}
 use Rattle.trace_judge.specs.declared.standing.Judgment.{Judgment}
 use Rattle.trace_judge.specs.declared.standing.Scope.{Scope}

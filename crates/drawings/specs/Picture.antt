@@ -8,8 +8,8 @@ use Rattle.drawings.specs.declared.row.Course.{Course}
 use Rattle.drawings.specs.declared.row.Course.TheVariants.{Arrives, Lost, Added}
 use Rattle.drawings.specs.declared.row.Row.{Row}
 use Rattle.drawings.specs.declared.row.Row.TheVariants.{Said, Between, Block}
-use Rattle.drawings.specs.declared.row.Side.{Side}
-use Rattle.drawings.specs.declared.row.Side.TheVariants.{Terminal, Card}
+use Rattle.block_core.specs.declared.side.Side.{Side}
+use Rattle.block_core.specs.declared.side.Side.TheVariants.{Terminal, Card}
 
 -- how high a row is, in units of the picture, and where the first row begins
 abbrev pub row_height : ℕ

@@ -15,12 +15,9 @@ use Rattle.drawings.specs.declared.row.Course.TheVariants.{Arrives, Added}
 use Rattle.drawings.specs.declared.row.Course.TheVariants as course
 use Rattle.drawings.specs.declared.row.Row.{Row}
 use Rattle.drawings.specs.declared.row.Row.TheVariants.{Said, Between, Block}
-use Rattle.drawings.specs.declared.row.Side.{Side}
-use Rattle.drawings.specs.declared.row.Side.TheVariants.{Terminal, Card}
-
-abbrev pub other : Side → Side
-other Terminal = Card
-other Card = Terminal
+use Rattle.block_core.specs.Side.{other}
+use Rattle.block_core.specs.declared.side.Side.{Side}
+use Rattle.block_core.specs.declared.side.Side.TheVariants.{Terminal, Card}
 
 -- ---- labels
 

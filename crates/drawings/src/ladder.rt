@@ -6,8 +6,9 @@ ghost use Rattle.drawings.specs.Ladder as ladder;
 ghost use Rattle.drawings.specs.Ladder.{ladder_text};
 
 use crate::labels::{extend, push};
-use crate::row::{Course, Row, Side};
+use crate::row::{Course, Row};
 use crate::rows::rows;
+use block_core::Side;
 use exchange_text::{Exchange, Version};
 use std::alloc::{AllocError, Global};
 

@@ -6,8 +6,9 @@ ghost use Rattle.drawings.specs.Picture.{picture_text};
 
 use crate::labels::{push, push_decimal};
 use crate::ladder::version_words;
-use crate::row::{Course, Row, Side};
+use crate::row::{Course, Row};
 use crate::rows::rows;
+use block_core::Side;
 use exchange_text::{Exchange, Version};
 use std::alloc::{AllocError, Global};
 

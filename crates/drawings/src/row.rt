@@ -1,28 +1,7 @@
 //! What a drawing has.
 
-ghost use Rattle.std.specs.Prelude.{◌≡◌};
-ghost use Rattle.drawings.specs.Rows.{other};
-
+use block_core::Side;
 use octet_core::Octets;
-
-/// A side of the line.
-#[derive(Clone, Copy)]
-pub(crate) enum Side {
-    Terminal,
-    Card,
-}
-
-impl Side {
-    /// The other side.
-    pub(crate) fn other(self) -> Side
-        ensures { result ≡ other self }
-    {
-        match self {
-            Side::Terminal => Side::Card,
-            Side::Card => Side::Terminal,
-        }
-    }
-}
 
 /// What became of a block, as its arrow says it.
 #[derive(Clone, Copy)]

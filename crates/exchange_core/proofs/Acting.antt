@@ -28,8 +28,8 @@ use Rattle.exchange_core.specs.declared.event.EventFault.{EventFault}
 use Rattle.exchange_core.specs.declared.event.EventFault.TheVariants.{NothingUnderWay, Terminal as AtTerminal, Card as AtCard, Memory}
 use Rattle.exchange_core.specs.declared.event.LastTurn.{LastTurn}
 use Rattle.exchange_core.specs.declared.event.LastTurn.TheVariants.{Terminal, Card}
-use Rattle.exchange_core.specs.declared.replaying.Side.{Side}
-use Rattle.exchange_core.specs.declared.replaying.Side.TheVariants as side
+use Rattle.block_core.specs.declared.side.Side.{Side}
+use Rattle.block_core.specs.declared.side.Side.TheVariants as side
 use Rattle.exchange_core.proofs.Folds.{runs-on, replays-none, meets, tells-terminal, tells-card, rests, loss, proper-told, proper-on, events-on}
 use Rattle.exchange_core.proofs.Resting.{idle-rests, host-rests, taken-idle, taken-host}
 use Rattle.exchange_core.proofs.Changed.{came_of, came, told-change}

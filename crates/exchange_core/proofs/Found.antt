@@ -9,7 +9,7 @@ use Rattle.atr_core.specs.declared.reason.AtrReason.{AtrReason}
 use Rattle.atr_core.specs.Atr.{AtrParts, IsAtr, IsReason}
 use Rattle.atr_core.specs.T1.{t1_params_of}
 use Rattle.exchange_text.specs.declared.line.Line.{Line}
-use Rattle.exchange_core.specs.declared.replaying.Side.{Side}
+use Rattle.block_core.specs.declared.side.Side.{Side}
 use Rattle.exchange_core.specs.Replay.{IsFound, Replays, size_of, replay_from}
 
 -- what is accepted is one value and one length

@@ -13,8 +13,8 @@ use Rattle.t1_core.specs.declared.turns.CardTurn.TheVariants as card
 use Rattle.exchange_text.specs.declared.line.Arrival.TheVariants.{Whole, Lost, Changed}
 use Rattle.exchange_text.specs.declared.line.Line.{Line}
 use Rattle.exchange_text.specs.declared.line.Line.TheVariants.{Command, Ifsd, Quiet, Answer, IfsSet, GivenUp, Dead, Reply, Time, Ifsc, Asked, FromTerminal, FromCard, Moment, Note}
-use Rattle.exchange_core.specs.declared.replaying.Side.{Side}
-use Rattle.exchange_core.specs.declared.replaying.Side.TheVariants.{Terminal, Card}
+use Rattle.block_core.specs.declared.side.Side.{Side}
+use Rattle.block_core.specs.declared.side.Side.TheVariants.{Terminal, Card}
 use Rattle.exchange_core.specs.Replay.{Role, calls, gives, passes, End, is_met, by_role, replay_lines, goes_on, terminal_end, terminal_role, terminal_line, card_end, card_role, card_line, IsFound, Replays, replay_from}
 use Rattle.exchange_text.specs.Text.{line_text}
 use Rattle.exchange_core.specs.Run.{is_said, as_sent, given_by, given_over, IsRun}

@@ -6,7 +6,7 @@ use Rattle.exchange_core.specs.Replay.{replay_from}
 use Rattle.exchange_text.specs.declared.line.Line.{Line}
 use Rattle.exchange_text.specs.declared.line.Arrival.TheVariants.{Whole, Lost, Changed}
 use Rattle.exchange_text.specs.declared.line.Line.TheVariants.{Command, Ifsd, Quiet, Answer, IfsSet, GivenUp, Dead, Reply, Time, Asked, FromTerminal, FromCard, Moment, Note}
-use Rattle.exchange_core.specs.declared.replaying.Side.TheVariants.{Terminal, Card}
+use Rattle.block_core.specs.declared.side.Side.TheVariants.{Terminal, Card}
 
 -- ---- messages and blocks
 

@@ -7,8 +7,8 @@ use Rattle.t1_core.specs.Terminal.{new_terminal}
 use Rattle.exchange_text.specs.declared.line.Arrival.TheVariants.{Whole}
 use Rattle.exchange_text.specs.declared.line.Line.{Line}
 use Rattle.exchange_text.specs.declared.line.Line.TheVariants.{Answer, IfsSet, GivenUp, Dead, Asked, FromTerminal, FromCard}
-use Rattle.exchange_core.specs.declared.replaying.Side.{Side}
-use Rattle.exchange_core.specs.declared.replaying.Side.TheVariants.{Terminal, Card}
+use Rattle.block_core.specs.declared.side.Side.{Side}
+use Rattle.block_core.specs.declared.side.Side.TheVariants.{Terminal, Card}
 use Rattle.exchange_core.specs.Replay.{Role, calls, gives, passes, End, terminal_end, card_end, IsFound}
 
 -- whether the file says that this end gives the line

@@ -5,8 +5,8 @@ use Rattle.t1_core.specs.Terminal.{TerminalState, new_terminal}
 use Rattle.t1_core.specs.Card.{CardState, new_card}
 use Rattle.exchange_text.specs.declared.line.Line.{Line}
 use Rattle.exchange_core.specs.Replay.{End, replay_line, terminal_end, card_end, IsFound}
-use Rattle.exchange_core.specs.declared.replaying.Side.{Side}
-use Rattle.exchange_core.specs.declared.replaying.Side.TheVariants.{Terminal, Card}
+use Rattle.block_core.specs.declared.side.Side.{Side}
+use Rattle.block_core.specs.declared.side.Side.TheVariants.{Terminal, Card}
 use Rattle.exchange_core.specs.declared.waiting.Awaits.{Awaits}
 use Rattle.exchange_core.specs.declared.waiting.Awaits.TheVariants as awaits
 use Rattle.exchange_core.specs.declared.waiting.Call.{Call}

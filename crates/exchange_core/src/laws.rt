@@ -7,7 +7,7 @@ ghost use Rattle.exchange_text.specs.declared.line.Line.{Line};
 ghost use Rattle.exchange_core.specs.Replay.{Replays};
 ghost use Rattle.exchange_core.specs.Run.{IsRun};
 ghost use Rattle.exchange_core.specs.Records.{EachRecordTells};
-ghost use Rattle.exchange_core.specs.declared.replaying.Side.{Side};
+ghost use Rattle.block_core.specs.declared.side.Side.{Side};
 
 use atr_core::laws::{one_accepted, one_verdict};
 pub use exchange_text::laws::{exchange_or_fault, migration_keeps, one_exchange, written_is_read};

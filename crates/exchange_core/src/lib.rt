@@ -15,6 +15,7 @@ pub mod recording;
 pub mod replaying;
 pub mod waiting;
 
+pub use block_core::Side;
 pub use carrying::{card_called, copied, is_spelled, spelled, terminal_called};
 pub use event::{Event, EventFault, LastTurn, RecorderFault};
 pub use exchange_text::{
@@ -22,5 +23,5 @@ pub use exchange_text::{
 };
 pub use params::{AtrFault, params_of};
 pub use recording::{Recorder, answers_are_replies, refused_event_changes_nothing, told};
-pub use replaying::{ReplayFault, Side, replay};
+pub use replaying::{ReplayFault, replay};
 pub use waiting::{Awaits, Call, Waiting, waiting_at};

@@ -11,7 +11,7 @@ ghost use Rattle.exchange_text.specs.declared.exchange.Version.TheVariants.{One}
 ghost use Rattle.exchange_core.specs.declared.event.LastTurn.TheVariants.{Nothing};
 ghost use Rattle.exchange_core.specs.declared.event.Event.TheVariants.{Lose};
 ghost use Rattle.exchange_core.specs.declared.event.EventFault.{EventFault};
-ghost use Rattle.exchange_core.specs.declared.replaying.Side.TheVariants as side;
+ghost use Rattle.block_core.specs.declared.side.Side.TheVariants as side;
 
 use crate::carrying::{Change, card_takes, copied, spelled, terminal_takes};
 use crate::end::Replayed;

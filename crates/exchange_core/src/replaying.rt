@@ -8,6 +8,7 @@ ghost use Rattle.exchange_core.specs.Run.{IsRun};
 use crate::end::{Effect, Replayed};
 use crate::params::params_of;
 use atr_core::T1Params;
+use block_core::Side;
 use exchange_text::{Exchange, Line};
 use octet_core::{Named, Text};
 use std::alloc::{AllocError, Global};
@@ -20,15 +21,6 @@ const ATR_LINE: usize = 2;
 
 /// The first line after that of the answer to reset.
 pub(crate) const FIRST_LINE: usize = 3;
-
-/// The end that is replayed.
-#[derive(Clone, Copy, Debug, PartialEq, Eq)]
-pub enum Side {
-    /// The terminal, called with what the application asks, what the card sends, and quiet.
-    Terminal,
-    /// The card, called with what its host says and what the terminal sends.
-    Card,
-}
 
 /// Why a replay failed.
 #[derive(Debug, PartialEq, Eq, Drop)]
@@ -66,7 +58,9 @@ impl From<AllocError> for ReplayFault {
 }
 
 /// Replays one end of an exchange: a new end, with the parameters of the answer to reset, is called with
-/// each line that goes into it, and each line that it is said to give must be its last turn.
+/// each line that goes into it, and each line that it is said to give must be its last turn. The lines that go into a
+/// terminal are what the application asks, what the card sends, and `quiet`; into a card, what its host says and what
+/// the terminal sends.
 ///
 /// `Differs` at the first line where the end gives something else, or at the line after the last where no
 /// line has met its last turn; at line 2 where the octets aren't one whole answer to reset or it gives no

@@ -5,8 +5,9 @@ ghost use Rattle.exchange_core.specs.Waiting.{IsWaiting, waiting_after, waiting_
 
 use crate::end::Replayed;
 use crate::params::params_of;
-use crate::replaying::{FIRST_LINE, ReplayFault, Side, replay_line};
+use crate::replaying::{FIRST_LINE, ReplayFault, replay_line};
 use atr_core::T1Params;
+use block_core::Side;
 use exchange_text::{Exchange, Line};
 use std::alloc::{AllocError, Global};
 use t1_core::{Card, CardAwaits, Terminal, TerminalAwaits};

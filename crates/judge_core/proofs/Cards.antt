@@ -14,7 +14,7 @@ use Rattle.t1_core.specs.declared.turns.CardFault.TheVariants.{TooLong, Reserved
 use Rattle.t1_core.specs.Came.{Came, got, damaged, invalid, quiet, same, carried, info, ready, response}
 use Rattle.t1_core.specs.Terminal.{first_ifsd, is_more, is_reserved}
 use Rattle.t1_core.specs.Card.{CardState, CardStep, CardInput, CardRequest, Waits, command, host, reply, asking, size, time, replies, more_time, ask_ifs, takes, card_came, card_turn, card_with, if_host, in_either, in_reply, joins, number_after, request_block, resynched, saving, sends_next, sends_saved, waiting}
-use Rattle.judge_core.specs.declared.end.Side.TheVariants.{Card}
+use Rattle.block_core.specs.declared.side.Side.TheVariants.{Card}
 use Rattle.judge_core.specs.declared.end.Pending.{Pending}
 use Rattle.judge_core.specs.declared.end.Pending.TheVariants.{Settled, Chain, Last}
 use Rattle.judge_core.specs.declared.end.Asked.{Asked as Question}

@@ -10,7 +10,7 @@ use Rattle.block_core.specs.declared.pcb.Pcb.{Pcb}
 use Rattle.block_core.specs.declared.pcb.Pcb.TheVariants.{Info, Ready, Request, Response}
 use Rattle.line_core.specs.Bursts.{is_whole}
 use Rattle.t1_core.specs.Came.{carried}
-use Rattle.judge_core.specs.declared.end.Side.{Side}
+use Rattle.block_core.specs.declared.side.Side.{Side}
 use Rattle.judge_core.specs.declared.end.Owed.{Owed}
 use Rattle.judge_core.specs.declared.end.Owed.TheVariants.{NewMessage, Refusal}
 use Rattle.judge_core.specs.declared.end.End.{End}

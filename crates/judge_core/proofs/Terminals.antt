@@ -15,7 +15,7 @@ use Rattle.t1_core.specs.declared.turns.TerminalTurn.TheVariants.{Send, Answered
 use Rattle.t1_core.specs.declared.turns.TerminalFault.TheVariants.{TooLong, Reserved}
 use Rattle.t1_core.specs.Came.{Came, got, damaged, invalid, quiet, same, carried, info, ready, request, response}
 use Rattle.t1_core.specs.Terminal.{no_failure, TerminalState, TerminalStep, TerminalInput, transmit, ask_ifs, takes, fails, joins, sends_next, in_exchange, in_ack, in_answer, in_more, in_ifs, in_resynch, terminal_came, terminal_turn, if_idle, is_reserved, is_more, Waits, idle, ack, answer, more, ifs, resynch, dead, waiting, most_repeats, most_resynchs}
-use Rattle.judge_core.specs.declared.end.Side.TheVariants.{Terminal}
+use Rattle.block_core.specs.declared.side.Side.TheVariants.{Terminal}
 use Rattle.judge_core.specs.declared.end.Pending.{Pending}
 use Rattle.judge_core.specs.declared.end.Pending.TheVariants.{Settled, Chain, Last}
 use Rattle.judge_core.specs.declared.end.Asked.TheVariants.{Size, Anew}

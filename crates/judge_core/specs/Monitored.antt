@@ -10,8 +10,8 @@ use Rattle.block_core.specs.declared.reason.BlockReason.TheVariants.{BadPcb, Bad
 use Rattle.line_core.specs.Bursts.{is_whole, most_counted}
 use Rattle.t1_core.specs.Came.{carried}
 use Rattle.t1_core.specs.Terminal.{first_ifsd}
-use Rattle.judge_core.specs.declared.end.Side.{Side}
-use Rattle.judge_core.specs.declared.end.Side.TheVariants.{Terminal, Card}
+use Rattle.block_core.specs.declared.side.Side.{Side}
+use Rattle.block_core.specs.declared.side.Side.TheVariants.{Terminal, Card}
 use Rattle.judge_core.specs.declared.end.End.{End}
 use Rattle.judge_core.specs.declared.end.After.{After}
 use Rattle.judge_core.specs.declared.end.Owed.TheVariants.{AnyBlock}

@@ -9,7 +9,7 @@ use Rattle.t1_core.specs.Came.{Came, got, damaged, invalid, quiet, carried}
 use Rattle.t1_core.specs.Terminal.{Limits, TerminalStep, TerminalInput, transmit, ask_ifs, takes, first_ifsd}
 use Rattle.t1_core.specs.Card.{CardStep, CardInput, replies, more_time, ask_ifs as card_ask_ifs, takes as card_takes}
 use Rattle.t1_core.specs.Link.{Tables, Link, link_with, UnderWay, nothing, to_card, to_terminal, Event, delivers, damages, spoils, loses, transmits, asks_ifsd, host_replies, host_asks_time, host_asks_ifsc, happens}
-use Rattle.judge_core.specs.declared.end.Side.TheVariants.{Terminal, Card}
+use Rattle.block_core.specs.declared.side.Side.TheVariants.{Terminal, Card}
 use Rattle.judge_core.specs.declared.end.End.{End}
 use Rattle.judge_core.specs.declared.courses.Heard.{Heard}
 use Rattle.judge_core.specs.declared.courses.Heard.TheVariants.{Beginning, Whole, Perhaps, Broken, Nothing}

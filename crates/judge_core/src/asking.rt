@@ -3,10 +3,10 @@
 ghost use Rattle.std.specs.Prelude.{◌≡◌, Some, true};
 ghost use Rattle.judge_core.specs.Sends.{after_answer, asked_again, asking, asks, asks_for, first_tries, is_asked, is_between, is_foreign, is_within, most_asked, repeats_request, resynchs, resynchs_asking};
 
-use crate::end::{Asked, End, Owed, Row, Side};
+use crate::end::{Asked, End, Owed, Row};
 use crate::rule::Rule;
 use crate::step::Sent;
-use block_core::{Pcb, S};
+use block_core::{Pcb, S, Side};
 use t1_core::{MOST_REPEATS, MOST_RESYNCHS};
 
 /// How many repeats come before RESYNCH.

@@ -3,14 +3,7 @@
 ghost use Rattle.std.specs.Prelude.{◌≡◌};
 ghost use Rattle.judge_core.specs.Ends.{after, begun, new_end, no_row};
 
-use block_core::{Number, S};
-
-/// An end of the line.
-#[derive(Clone, Copy, Debug, PartialEq, Eq)]
-pub enum Side {
-    Terminal,
-    Card,
-}
+use block_core::{Number, S, Side};
 
 /// The last I-block of an end, until the other end acknowledges it.
 #[derive(Clone, Copy, Debug)]

@@ -7,11 +7,12 @@ ghost use Rattle.judge_core.specs.Stakes.{course_of, exercise_by, exercise_of, f
 
 use crate::class::{Class, class_of};
 use crate::courses::{Attempt, Verdict, attempted};
-use crate::end::{After, Side};
+use crate::end::After;
 use crate::monitor::{Monitor, Said, Watched, addressed_by};
 use crate::rule::Rule;
 use crate::stakes::Stakes;
 use crate::state::State;
+use block_core::Side;
 
 /// What a block of a trace exercises.
 #[derive(Clone, Copy, Debug)]

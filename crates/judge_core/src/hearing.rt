@@ -4,8 +4,8 @@ ghost use Rattle.std.specs.Prelude.{◌≡◌};
 ghost use Rattle.t1_core.specs.Came.{same};
 ghost use Rattle.judge_core.specs.Ends.{answered, answers, begins_again, due_after, hears, hears_asking, hears_free, hears_info, hears_ready, hears_request, hears_unknown, is_chain, missed};
 
-use crate::end::{After, Asked, End, Owed, Pending, Side};
-use block_core::{Number, Pcb, S};
+use crate::end::{After, Asked, End, Owed, Pending};
+use block_core::{Number, Pcb, S, Side};
 
 impl End {
     /// What it owes after a block of the other end, which carries this octet where it is about a size or time.

@@ -9,7 +9,7 @@ ghost use Rattle.judge_core.specs.Courses.{Permits, judges, judgment};
 ghost use Rattle.t1_core.specs.Link.{tables};
 ghost use Rattle.judge_core.specs.Watched.{EndsArePermitted, NobodyIsAccused};
 ghost use Rattle.judge_core.specs.Followed.{Follows, PermitsSurely, Sending, followed, permitted};
-ghost use Rattle.judge_core.specs.declared.end.Side.{Side};
+ghost use Rattle.block_core.specs.declared.side.Side.{Side};
 ghost use Rattle.judge_core.specs.declared.exercise.Exercise.TheVariants.{Breaks};
 ghost use Rattle.judge_core.specs.declared.monitor.Monitor.{Monitor};
 ghost use Rattle.judge_core.specs.declared.rule.Rule.{Rule};

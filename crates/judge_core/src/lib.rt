@@ -20,8 +20,9 @@ pub mod stakes;
 pub mod state;
 mod step;
 
+pub use block_core::Side;
 pub use courses::{Heard, Verdict};
-pub use end::{After, Asked, End, Owed, Pending, Row, Side};
+pub use end::{After, Asked, End, Owed, Pending, Row};
 pub use exercise::Exercise;
 pub use monitor::{Arrival, Monitor, Report, Said, Silence, Watched};
 pub use rule::{RULES, Rule};

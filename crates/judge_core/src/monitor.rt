@@ -9,11 +9,11 @@ ghost use Rattle.judge_core.specs.Monitored.{addressed_by, after_silence, came_b
 
 use crate::class::{Class, class_of};
 use crate::courses::{Heard, Verdict, first_course};
-use crate::end::{After, End, Owed, Side};
+use crate::end::{After, End, Owed};
 use crate::rule::Rule;
 use crate::sending::carried;
 use arrayvec::ArrayVec;
-use block_core::{BlockRef, LONGEST_INF, Pcb};
+use block_core::{BlockRef, LONGEST_INF, Pcb, Side};
 use t1_core::FIRST_IFSD;
 
 /// An end of the line that is watched.

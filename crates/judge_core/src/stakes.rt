@@ -5,10 +5,10 @@ ghost use Rattle.judge_core.specs.Stakes.{acknowledgment_breaks, any_breaks, ask
 
 use crate::asking::{LEAST_REPEATS, is_between, is_within, most_asked};
 use crate::courses::Heard;
-use crate::end::{After, Asked, End, Owed, Pending, Side};
+use crate::end::{After, Asked, End, Owed, Pending};
 use crate::rule::Rule;
 use crate::state::State;
-use block_core::{LONGEST_INF, S};
+use block_core::{LONGEST_INF, S, Side};
 use t1_core::MOST_REPEATS;
 
 /// What an end can keep or break by a block that it sends.

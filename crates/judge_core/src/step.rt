@@ -4,10 +4,10 @@ ghost use Rattle.std.specs.Prelude.{◌≡◌, length, true};
 ghost use Rattle.judge_core.specs.Sends.{acknowledged, again_as, corrects_again, informed, is_pending, pending_of, repeats_again, repeats_info, responded, sends_info, sends_ready, suggested};
 
 use crate::asking::is_foreign;
-use crate::end::{End, Owed, Pending, Row, Side};
+use crate::end::{End, Owed, Pending, Row};
 use crate::hearing::same;
 use crate::rule::Rule;
-use block_core::{Fault, Number, Pcb, S};
+use block_core::{Fault, Number, Pcb, S, Side};
 use t1_core::MOST_REPEATS;
 
 /// The end after a block that it may send, or the rule that the block breaks.

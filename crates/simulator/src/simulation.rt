@@ -6,7 +6,7 @@ ghost use Rattle.exchange_core.specs.Recording.{event_of};
 ghost use Rattle.exchange_core.specs.Replay.{Replays};
 ghost use Rattle.exchange_core.specs.Told.{AnswersAreReplies};
 ghost use Rattle.exchange_core.specs.declared.event.EventFault.{EventFault};
-ghost use Rattle.exchange_core.specs.declared.replaying.Side.TheVariants as side;
+ghost use Rattle.block_core.specs.declared.side.Side.TheVariants as side;
 ghost use Rattle.card_words.specs.declared.session.Session.{Session};
 ghost use Rattle.simulator.specs.declared.fault.SimulationFault.{SimulationFault};
 ghost use Rattle.simulator.specs.Simulation.{begins, most_events, next, sends, simulated, start, AreFates, IfTooLarge, IsSimulated, WhereTooLarge};

@@ -12,8 +12,8 @@ use Rattle.exchange_text.specs.Names.{name_text}
 use Rattle.exchange_text.specs.declared.name.Name.TheVariants as name
 use Rattle.exchange_text.specs.declared.fault.ExchangeFault.{ExchangeFault}
 use Rattle.exchange_text.specs.declared.fault.ExchangeFault.TheVariants.{Falls, Memory, Word}
-use Rattle.judge_core.specs.declared.end.Side.{Side}
-use Rattle.judge_core.specs.declared.end.Side.TheVariants as side
+use Rattle.block_core.specs.declared.side.Side.{Side}
+use Rattle.block_core.specs.declared.side.Side.TheVariants as side
 use Rattle.judge_core.specs.declared.monitor.Monitor.{Monitor}
 use Rattle.judge_core.specs.declared.monitor.Report.{Report}
 use Rattle.judge_core.specs.declared.exercise.Exercise.{Exercise}

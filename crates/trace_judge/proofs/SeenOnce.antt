@@ -9,7 +9,7 @@ use Rattle.block_core.specs.Block.{IsBlock, IsReason, Parts}
 use Rattle.block_core.specs.declared.reason.BlockReason.{BlockReason}
 use Rattle.block_core.proofs.Goes.{one-verdict}
 use Rattle.line_core.specs.Bursts.{is_whole}
-use Rattle.judge_core.specs.declared.end.Side.{Side}
+use Rattle.block_core.specs.declared.side.Side.{Side}
 use Rattle.judge_core.specs.declared.monitor.Arrival.{Arrival}
 use Rattle.judge_core.specs.declared.monitor.Arrival.TheVariants as arrived
 use Rattle.judge_core.specs.declared.monitor.Monitor.{Monitor}

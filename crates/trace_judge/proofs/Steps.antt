@@ -1,7 +1,7 @@
 -- What calls tell of a block, and at the end.
 use Rattle.std.proofs.Common.{◌≡◌, ◌∙◌, ◌++◌, ◌==◌, ℕ, List, true, Option, not, nat_lt, ap, arith, sym}
 use Rattle.std.proofs.lemmas.Bool.Decides.{nat_tests}
-use Rattle.judge_core.specs.declared.end.Side.{Side}
+use Rattle.block_core.specs.declared.side.Side.{Side}
 use Rattle.judge_core.specs.declared.monitor.Monitor.{Monitor}
 use Rattle.judge_core.specs.declared.monitor.Report.{Report}
 use Rattle.judge_core.specs.declared.exercise.Exercise.{Exercise}

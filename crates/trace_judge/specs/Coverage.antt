@@ -1,8 +1,8 @@
 -- How often each end of a trace kept each rule and broke it, how often what was due from it was this, and the lines that
 -- say so.
 use Rattle.std.specs.Prelude.{ℕ, ◌==◌, ◌&&◌, List, [], ◌∷◌, ◌++◌, codes, decimal, replicate, slice_index, slice_set, Bool, true, false, Option, Some, None, if◌then◌else◌}
-use Rattle.judge_core.specs.declared.end.Side.{Side}
-use Rattle.judge_core.specs.declared.end.Side.TheVariants.{Terminal, Card}
+use Rattle.block_core.specs.declared.side.Side.{Side}
+use Rattle.block_core.specs.declared.side.Side.TheVariants.{Terminal, Card}
 use Rattle.judge_core.specs.declared.rule.Rule.{Rule}
 use Rattle.judge_core.specs.declared.state.State.{State}
 use Rattle.judge_core.specs.declared.stakes.Stakes.{Stakes}

@@ -6,8 +6,9 @@ use Rattle.line_core.specs.Bursts.{most_counted}
 use Rattle.atr_core.specs.Rates.{baud_rates, clock_rates}
 use Rattle.exchange_text.specs.declared.fault.ExchangeFault.{ExchangeFault}
 use Rattle.exchange_text.specs.declared.fault.ExchangeFault.TheVariants.{Falls, Memory}
-use Rattle.judge_core.specs.declared.end.Side.{Side}
-use Rattle.judge_core.specs.declared.end.Side.TheVariants.{Terminal, Card}
+use Rattle.block_core.specs.Side.{same_side}
+use Rattle.block_core.specs.declared.side.Side.{Side}
+use Rattle.block_core.specs.declared.side.Side.TheVariants.{Terminal, Card}
 use Rattle.judge_core.specs.declared.courses.Verdict.{Verdict}
 use Rattle.judge_core.specs.declared.courses.Verdict.TheVariants.{Permitted, Unseen, Deviates}
 use Rattle.judge_core.specs.declared.monitor.Monitor.{Monitor}
@@ -76,12 +77,6 @@ start offered scope = record {
 }
 
 -- ---- what is told
-
-abbrev pub same_side : Side → Side → Bool
-same_side Terminal Terminal = true
-same_side Terminal Card = false
-same_side Card Terminal = false
-same_side Card Card = true
 
 -- whether this end is judged
 abbrev pub is_judged : Option Side → Side → Bool

@@ -9,8 +9,8 @@ use Rattle.exchange_text.specs.Names.{name_text}
 use Rattle.exchange_text.specs.declared.name.Name.TheVariants as name
 use Rattle.exchange_text.specs.declared.fault.ExchangeFault.{ExchangeFault}
 use Rattle.exchange_text.specs.declared.fault.ExchangeFault.TheVariants.{Word, Hex, Memory}
-use Rattle.judge_core.specs.declared.end.Side.{Side}
-use Rattle.judge_core.specs.declared.end.Side.TheVariants.{Terminal, Card}
+use Rattle.block_core.specs.declared.side.Side.{Side}
+use Rattle.block_core.specs.declared.side.Side.TheVariants.{Terminal, Card}
 use Rattle.trace_judge.specs.declared.entry.Entry.{Entry}
 use Rattle.trace_judge.specs.declared.entry.Entry.TheVariants.{Nothing, Block, Quiet, Reset, Moment}
 use Rattle.trace_judge.specs.declared.entry.Reach.{Reach}

@@ -11,8 +11,8 @@ use Rattle.block_core.specs.declared.pcb.Pcb.TheVariants.{Info, Ready, Request, 
 use Rattle.block_core.specs.declared.pcb.S.TheVariants.{Resynch, Ifs, Abort, Wtx}
 use Rattle.judge_core.specs.declared.courses.Heard.{Heard}
 use Rattle.judge_core.specs.declared.courses.Heard.TheVariants.{Beginning, Whole, Perhaps, Broken, Nothing}
-use Rattle.judge_core.specs.declared.end.Side.{Side}
-use Rattle.judge_core.specs.declared.end.Side.TheVariants.{Terminal, Card}
+use Rattle.block_core.specs.declared.side.Side.{Side}
+use Rattle.block_core.specs.declared.side.Side.TheVariants.{Terminal, Card}
 use Rattle.trace_judge.specs.declared.timing.Etu.{Etu}
 use Rattle.trace_judge.specs.declared.timing.Late.{Late}
 use Rattle.trace_judge.specs.declared.timing.Sent.{Sent}

@@ -3,7 +3,7 @@
 ghost use Rattle.std.specs.Prelude.{◌≡◌, ◌⊎◌, ◌++◌, ◌+◌, ◌<◌, ◌^◌, IfErr, MatchResult, OnOk, string_bytes};
 ghost use Rattle.exchange_text.specs.declared.fault.ExchangeFault.TheVariants.{Falls, Memory};
 ghost use Rattle.trace_judge.specs.declared.entry.Entry.TheVariants.{Moment};
-ghost use Rattle.trace_judge.specs.Judging.{is_before, is_judged, late_from, pps_timed, quietened, renewed, same_side, start, told_before, told_exercise, told_late, told_report, told_silence, told_verdict, ExercisesIf, Fails, IsBlockTold, IsConcluded, IsEntered, IsFalling, IsTold, JudgesLine, Judges};
+ghost use Rattle.trace_judge.specs.Judging.{is_before, is_judged, late_from, pps_timed, quietened, renewed, start, told_before, told_exercise, told_late, told_report, told_silence, told_verdict, ExercisesIf, Fails, IsBlockTold, IsConcluded, IsEntered, IsFalling, IsTold, JudgesLine, Judges};
 
 use crate::coverage::Coverage;
 use crate::entry::{Entry, Reach, entry_said};
@@ -361,7 +361,7 @@ impl Standing {
     {
         match self.scope.only {
             None => true,
-            Some(only) => same_side(only, side),
+            Some(only) => only.is(side),
         }
     }
 
@@ -380,10 +380,4 @@ impl Standing {
             deviates: self.tally.deviations() > 0,
         })
     }
-}
-
-fn same_side(a: Side, b: Side) -> bool
-    ensures { result ≡ same_side a b }
-{
-    a == b
 }

@@ -27,7 +27,7 @@ use Rattle.exchange_core.specs.Replay.{IsFound}
 use Rattle.exchange_core.specs.declared.event.EventFault.{EventFault}
 use Rattle.exchange_core.specs.declared.event.LastTurn.{LastTurn}
 use Rattle.exchange_core.specs.declared.event.LastTurn.TheVariants.{Nothing, Terminal, Card}
-use Rattle.exchange_core.specs.declared.replaying.Side.TheVariants as side
+use Rattle.block_core.specs.declared.side.Side.TheVariants as side
 use Rattle.exchange_core.proofs.Acting.{told-is}
 use Rattle.exchange_core.proofs.Pausing.{WayHears, way-hears}
 use Rattle.exchange_core.proofs.Reaching.{begun-kept}

@@ -19,8 +19,8 @@ use Rattle.exchange_text.specs.declared.line.Line.TheVariants as line
 use Rattle.exchange_core.specs.Recording.{card_input, telling, terminal_input, under_way_of}
 use Rattle.exchange_core.specs.declared.event.LastTurn.{LastTurn}
 use Rattle.exchange_core.specs.declared.event.LastTurn.TheVariants.{Nothing, Terminal, Card}
-use Rattle.exchange_core.specs.declared.replaying.Side.{Side}
-use Rattle.exchange_core.specs.declared.replaying.Side.TheVariants as side
+use Rattle.block_core.specs.declared.side.Side.{Side}
+use Rattle.block_core.specs.declared.side.Side.TheVariants as side
 use Rattle.exchange_core.proofs.Stepping.{Becomes}
 use Rattle.traces.specs.declared.said.Numbers.{Numbers}
 use Rattle.traces.specs.declared.standing.Standing.TheVariants.{Waits, Sends}

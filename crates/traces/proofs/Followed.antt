@@ -17,8 +17,8 @@ use Rattle.exchange_text.specs.declared.line.Line.{Line}
 use Rattle.exchange_text.specs.declared.line.Line.TheVariants as line
 use Rattle.exchange_core.specs.Recording.{runs, terminal_input, card_input}
 use Rattle.exchange_core.specs.Replay.{card_end, card_line, replay_from, terminal_end, terminal_line}
-use Rattle.exchange_core.specs.declared.replaying.Side.{Side}
-use Rattle.exchange_core.specs.declared.replaying.Side.TheVariants as side
+use Rattle.block_core.specs.declared.side.Side.{Side}
+use Rattle.block_core.specs.declared.side.Side.TheVariants as side
 use Rattle.exchange_core.proofs.Folds.{meets as octets-met, replays-none, runs-on}
 use Rattle.traces.specs.declared.standing.Standing.{Standing}
 use Rattle.traces.specs.declared.standing.Standing.TheVariants.{Left, Waits, Sends}

@@ -26,7 +26,7 @@ use Rattle.traces.specs.declared.standing.Standing.TheVariants.{Left, Waits, Sen
 use Rattle.traces.specs.declared.trace.Item.{Item}
 use Rattle.traces.specs.Followed.{is_followed}
 use Rattle.traces.specs.Said.{application_by, application_line, application_says, first_block, host_by, host_line, host_says}
-use Rattle.exchange_core.specs.declared.replaying.Side.TheVariants as side
+use Rattle.block_core.specs.declared.side.Side.TheVariants as side
 use Rattle.traces.specs.Following.{Following, card_did, card_hears, card_settled, released, released_by, settled_card, settled_terminal, terminal_did, terminal_hears, terminal_settled}
 
 -- ---- turns that no line met

@@ -9,8 +9,8 @@ use Rattle.exchange_text.specs.declared.line.Line.TheVariants as line
 use Rattle.exchange_text.proofs.Naming.{both}
 use Rattle.exchange_text.proofs.Sequel.{both-true}
 use Rattle.exchange_core.specs.Replay.{End, passes, goes_on, replay_from, replay_line, replay_lines, terminal_end, card_end}
-use Rattle.exchange_core.specs.declared.replaying.Side.{Side}
-use Rattle.exchange_core.specs.declared.replaying.Side.TheVariants.{Terminal, Card}
+use Rattle.block_core.specs.declared.side.Side.{Side}
+use Rattle.block_core.specs.declared.side.Side.TheVariants.{Terminal, Card}
 use Rattle.traces.specs.declared.trace.Item.{Item}
 use Rattle.traces.specs.Arrived.{arrived_in, arrived_of, line_arrives}
 use Rattle.traces.specs.Followed.{FollowedReplays}

@@ -4,8 +4,8 @@ use Rattle.exchange_text.specs.declared.line.Arrival.{Arrival}
 use Rattle.exchange_text.specs.declared.line.Arrival.TheVariants.{Whole, Lost, Changed}
 use Rattle.exchange_text.specs.declared.line.Line.{Line}
 use Rattle.exchange_text.specs.declared.line.Line.TheVariants.{FromTerminal, FromCard}
-use Rattle.exchange_core.specs.declared.replaying.Side.{Side}
-use Rattle.exchange_core.specs.declared.replaying.Side.TheVariants.{Terminal, Card}
+use Rattle.block_core.specs.declared.side.Side.{Side}
+use Rattle.block_core.specs.declared.side.Side.TheVariants.{Terminal, Card}
 use Rattle.traces.specs.declared.trace.Item.{Item}
 use Rattle.traces.specs.declared.trace.Item.TheVariants.{Block}
 

@@ -1,8 +1,8 @@
 -- An end that did as it should replays what was recorded of it.
 use Rattle.std.specs.Prelude.{◌≡◌, ℕ, List, Bool, true, false, None, Ok}
 use Rattle.exchange_core.specs.Replay.{replay_from}
-use Rattle.exchange_core.specs.declared.replaying.Side.{Side}
-use Rattle.exchange_core.specs.declared.replaying.Side.TheVariants.{Terminal, Card}
+use Rattle.block_core.specs.declared.side.Side.{Side}
+use Rattle.block_core.specs.declared.side.Side.TheVariants.{Terminal, Card}
 use Rattle.traces.specs.declared.standing.Standing.{Standing}
 use Rattle.traces.specs.declared.standing.Standing.TheVariants.{Left, Waits, Sends}
 use Rattle.traces.specs.declared.trace.Item.{Item}

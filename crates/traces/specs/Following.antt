@@ -17,7 +17,7 @@ use Rattle.exchange_text.specs.declared.line.Line.{Line}
 use Rattle.exchange_text.specs.declared.line.Line.TheVariants as line
 use Rattle.exchange_core.specs.Recording.{terminal_input, card_input, telling}
 use Rattle.exchange_core.specs.declared.event.LastTurn.TheVariants.{Terminal, Card}
-use Rattle.exchange_core.specs.declared.replaying.Side.TheVariants as side
+use Rattle.block_core.specs.declared.side.Side.TheVariants as side
 use Rattle.traces.specs.declared.said.Numbers.{Numbers}
 use Rattle.traces.specs.declared.standing.Standing.{Standing}
 use Rattle.traces.specs.declared.standing.Standing.TheVariants.{Left, Waits, Sends}

@@ -8,8 +8,8 @@ use Rattle.block_core.specs.declared.pcb.S.TheVariants.{Resynch, Ifs, Wtx}
 use Rattle.block_core.specs.declared.pcb.Pcb.{Pcb}
 use Rattle.block_core.specs.declared.pcb.Pcb.TheVariants.{Info, Request, Response}
 use Rattle.t1_core.specs.Came.{carried, same}
-use Rattle.exchange_core.specs.declared.replaying.Side.{Side}
-use Rattle.exchange_core.specs.declared.replaying.Side.TheVariants.{Terminal, Card}
+use Rattle.block_core.specs.declared.side.Side.{Side}
+use Rattle.block_core.specs.declared.side.Side.TheVariants.{Terminal, Card}
 use Rattle.exchange_text.specs.declared.line.Line.{Line}
 use Rattle.exchange_text.specs.declared.line.Line.TheVariants as line
 use Rattle.traces.specs.declared.trace.Item.{Item}

@@ -2,7 +2,7 @@
 use Rattle.std.specs.Prelude.{ℕ, List, Option, Some, None}
 use Rattle.block_core.specs.Block.{Parts}
 use Rattle.t1_core.specs.Came.{Came, got, damaged, invalid, quiet, class_of}
-use Rattle.exchange_core.specs.declared.replaying.Side.{Side}
+use Rattle.block_core.specs.declared.side.Side.{Side}
 use Rattle.traces.specs.declared.trace.Item.{Item}
 use Rattle.traces.specs.declared.trace.Item.TheVariants.{Block, Quiet, Moment}
 

@@ -1,8 +1,8 @@
 -- What was seen on a line and can't be recorded.
 use Rattle.std.specs.Prelude.{ℕ, ◌+◌, ◌*◌, ◌-◌, ◌/◌, ◌%◌, ◌==◌, ◌&&◌, not, nat_lt, List, [], ◌∷◌, length, slice_index, Bool, true, false, Option, Some, None, if◌then◌else◌}
 use Rattle.octet_core.specs.Octets.{xor_of}
-use Rattle.exchange_core.specs.declared.replaying.Side.{Side}
-use Rattle.exchange_core.specs.declared.replaying.Side.TheVariants.{Terminal, Card}
+use Rattle.block_core.specs.declared.side.Side.{Side}
+use Rattle.block_core.specs.declared.side.Side.TheVariants.{Terminal, Card}
 use Rattle.traces.specs.declared.trace.Item.{Item}
 use Rattle.traces.specs.declared.trace.Item.TheVariants.{Block, Quiet, Moment}
 use Rattle.traces.specs.declared.unfit.Unfit.{Unfit}

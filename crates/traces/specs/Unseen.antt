@@ -2,7 +2,7 @@
 -- that wasn't, and a message of which an octet 00 stands for the rest. Each by its place among the lines, from 0.
 use Rattle.std.specs.Prelude.{ℕ, List, [], ◌∷◌, ◌++◌, length, Bool, true, false, not, ◌&&◌, if◌then◌else◌}
 use Rattle.t1_core.specs.Awaited.{terminal_awaits_block, card_awaits_block}
-use Rattle.exchange_core.specs.declared.replaying.Side.TheVariants as side
+use Rattle.block_core.specs.declared.side.Side.TheVariants as side
 use Rattle.traces.specs.declared.standing.Standing.{Standing}
 use Rattle.traces.specs.declared.standing.Standing.TheVariants.{Left, Waits, Sends}
 use Rattle.traces.specs.declared.trace.Item.{Item}

@@ -3,7 +3,7 @@ use Rattle.exchange_text.specs.Exchange.{ExchangeParts, are_proper}
 use Rattle.exchange_core.specs.Replay.{Replays}
 use Rattle.exchange_text.specs.declared.exchange.Version.TheVariants.{One}
 use Rattle.exchange_text.specs.declared.line.Line.{Line}
-use Rattle.exchange_core.specs.declared.replaying.Side.TheVariants as side
+use Rattle.block_core.specs.declared.side.Side.TheVariants as side
 use Rattle.exchange_core.specs.Told.{AnswersAreReplies}
 use Rattle.exchange_core.proofs.Acting.{closes, closed-proper}
 use Rattle.exchange_core.proofs.Reaching.{closed-replies}
