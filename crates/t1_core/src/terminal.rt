@@ -7,6 +7,7 @@ ghost use Rattle.t1_core.specs.Terminal.{takes, transmit, ask_ifs, at_most, new_
 
 mod into;
 mod readers;
+mod resynching;
 mod steps;
 mod taking;
 

@@ -1,18 +1,18 @@
 //! What the terminal does with what came, by what it waits for.
 
 ghost use Rattle.std.specs.Prelude.{◌≡◌, ◌≤◌, ◌+◌, ◌++◌, length, false};
-ghost use Rattle.t1_core.specs.Came.{quiet, ready};
+ghost use Rattle.t1_core.specs.Came.{ready};
 ghost use Rattle.t1_core.specs.Views.{terminal_held, IsLentTerminal, came_of, field_at, rest_at, joined_of, IsJoining, IsInner, IsLast, IsSize};
 ghost use Rattle.t1_core.specs.Sending.{terminal_sends, terminal_does};
-ghost use Rattle.t1_core.specs.Terminal.{ack, answer, more, most_resynchs, in_exchange, in_ack, in_answer, in_more, in_ifs, in_resynch, joins, fails, turn_of, state_after};
+ghost use Rattle.t1_core.specs.Terminal.{ack, answer, more, in_exchange, in_ack, in_answer, in_more, in_ifs, joins, fails, turn_of, state_after};
 
 use crate::buffers::append;
 use crate::class::Arrived;
 use crate::lent::LentTerminal;
 use crate::sending::{Sent, Short, TerminalAct};
-use crate::terminal::{FIRST_IFSD, MOST_REPEATS, MOST_RESYNCHS};
+use crate::terminal::MOST_REPEATS;
 use crate::turns::{Cut, TerminalWait};
-use block_core::{Fault, Number, Pcb, S};
+use block_core::{Fault, Pcb, S};
 
 impl LentTerminal {
     /// An I-block of the command that isn't its last is under way.
@@ -202,79 +202,6 @@ impl LentTerminal {
             answer_buffer,
             Sent::Other(Short::request(S::Ifs, &[size])),
         )
-    }
-
-    /// RESYNCH was asked for.
-    pub(super) fn resynch_took(
-        &mut self,
-        command_buffer: &[u8],
-        answer_buffer: &[u8],
-        asked: u8,
-        arrived: &Arrived,
-    ) -> TerminalAct
-        requires fit { IsLentTerminal self.old (length command_buffer.now)
-            (length answer_buffer.now) }
-        requires asked { asked ≤ most_resynchs }
-        ensures fit { IsLentTerminal self.new (length command_buffer.now)
-            (length answer_buffer.now) }
-        ensures turn { turn_of (in_resynch
-            (terminal_held self.old command_buffer.now answer_buffer.now) asked
-            (came_of arrived.now))
-            ≡ Ok (terminal_does (terminal_held self.new command_buffer.now answer_buffer.now) result) }
-        ensures state { terminal_held self.new command_buffer.now answer_buffer.now
-            ≡ state_after (terminal_held self.old command_buffer.now answer_buffer.now)
-            (in_resynch (terminal_held self.old command_buffer.now answer_buffer.now) asked (came_of arrived.now)) }
-    {
-        match arrived {
-            Arrived::Damaged | Arrived::Invalid => self.resynch_again(
-                command_buffer,
-                answer_buffer,
-                asked,
-            ),
-            Arrived::Whole(block) => match block.pcb() {
-                Pcb::Response(S::Resynch) => {
-                    self.number = Number::Zero;
-                    self.expected = Number::Zero;
-                    self.failures = 0;
-                    self.ifsc = self.first_ifsc;
-                    self.ifsd = FIRST_IFSD;
-                    self.wait = TerminalWait::Idle;
-                    TerminalAct::GivenUp
-                }
-                Pcb::Response(S::Ifs | S::Abort | S::Wtx)
-                | Pcb::Info { .. }
-                | Pcb::Ready { .. }
-                | Pcb::Request(_) => self.resynch_again(command_buffer, answer_buffer, asked),
-            },
-        }
-    }
-
-    /// RESYNCH is asked for again, or the card is found dead.
-    pub(super) fn resynch_again(
-        &mut self,
-        command_buffer: &[u8],
-        answer_buffer: &[u8],
-        asked: u8,
-    ) -> TerminalAct
-        requires fit { IsLentTerminal self.old (length command_buffer.now)
-            (length answer_buffer.now) }
-        requires asked { asked ≤ most_resynchs }
-        ensures fit { IsLentTerminal self.new (length command_buffer.now)
-            (length answer_buffer.now) }
-        ensures turn { turn_of (in_resynch
-            (terminal_held self.old command_buffer.now answer_buffer.now) asked quiet)
-            ≡ Ok (terminal_does (terminal_held self.new command_buffer.now answer_buffer.now) result) }
-        ensures state { terminal_held self.new command_buffer.now answer_buffer.now
-            ≡ state_after (terminal_held self.old command_buffer.now answer_buffer.now)
-            (in_resynch (terminal_held self.old command_buffer.now answer_buffer.now) asked quiet) }
-    {
-        if asked < MOST_RESYNCHS {
-            self.wait = TerminalWait::Resynch(asked + 1);
-            TerminalAct::Send(Sent::Other(Short::request(S::Resynch, &[])))
-        } else {
-            self.wait = TerminalWait::Dead;
-            TerminalAct::Dead
-        }
     }
 
     /// An I-block of the answer that fits is joined.
