@@ -2,24 +2,17 @@
 
 use crate::as_exchange;
 use crate::ends::{Ends, params};
-use crate::states::{STATES, State, Turns};
-use crate::turns::{Fits, ROWS, Wanted};
+use crate::outcomes::{Class, is_card, is_terminal, wanted};
+use crate::states::{STATES, State};
+use crate::turns::Wanted;
 use crate::usable::{is_card_usable, is_terminal_usable};
 use atr_core::T1Params;
-use block_core::{Block, BlockReason, decode, encode};
+use block_core::{BlockReason, decode};
 use exchange_core::Exchange;
-use octet_core::{Stop, hex_upper};
+use octet_core::Stop;
 use std::alloc::{AllocError, Global};
-use t1_core::{Card, CardFault, CardTurn, Terminal, TerminalFault, TerminalTurn};
-use test_support::{Case, Fault, Share, Size, of_hex, same, with_octet};
-
-/// What octets are to an end.
-#[derive(Clone, Copy)]
-enum Class {
-    Block,
-    Damaged,
-    Invalid,
-}
+use t1_core::{Card, Terminal};
+use test_support::{Case, Fault, Share, Size, of_hex, with_octet};
 
 /// What an exchange begins with whose card takes fields of 2 octets.
 const HEAD: &str = "scard-exchange 1\natr 3B808131024577\n";
@@ -357,73 +350,4 @@ fn is_card_usable_after(
 ) -> Result<bool, AllocError> {
     let mut terminal = Terminal::new(alloc, params)?;
     Ok(is_card_usable(&mut terminal, card))
-}
-
-/// Octets in hexadecimal. It has no contract, so that its callers carry none.
-fn text_of(alloc: Global, octets: &[u8]) -> Result<String, AllocError> {
-    hex_upper(alloc, octets)
-}
-
-/// What an end is to make of octets.
-fn wanted(alloc: Global, turns: &Turns, class: Class, octets: &[u8]) -> Result<Wanted, AllocError> {
-    match class {
-        Class::Block => Ok(fitting(turns, text_of(alloc, octets)?.as_str())),
-        Class::Damaged => Ok(turns.misfit.damaged()),
-        Class::Invalid => Ok(turns.misfit.other()),
-    }
-}
-
-/// What an end is to make of a whole block, in hexadecimal.
-fn fitting(turns: &Turns, block: &str) -> Wanted {
-    let (first, second) = turns.fits;
-    match (found(first, block), found(second, block)) {
-        (Some(wanted), _) | (None, Some(wanted)) => wanted,
-        (None, None) => turns.misfit.other(),
-    }
-}
-
-/// What comes of a block among those that fit.
-fn found(fits: Fits, block: &str) -> Option<Wanted> {
-    for &(of, fitting, wanted) in &ROWS {
-        if of == fits && fitting == block {
-            return Some(wanted);
-        }
-    }
-    None
-}
-
-/// Whether a block has these octets, in hexadecimal.
-fn is_block(alloc: Global, block: &Block, text: &str) -> Result<bool, AllocError> {
-    Ok(same(text_of(alloc, encode(block).as_slice())?.as_str(), text))
-}
-
-/// Whether a turn of the terminal is the one that is wanted.
-fn is_terminal(
-    alloc: Global,
-    turn: &Result<TerminalTurn, TerminalFault>,
-    wanted: Wanted,
-) -> Result<bool, AllocError> {
-    match (turn, wanted) {
-        (Ok(TerminalTurn::Send(block)), Wanted::Sends(text)) => is_block(alloc, block, text),
-        (Ok(TerminalTurn::Answered), Wanted::Answered)
-        | (Ok(TerminalTurn::IfsSet), Wanted::IfsSet)
-        | (Ok(TerminalTurn::GivenUp), Wanted::GivenUp)
-        | (Ok(TerminalTurn::Dead), Wanted::Dies) => Ok(true),
-        (Err(fault), Wanted::Terminal(wanted)) => Ok(*fault == wanted),
-        _ => Ok(false),
-    }
-}
-
-/// Whether a turn of the card is the one that is wanted.
-fn is_card(
-    alloc: Global,
-    turn: &Result<CardTurn, CardFault>,
-    wanted: Wanted,
-) -> Result<bool, AllocError> {
-    match (turn, wanted) {
-        (Ok(CardTurn::Send(block)), Wanted::Sends(text)) => is_block(alloc, block, text),
-        (Ok(CardTurn::Asked), Wanted::Asked) => Ok(true),
-        (Err(fault), Wanted::Card(wanted)) => Ok(*fault == wanted),
-        _ => Ok(false),
-    }
 }

@@ -10,6 +10,7 @@ mod deliveries;
 mod drawn;
 mod ends;
 mod files;
+mod outcomes;
 mod pairs;
 mod records;
 mod refusals;
