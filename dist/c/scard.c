@@ -1,11 +1,11 @@
 /* scard: the calls of scard.h that take no memory, for any machine.
  *
- * Made by tools/dist; don't change it. Compile this file with your program: cc -I. program.c scard.c
+ * Made by tools/release/dist; don't change it. Compile this file with your program: cc -I. program.c scard.c
  *
- * The functions were proved in Rattle and compiled for WebAssembly by its toolchain; tools/translator wrote each as C,
- * instruction by instruction. That writing isn't proved: it is tested, by tools/portable. Four parts follow: the
- * constants of the module; the machine, written by hand; the functions of the module, translated; and the calls of
- * scard.h, written from the header.
+ * The functions were proved in Rattle and compiled for WebAssembly by its toolchain; tools/release/translator wrote
+ * each as C, instruction by instruction. That writing isn't proved: it is tested, by tools/release/portable. Four parts
+ * follow: the constants of the module; the machine, written by hand; the functions of the module, translated; and the
+ * calls of scard.h, written from the header.
  *
  * It is C99 and C++17. It writes no variable outside its calls, takes no memory, and no function calls itself. It wants
  * memcpy, memmove, memset and, unless SCARD_OWN_TRAP is defined, abort. Words that may be defined: SCARD_OWN_TRAP;

@@ -1,4 +1,4 @@
-/* A program without functions for memory: it is linked with `-lscard` and no flag, and tools/test-c checks which
+/* A program without functions for memory: it is linked with `-lscard` and no flag, and tools/gate/test-c checks which
  * symbols it needs. It has a session of both ends over lent buffers, a check, the parts and the tidy form of a forest,
  * a list that is read and filled, a receiver of a chain, a reader of a block, a command and a response, hexadecimal
  * text, and the LRC.

@@ -12,12 +12,13 @@ import unittest
 
 sys.dont_write_bytecode = True
 TOP = pathlib.Path(__file__).resolve().parents[2]
-sys.path.insert(0, str(TOP / "tools"))
+sys.path.insert(0, str(TOP / "tools/common"))
 
 
-def script(name):
-    """A script of tools/ as a module."""
-    loader = importlib.machinery.SourceFileLoader(name.replace("-", "_"), str(TOP / "tools" / name))
+def script(path):
+    """A script of tools/ as a module, by its folder there and its name."""
+    file = TOP / "tools" / path
+    loader = importlib.machinery.SourceFileLoader(file.name.replace("-", "_"), str(file))
     module = importlib.util.module_from_spec(importlib.util.spec_from_loader(loader.name, loader))
     sys.modules[loader.name] = module
     loader.exec_module(module)

@@ -1,6 +1,6 @@
 #!/usr/bin/env python3
-"""Tests tools/check-header: it names each difference between a header and the sources, such as two swapped arguments or
-fields."""
+"""Tests tools/gate/check-header: it names each difference between a header and the sources, such as two swapped
+arguments or fields."""
 
 import sys
 import unittest
@@ -9,7 +9,7 @@ import unittest.mock
 sys.dont_write_bytecode = True
 from copies import TOP, script
 
-tool = script("check-header")
+tool = script("gate/check-header")
 import header
 
 HEADER = """struct scard_verdict {

@@ -1,5 +1,6 @@
 #!/usr/bin/env python3
-"""Tests tools/check-promises: it names each type whose text no clause states, and each promise without a heading."""
+"""Tests tools/gate/check-promises: it names each type whose text no clause states, and each promise without a
+heading."""
 
 import sys
 import unittest
@@ -7,7 +8,7 @@ import unittest
 sys.dont_write_bytecode = True
 from copies import script
 
-tool = script("check-promises")
+tool = script("gate/check-promises")
 
 SAID = """
 impl Display for Fault {

@@ -1,5 +1,5 @@
 #!/usr/bin/env python3
-"""Tests tools/check-words: it finds a phrase, even over the end of a line, and not in code."""
+"""Tests tools/gate/check-words: it finds a phrase, even over the end of a line, and not in code."""
 
 import sys
 import unittest
@@ -7,7 +7,7 @@ import unittest
 sys.dont_write_bytecode = True
 from copies import script
 
-tool = script("check-words")
+tool = script("gate/check-words")
 
 
 class Words(unittest.TestCase):

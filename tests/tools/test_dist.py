@@ -1,6 +1,6 @@
 #!/usr/bin/env python3
-"""Tests tools/dist if it can't make dist/: it leaves dist/ unchanged, leaves nothing beside it, and says why. The tests
-use a separate repository and a toolchain that proves nothing."""
+"""Tests tools/release/dist if it can't make dist/: it leaves dist/ unchanged, leaves nothing beside it, and says why.
+The tests use a separate repository and a toolchain that proves nothing."""
 
 import os
 import pathlib
@@ -21,18 +21,20 @@ class Dist(unittest.TestCase):
         work = tempfile.TemporaryDirectory()
         self.addCleanup(work.cleanup)
         self.top, self.bin, kit = (pathlib.Path(work.name) / it for it in ("top", "bin", "kit"))
-        for folder in (self.top / "tools", self.top / "include", self.top / "web", self.top / "dist", self.top / "crates",
-                       self.bin, kit / "bin"):
+        for name in ("tools/release", "tools/common", "include", "web", "dist", "crates"):
+            (self.top / name).mkdir(parents=True)
+        for folder in (self.bin, kit / "bin"):
             folder.mkdir(parents=True)
-        for name in ("dist", "stack.py", "words.py", "translator"):
-            (shutil.copytree if name == "translator" else shutil.copy)(TOP / "tools" / name, self.top / "tools" / name)
+        for name in ("tools/release/dist", "tools/common/stack.py", "tools/common/words.py"):
+            shutil.copy(TOP / name, self.top / name)
+        shutil.copytree(TOP / "tools/release/translator", self.top / "tools/release/translator")
         for name in ("scard.h", "scard_session.h"):
             (self.top / "include" / name).write_text("/* no call */\n")
         (self.top / "crates.txt").write_text("scard_lent staticlib:\n")
         (self.top / "module").write_bytes(MODULE)
         (self.top / "dist/README.md").write_text("the old one\n")
         (kit / "KIT-ID").write_text("a toolchain\n")
-        self.script(self.top / "tools/wasm", 'cat "${0%/*}/../module" >"$1"')
+        self.script(self.top / "tools/release/wasm", 'cat "${0%/*}/../../module" >"$1"')
         self.script(self.top / "web/make", 'cat "$2" >"$1"')
         self.script(kit / "bin/rt", "exit 9")
         self.script(self.bin / "wasm-opt", "echo wasm-opt version 0")
@@ -55,7 +57,7 @@ class Dist(unittest.TestCase):
         self.git("commit", "-q", "-m", "All")
 
     def made(self, **how):
-        words = [self.top / "tools/dist"]
+        words = [self.top / "tools/release/dist"]
         how |= {"env": {"PATH": str(self.bin), "HOME": "/nowhere"}, "stderr": subprocess.PIPE, "stdout": subprocess.PIPE}
         return subprocess.run(words, check=False, text=True, timeout=60, **how)
 
@@ -67,7 +69,7 @@ class Dist(unittest.TestCase):
         done = self.made(**how)
         self.assertEqual((done.returncode, self.left()), (1, (["README.md"], [])), done.stderr)
         self.assertEqual((self.top / "dist/README.md").read_text(), "the old one\n")
-        self.assertRegex(done.stderr.splitlines()[-1], f"^(tools/dist: |[ MA?]).*{words}")
+        self.assertRegex(done.stderr.splitlines()[-1], f"^(tools/release/dist: |[ MA?]).*{words}")
         self.assertNotIn("Traceback", done.stderr)
 
     def test_dist_is_made(self):
@@ -94,7 +96,7 @@ class Dist(unittest.TestCase):
         self.refused("include/scard.h")
 
     def test_a_step_that_fails(self):
-        for file, words in (("tools/wasm", "wasm failed: no"), ("web/make", "make failed: no")):
+        for file, words in (("tools/release/wasm", "wasm failed: no"), ("web/make", "make failed: no")):
             text = (self.top / file).read_text()
             self.script(self.top / file, "echo no >&2; exit 1")
             self.commit()

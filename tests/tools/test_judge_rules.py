@@ -1,6 +1,6 @@
 #!/usr/bin/env python3
-"""Tests tools/t1_rules.py, the second reading of the rules of T=1, and that the file judge.next of the vectors is its
-output. crates/conformance tests that the program prints the same."""
+"""Tests tools/common/t1_rules.py, the second reading of the rules of T=1, and that the file judge.next of the vectors
+is its output. crates/conformance tests that the program prints the same."""
 
 import pathlib
 import sys
@@ -8,7 +8,7 @@ import unittest
 
 sys.dont_write_bytecode = True
 TOP = pathlib.Path(__file__).resolve().parents[2]
-sys.path.insert(0, str(TOP / "tools"))
+sys.path.insert(0, str(TOP / "tools/common"))
 from next_blocks import HISTORIES, IFSC, SIDES, Session, damaged, octets_of, receipt, rows, text
 from t1_rules import End, Line, block_of, clauses
 

@@ -1,5 +1,5 @@
 #!/usr/bin/env python3
-"""Tests tools/manual: each call of the library for C has a page, and man can read its name."""
+"""Tests tools/release/manual: each call of the library for C has a page, and man can read its name."""
 
 import pathlib
 import re
@@ -18,7 +18,7 @@ class Pages(unittest.TestCase):
     def setUp(self):
         room = tempfile.TemporaryDirectory()
         self.addCleanup(room.cleanup)
-        subprocess.run([TOP / "tools/manual", room.name], check=True)
+        subprocess.run([TOP / "tools/release/manual", room.name], check=True)
         self.pages = pathlib.Path(room.name) / "man3"
 
     def page_of(self, name):

@@ -1,9 +1,10 @@
 #!/usr/bin/env python3
 """Tests that each script of the repository refuses a word that begins with a dash and isn't one of its options: it
-prints its usage and ends with status 2, before it does anything. ./scard is left out, since it passes its words to
-the program."""
+prints its usage, which begins with its path, and ends with status 2, before it does anything. ./scard is left out,
+since it passes its words to the program."""
 
 import pathlib
+import re
 import subprocess
 import tempfile
 import unittest
@@ -12,9 +13,9 @@ TOP = pathlib.Path(__file__).resolve().parents[2]
 
 
 def scripts():
-    """The scripts that people call: those that are executable at the top and in tools. One with an end to its name is a
-    part of another."""
-    files = [it for place in (".", "tools", "tools/peers", "tools/pcsc") for it in sorted((TOP / place).iterdir())]
+    """The scripts that people call: those that are executable at the top and in a folder of tools. One with an end to its
+    name is a part of another."""
+    files = [*sorted(TOP.iterdir()), *sorted((TOP / "tools").glob("*/*"))]
     return [it for it in files if it.is_file() and it.stat().st_mode & 0o100 and not it.suffix and it.name != "scard"]
 
 
@@ -30,9 +31,11 @@ class Options(unittest.TestCase):
 
     def test_each_script_refuses_a_word_that_is_no_option(self):
         for script in scripts():
+            path = script.relative_to(TOP)
+            called = path.as_posix() if path.parts[1:] else f"./{path}"
             for word in ("--help", "-x"):
-                with self.subTest(script=str(script.relative_to(TOP)), word=word):
-                    self.assertTrue(self.refused(script, word).startswith("usage: "))
+                with self.subTest(script=called, word=word):
+                    self.assertRegex(self.refused(script, word), rf"\Ausage: {re.escape(called)}\s")
 
 
 if __name__ == "__main__":

@@ -1,6 +1,6 @@
 #!/usr/bin/env python3
-"""Tests tools/README.md and tests/README.md: each tool has one row, and so has each part of tests/ and each crate of
-tests."""
+"""Tests tools/README.md and tests/README.md: each tool has one row, below the name of its folder. Each part of tests/
+and each crate of tests has a row too."""
 
 import pathlib
 import re
@@ -9,16 +9,18 @@ import unittest
 TOP = pathlib.Path(__file__).resolve().parents[2]
 ROW = re.compile(r"^\| (?!-)(.*?) \|", re.M)
 CODE = re.compile(r"`([^`]+)`")
+# A part of tools/README.md, with its heading, which names a folder.
+PART = re.compile(r"^## tools/(\w+): .*?(?=^## |\Z)", re.M | re.S)
 
 
-def named_in(folder):
-    """The names in backticks in the first column of the tables of a folder's README.md."""
-    return [name for cell in ROW.findall((TOP / folder / "README.md").read_text()) for name in CODE.findall(cell)]
+def named_in(text):
+    """The names in backticks in the first column of the tables of a text, by the alphabet."""
+    return sorted(name for cell in ROW.findall(text) for name in CODE.findall(cell))
 
 
 def parts_of(folder):
     """What is in a folder, without its README.md and what Python leaves."""
-    return {it.name for it in (TOP / folder).iterdir() if it.name not in ("README.md", "__pycache__")}
+    return sorted(it.name for it in (TOP / folder).iterdir() if it.name not in ("README.md", "__pycache__"))
 
 
 def crates_of_the_gate():
@@ -28,12 +30,15 @@ def crates_of_the_gate():
 
 
 class Readmes(unittest.TestCase):
-    def test_each_tool_has_one_row(self):
-        self.assertEqual(sorted(named_in("tools")), sorted(parts_of("tools")))
+    def test_each_tool_has_one_row_below_its_folder(self):
+        page = (TOP / "tools/README.md").read_text()
+        named = {part[1]: named_in(part[0]) for part in PART.finditer(page)}
+        self.assertEqual(named, {folder: parts_of(f"tools/{folder}") for folder in named})
+        self.assertEqual(sorted([*named, *named_in(PART.sub("", page))]), parts_of("tools"))
 
     def test_each_part_of_tests_has_a_row(self):
         page = (TOP / "tests/README.md").read_text()
-        self.assertEqual([it for it in sorted(parts_of("tests")) if f"`tests/{it}`" not in page], [])
+        self.assertEqual([it for it in parts_of("tests") if f"`tests/{it}`" not in page], [])
 
     def test_each_crate_of_tests_has_a_row(self):
         page = (TOP / "tests/README.md").read_text()

@@ -1,5 +1,5 @@
 #!/usr/bin/env python3
-"""Tests tools/reasons: it finds a list that differs from an enum of reasons, and writes the rows of a new case."""
+"""Tests tools/gate/reasons: it finds a list that differs from an enum of reasons, and writes the rows of a new case."""
 
 import re
 import sys
@@ -9,7 +9,7 @@ import unittest.mock
 sys.dont_write_bytecode = True
 from copies import TOP, OverCopies, printed, script
 
-tool = script("reasons")
+tool = script("gate/reasons")
 FILES = sorted({it.file for codec in tool.CODECS for it in tool.lists_of(codec)} | {it.source for it in tool.CODECS})
 # A definition's lists are laid out anew with each change.
 RELAID = "crates/c_lent/specs/Names.antt"

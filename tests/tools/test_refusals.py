@@ -1,12 +1,12 @@
 #!/usr/bin/env python3
-"""Tests tools/refusals.py: lines of the checker about an edit, and the verdict on the edit."""
+"""Tests tools/common/refusals.py: lines of the checker about an edit, and the verdict on the edit."""
 
 import pathlib
 import sys
 import unittest
 
 sys.dont_write_bytecode = True
-sys.path.insert(0, str(pathlib.Path(__file__).resolve().parents[2] / "tools"))
+sys.path.insert(0, str(pathlib.Path(__file__).resolve().parents[2] / "tools/common"))
 from edits import Function
 from refusals import only_name, verdict_on
 

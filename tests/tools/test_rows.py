@@ -1,6 +1,6 @@
 #!/usr/bin/env python3
-"""Tests the rows of crates.txt: tools/archive links a library for C over only the crates of its row. So the row has to
-name each crate below it."""
+"""Tests the rows of crates.txt: tools/release/archive links a library for C over only the crates of its row. So the row
+has to name each crate below it."""
 
 import pathlib
 import sys
@@ -8,7 +8,7 @@ import unittest
 
 sys.dont_write_bytecode = True
 TOP = pathlib.Path(__file__).resolve().parents[2]
-sys.path.insert(0, str(TOP / "tools"))
+sys.path.insert(0, str(TOP / "tools/common"))
 from stack import below, crates
 
 

@@ -1,6 +1,6 @@
 #!/usr/bin/env python3
-"""Tests how tools/translator checks the accesses of a function: which accesses share one check, and how long its result
-holds. Random functions have to do the same as C and by their meaning."""
+"""Tests how tools/release/translator checks the accesses of a function: which accesses share one check, and how long
+its result holds. Random functions have to do the same as C and by their meaning."""
 
 import pathlib
 import random
@@ -11,8 +11,8 @@ import tempfile
 import unittest
 
 sys.dont_write_bytecode = True
-TOOLS = pathlib.Path(__file__).resolve().parents[2] / "tools"
-sys.path.insert(0, str(TOOLS / "translator"))
+TRANSLATOR = pathlib.Path(__file__).resolve().parents[2] / "tools/release/translator"
+sys.path.insert(0, str(TRANSLATOR))
 from bodies import Writer, own_frame
 from near import Near
 from loops import Sum
@@ -348,7 +348,7 @@ class Same(unittest.TestCase):
             source, program = pathlib.Path(work) / "same.c", pathlib.Path(work) / "same"
             source.write_text(PROGRAM.replace("@FUNCTIONS@", functions).replace("@NAMES@", names))
             for words in ([], ["-O1", "-DSCARD_SHAPED", "-DSCARD_BY_OCTETS"]):
-                subprocess.run(["cc", "-std=c99", "-w", *words, f"-I{TOOLS}/translator", source, "-o", program], check=True)
+                subprocess.run(["cc", "-std=c99", "-w", *words, f"-I{TRANSLATOR}", source, "-o", program], check=True)
                 found = subprocess.run([program], check=True, stdout=subprocess.PIPE, text=True).stdout.splitlines()
                 self.assertEqual(found, said)
         self.assertGreater(sum(not it for it in said), 10)

@@ -1,5 +1,5 @@
 #!/usr/bin/env python3
-"""Tests tools/version: it finds each place with another version, and writes a version into all of them."""
+"""Tests tools/gate/version: it finds each place with another version, and writes a version into all of them."""
 
 import re
 import subprocess
@@ -9,7 +9,7 @@ import unittest
 sys.dont_write_bytecode = True
 from copies import TOP, OverCopies, printed, script
 
-tool = script("version")
+tool = script("gate/version")
 NOW = (TOP / "VERSION").read_text().strip()
 FILES = ["VERSION", tool.CHANGES, *tool.PLACES]
 
@@ -80,7 +80,8 @@ class Versions(OverCopies):
 
     def test_what_is_no_version_is_refused(self):
         for word in ("1.4", "1.4.0.0", "v1.4.0", "01.4.0", "1.1000.0", "--check"):
-            self.assertEqual(subprocess.run([TOP / "tools/version", word], stderr=subprocess.DEVNULL, check=False).returncode, 2)
+            ran = subprocess.run([TOP / "tools/gate/version", word], stderr=subprocess.DEVNULL, check=False)
+            self.assertEqual(ran.returncode, 2)
 
 
 if __name__ == "__main__":
