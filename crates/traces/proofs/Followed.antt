@@ -98,7 +98,7 @@ releases-by : (f : Following) (held : Option ℕ)
 releases-by f None = (refl, refl)
 releases-by f (Some m) = (refl, refl)
 
-releases-stand : (f : Following) → ((released f).card_is ≡ f.card_is) × ((released f).terminal_is ≡ f.terminal_is)
+pub releases-stand : (f : Following) → ((released f).card_is ≡ f.card_is) × ((released f).terminal_is ≡ f.terminal_is)
 unfolding released
 releases-stand f = releases-by f f.held
 

@@ -11,5 +11,7 @@ pub mod Recorded
 pub mod Arrived
 pub mod Followed
 pub mod Again
--- what is printed
+-- how the code finds it, and what is printed
+pub mod Decoded
+pub mod Matching
 pub mod Faults

@@ -8,6 +8,7 @@ use Rattle.block_core.specs.declared.pcb.S.TheVariants.{Resynch, Ifs, Wtx}
 use Rattle.block_core.specs.declared.pcb.Pcb.{Pcb}
 use Rattle.block_core.specs.declared.pcb.Pcb.TheVariants.{Info, Request, Response}
 use Rattle.t1_core.specs.Came.{carried, same}
+use Rattle.block_core.specs.Side.{other as opposite, same_side}
 use Rattle.block_core.specs.declared.side.Side.{Side}
 use Rattle.block_core.specs.declared.side.Side.TheVariants.{Terminal, Card}
 use Rattle.exchange_text.specs.declared.line.Line.{Line}
@@ -15,16 +16,6 @@ use Rattle.exchange_text.specs.declared.line.Line.TheVariants as line
 use Rattle.traces.specs.declared.trace.Item.{Item}
 use Rattle.traces.specs.declared.said.Numbers.{Numbers}
 use Rattle.traces.specs.Seen.{block_in}
-
-abbrev pub opposite : Side → Side
-opposite Terminal = Card
-opposite Card = Terminal
-
-abbrev pub same_side : Side → Side → Bool
-same_side Terminal Terminal = true
-same_side Terminal Card = false
-same_side Card Terminal = false
-same_side Card Card = true
 
 -- ---- numbers: those of the last I-blocks that were seen
 

@@ -8,7 +8,7 @@ use Rattle.traces.specs.declared.trace.Item.TheVariants.{Block, Quiet, Moment}
 use Rattle.traces.specs.declared.unfit.Unfit.{Unfit}
 use Rattle.traces.specs.declared.unfit.Unfit.TheVariants.{Pps, NodeAddress, Silence}
 use Rattle.traces.specs.Reading.{is_empty, words_of}
-use Rattle.traces.specs.Said.{same_side}
+use Rattle.block_core.specs.Side.{same_side}
 
 -- the first block of an end, by its place among the items, and its octets
 abbrev pub first_from : Side → ℕ → List Item → Option (ℕ × List ℕ)

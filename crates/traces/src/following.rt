@@ -1,62 +1,67 @@
 //! What each item adds.
 
-ghost use Rattle.std.specs.Prelude.{◌≡◌, ◌∷◌, OnOk};
+ghost use Rattle.std.specs.Prelude.{◌≡◌, ◌∷◌, IfOk, OnOk};
 ghost use Rattle.traces.specs.Unseen.{asking_host, before_card, before_item, before_quiet, before_terminal, beginning, ending, moving, over_items};
 ghost use Rattle.traces.specs.Following.{after_begins, after_host, after_item, after_items, after_moves, after_quiet, ended, from_card, from_terminal, reaches_card, reaches_terminal};
+ghost use Rattle.traces.specs.Matching.{match_of};
 
 use crate::follower::Follower;
+use crate::matching::Match;
 use crate::said::{Call, application_call, host_call};
+use crate::seen::{Decoded, Seen, What, decode_each};
 use crate::trace::Item;
 use exchange_core::{Line, Side};
 use std::alloc::AllocError;
 
 impl Follower {
-    /// Follows both ends over all items. It adds to `unseen` the places of the lines that nobody saw on the line.
+    /// Follows both ends over all items, each decoded once before. It adds to `unseen` the places of the lines that
+    /// nobody saw on the line.
     pub(crate) fn run(&mut self, items: &[Item], unseen: &mut Vec<usize>) -> Result<(), AllocError>
         ensures follows { OnOk result (self.new ≡ ended (after_items self.old items.now)) }
         ensures unseen { OnOk result (unseen.new.items
             ≡ ending (after_items self.old items.now) (over_items self.old items.now unseen.old.items)) }
     {
-        self.follow(items, unseen)?;
+        let items = decode_each(self.alloc, items)?;
+        self.follow(items.as_slice(), unseen)?;
         self.end(unseen)
     }
 
     /// Follows both ends over these items.
-    fn follow(&mut self, items: &[Item], unseen: &mut Vec<usize>) -> Result<(), AllocError>
+    fn follow(&mut self, items: &[Seen<'_>], unseen: &mut Vec<usize>) -> Result<(), AllocError>
         ensures follows { OnOk result (self.new ≡ after_items self.old items.now) }
         ensures unseen { OnOk result
             (unseen.new.items ≡ over_items self.old items.now unseen.old.items) }
     {
         let mut rest = items;
-        while let [item, after @ ..] = rest {
-            self.see(item, rest, unseen)?;
+        while let [seen, after @ ..] = rest {
+            self.see(seen, rest, unseen)?;
             rest = after;
         }
         Ok(())
     }
 
-    /// Follows both ends over an item, with which these items begin.
+    /// Follows both ends over what was seen, with which these items begin.
     fn see(
         &mut self,
-        item: &Item,
-        items: &[Item],
+        seen: &Seen<'_>,
+        items: &[Seen<'_>],
         unseen: &mut Vec<usize>,
     ) -> Result<(), AllocError>
-        ensures follows { OnOk result (self.new ≡ after_item self.old items.now item.now) }
+        ensures follows { OnOk result (self.new ≡ after_item self.old items.now seen.now) }
         ensures unseen { OnOk result
-            (unseen.new.items ≡ before_item self.old items.now item.now unseen.old.items) }
+            (unseen.new.items ≡ before_item self.old items.now seen.now unseen.old.items) }
     {
-        match item {
-            Item::Block { from, octets, lost } => {
+        match &seen.what {
+            What::Block { from, octets, lost } => {
                 match from {
-                    Side::Terminal => self.see_terminal(octets.get(), *lost, items, unseen)?,
-                    Side::Card => self.see_card(octets.get(), *lost, items, unseen)?,
+                    Side::Terminal => self.see_terminal(octets, *lost, items, unseen)?,
+                    Side::Card => self.see_card(octets, *lost, items, unseen)?,
                 }
-                self.numbers = self.numbers.after(item);
+                self.numbers = self.numbers.after(seen);
                 Ok(())
             }
-            Item::Quiet => self.hear_nothing(items, unseen),
-            Item::Moment(moment) => {
+            What::Quiet => self.hear_nothing(items, unseen),
+            What::Moment(moment) => {
                 self.release()?;
                 self.held = Some(*moment);
                 Ok(())
@@ -68,9 +73,9 @@ impl Follower {
     #[tactic(auto, unfolding(crate::specs::Following::from_terminal))]
     fn see_terminal(
         &mut self,
-        octets: &[u8],
+        octets: &Decoded<'_>,
         lost: bool,
-        items: &[Item],
+        items: &[Seen<'_>],
         unseen: &mut Vec<usize>,
     ) -> Result<(), AllocError>
         ensures follows { OnOk result
@@ -80,10 +85,10 @@ impl Follower {
     {
         self.ask_host(items, unseen)?;
         self.settle_card(unseen)?;
-        self.move_terminal(octets, items, unseen)?;
+        let met = self.move_terminal(octets, items, unseen)?;
         self.release()?;
-        let (sent, arrival) = self.terminal_is.sent_as(self.alloc, octets, lost)?;
-        self.terminal_is.pass(octets);
+        self.terminal_is = met.standing();
+        let (sent, arrival) = met.sent(self.alloc, octets, lost)?;
         self.reach_card(Line::FromTerminal { sent, arrival }, lost)
     }
 
@@ -91,9 +96,9 @@ impl Follower {
     #[tactic(auto, unfolding(crate::specs::Following::from_card))]
     fn see_card(
         &mut self,
-        octets: &[u8],
+        octets: &Decoded<'_>,
         lost: bool,
-        items: &[Item],
+        items: &[Seen<'_>],
         unseen: &mut Vec<usize>,
     ) -> Result<(), AllocError>
         ensures follows { OnOk result (self.new ≡ from_card self.old octets.now lost items.now) }
@@ -103,14 +108,19 @@ impl Follower {
         self.settle_terminal(unseen)?;
         self.ask_host(items, unseen)?;
         self.release()?;
-        let (sent, arrival) = self.card_is.sent_as(self.alloc, octets, lost)?;
-        self.card_is.pass(octets);
+        let met = self.card_is.matched(self.alloc, octets)?;
+        self.card_is = met.standing();
+        let (sent, arrival) = met.sent(self.alloc, octets, lost)?;
         self.reach_terminal(Line::FromCard { sent, arrival }, lost)
     }
 
     /// The terminal's waiting time ended.
     #[tactic(auto, unfolding(crate::specs::Following::after_quiet))]
-    fn hear_nothing(&mut self, items: &[Item], unseen: &mut Vec<usize>) -> Result<(), AllocError>
+    fn hear_nothing(
+        &mut self,
+        items: &[Seen<'_>],
+        unseen: &mut Vec<usize>,
+    ) -> Result<(), AllocError>
         ensures follows { OnOk result (self.new ≡ after_quiet self.old items.now) }
         ensures unseen { OnOk result
             (unseen.new.items ≡ before_quiet self.old items.now unseen.old.items) }
@@ -124,7 +134,7 @@ impl Follower {
 
     /// Where the card's host owes the card a call, it calls it.
     #[tactic(auto, unfolding(crate::specs::Following::after_host))]
-    fn ask_host(&mut self, items: &[Item], unseen: &mut Vec<usize>) -> Result<(), AllocError>
+    fn ask_host(&mut self, items: &[Seen<'_>], unseen: &mut Vec<usize>) -> Result<(), AllocError>
         ensures follows { OnOk result (self.new ≡ after_host self.old items.now) }
         ensures unseen { OnOk result
             (unseen.new.items ≡ asking_host self.old items.now unseen.old.items) }
@@ -137,31 +147,39 @@ impl Follower {
         Ok(())
     }
 
-    /// The terminal comes to send a block, by its application or after its waiting time.
+    /// The terminal comes to send a block, by its application or after its waiting time. Returns how the octets match
+    /// that block.
     #[tactic(auto, unfolding(crate::specs::Following::after_moves))]
     fn move_terminal(
         &mut self,
-        octets: &[u8],
-        items: &[Item],
+        octets: &Decoded<'_>,
+        items: &[Seen<'_>],
         unseen: &mut Vec<usize>,
-    ) -> Result<(), AllocError>
+    ) -> Result<Match, AllocError>
         ensures follows { OnOk result (self.new ≡ after_moves self.old octets.now items.now) }
         ensures unseen { OnOk result
             (unseen.new.items ≡ moving self.old octets.now items.now unseen.old.items) }
+        ensures matched { IfOk result (λ met. met ≡ match_of self.new.terminal_is octets.now) }
     {
         let has_waited = self.terminal_is.is_waiting() && self.terminal.awaits_block();
         self.begin_terminal(items, unseen)?;
-        if !has_waited && self.terminal_is.misses(octets) {
-            self.settle_terminal(unseen)?;
-            self.note_if(true, unseen)?;
-            self.terminal_hears(Line::Quiet)?;
+        let met = self.terminal_is.matched(self.alloc, octets)?;
+        if has_waited || !self.terminal_is.misses(&met, octets) {
+            return Ok(met);
         }
-        Ok(())
+        self.settle_terminal(unseen)?;
+        self.note_if(true, unseen)?;
+        self.terminal_hears(Line::Quiet)?;
+        self.terminal_is.matched(self.alloc, octets)
     }
 
     /// Where the terminal has no block to send, its waiting time ends, or its application asks for something.
     #[tactic(auto, unfolding(crate::specs::Following::after_begins))]
-    fn begin_terminal(&mut self, items: &[Item], unseen: &mut Vec<usize>) -> Result<(), AllocError>
+    fn begin_terminal(
+        &mut self,
+        items: &[Seen<'_>],
+        unseen: &mut Vec<usize>,
+    ) -> Result<(), AllocError>
         ensures follows { OnOk result (self.new ≡ after_begins self.old items.now) }
         ensures unseen { OnOk result
             (unseen.new.items ≡ beginning self.old items.now unseen.old.items) }

@@ -11,6 +11,7 @@ mod following;
 pub mod laws;
 mod line_words;
 mod marking;
+mod matching;
 pub mod reading;
 pub mod recording;
 mod said;

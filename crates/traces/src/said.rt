@@ -1,11 +1,10 @@
 //! What the applications said, by the blocks that are still to come.
 
-ghost use Rattle.std.specs.Prelude.{◌≡◌, false, IfOk};
+ghost use Rattle.std.specs.Prelude.{◌≡◌, false, IfOk, option_copied};
 ghost use Rattle.traces.specs.Said as spec;
-ghost use Rattle.traces.specs.Said.{application_is_cut, application_line, begun, closed, first_block, host_is_cut, host_line, is_cut, is_next, is_resynch, joins, number_of, numbers_after, opposite, same_side, takes, turns_over, with_number};
+ghost use Rattle.traces.specs.Said.{application_is_cut, application_line, begun, closed, first_block, host_is_cut, host_line, is_cut, is_next, is_resynch, joins, number_of, numbers_after, takes, turns_over, with_number};
 
-use crate::seen::block_in;
-use crate::trace::Item;
+use crate::seen::Seen;
 use block_core::{BlockRef, Number, Pcb, S};
 use exchange_core::{Line, Side};
 use octet_core::Octets;
@@ -43,11 +42,11 @@ impl Numbers {
         }
     }
 
-    /// The numbers after an item.
-    pub(crate) fn after(self, item: &Item) -> Numbers
-        ensures { result ≡ numbers_after self item.now }
+    /// The numbers after what was seen.
+    pub(crate) fn after(self, seen: &Seen<'_>) -> Numbers
+        ensures { result ≡ numbers_after self seen.now }
     {
-        let Some((side, block)) = block_in(item) else {
+        let Some((side, block)) = seen.block() else {
             return self;
         };
         match block.pcb() {
@@ -109,20 +108,20 @@ impl Said {
     {
         Said {
             from,
-            last: numbers.of(opposite(from)),
+            last: numbers.of(from.other()),
             next: None,
             octets: Vec::new(alloc),
             more_comes: false,
         }
     }
 
-    /// Takes an item, and says whether the message ends with it.
-    fn takes(&mut self, item: &Item) -> Result<bool, AllocError>
-        ensures { IfOk result (λ ends. takes self.old item.now ≡ (self.new, ends)) }
+    /// Takes what was seen, and says whether the message ends with it.
+    fn takes(&mut self, seen: &Seen<'_>) -> Result<bool, AllocError>
+        ensures { IfOk result (λ ends. takes self.old seen.now ≡ (self.new, ends)) }
     {
-        match block_in(item) {
+        match seen.block() {
             None => Ok(false),
-            Some((side, block)) if is_same(side, self.from) => self.joins(&block),
+            Some((side, block)) if side.is(self.from) => self.joins(block),
             Some((_, block)) => Ok(turns_over(self.last, block.pcb())),
         }
     }
@@ -190,15 +189,15 @@ fn message(
     alloc: Global,
     from: Side,
     numbers: Numbers,
-    items: &[Item],
+    items: &[Seen<'_>],
 ) -> Result<Spoken, AllocError>
     ensures octets { IfOk result (λ message. message.octets ≡ spec.message from numbers items.now) }
     ensures cut { IfOk result (λ message. message.is_cut ≡ is_cut from numbers items.now) }
 {
     let mut said = Said::new(alloc, from, numbers);
     let mut rest = items;
-    while let [item, after @ ..] = rest {
-        if said.takes(item)? {
+    while let [seen, after @ ..] = rest {
+        if said.takes(seen)? {
             return said.closed();
         }
         rest = after;
@@ -207,13 +206,13 @@ fn message(
 }
 
 /// The first block of an end from these items on, before the other end goes on to something else.
-fn first_block(from: Side, last: Number, items: &[Item]) -> Option<BlockRef<'_>>
-    ensures { result ≡ first_block from last items.now }
+fn first_block<'a, 'b>(from: Side, last: Number, items: &'a [Seen<'b>]) -> Option<&'a BlockRef<'b>>
+    ensures { option_copied result ≡ first_block from last items.now }
 {
     let mut rest = items;
-    while let [item, after @ ..] = rest {
-        if let Some((side, block)) = block_in(item) {
-            if is_same(side, from) {
+    while let [seen, after @ ..] = rest {
+        if let Some((side, block)) = seen.block() {
+            if side.is(from) {
                 return Some(block);
             }
             if turns_over(last, block.pcb()) {
@@ -226,7 +225,11 @@ fn first_block(from: Side, last: Number, items: &[Item]) -> Option<BlockRef<'_>>
 }
 
 /// What the card's host says next, by the card's blocks from these items on.
-pub(crate) fn host_call(alloc: Global, numbers: Numbers, items: &[Item]) -> Result<Call, AllocError>
+pub(crate) fn host_call(
+    alloc: Global,
+    numbers: Numbers,
+    items: &[Seen<'_>],
+) -> Result<Call, AllocError>
     ensures line { IfOk result (λ call. call.line ≡ host_line numbers items.now) }
     ensures cut { IfOk result (λ call. call.is_cut ≡ host_is_cut numbers items.now) }
 {
@@ -246,7 +249,7 @@ pub(crate) fn host_call(alloc: Global, numbers: Numbers, items: &[Item]) -> Resu
 pub(crate) fn application_call(
     alloc: Global,
     numbers: Numbers,
-    items: &[Item],
+    items: &[Seen<'_>],
 ) -> Result<Call, AllocError>
     ensures line { IfOk result (λ call. call.line ≡ application_line numbers items.now) }
     ensures cut { IfOk result (λ call. call.is_cut ≡ application_is_cut numbers items.now) }
@@ -288,24 +291,4 @@ pub(crate) fn is_resynch(pcb: Pcb) -> bool
     ensures { result ≡ is_resynch pcb }
 {
     matches!(pcb, Pcb::Request(S::Resynch) | Pcb::Response(S::Resynch))
-}
-
-/// The other end.
-fn opposite(side: Side) -> Side
-    ensures { result ≡ opposite side }
-{
-    match side {
-        Side::Terminal => Side::Card,
-        Side::Card => Side::Terminal,
-    }
-}
-
-/// Whether two ends are one.
-pub(crate) fn is_same(a: Side, b: Side) -> bool
-    ensures { result ≡ same_side a b }
-{
-    match (a, b) {
-        (Side::Terminal, Side::Terminal) | (Side::Card, Side::Card) => true,
-        (Side::Terminal, Side::Card) | (Side::Card, Side::Terminal) => false,
-    }
 }

@@ -1,16 +1,13 @@
 //! How an end that is followed stands to the next block of it that is seen.
 
 ghost use Rattle.std.specs.Prelude.{◌≡◌, IfOk};
-ghost use Rattle.traces.specs.Following as following;
-ghost use Rattle.traces.specs.Seen.{seen};
-ghost use Rattle.traces.specs.Following.{is_met, is_waiting, misses, sent_as, standing_after};
+ghost use Rattle.traces.specs.Following.{is_waiting, misses};
+ghost use Rattle.traces.specs.Matching.{match_of};
 ghost use Rattle.traces.specs.Unseen.{is_sending};
 
-use crate::said::is_resynch;
-use crate::seen::seen;
+use crate::matching::Match;
+use crate::seen::Decoded;
 use block_core::Block;
-use exchange_core::{Arrival, copied, is_spelled, spelled};
-use octet_core::Octets;
 use std::alloc::{AllocError, Global};
 
 /// How an end stands.
@@ -45,88 +42,21 @@ impl Standing {
         }
     }
 
-    /// Whether it is about to send a block, and these octets are another one, but not for RESYNCH.
-    pub(crate) fn misses(&self, octets: &[u8]) -> bool
-        ensures { result ≡ misses self.now octets.now }
+    /// How octets that were seen from it match the block that it is about to send.
+    pub(crate) fn matched(&self, alloc: Global, seen: &Decoded<'_>) -> Result<Match, AllocError>
+        ensures { IfOk result (λ met. met ≡ match_of self.now seen.now) }
     {
         match self {
-            Standing::Sends(block) => !meets(block, octets) && !begins_anew(octets),
-            Standing::Left | Standing::Waits => false,
+            Standing::Sends(block) => Match::with(alloc, block, seen),
+            Standing::Left | Standing::Waits => Ok(Match::Other),
         }
     }
 
-    /// These octets were seen from it.
-    pub(crate) fn pass(&mut self, octets: &[u8])
-        ensures { self.new ≡ standing_after self.old octets.now }
+    /// Whether it is about to send a block, and these octets, which match it so, are another one, but not for RESYNCH.
+    pub(crate) fn misses(&self, met: &Match, seen: &Decoded<'_>) -> bool
+        requires { met.now ≡ match_of self.now seen.now }
+        ensures { result ≡ misses self.now seen.now }
     {
-        *self = if self.is_met(octets) {
-            Standing::Waits
-        } else {
-            Standing::Left
-        };
+        self.is_sending() && met.is_other() && !seen.begin_anew()
     }
-
-    /// Whether it is about to send a block, and these octets can be what came of it.
-    fn is_met(&self, octets: &[u8]) -> bool
-        ensures { result ≡ is_met self.now octets.now }
-    {
-        match self {
-            Standing::Sends(block) => meets(block, octets),
-            Standing::Left | Standing::Waits => false,
-        }
-    }
-
-    /// What it sent where these octets were seen from it, and what became of that.
-    pub(crate) fn sent_as(
-        &self,
-        alloc: Global,
-        octets: &[u8],
-        lost: bool,
-    ) -> Result<(Octets, Arrival), AllocError>
-        ensures { IfOk result (λ sent. sent ≡ sent_as self.now octets.now lost) }
-    {
-        match self {
-            Standing::Sends(block) if meets(block, octets) => {
-                let arrival = arrival(alloc, block, octets, lost)?;
-                Ok((spelled(alloc, block)?, arrival))
-            }
-            _ => Ok((copied(alloc, octets)?, whole(lost))),
-        }
-    }
-}
-
-/// Whether octets are a block of RESYNCH, after which both ends start again.
-fn begins_anew(octets: &[u8]) -> bool
-    ensures { result ≡ following.begins_anew (seen octets.now) }
-{
-    match seen(octets) {
-        Some(block) => is_resynch(block.pcb()),
-        None => false,
-    }
-}
-
-/// Whether octets can be what came of a block: its own, or no block.
-fn meets(block: &Block, octets: &[u8]) -> bool
-    ensures { result ≡ following.meets block.now octets.now }
-{
-    is_spelled(block, octets) || seen(octets).is_none()
-}
-
-/// What became of a block of which these octets were seen.
-fn arrival(alloc: Global, block: &Block, octets: &[u8], lost: bool) -> Result<Arrival, AllocError>
-    ensures { IfOk result (λ arrival.
-        arrival ≡ following.arrival block.now octets.now lost) }
-{
-    if lost || is_spelled(block, octets) {
-        Ok(whole(lost))
-    } else {
-        Ok(Arrival::Changed(copied(alloc, octets)?))
-    }
-}
-
-/// What became of a block that was seen as it was sent.
-fn whole(lost: bool) -> Arrival
-    ensures { result ≡ following.whole lost }
-{
-    if lost { Arrival::Lost } else { Arrival::Whole }
 }

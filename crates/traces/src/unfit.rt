@@ -4,7 +4,6 @@ ghost use Rattle.std.specs.Prelude.{◌≡◌, Some, None, IfSome, IfNone, false
 ghost use Rattle.traces.specs.Unfit as spec;
 ghost use Rattle.traces.specs.Unfit.{address_of, are_addressed, first_from, is_pps, silence_at, swapped, unfit_in};
 
-use crate::said::is_same;
 use crate::trace::Item;
 use exchange_core::Side;
 use octet_core::{Named, lrc};
@@ -87,7 +86,7 @@ fn first_from(items: &[Item], side: Side) -> Option<(usize, &[u8])>
     let mut rest = items;
     while let [item, after @ ..] = rest {
         if let Item::Block { from, octets, .. } = item {
-            if is_same(*from, side) {
+            if from.is(side) {
                 return Some((place, octets.get()));
             }
         }

@@ -1,0 +1,38 @@
+-- How octets that were seen from an end match the block that it was about to send, and what follows from that.
+use Rattle.std.specs.Prelude.{List, ℕ, Bool, true, false, if◌then◌else◌, is_none}
+use Rattle.block_core.specs.Block.{Parts, spelling}
+use Rattle.exchange_text.specs.declared.line.Arrival.{Arrival}
+use Rattle.exchange_text.specs.declared.line.Arrival.TheVariants as arrival
+use Rattle.traces.specs.declared.matching.Match.{Match}
+use Rattle.traces.specs.declared.matching.Match.TheVariants.{Whole, Changed, Other}
+use Rattle.traces.specs.declared.standing.Standing.{Standing}
+use Rattle.traces.specs.declared.standing.Standing.TheVariants.{Left, Waits, Sends}
+use Rattle.traces.specs.Following.{is_spelled, whole}
+use Rattle.traces.specs.Seen.{seen}
+
+abbrev pub match_with : Parts → List ℕ → Match
+match_with block octets =
+    if is_spelled block octets then Whole (spelling block)
+    else (if is_none (seen octets) then Changed (spelling block) else Other)
+
+abbrev pub match_of : Standing → List ℕ → Match
+match_of (Sends block) octets = match_with block octets
+match_of Left octets = Other
+match_of Waits octets = Other
+
+abbrev pub is_other : Match → Bool
+is_other Other = true
+is_other (Whole sent) = false
+is_other (Changed sent) = false
+
+-- how the end stands after them
+abbrev pub standing_by : Match → Standing
+standing_by (Whole sent) = Waits
+standing_by (Changed sent) = Waits
+standing_by Other = Left
+
+-- what the end sent, and what became of it
+abbrev pub sent_by : Match → List ℕ → Bool → List ℕ × Arrival
+sent_by (Whole sent) octets lost = (sent, whole lost)
+sent_by (Changed sent) octets lost = (sent, if lost then arrival.Lost else arrival.Changed octets)
+sent_by Other octets lost = (octets, whole lost)
