@@ -1,6 +1,7 @@
 -- That the octets of a kind have one text and one status.
-use Rattle.std.proofs.Common.{◌≡◌, ◌≤◌, ◌∙◌, inl, inr, false, ℕ, List, Result, Ok, Err, ap, length, subst, sym, refl}
+use Rattle.std.proofs.Common.{◌≡◌, ◌∙◌, inl, inr, false, ℕ, List, Result, Ok, Err, ap, length, subst, sym, refl}
 use Rattle.octet_core.specs.Octets.{AreOctets}
+use Rattle.octet_core.specs.Sizes.{IsFieldSize}
 use Rattle.octet_core.specs.declared.stop.Stop.{Stop}
 use Rattle.octet_core.specs.Grammar.{OneVerdict}
 use Rattle.atr_core.proofs.Goes as atr_goes
@@ -59,29 +60,30 @@ module _ {V R : Type 0} (c : Codec V R) (told : V → ℕ → List ℕ) (untold 
 
 -- ---- the kinds
 
-judged : (kind : Kind) (expected : Expected) (b : List ℕ) → expected.ifs ≤ 254 → AreOctets b
+judged : (kind : Kind) (expected : Expected) (b : List ℕ) → IsFieldSize expected.ifs → AreOctets b
     → IsJudged (codec_of kind expected).codec b
-judged Atr expected b small octets = atr_goes.one-verdict b octets
-judged Block expected b small octets = one-verdict expected.ifs b small octets
-judged Chain expected b small octets = chain_goes.one-verdict expected.ifs expected.number longest_message b small
+judged Atr expected b size octets = atr_goes.one-verdict b octets
+judged Block expected b size octets = one-verdict expected.ifs b size.1 octets
+judged Chain expected b size octets = chain_goes.one-verdict expected.ifs expected.number longest_message b size.1
     octets
-judged Command expected b small octets = command-one_verdict b octets
-judged Response expected b small octets = response-one_verdict b octets
-judged Tlv expected b small octets = forest_verdict largest b octets
-judged Dol expected b small octets = dol_verdict b octets
+judged Command expected b size octets = command-one_verdict b octets
+judged Response expected b size octets = response-one_verdict b octets
+judged Tlv expected b size octets = forest_verdict largest b octets
+judged Dol expected b size octets = dol_verdict b octets
 
-pub checked : (layout : Layout) (kind : Kind) (expected : Expected) (b : List ℕ) → expected.ifs ≤ 254 → AreOctets b
+pub checked : (layout : Layout) (kind : Kind) (expected : Expected) (b : List ℕ) → IsFieldSize expected.ifs
+    → AreOctets b
     → OneText (Checks layout kind expected b)
-checked layout kind expected b small octets =
+checked layout kind expected b size octets =
     let c = (codec_of kind expected).codec in
     told-once c (λ v n. accepted_in layout kind n) (refused_in layout kind c.name) b
-    (judged kind expected b small octets)
+    (judged kind expected b size octets)
 
-pub shown : (layout : Layout) (kind : Kind) (expected : Expected) (b : List ℕ) → expected.ifs ≤ 254 → AreOctets b
+pub shown : (layout : Layout) (kind : Kind) (expected : Expected) (b : List ℕ) → IsFieldSize expected.ifs → AreOctets b
     → OneText (Shows layout kind expected b)
-shown layout kind expected b small octets =
+shown layout kind expected b size octets =
     let c = (codec_of kind expected).codec in
-    told-once c (shown_in false layout kind c) (refused_in layout kind c.name) b (judged kind expected b small octets)
+    told-once c (shown_in false layout kind c) (refused_in layout kind c.name) b (judged kind expected b size octets)
 
 pub tidied : (b : List ℕ) → AreOctets b → OneText (Tidies b)
 tidied b octets = told-once forest_codec (λ v n. tidied_text v) (refused_text forest_codec.name) b

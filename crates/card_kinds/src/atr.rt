@@ -9,7 +9,7 @@ use crate::atr_members::push_members;
 use crate::codec::{Codec, Outcome};
 use crate::shown::{Showable, Shown};
 use atr_core::{Atr, AtrReason, Convention, check, decode};
-use card_words::{Expected, Layout};
+use card_words::{Expected, FieldSize, Layout};
 use notes::atr_refusal_note;
 use octet_core::Stop;
 use std::alloc::{AllocError, Global};
@@ -42,7 +42,7 @@ impl Codec for Atr {
         alloc: Global,
         octets: &[u8],
         stop: Stop<AtrReason>,
-        _expected: Expected,
+        _ifs: FieldSize,
     ) -> Result<String, AllocError> {
         atr_refusal_note(alloc, octets, stop)
     }

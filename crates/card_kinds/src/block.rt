@@ -11,7 +11,7 @@ use crate::codec::{Codec, Outcome};
 use crate::shown::{Showable, Shown};
 use crate::text::{push_hex, push_octet, push_word};
 use block_core::{Block, BlockReason, BlockRef, Fault, Number, Pcb, S};
-use card_words::{Expected, Layout};
+use card_words::{Expected, FieldSize, Layout};
 use notes::{block_refusal_note, lrc_note, nad_note, pcb_note, push_count_note, push_note};
 use octet_core::Stop;
 use std::alloc::{AllocError, Global};
@@ -26,7 +26,7 @@ impl Codec for Block {
     ghost named = { λ _. refl };
 
     fn taken(_alloc: Global, octets: &[u8], expected: Expected) -> Outcome<usize, BlockReason> {
-        let (_, taken) = BlockRef::decode(octets, expected.ifs)?;
+        let (_, taken) = BlockRef::decode(octets, expected.ifs.get())?;
         Ok(taken)
     }
 
@@ -37,7 +37,7 @@ impl Codec for Block {
         layout: Layout,
         noted: bool,
     ) -> Outcome<Shown, BlockReason> {
-        let (block, taken) = BlockRef::decode(octets, expected.ifs)?;
+        let (block, taken) = BlockRef::decode(octets, expected.ifs.get())?;
         let lrc = last(&block, &octets[..taken]);
         let checked = Checked { block, lrc };
         Ok(Shown::of(alloc, &checked, taken, expected.kind, layout, noted)?)
@@ -47,7 +47,7 @@ impl Codec for Block {
         alloc: Global,
         octets: &[u8],
         stop: Stop<BlockReason>,
-        _expected: Expected,
+        _ifs: FieldSize,
     ) -> Result<String, AllocError> {
         block_refusal_note(alloc, octets, stop)
     }

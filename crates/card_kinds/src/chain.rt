@@ -1,6 +1,6 @@
 //! What the program says of a chain.
 
-ghost use Rattle.std.specs.Prelude.{◌≡◌, ◌≤◌, ◌++◌, ℕ, List, length, true, None, refl, IfOk, IfErr, OnOk, string_bytes};
+ghost use Rattle.std.specs.Prelude.{◌≡◌, ◌++◌, ℕ, List, length, true, None, refl, IfOk, IfErr, OnOk, string_bytes};
 ghost use Rattle.octet_core.specs.Grammar.{self_ended, RefusesUnlessMemory};
 ghost use Rattle.chain_core.specs.Chain.{chain_blocks, message_of, IsChain, IsReason};
 ghost use Rattle.chain_core.specs.Cut.{cut_of};
@@ -12,7 +12,7 @@ use crate::codec::{Codec, Outcome};
 use crate::shown::{Showable, Shown};
 use crate::text::{push_hex, push_word};
 use block_core::{Block, Number, encode};
-use card_words::{Expected, Layout};
+use card_words::{Expected, FieldSize, Layout};
 use chain_core::{ChainReason, LONGEST_MESSAGE, Receiver, cut};
 use notes::{chain_refusal_note, push_count_note};
 use octet_core::{Refused, Stop};
@@ -48,12 +48,9 @@ impl Codec for Receiver {
         alloc: Global,
         octets: &[u8],
         stop: Stop<ChainReason>,
-        expected: Expected,
+        ifs: FieldSize,
     ) -> Result<String, AllocError> {
-        match expected.ifs {
-            ifs @ 1..=254 => chain_refusal_note(alloc, octets, stop, ifs),
-            _ => Ok(String::new(alloc)),
-        }
+        chain_refusal_note(alloc, octets, stop, ifs.get())
     }
 }
 
@@ -102,17 +99,15 @@ impl<'a> Joined<'a> {
 fn received(
     alloc: Global,
     octets: &[u8],
-    ifs: u8,
+    ifs: FieldSize,
     number: Number,
 ) -> Result<(Receiver, usize), Refused<ChainReason>>
-    requires least { 1 ≤ ifs }
-    requires most { ifs ≤ 254 }
     ensures found { IfOk result (λ x. IsReceived ifs number octets.now x.0 x.1) }
     ensures refused { IfErr result
         (RefusesUnlessMemory self_ended (IsChain ifs number longest_message)
         (IsReason ifs number longest_message) octets.now) }
 {
-    let Ok(mut receiver) = Receiver::new(alloc, ifs, number, LONGEST_MESSAGE) else {
+    let Ok(mut receiver) = Receiver::new(alloc, ifs.get(), number, LONGEST_MESSAGE) else {
         return Err(Refused::Memory);
     };
     match receiver.feed(octets) {
@@ -125,14 +120,17 @@ fn received(
 }
 
 /// The blocks of the chain into which a message is cut, a line a block.
-pub fn blocks(alloc: Global, message: &[u8], ifs: u8, number: Number) -> Result<String, AllocError>
-    requires least { 1 ≤ ifs }
-    requires most { ifs ≤ 254 }
+pub fn blocks(
+    alloc: Global,
+    message: &[u8],
+    ifs: FieldSize,
+    number: Number,
+) -> Result<String, AllocError>
     ensures { IfOk result (λ text.
         string_bytes text ≡ blocks_text (chain_blocks number (cut_of ifs message.now))) }
 {
     let mut lines = String::new(alloc);
-    for block in cut(message, ifs, number) {
+    for block in cut(message, ifs.get(), number) {
         push_block(&mut lines, &block)?;
         lines.push_str("\n")?;
     }

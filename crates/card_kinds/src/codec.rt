@@ -1,13 +1,13 @@
 //! The codecs of the kinds, and what the program says of octets by each.
 
-ghost use Rattle.std.specs.Prelude.{◌≡◌, ◌≤◌, ℕ, false, IfOk, IfErr, string_bytes};
+ghost use Rattle.std.specs.Prelude.{◌≡◌, ℕ, false, IfOk, IfErr, string_bytes};
 ghost use Rattle.card_words.specs.declared.request.Expected.{Expected as AnyExpected};
 ghost use Rattle.card_kinds.specs.Verdicts.{ChecksBy, ShowsBy, shown_in, status_of};
 ghost use Rattle.card_kinds.specs.Codec.{Codec as AnyCodec, IsVerdict, StopsUnlessMemory, Takes};
 
 use crate::answer::Answer;
 use crate::shown::Shown;
-use card_words::{Expected, Layout};
+use card_words::{Expected, FieldSize, Layout};
 use octet_core::{Named, Refused, Stop};
 use std::alloc::{AllocError, Global};
 
@@ -39,8 +39,6 @@ pub trait Codec {
 
     /// How many octets the value takes that they spell.
     fn taken(alloc: Global, octets: &[u8], expected: Expected) -> Outcome<usize, Self::Reason>
-        requires least { 1 ≤ expected.ifs }
-        requires most { expected.ifs ≤ 254 }
         ensures found { IfOk result (λ n. (v : Value) × Takes (codec expected) octets.now v n) }
         ensures refused { IfErr result (StopsUnlessMemory (codec expected) octets.now) };
 
@@ -52,8 +50,6 @@ pub trait Codec {
         layout: Layout,
         noted: bool,
     ) -> Outcome<Shown, Self::Reason>
-        requires least { 1 ≤ expected.ifs }
-        requires most { expected.ifs ≤ 254 }
         ensures found { IfOk result
             (λ x. (v : Value) × Takes (codec expected) octets.now v x.taken
             × (string_bytes x.text ≡ shown_in noted layout expected.kind (codec expected) v
@@ -65,7 +61,7 @@ pub trait Codec {
         alloc: Global,
         octets: &[u8],
         stop: Stop<Self::Reason>,
-        expected: Expected,
+        ifs: FieldSize,
     ) -> Result<String, AllocError>;
 
     /// A reason is called by its name.
@@ -79,16 +75,15 @@ pub fn check_with_verdict<C: Codec>(
     octets: &[u8],
     expected: Expected,
 ) -> Result<Judged<C::Reason>, AllocError>
-    requires least { 1 ≤ expected.ifs }
-    requires most { expected.ifs ≤ 254 }
     ensures told { IfOk result (λ judged. ChecksBy layout expected.kind (C.codec expected)
         octets.now judged.answer.text judged.answer.status) }
     ensures verdict { IfOk result (λ judged.
         IsVerdict (C.codec expected) octets.now judged.verdict) }
 {
+    let kind = expected.kind;
     match C::taken(alloc, octets, expected) {
         Ok(taken) => {
-            let answer = Answer::accepted(alloc, layout, expected.kind, taken)?;
+            let answer = Answer::accepted(alloc, layout, kind, taken)?;
             Ok(Judged {
                 answer,
                 verdict: Ok(taken),
@@ -96,7 +91,7 @@ pub fn check_with_verdict<C: Codec>(
             })
         }
         Err(Refused::Stop(stop)) => {
-            let answer = Answer::refused_in(alloc, layout, expected.kind, stop)?;
+            let answer = Answer::refused_in(alloc, layout, kind, stop)?;
             Ok(Judged {
                 answer,
                 verdict: Err(stop),
@@ -116,14 +111,13 @@ pub fn show_with_verdict<C: Codec>(
     octets: &[u8],
     expected: Expected,
 ) -> Result<Judged<C::Reason>, AllocError>
-    requires least { 1 ≤ expected.ifs }
-    requires most { expected.ifs ≤ 254 }
     ensures told { IfOk result (λ judged. ShowsBy noted layout expected.kind (C.codec expected)
         octets.now judged.answer.text judged.answer.status) }
     ensures verdict { IfOk result (λ judged.
         IsVerdict (C.codec expected) octets.now judged.verdict) }
     ensures ended { IfOk result (λ judged. judged.answer.status ≡ status_of judged.verdict) }
 {
+    let Expected { kind, ifs, .. } = expected;
     match C::shown(alloc, octets, expected, layout, noted) {
         Ok(Shown { text, taken }) => Ok(Judged {
             answer: Answer::told(text),
@@ -131,8 +125,8 @@ pub fn show_with_verdict<C: Codec>(
             note: String::new(alloc),
         }),
         Err(Refused::Stop(stop)) => {
-            let note = refusal_note::<C>(alloc, noted, octets, stop, expected)?;
-            let answer = Answer::refused_in(alloc, layout, expected.kind, stop)?;
+            let note = refusal_note::<C>(alloc, noted, octets, stop, ifs)?;
+            let answer = Answer::refused_in(alloc, layout, kind, stop)?;
             Ok(Judged {
                 answer,
                 verdict: Err(stop),
@@ -149,10 +143,10 @@ fn refusal_note<C: Codec>(
     noted: bool,
     octets: &[u8],
     stop: Stop<C::Reason>,
-    expected: Expected,
+    ifs: FieldSize,
 ) -> Result<String, AllocError> {
     if noted {
-        C::refusal_note(alloc, octets, stop, expected)
+        C::refusal_note(alloc, octets, stop, ifs)
     } else {
         Ok(String::new(alloc))
     }
@@ -165,8 +159,6 @@ pub(crate) fn check<C: Codec>(
     octets: &[u8],
     expected: Expected,
 ) -> Result<Answer, AllocError>
-    requires least { 1 ≤ expected.ifs }
-    requires most { expected.ifs ≤ 254 }
     ensures { IfOk result (λ answer. ChecksBy layout expected.kind (C.codec expected) octets.now
         answer.text answer.status) }
 {
@@ -181,8 +173,6 @@ pub(crate) fn show<C: Codec>(
     octets: &[u8],
     expected: Expected,
 ) -> Result<Answer, AllocError>
-    requires least { 1 ≤ expected.ifs }
-    requires most { expected.ifs ≤ 254 }
     ensures { IfOk result (λ answer. ShowsBy false layout expected.kind (C.codec expected)
         octets.now answer.text answer.status) }
 {

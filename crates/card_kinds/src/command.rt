@@ -8,7 +8,7 @@ use crate::codec::{Codec, Outcome};
 use crate::shown::{Showable, Shown};
 use crate::text::{push_hex, push_word};
 use apdu_core::{Command, CommandReason, CommandRef, Shape};
-use card_words::{Expected, Layout};
+use card_words::{Expected, FieldSize, Layout};
 use notes::{le_note, push_header_note, push_note, push_part_note};
 use octet_core::Stop;
 use std::alloc::{AllocError, Global};
@@ -42,7 +42,7 @@ impl Codec for Command {
         alloc: Global,
         _octets: &[u8],
         _stop: Stop<CommandReason>,
-        _expected: Expected,
+        _ifs: FieldSize,
     ) -> Result<String, AllocError> {
         Ok(String::new(alloc))
     }

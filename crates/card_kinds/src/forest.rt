@@ -17,7 +17,7 @@ use crate::codec::{Codec, Judged, Outcome};
 use crate::json::push_separator;
 use crate::shown::{Showable, Shown};
 use crate::text::{octets_word, push_hex, push_word};
-use card_words::{Expected, Layout};
+use card_words::{Expected, FieldSize, Layout};
 use notes::{forest_refusal_note, push_object_note};
 use octet_core::{Refused, Stop};
 use std::alloc::{AllocError, Global};
@@ -52,7 +52,7 @@ impl Codec for Forest {
         alloc: Global,
         octets: &[u8],
         stop: Stop<TlvReason>,
-        _expected: Expected,
+        _ifs: FieldSize,
     ) -> Result<String, AllocError> {
         forest_refusal_note(alloc, octets, stop, LARGEST_FOREST)
     }

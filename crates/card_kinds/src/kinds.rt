@@ -1,6 +1,6 @@
 //! What the program says of octets, by their kind.
 
-ghost use Rattle.std.specs.Prelude.{◌≤◌, IfOk};
+ghost use Rattle.std.specs.Prelude.{IfOk};
 ghost use Rattle.card_kinds.specs.Verdicts.{Checks, Shows};
 
 use crate::answer::Answer;
@@ -20,8 +20,6 @@ pub fn check(
     expected: Expected,
     octets: &[u8],
 ) -> Result<Answer, AllocError>
-    requires least { 1 ≤ expected.ifs }
-    requires most { expected.ifs ≤ 254 }
     ensures { IfOk result (λ answer.
         Checks layout expected.kind expected octets.now answer.text answer.status) }
 {
@@ -43,8 +41,6 @@ pub fn show(
     expected: Expected,
     octets: &[u8],
 ) -> Result<Answer, AllocError>
-    requires least { 1 ≤ expected.ifs }
-    requires most { expected.ifs ≤ 254 }
     ensures { IfOk result (λ answer.
         Shows layout expected.kind expected octets.now answer.text answer.status) }
 {

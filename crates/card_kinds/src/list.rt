@@ -12,7 +12,7 @@ use crate::codec::{Codec, Judged, Outcome};
 use crate::json::push_separator;
 use crate::shown::{Showable, Shown};
 use crate::text::{octets_word, push_hex};
-use card_words::{Expected, Fault, Knowns, Layout};
+use card_words::{Expected, Fault, FieldSize, Knowns, Layout};
 use notes::push_list_note;
 use octet_core::{Refused, Stop};
 use std::alloc::{AllocError, Global};
@@ -47,7 +47,7 @@ impl Codec for Dol {
         alloc: Global,
         _octets: &[u8],
         _stop: Stop<DolReason>,
-        _expected: Expected,
+        _ifs: FieldSize,
     ) -> Result<String, AllocError> {
         Ok(String::new(alloc))
     }

@@ -8,7 +8,7 @@ use crate::codec::{Codec, Outcome};
 use crate::shown::{Showable, Shown};
 use crate::text::{push_hex, push_word};
 use apdu_core::{Response, ResponseReason, ResponseRef, StatusClass, status_class};
-use card_words::{Expected, Layout};
+use card_words::{Expected, FieldSize, Layout};
 use notes::push_status_note;
 use octet_core::Stop;
 use std::alloc::{AllocError, Global};
@@ -42,7 +42,7 @@ impl Codec for Response {
         alloc: Global,
         _octets: &[u8],
         _stop: Stop<ResponseReason>,
-        _expected: Expected,
+        _ifs: FieldSize,
     ) -> Result<String, AllocError> {
         Ok(String::new(alloc))
     }

@@ -1,6 +1,7 @@
 -- That what is asked for has one answer.
-use Rattle.std.proofs.Common.{◌≡◌, ◌≤◌, ◌∙◌, ◌++◌, ℕ, List, [], ◌∷◌, Bool, true, false, if◌then◌else◌, nat_le, Result, Ok, Err, IfOk, ap, append-nil, append_assoc, codes, length, subst, sym, refl}
+use Rattle.std.proofs.Common.{◌≡◌, ◌∙◌, ◌++◌, ℕ, List, [], ◌∷◌, Bool, true, false, if◌then◌else◌, nat_le, Result, Ok, Err, IfOk, ap, append-nil, append_assoc, codes, length, subst, sym, refl}
 use Rattle.octet_core.specs.Octets.{AreOctets}
+use Rattle.octet_core.specs.Sizes.{IsFieldSize}
 use Rattle.card_tool.specs.ExchangeTexts.{TellsFile}
 use Rattle.card_tool.specs.RecordTexts.{Records}
 use Rattle.card_kinds.proofs.OneOf.{OneText, ended-by, plain}
@@ -69,16 +70,17 @@ told-of Told once (Ok octets) = once octets
 told-of Told once (Err fault) = ended-by (fault_text fault) status.Fault
 
 -- what is told of octets without notes
-tells-once : (aim : Aim) (how : Layout) (expected : Expected) → expected.ifs ≤ 254 → (b : List ℕ) → AreOctets b
+tells-once : (aim : Aim) (how : Layout) (expected : Expected) → IsFieldSize expected.ifs → (b : List ℕ) → AreOctets b
     → OneText (Tells (plain_aim aim) how expected b)
-tells-once Check how expected small b = checked how expected.kind expected b small
-tells-once Show how expected small b = shown how expected.kind expected b small
-tells-once Note how expected small b = shown how expected.kind expected b small
+tells-once Check how expected size b = checked how expected.kind expected b size
+tells-once Show how expected size b = shown how expected.kind expected b size
+tells-once Note how expected size b = shown how expected.kind expected b size
 
 -- a line's text without notes
-line-once : (task : Task) → task.expected.ifs ≤ 254 → (line : List ℕ) → OneText (IsLineTold (plain_task task) line)
-line-once task small line =
-    let told = told-octets (IsTold (plain_task task)) (tells-once task.aim task.layout task.expected small)
+line-once : (task : Task) → IsFieldSize task.expected.ifs → (line : List ℕ)
+    → OneText (IsLineTold (plain_task task) line)
+line-once task size line =
+    let told = told-octets (IsTold (plain_task task)) (tells-once task.aim task.layout task.expected size)
     (line_octets line) (line-octets line)
     in
     record {
@@ -136,7 +138,7 @@ module _ (Line : List ℕ → List ℕ → Status → Type 0) (once : (line : Li
 one-answer : (request : Request) (file : Result (List ℕ) Fault) → IsSized request → HasOctets request
     → (NeedsOctets request → IfOk file AreOctets) → OneText (IsAnswerTo (plain_request request) file)
 one-answer (Tell task given) file sized octets as_read =
-    told-octets (IsTold (plain_task task)) (tells-once task.aim task.layout task.expected sized.1)
+    told-octets (IsTold (plain_task task)) (tells-once task.aim task.layout task.expected sized)
     (octets_given given file)
     (octets-given given file octets as_read)
 one-answer (BuildChain ifs number message) file sized octets as_read =
@@ -160,7 +162,7 @@ one-asked : (asked : Asked) (file : Result (List ℕ) Fault) → AreSized asked 
 one-asked (Once request) file sized octets as_read = one-answer request file sized octets as_read
 one-asked (Lines task) file sized octets as_read =
     told-of (λ b. AreLinesTold (plain_task task) (all_lines b))
-    (λ b. told-each-once (IsLineTold (plain_task task)) (line-once task sized.1) (all_lines b)) file
+    (λ b. told-each-once (IsLineTold (plain_task task)) (line-once task sized) (all_lines b)) file
 
 -- ---- with notes
 

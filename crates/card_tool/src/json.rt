@@ -108,9 +108,9 @@ fn file_subject(task: FileTask) -> &'static str
 }
 
 /// An answer as an object of JSON, with its explanation as a member.
-pub(crate) fn in_json(alloc: Global, object: Object, made: WithNote) -> Result<Octets, AllocError>
+pub(crate) fn in_json(alloc: Global, object: &Object, made: WithNote) -> Result<Octets, AllocError>
     ensures { IfOk result (λ text. text ≡ with_explanation
-        (object_as object made.answer.status made.answer.text) (said_of made.note)) }
+        (object_as object.now made.answer.status made.answer.text) (said_of made.note)) }
 {
     let WithNote { answer, note } = made;
     let text = object_of(alloc, object, answer)?;
@@ -169,11 +169,11 @@ fn with_member(object: Octets, member: &[u8]) -> Result<Octets, AllocError>
 }
 
 /// An answer as an object of JSON.
-fn object_of(alloc: Global, object: Object, answer: Answer) -> Result<Octets, AllocError>
-    ensures { IfOk result (λ text. text ≡ object_as object answer.status answer.text) }
+fn object_of(alloc: Global, object: &Object, answer: Answer) -> Result<Octets, AllocError>
+    ensures { IfOk result (λ text. text ≡ object_as object.now answer.status answer.text) }
 {
     match object {
-        Object::Told(task) => told_object(alloc, task, answer),
+        Object::Told(task) => told_object(alloc, *task, answer),
         Object::Report(about) => object_of_lines(alloc, about, answer.text.get()),
         Object::Judged(about) => judged_object(alloc, about, answer),
         Object::Content(about) => content_object(alloc, about, answer),

@@ -1,6 +1,6 @@
 //! Answers about octets, each with a note that is made from the verdict of the answer.
 
-ghost use Rattle.std.specs.Prelude.{◌≡◌, ◌≤◌, ◌++◌, [], IfOk, IsOkAnd, string_bytes};
+ghost use Rattle.std.specs.Prelude.{◌≡◌, ◌++◌, [], IfOk, IsOkAnd, string_bytes};
 ghost use Rattle.card_kinds.specs.Codec.{IsVerdict};
 ghost use Rattle.card_kinds.specs.ListTexts.{list_codec};
 ghost use Rattle.card_kinds.specs.Verdicts.{Checks, ChecksBy, IsFilled, ShowsBy, ShowsWhere, Tidies};
@@ -88,8 +88,6 @@ pub(crate) fn answer_about(
     telling: Telling,
     octets: &[u8],
 ) -> Result<WithNote, AllocError>
-    requires least { 1 ≤ telling.task.expected.ifs }
-    requires most { telling.task.expected.ifs ≤ 254 }
     ensures { IfOk result (AreOf (IsTold telling.task octets.now)
         (SaysIf telling.explains (IsKindNote telling.task.expected.kind telling.task.expected octets.now))) }
 {
@@ -102,8 +100,6 @@ pub(crate) fn answer_about(
 
 /// The value itself with the notes on its lines, as lines or as an object, and a note.
 fn noted_in(alloc: Global, telling: Telling, octets: &[u8]) -> Result<WithNote, AllocError>
-    requires least { 1 ≤ telling.task.expected.ifs }
-    requires most { telling.task.expected.ifs ≤ 254 }
     ensures { IfOk result (AreOf (Tells aim.Note telling.task.layout telling.task.expected
         octets.now)
         (SaysIf telling.explains (IsKindNote telling.task.expected.kind telling.task.expected octets.now))) }
@@ -116,9 +112,7 @@ fn noted_in(alloc: Global, telling: Telling, octets: &[u8]) -> Result<WithNote, 
 
 /// The value itself as lines with notes on them, and a note.
 fn noted_value(alloc: Global, telling: Telling, octets: &[u8]) -> Result<WithNote, AllocError>
-    requires least { 1 ≤ telling.task.expected.ifs }
-    requires most { telling.task.expected.ifs ≤ 254 }
-    requires lines { telling.task.layout ≡ layout.Lines }
+    requires { telling.task.layout ≡ layout.Lines }
     ensures { IfOk result (AreOf (ShowsNoted telling.task.expected.kind telling.task.expected
         octets.now)
         (SaysIf telling.explains (IsKindNote telling.task.expected.kind telling.task.expected octets.now))) }
@@ -131,9 +125,7 @@ fn noted_value(alloc: Global, telling: Telling, octets: &[u8]) -> Result<WithNot
 
 /// The value itself as an object with the notes on its lines, and a note.
 fn noted_object(alloc: Global, telling: Telling, octets: &[u8]) -> Result<WithNote, AllocError>
-    requires least { 1 ≤ telling.task.expected.ifs }
-    requires most { telling.task.expected.ifs ≤ 254 }
-    requires object { telling.task.layout ≡ layout.Json }
+    requires { telling.task.layout ≡ layout.Json }
     ensures { IfOk result (AreOf (ShowsNotedObject telling.task.expected.kind telling.task.expected
         octets.now)
         (SaysIf telling.explains (IsKindNote telling.task.expected.kind telling.task.expected octets.now))) }
@@ -146,8 +138,6 @@ fn noted_object(alloc: Global, telling: Telling, octets: &[u8]) -> Result<WithNo
 
 /// How many octets the value takes, with a note where it is asked for.
 fn checked(alloc: Global, telling: Telling, octets: &[u8]) -> Result<WithNote, AllocError>
-    requires least { 1 ≤ telling.task.expected.ifs }
-    requires most { telling.task.expected.ifs ≤ 254 }
     ensures { IfOk result (AreOf
         (Checks telling.task.layout telling.task.expected.kind telling.task.expected octets.now)
         (SaysIf telling.explains (IsKindNote telling.task.expected.kind telling.task.expected octets.now))) }
@@ -170,8 +160,6 @@ fn shown(
     noted: bool,
     octets: &[u8],
 ) -> Result<Annotatable, AllocError>
-    requires least { 1 ≤ telling.task.expected.ifs }
-    requires most { telling.task.expected.ifs ≤ 254 }
     ensures { IfOk result (AreAnnotatable noted telling.task.layout
         (ShowsWhere noted telling.task.layout telling.task.expected.kind telling.task.expected
         octets.now)
@@ -197,8 +185,6 @@ fn checked_by<C: Codec>(
 ) -> Result<WithNote, AllocError>
 where
     C::Reason: Explained,
-    requires least { 1 ≤ telling.task.expected.ifs }
-    requires most { telling.task.expected.ifs ≤ 254 }
     ensures { IfOk result (AreOf (ChecksBy telling.task.layout telling.task.expected.kind
         (C.codec telling.task.expected) octets.now)
         (SaysIf telling.explains (IsNoteBy (C.codec telling.task.expected) C.Reason.says
@@ -209,12 +195,13 @@ where
         expected,
         ..
     } = telling.task;
+    let kind = expected.kind;
     let Judged {
         answer,
         verdict,
         ..
     } = check_with_verdict::<C>(alloc, layout, octets, expected)?;
-    let note = asked_note(alloc, telling.explains, expected.kind, octets, verdict);
+    let note = asked_note(alloc, telling.explains, kind, octets, verdict);
     Ok(WithNote { answer, note })
 }
 
@@ -228,8 +215,6 @@ fn shown_by<C: Codec>(
 ) -> Result<Annotatable, AllocError>
 where
     C::Reason: Explained,
-    requires least { 1 ≤ telling.task.expected.ifs }
-    requires most { telling.task.expected.ifs ≤ 254 }
     ensures { IfOk result (AreAnnotatable noted telling.task.layout (ShowsBy noted
         telling.task.layout telling.task.expected.kind (C.codec telling.task.expected) octets.now)
         (SaysIf telling.explains (IsNoteBy (C.codec telling.task.expected) C.Reason.says
@@ -241,14 +226,15 @@ where
         expected,
         ..
     } = telling.task;
+    let kind = expected.kind;
     let Judged {
         answer,
         verdict,
         note: words,
     } = show_with_verdict::<C>(alloc, layout, noted, octets, expected)?;
-    let note = asked_note(alloc, telling.explains, expected.kind, octets, verdict);
+    let note = asked_note(alloc, telling.explains, kind, octets, verdict);
     let line = refusal_line(alloc, noted, layout, verdict)?;
-    let words = words_on(alloc, noted, expected.kind, octets, verdict, words)?;
+    let words = words_on(alloc, noted, kind, octets, verdict, words)?;
     Ok(Annotatable {
         said: WithNote { answer, note },
         line,

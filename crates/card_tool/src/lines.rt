@@ -1,6 +1,6 @@
 //! Lines of octets, each of which is answered as it comes.
 
-ghost use Rattle.std.specs.Prelude.{◌≡◌, ◌≤◌, ◌⊎◌, ◌++◌, ◌∷◌, [], ℕ, List, IfOk, IfErr, OnOk, OnErr, string_bytes};
+ghost use Rattle.std.specs.Prelude.{◌≡◌, ◌⊎◌, ◌++◌, ◌∷◌, [], ℕ, List, IfOk, IfErr, OnOk, OnErr, string_bytes};
 ghost use Rattle.card_tool.specs.Answers.{lines_text};
 ghost use Rattle.card_tool.specs.Conversations.{Event, Happens, told, untold};
 ghost use Rattle.card_tool.specs.LineAnswers.{AreTelling, HasAnswered, HasBegun, HasSaid, IsRest, Tells, WritesLines};
@@ -49,8 +49,6 @@ pub fn answer_lines<C: Conversation>(
     telling: Telling,
     conversation: &mut C,
 ) -> Status
-    requires least { 1 ≤ telling.task.expected.ifs }
-    requires most { telling.task.expected.ifs ≤ 254 }
     ensures { HasAnswered telling (C.said conversation.old) (C.said conversation.new) result }
 {
     let mut told = AnsweredLines {
@@ -84,8 +82,6 @@ pub(crate) fn tell_lines<R: Source, W: Sink>(
     reader: &mut R,
     writer: &mut W,
 ) -> Status
-    requires least { 1 ≤ telling.task.expected.ifs }
-    requires most { telling.task.expected.ifs ≤ 254 }
     ensures { WritesLines telling (R.remaining reader.old) (R.remaining reader.new)
         (R.failures reader.old) (R.failures reader.new) (W.contents writer.old)
         (W.contents writer.new) (W.failures writer.old) (W.failures writer.new) result }
@@ -128,8 +124,6 @@ fn tell<C: Conversation>(text: &[u8], status: Status, conversation: &mut C) -> S
 impl AnsweredLines {
     /// Takes the octets of a piece, and answers the lines that end in it.
     fn feed(&mut self, alloc: Global, piece: &[u8]) -> Result<(), AllocError>
-        requires least { 1 ≤ self.old.telling.task.expected.ifs }
-        requires most { self.old.telling.task.expected.ifs ≤ 254 }
         ensures telling { self.new.telling ≡ self.old.telling }
         ensures said { OnOk result
             ((read written : List ℕ)
@@ -150,8 +144,6 @@ impl AnsweredLines {
 
     /// Takes an octet, and answers the line that it ends.
     fn take(&mut self, alloc: Global, octet: u8) -> Result<(), AllocError>
-        requires least { 1 ≤ self.old.telling.task.expected.ifs }
-        requires most { self.old.telling.task.expected.ifs ≤ 254 }
         ensures telling { self.new.telling ≡ self.old.telling }
         ensures said { OnOk result
             ((read written : List ℕ)
@@ -171,8 +163,6 @@ impl AnsweredLines {
 
     /// Answers the line under way, and begins another.
     fn answer(&mut self, alloc: Global) -> Result<(), AllocError>
-        requires least { 1 ≤ self.old.telling.task.expected.ifs }
-        requires most { self.old.telling.task.expected.ifs ≤ 254 }
         ensures telling { self.new.telling ≡ self.old.telling }
         ensures told { OnOk result
             ((text : List ℕ) × (ended : AnyStatus)
@@ -191,8 +181,6 @@ impl AnsweredLines {
 
     /// Answers the last line, where it has octets: it needs no end.
     fn last(&mut self, alloc: Global) -> Result<(), AllocError>
-        requires least { 1 ≤ self.old.telling.task.expected.ifs }
-        requires most { self.old.telling.task.expected.ifs ≤ 254 }
         ensures told { OnOk result
             ((read written : List ℕ)
             → HasSaid self.old.telling read written self.old.line.items self.old.text.items
@@ -208,8 +196,6 @@ impl AnsweredLines {
 
     /// Answers the last line, and tells what is left.
     fn ended<C: Conversation>(mut self, alloc: Global, conversation: &mut C) -> Status
-        requires least { 1 ≤ self.telling.task.expected.ifs }
-        requires most { self.telling.task.expected.ifs ≤ 254 }
         ensures { (read written : List ℕ)
             → HasSaid self.telling read written self.line.items self.text.items self.status
             → Tells (IsRest self.telling (all_lines read) written) (C.said conversation.old)
@@ -236,14 +222,13 @@ impl AnsweredLines {
 
 /// What a line of octets is answered by.
 fn line_answer(alloc: Global, telling: Telling, line: &[u8]) -> Result<Answer, AllocError>
-    requires least { 1 ≤ telling.task.expected.ifs }
-    requires most { telling.task.expected.ifs ≤ 254 }
     ensures { IfOk result (λ answer. IsLineSaid telling line.now answer.text answer.status) }
 {
+    let task = telling.task;
     let WithNote { answer, note } = line_told(alloc, telling, line)?;
     let note = note?;
     let status = answer.status;
-    let text = said_text(alloc, telling.task, answer, note)?;
+    let text = said_text(alloc, task, answer, note)?;
     Ok(Answer { text, status })
 }
 

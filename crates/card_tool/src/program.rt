@@ -8,7 +8,7 @@ ghost use Rattle.card_tool.specs.Files.{IsBegun};
 ghost use Rattle.card_tool.specs.LineAnswers.{AskForNoLines, WritesLines};
 ghost use Rattle.card_tool.specs.LineNotes.{telling_of};
 ghost use Rattle.card_words.specs.Texts.{fault_text};
-ghost use Rattle.card_words.specs.Words.{AskForFile, AskForLines, IsSized};
+ghost use Rattle.card_words.specs.Words.{AskForFile, AskForLines};
 ghost use Rattle.command_line.specs.Form.{texts};
 ghost use Rattle.card_words.specs.declared.request.Task.{Task as AnyTask};
 ghost use Rattle.card_kinds.specs.declared.status.Status.TheVariants as ended;
@@ -75,8 +75,7 @@ fn one_text<R: Source, W: Sink>(
     reader: &mut R,
     writer: &mut W,
 ) -> Status
-    requires read { IsReadFrom (texts words.now) read }
-    requires sized { IfOk read IsSized }
+    requires { IsReadFrom (texts words.now) read }
     ensures written { Writes (IsRightAsked (texts words.now) (R.remaining reader.old)
         (R.remaining reader.new) (R.failures reader.old) (R.failures reader.new))
         (W.contents writer.old) (W.contents writer.new) (W.failures writer.old)
@@ -138,8 +137,7 @@ fn answer_as_asked<R: Source>(
     read: Result<Request, Fault>,
     reader: &mut R,
 ) -> Result<WithNote, Fault>
-    requires read { IsReadFrom (texts words.now) read }
-    requires sized { IfOk read IsSized }
+    requires { IsReadFrom (texts words.now) read }
     ensures told { Gives (IsRightAsked (texts words.now) (R.remaining reader.old)
         (R.remaining reader.new) (R.failures reader.old) (R.failures reader.new)) result }
     ensures unread { (AskForFile (texts words.now) → ⊥) → reader.new ≡ reader.old }
@@ -159,8 +157,7 @@ fn answer_in_json<R: Source>(
     read: Result<Request, Fault>,
     reader: &mut R,
 ) -> Result<WithNote, Fault>
-    requires read { IsReadFrom (texts words.now) read }
-    requires sized { IfOk read IsSized }
+    requires { IsReadFrom (texts words.now) read }
     ensures told { Gives (IsRightJson (texts words.now) (R.remaining reader.old)
         (R.remaining reader.new) (R.failures reader.old) (R.failures reader.new)) result }
     ensures unread { (AskForFile (texts words.now) → ⊥) → reader.new ≡ reader.old }
@@ -169,7 +166,7 @@ fn answer_in_json<R: Source>(
     let object = object_by(&read);
     let made = whole_reply(alloc, words, read, reader)?;
     let status = made.answer.status;
-    let text = in_json(alloc, object, made)?;
+    let text = in_json(alloc, &object, made)?;
     Ok(WithNote::alone(alloc, Answer { text, status }))
 }
 
@@ -180,8 +177,7 @@ fn whole_reply<R: Source>(
     read: Result<Request, Fault>,
     reader: &mut R,
 ) -> Result<WithNote, AllocError>
-    requires read { IsReadFrom (texts words.now) read }
-    requires sized { IfOk read IsSized }
+    requires { IsReadFrom (texts words.now) read }
     ensures told { IfOk result (λ made. IsSaid (texts words.now) (R.remaining reader.old)
         (R.remaining reader.new) (R.failures reader.old) (R.failures reader.new) made.answer.text
         (said_of made.note) made.answer.status) }

@@ -3,7 +3,7 @@
 //! The text and the status are the same whether an explanation is asked for or not. The crate explainer makes it; where
 //! memory for it is refused it is left out.
 
-ghost use Rattle.std.specs.Prelude.{◌≡◌, ◌≢◌, ◌≤◌, ℕ, List, Ok, true, false, IfOk, string_bytes};
+ghost use Rattle.std.specs.Prelude.{◌≡◌, ◌≢◌, ℕ, List, Ok, true, false, IfOk, string_bytes};
 ghost use Rattle.card_tool.specs.Answers.{IsReadFrom};
 ghost use Rattle.card_tool.specs.Explained.{octets_of, text_note, IsFaulted, IsNotedLine, IsTakenWith, Replies, RepliesTo, SaysOf};
 ghost use Rattle.card_tool.specs.Files.{largest_file, IsBegun};
@@ -13,7 +13,7 @@ ghost use Rattle.card_words.specs.declared.given.OctetSource.{OctetSource as Any
 ghost use Rattle.card_words.specs.declared.request.Asked.TheVariants.{Once};
 ghost use Rattle.card_words.specs.Given.{octets_in, IsFromReader};
 ghost use Rattle.card_words.specs.Value.{UnlessMemory};
-ghost use Rattle.card_words.specs.Words.{AskForFile, IsRead, IsSized, NeedsFile};
+ghost use Rattle.card_words.specs.Words.{AskForFile, IsRead, NeedsFile};
 ghost use Rattle.card_words.specs.declared.request.Request.{Request as AnyRequest};
 ghost use Rattle.command_line.specs.Form.{texts};
 
@@ -35,8 +35,7 @@ pub(crate) fn reply<R: Source>(
     read: Result<Request, Fault>,
     reader: &mut R,
 ) -> Result<WithNote, Fault>
-    requires read { IsReadFrom (texts words.now) read }
-    requires sized { IfOk read IsSized }
+    requires { IsReadFrom (texts words.now) read }
     ensures told { Replies (texts words.now) (R.remaining reader.old) (R.remaining reader.new)
         (R.failures reader.old) (R.failures reader.new) result }
     ensures unread { (AskForFile (texts words.now) → ⊥) → reader.new ≡ reader.old }
@@ -56,8 +55,7 @@ fn request_reply<R: Source>(
     request: Request,
     reader: &mut R,
 ) -> Result<WithNote, Fault>
-    requires read { IsRead (texts words.now) (Ok (Once request)) }
-    requires sized { IsSized request }
+    requires { IsRead (texts words.now) (Ok (Once request)) }
     ensures told { Replies (texts words.now) (R.remaining reader.old) (R.remaining reader.new)
         (R.failures reader.old) (R.failures reader.new) result }
     ensures unread { (AskForFile (texts words.now) → ⊥) → reader.new ≡ reader.old }
@@ -80,7 +78,6 @@ fn replied_to<R: Source>(
     explains: bool,
     reader: &mut R,
 ) -> Result<WithNote, Fault>
-    requires sized { IsSized request }
     ensures told { RepliesTo (texts words.now) request (R.remaining reader.old)
         (R.remaining reader.new)
         (R.failures reader.old) (R.failures reader.new) result }
@@ -133,8 +130,6 @@ fn octets_told<R: Source>(
     given: OctetSource,
     reader: &mut R,
 ) -> Result<WithNote, Fault>
-    requires least { 1 ≤ telling.task.expected.ifs }
-    requires most { telling.task.expected.ifs ≤ 254 }
     ensures told { (words : List (List ℕ))
         → RepliesTo words (AnyRequest.Tell telling.task given) (R.remaining reader.old)
         (R.remaining reader.new) (R.failures reader.old) (R.failures reader.new) result }

@@ -1,7 +1,7 @@
 //! What is said of a line of octets, with an explanation where one is asked for.
 
 ghost use Rattle.card_words.specs.declared.fault.Fault.TheVariants.{Memory};
-ghost use Rattle.std.specs.Prelude.{◌≡◌, ◌≢◌, ◌==◌, ◌≤◌, ◌++◌, ◌∷◌, ℕ, List, Bool, IfOk};
+ghost use Rattle.std.specs.Prelude.{◌≡◌, ◌≢◌, ◌==◌, ◌++◌, ◌∷◌, ℕ, List, Bool, IfOk};
 ghost use Rattle.card_tool.specs.Answers.{IsTold, IsToldOf};
 ghost use Rattle.card_tool.specs.Judged.{AreOf, SaysIf};
 ghost use Rattle.card_tool.specs.LineNotes.{fault_note, indented, indented_from, IsNoteOfLine};
@@ -32,8 +32,6 @@ pub(crate) fn line_told(
     telling: Telling,
     line: &[u8],
 ) -> Result<WithNote, AllocError>
-    requires least { 1 ≤ telling.task.expected.ifs }
-    requires most { telling.task.expected.ifs ≤ 254 }
     ensures { IfOk result (AreOf (IsToldOf (IsTold telling.task) (line_octets line.now))
         (SaysIf telling.explains (IsNoteOfLine telling.task line.now (line_octets line.now)))) }
 {

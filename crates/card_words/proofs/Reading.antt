@@ -1,5 +1,6 @@
 -- How words are read.
-use Rattle.std.proofs.Common.{◌≡◌, ◌<◌, ◌≤◌, ◌⊎◌, inl, inr, ℕ, List, [], false, Some, Result, Ok, Err, arith, refl, Bool, true, ◌∷◌, length, map, get_or, Bor, sym, ◌∙◌, le-leb}
+use Rattle.std.proofs.Common.{◌≡◌, ◌≤◌, ◌⊎◌, ◌&&◌, inl, inr, ℕ, List, [], false, Option, Some, None, if◌then◌else◌, nat_le, Result, Ok, Err, arith, refl, Bool, true, ◌∷◌, length, map, get_or, Bor, sym, ◌∙◌, le-leb}
+use Rattle.std.specs.Option.{ok_or, SomeIff}
 use Rattle.std.specs.Result.{result_unwrap_or}
 use Rattle.std.proofs.lemmas.Bool.Decides.{nat_tests}
 use Rattle.std.specs.Str.Parse.{ParsesUnsigned}
@@ -10,6 +11,7 @@ use Rattle.clap.specs.Kinds.{IsAmong}
 use Rattle.clap.specs.Words.{fault_of}
 use Rattle.clap.specs.declared.error.kind.ErrorKind.{ErrorKind}
 use Rattle.clap.specs.declared.error.kind.ErrorKind.TheVariants.{DisplayHelp, OutOfMemory}
+use Rattle.octet_core.specs.Sizes.{IsFieldSize}
 use Rattle.block_core.specs.declared.pcb.Number.{Number}
 use Rattle.block_core.specs.declared.pcb.Number.TheVariants.{Zero, One}
 use Rattle.card_words.specs.declared.request.Asked.{Asked}
@@ -32,13 +34,17 @@ byte-read otherwise word (Err e) h = go (is_unsigned_in 0 255 word) refl
     go false t = rw t refl
     go true t = let a = accepts-Accepts false (parser.Unsigned 0 255) word t in absurd (h (a.0, omega (arith, a.3)))
 
--- a number from 1 to 254 is the information size that the word says
-pub size-in : (word : List ℕ) (z : ℕ) → z ≡ byte_or 0 word → 1 ≤ z → z ≤ 254 → Ok z ≡ size_of (Some word)
-size-in word z e low high = rw e (grind (arith, nat_tests))
+-- a number that is a size of information fields is the one that the word says, and with any other the words are at fault
+sized-or-not : (n : ℕ) (size : Option ℕ) → SomeIff size (IsFieldSize n) n → (b : Bool)
+    → nat_le 1 n && nat_le n 254 ≡ b → ok_or size Words ≡ (if b then Ok n else Err Words)
+sized-or-not n (Some s) is true t = rw is.1 refl
+sized-or-not n (Some s) is false t = absurd (let low = is.0.0 in let high = is.0.1 in grind (arith, nat_tests))
+sized-or-not n None none true t = absurd (none (grind (arith, nat_tests)))
+sized-or-not n None none false t = refl
 
--- and with any other the words are at fault
-pub size-out : (word : List ℕ) (z : ℕ) → z ≡ byte_or 0 word → (z < 1) ⊎ (254 < z) → Err Words ≡ size_of (Some word)
-size-out word z e out = rw (← e) (grind (arith, nat_tests))
+pub size-read : (word : List ℕ) (n : ℕ) (size : Option ℕ) → n ≡ byte_or 0 word → SomeIff size (IsFieldSize n) n
+    → ok_or size Words ≡ size_of (Some word)
+size-read word n size e is = rw (← e) (sized-or-not n size is (nat_le 1 n && nat_le n 254) refl)
 
 -- ---- a parse
 

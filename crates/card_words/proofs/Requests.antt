@@ -8,11 +8,12 @@ use Rattle.hex.specs.declared.error.FromHexError.{FromHexError}
 use Rattle.hex.proofs.HexLemmas.{decode_of-ok}
 use Rattle.clap.specs.Words.{Row, all_of, first_of, subcommand_of}
 use Rattle.octet_core.specs.Octets.{AreOctets}
+use Rattle.octet_core.specs.Sizes.{IsFieldSize}
 use Rattle.card_words.specs.Given.{asks_for_lines, form_of, given_of, GivesOctets}
 use Rattle.card_words.specs.PairLines.{are_lines}
-use Rattle.card_words.specs.Session.{blocks_of, pair_of, pairs_of, AreOctetPairs, IsSize}
+use Rattle.card_words.specs.Session.{blocks_of, pair_of, pairs_of, AreOctetPairs}
 use Rattle.card_words.specs.Value.{◌>>=◌, hex_octets, octets_of_word, parted, UnlessMemory}
-use Rattle.card_words.specs.Words.{byte_or, size_of, number_of, number_of_word, needed, kind_of, expected_of, short_message, told_by, told_of, chain_by, chain_of, tidy_of, fill_of, build_words, build_of, end_of_word, atr_of, clock_of, judge_of, judged_ends, record_of, replay_of, all_or_none, asked_size, session_of, drawing_of, layout_of, request_by, show_aim, asked_by, asked_of, HasOctets, HaveOctets, IsRead, AreSized, IsSized, IsTaskSized, called_for_version, taken, called_for_help, not_taken, session_by, simulate_by, simulate_of, has_flag}
+use Rattle.card_words.specs.Words.{byte_or, size_of, number_of, number_of_word, needed, kind_of, expected_of, short_message, told_by, told_of, chain_by, chain_of, tidy_of, fill_of, build_words, build_of, end_of_word, atr_of, clock_of, judge_of, judged_ends, record_of, replay_of, all_or_none, asked_size, session_of, drawing_of, layout_of, request_by, show_aim, asked_by, asked_of, HasOctets, HaveOctets, IsRead, AreSized, IsSized, called_for_version, taken, called_for_help, not_taken, session_by, simulate_by, simulate_of, has_flag}
 use Rattle.command_line.specs.Form.{scard}
 use Rattle.card_words.specs.declared.fault.Fault.{Fault}
 use Rattle.card_words.specs.declared.fault.Fault.TheVariants.{Words}
@@ -63,11 +64,11 @@ word-octets word octets h =
     ]
 
 sized-by : (n ifs : ℕ) (b : Bool) → nat_le 1 n && nat_le n 254 ≡ b → (if b then Ok n else Err Words) ≡ Ok ifs
-    → (1 ≤ ifs) × (ifs ≤ 254)
+    → IsFieldSize ifs
 sized-by n ifs true t h = let e : n ≡ ifs = same n ifs h in grind (arith, nat_tests)
 sized-by n ifs false t h = cc h
 
-sized : (word : Option (List ℕ)) (ifs : ℕ) → size_of word ≡ Ok ifs → (1 ≤ ifs) × (ifs ≤ 254)
+sized : (word : Option (List ℕ)) (ifs : ℕ) → size_of word ≡ Ok ifs → IsFieldSize ifs
 sized None ifs h = let e : 254 ≡ ifs = same 254 ifs h in (omega arith, omega arith)
 sized (Some word) ifs h = sized-by (byte_or 0 word) ifs (nat_le 1 (byte_or 0 word) && nat_le (byte_or 0 word) 254) refl
     h
@@ -80,15 +81,14 @@ IsProper request = IsSized request × HasOctets request
 abbrev AreProper : Asked → Type 0
 AreProper asked = AreSized asked × HaveOctets asked
 
-expected-sized : (rows : List Row) (expected : Expected) → expected_of rows ≡ Ok expected → (1 ≤ expected.ifs)
-    × (expected.ifs ≤ 254)
+expected-sized : (rows : List Row) (expected : Expected) → expected_of rows ≡ Ok expected → IsFieldSize expected.ifs
 expected-sized rows expected h =
     let size = both-steps (size_of (first_of (codes "ifs") rows)) _ expected h in
     let number = both-steps (number_of (first_of (codes "number") rows)) _ expected size.2 in
     let kind_word = both-steps (needed (first_of (codes "kind") rows)) _ expected number.2 in
     let kind = both-steps (kind_of kind_word.0) _ expected kind_word.2 in
     let is = same _ expected kind.2 in
-    subst (λ (e : Expected). (1 ≤ e.ifs) × (e.ifs ≤ 254)) is (sized (first_of (codes "ifs") rows) size.0 size.1)
+    subst (λ (e : Expected). IsFieldSize e.ifs) is (sized (first_of (codes "ifs") rows) size.0 size.1)
 
 -- octets that a word gives, or that are on standard input
 given-octets : (hex form : Option (List ℕ)) (given : OctetSource) → given_of hex form ≡ Ok given → GivesOctets given
@@ -101,7 +101,7 @@ given-octets None (Some word) given h =
 given-octets (Some hex) (Some word) given h = cc h
 given-octets None None given h = cc h
 
-told-proper : (task : Task) (hex form : Option (List ℕ)) (asked : Asked) → IsTaskSized task
+told-proper : (task : Task) (hex form : Option (List ℕ)) (asked : Asked) → IsFieldSize task.expected.ifs
     → told_by task hex form ≡ Ok asked → AreProper asked
 told-proper task hex form asked small h =
     elim (one-of (asks_for_lines hex form) (Ok (Lines task)) _ asked h) [
@@ -130,10 +130,9 @@ chain-proper size number_word hex request h =
     let number = both-steps (number_of_word number_word) _ request ifs.2 in
     let octets = both-steps (octets_of_word hex) _ request number.2 in
     let message = both-steps (short_message octets.0) _ request octets.2 in
-    let small = sized (Some size) ifs.0 ifs.1 in
     let short = short-by octets.0 message.0 (nat_le (length octets.0) 131072) refl message.1 in
     subst IsProper (same _ request message.2)
-    ((small.0, small.1, short.1), subst AreOctets short.0 (word-octets hex octets.0 octets.1))
+    (short.1, subst AreOctets short.0 (word-octets hex octets.0 octets.1))
 
 chains-proper : (words : List (List ℕ)) (request : Request) → chain_of words ≡ Ok request → IsProper request
 chains-proper [] request h = cc h
@@ -192,12 +191,6 @@ replay-proper rows request h =
     let side = both-steps (end_of_word word.0) _ request word.2 in
     subst IsProper (same _ request side.2) (tt, tt)
 
-size-asked : (word : Option (List ℕ)) (size : Option ℕ) → asked_size word ≡ Ok size → IsSize size
-size-asked None size h = subst IsSize (same None size h) tt
-size-asked (Some word) size h =
-    let one = both-steps (size_of (Some word)) _ size h in
-    subst IsSize (same _ size one.2) (sized (Some word) one.0 one.1)
-
 pair-octets : (word : List ℕ) (pair : Pair) → pair_of word ≡ Ok pair → AreOctets pair.command × AreOctets pair.reply
 pair-octets word pair h =
     let both = both-steps (parted word) _ pair h in
@@ -220,7 +213,7 @@ atr-octets rows atr h =
     word-octets word.0 atr word.2
 
 session-proper : (words : List (List ℕ)) (rows : List Row) (session : Session) → session_of words rows ≡ Ok session
-    → IsSize session.ifsd × AreOctets session.atr × AreOctetPairs session.pairs
+    → AreOctets session.atr × AreOctetPairs session.pairs
 session-proper words rows session h =
     let ifsd = both-steps (asked_size (first_of (codes "ifsd") rows)) _ session h in
     let lost = both-steps (blocks_of (first_of (codes "lose") rows)) _ session ifsd.2 in
@@ -228,16 +221,13 @@ session-proper words rows session h =
     let spoilt = both-steps (blocks_of (first_of (codes "spoil") rows)) _ session damaged.2 in
     let atr = both-steps (atr_of rows) _ session spoilt.2 in
     let pairs = both-steps (pairs_of words) _ session atr.2 in
-    subst (λ (s : Session). IsSize s.ifsd × AreOctets s.atr × AreOctetPairs s.pairs) (same _ session pairs.2) (
-      size-asked (first_of (codes "ifsd") rows) ifsd.0 ifsd.1,
-      atr-octets rows atr.0 atr.1,
-      pairs-octets words pairs.0 pairs.1,
-    )
+    subst (λ (s : Session). AreOctets s.atr × AreOctetPairs s.pairs) (same _ session pairs.2)
+    (atr-octets rows atr.0 atr.1, pairs-octets words pairs.0 pairs.1)
 
-either-proper : (lines : Bool) (session : Session)
-    → IsSize session.ifsd × AreOctets session.atr × AreOctetPairs session.pairs → IsProper (session_by lines session)
-either-proper true session h = (h.0, (h.1, h.2))
-either-proper false session h = (h.0, (h.1, h.2))
+either-proper : (lines : Bool) (session : Session) → AreOctets session.atr × AreOctetPairs session.pairs
+    → IsProper (session_by lines session)
+either-proper true session h = (tt, h)
+either-proper false session h = (tt, h)
 
 simulate-proper : (form : Option (List ℕ)) (words : List (List ℕ)) (rows : List Row) (request : Request)
     → simulate_by form words rows ≡ Ok request → IsProper request
@@ -347,3 +337,10 @@ pub asked-octets : (entered : Option (List ℕ × List Row)) (result : Result As
 asked-octets entered (Ok asked) (inl memory) = absurd (cc)
 asked-octets entered (Ok asked) (inr is) = (asked-proper entered asked (sym is)).1
 asked-octets entered (Err fault) h = tt
+
+-- and sizes where they have to be
+pub asked-sized : (entered : Option (List ℕ × List Row)) (result : Result Asked Fault)
+    → UnlessMemory result (asked_of entered) → IfOk result AreSized
+asked-sized entered (Ok asked) (inl memory) = absurd (cc)
+asked-sized entered (Ok asked) (inr is) = (asked-proper entered asked (sym is)).0
+asked-sized entered (Err fault) h = tt

@@ -1,7 +1,6 @@
 -- A simulated session as words: an answer to reset, pairs COMMAND:REPLY, and lists of blocks.
 use Rattle.std.specs.Prelude.{◌==◌, ◌&&◌, ◌||◌, ◌+◌, ◌-◌, ◌++◌, ℕ, Bool, zero, suc, nat_le, nat_lt, length, List, [], ◌∷◌, Option, Some, None, Result, Ok, Err, if◌then◌else◌}
 use Rattle.std.specs.List.{slice_split, position_or_len, before_first, after_first}
-use Rattle.octet_core.specs.Sizes.{IsFieldSize}
 use Rattle.octet_core.specs.Decimal.{decimal_number}
 use Rattle.octet_core.specs.Octets.{AreOctets}
 use Rattle.card_words.specs.Value.{◌>>=◌, each, octets_of_word, parted}
@@ -81,10 +80,6 @@ blocks_of None = Ok []
 blocks_of (Some word) = block_numbers word
 
 -- ---- what holds of a session that words make
-
-abbrev pub IsSize : Option ℕ → Type 0
-IsSize None = Unit {0}
-IsSize (Some size) = IsFieldSize size
 
 abbrev pub AreOctetPairs : List Pair → Type 0
 AreOctetPairs [] = Unit {0}

@@ -9,12 +9,13 @@ use Rattle.clap.specs.declared.error.kind.ErrorKind.{ErrorKind}
 use Rattle.clap.specs.declared.error.kind.ErrorKind.TheVariants.{DisplayHelp, OutOfMemory}
 use Rattle.octet_core.specs.Decimal.{decimal_number}
 use Rattle.octet_core.specs.Octets.{AreOctets}
+use Rattle.octet_core.specs.Sizes.{IsFieldSize}
 use Rattle.chain_core.specs.Chain.{longest_message}
 use Rattle.command_line.specs.Form.{scard}
 use Rattle.card_words.specs.Given.{asks_for_lines, given_of, GivesOctets, IsAsRead, IsFromReader}
 use Rattle.card_words.specs.Known.{knowns_of}
 use Rattle.card_words.specs.PairLines.{are_lines}
-use Rattle.card_words.specs.Session.{blocks_of, pairs_of, AreOctetPairs, IsSize}
+use Rattle.card_words.specs.Session.{blocks_of, pairs_of, AreOctetPairs}
 use Rattle.card_words.specs.Value.{◌>>=◌, octets_of_word}
 use Rattle.command_line.specs.Version.{asks_for_version}
 use Rattle.card_words.specs.declared.fault.Fault.{Fault}
@@ -272,26 +273,15 @@ abbrev pub asked_of : Option (List ℕ × List Row) → Result Asked Fault
 asked_of None = Err Words
 asked_of (Some entered) = asked_by entered.0 entered.1
 
--- an information size that a request asks for is one
-abbrev pub IsTaskSized : Task → Type 0
-IsTaskSized task = (1 ≤ task.expected.ifs) × (task.expected.ifs ≤ 254)
-
+-- octets are told of under a size that information fields may have, and a chain can carry a message that it is built of
 abbrev pub IsSized : Request → Type 0
-IsSized (Tell task given) = IsTaskSized task
-IsSized (BuildChain ifs number message) = (1 ≤ ifs) × (ifs ≤ 254) × (length message ≤ longest_message)
-IsSized (BuildTidy given) = Unit {0}
-IsSized (BuildFill list known) = Unit {0}
-IsSized (File task) = Unit {0}
-IsSized (Record atr) = Unit {0}
-IsSized (Judge atr judging) = Unit {0}
-IsSized (Simulate session) = IsSize session.ifsd
-IsSized (SimulateLines session) = IsSize session.ifsd
-IsSized (Help help) = Unit {0}
-IsSized Version = Unit {0}
+IsSized (Tell task given) = IsFieldSize task.expected.ifs
+IsSized (BuildChain ifs number message) = length message ≤ longest_message
+IsSized _ = Unit {0}
 
 abbrev pub AreSized : Asked → Type 0
 AreSized (Once request) = IsSized request
-AreSized (Lines task) = IsTaskSized task
+AreSized (Lines task) = IsFieldSize task.expected.ifs
 
 -- what a request has for octets are octets
 abbrev pub HasOctets : Request → Type 0

@@ -7,6 +7,7 @@
 #![tactic(auto)]
 
 pub mod fault;
+pub mod field_size;
 pub mod given;
 pub mod known;
 pub mod loose;
@@ -18,6 +19,7 @@ pub mod value;
 pub mod words;
 
 pub use fault::Fault;
+pub use field_size::FieldSize;
 pub use given::{Form, OctetSource};
 pub use loose::loose_octets;
 pub use pair_lines::read_pair_lines;

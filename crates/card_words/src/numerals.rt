@@ -1,31 +1,25 @@
 //! Numbers as words: an information size, and the number of a block.
 
-ghost use Rattle.std.specs.Prelude.{◌≡◌, IfOk, option_map};
-ghost use Rattle.card_words.specs.Session.{IsSize};
+ghost use Rattle.std.specs.Prelude.{◌≡◌, option_map};
 ghost use Rattle.card_words.specs.Words.{asked_size, number_of, number_of_word, size_of};
 
 use crate::fault::Fault;
+use crate::field_size::FieldSize;
 use block_core::Number;
 
-/// An information size, 254 where there is no word. `clap` has refused a word out of range.
-pub fn size(word: Option<&str>) -> Result<u8, Fault>
+/// An information size, the greatest where there is no word. `clap` has refused a word out of range.
+pub fn size(word: Option<&str>) -> Result<FieldSize, Fault>
     ensures { result ≡ size_of (option_map (λ word. word.now) word.entry) }
 {
-    let Some(word) = word else {
-        return Ok(254);
-    };
-    let ifs = word.parse().unwrap_or(0);
-    if 1 <= ifs && ifs <= 254 {
-        Ok(ifs)
-    } else {
-        Err(Fault::Words)
+    match word {
+        Some(word) => FieldSize::of(word.parse().unwrap_or(0)).ok_or(Fault::Words),
+        None => Ok(FieldSize::GREATEST),
     }
 }
 
 /// Reads the information size of the option, where the option is given.
-pub(crate) fn asked_size(word: Option<&str>) -> Result<Option<u8>, Fault>
-    ensures read { result ≡ asked_size (option_map (λ word. word.now) word.entry) }
-    ensures sized { IfOk result IsSize }
+pub(crate) fn asked_size(word: Option<&str>) -> Result<Option<FieldSize>, Fault>
+    ensures { result ≡ asked_size (option_map (λ word. word.now) word.entry) }
 {
     match word {
         Some(word) => Ok(Some(size(Some(word))?)),

@@ -3,6 +3,7 @@
 ghost use Rattle.std.specs.Prelude.{◌≡◌};
 
 use crate::fault::Fault;
+use crate::field_size::FieldSize;
 use crate::given::OctetSource;
 use crate::session::Session;
 use block_core::Number;
@@ -53,8 +54,8 @@ pub struct Judging {
 #[derive(Clone, Copy, Debug, PartialEq, Eq)]
 pub struct Expected {
     pub kind: Kind,
-    /// The information size, 1 to 254.
-    pub ifs: u8,
+    /// The information size.
+    pub ifs: FieldSize,
     /// The number of the first block of a chain.
     pub number: Number,
 }
@@ -128,8 +129,8 @@ pub enum Request {
     Tell(Task, OctetSource),
     /// The blocks of the chain into which a message of at most 131,072 octets is cut.
     BuildChain {
-        /// The information size, 1 to 254.
-        ifs: u8,
+        /// The information size.
+        ifs: FieldSize,
         /// The number of the first block.
         number: Number,
         message: Octets,

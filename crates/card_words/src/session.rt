@@ -6,6 +6,7 @@ ghost use Rattle.card_words.specs.Session as session;
 ghost use Rattle.card_words.specs.Value.{UnlessMemory};
 
 use crate::fault::Fault;
+use crate::field_size::FieldSize;
 use crate::value::{parts, word_octets};
 use octet_core::{Listed, Octets, decimal_of};
 use std::alloc::{AllocError, Global};
@@ -28,8 +29,8 @@ pub type BlockNumbers = Listed<u64>;
 pub struct Session {
     /// The card's answer to reset.
     pub atr: Octets,
-    /// The information size that the terminal asks for first, 1 to 254.
-    pub ifsd: Option<u8>,
+    /// The information size that the terminal asks for first.
+    pub ifsd: Option<FieldSize>,
     pub pairs: Pairs,
     /// The blocks that are lost, by their numbers in the order in which blocks are sent.
     pub lost: BlockNumbers,

@@ -1,12 +1,11 @@
 //! What the words of a command line ask for.
 
-ghost use Rattle.std.specs.Prelude.{◌≡◌, ◌⊎◌, ◌≤◌, [], Err, IfOk, IfErr, codes, map, option_map};
+ghost use Rattle.std.specs.Prelude.{◌≡◌, ◌⊎◌, [], Err, IfOk, IfErr, codes, map, option_map};
 ghost use Rattle.clap.specs.Words.{all_of, fault_of, first_of, found_of, rows_of, subcommand_of, subcommand_rows_of};
 ghost use Rattle.clap.specs.Kinds.{HasKind};
 ghost use Rattle.clap.specs.Values.{kind_of as error_kind};
-ghost use Rattle.card_words.specs.Words.{asked_of, atr_of, build_of, build_words, chain_of, clock_of, end_of_word, drawing_of, expected_of, session_of, has_flag, hertz_of, judge_of, judged_ends, kind_of, layout_of, one_end, record_of, replay_of, show_aim, request_by, tidy_of, told_of, fill_of, HaveOctets, IsHelpOrFault, IsRead, AreSized, IsSized, simulate_of};
+ghost use Rattle.card_words.specs.Words.{asked_of, atr_of, build_of, build_words, chain_of, clock_of, end_of_word, drawing_of, expected_of, session_of, has_flag, hertz_of, judge_of, judged_ends, kind_of, layout_of, one_end, record_of, replay_of, show_aim, request_by, tidy_of, told_of, fill_of, HaveOctets, IsHelpOrFault, IsRead, AreSized, simulate_of};
 ghost use Rattle.command_line.specs.Form.{scard, texts};
-ghost use Rattle.card_words.specs.Session.{IsSize};
 ghost use Rattle.card_words.specs.Value.{UnlessMemory};
 
 use crate::fault::Fault;
@@ -46,8 +45,7 @@ pub fn read(alloc: Global, words: &[String]) -> Result<Asked, Fault>
 
 /// What the matches of the words ask for.
 fn asked(alloc: Global, matches: &ArgMatches) -> Result<Asked, Fault>
-    ensures read { UnlessMemory result (asked_of (subcommand_rows_of matches.now)) }
-    ensures sized { IfOk result AreSized }
+    ensures { UnlessMemory result (asked_of (subcommand_rows_of matches.now)) }
 {
     let Some((name, entered)) = entered(matches) else {
         return Err(Fault::Words);
@@ -61,8 +59,7 @@ fn asked(alloc: Global, matches: &ArgMatches) -> Result<Asked, Fault>
 
 /// The request of a subcommand other than `check` and `show`.
 fn request(alloc: Global, name: &str, matches: &ArgMatches) -> Result<Request, Fault>
-    ensures read { UnlessMemory result (request_by name.now (rows_of (found_of matches.now))) }
-    ensures sized { IfOk result IsSized }
+    ensures { UnlessMemory result (request_by name.now (rows_of (found_of matches.now))) }
 {
     match name {
         "build" => build(alloc, matches),
@@ -87,8 +84,7 @@ fn entered<'a, 'b>(matches: &'b ArgMatches<'a>) -> Option<(&'a str, &'b ArgMatch
 
 /// Octets to check or show, or lines of them.
 fn told(alloc: Global, aim: Aim, matches: &ArgMatches) -> Result<Asked, Fault>
-    ensures read { UnlessMemory result (told_of aim (rows_of (found_of matches.now))) }
-    ensures sized { IfOk result AreSized }
+    ensures { UnlessMemory result (told_of aim (rows_of (found_of matches.now))) }
 {
     let expected = expected(matches)?;
     let task = Task {
@@ -136,9 +132,7 @@ fn has_flag(matches: &ArgMatches, name: &str) -> bool
 
 /// A kind, an information size and a first number.
 fn expected(matches: &ArgMatches) -> Result<Expected, Fault>
-    ensures read { result ≡ expected_of (rows_of (found_of matches.now)) }
-    ensures least { IfOk result (λ expected. 1 ≤ expected.ifs) }
-    ensures most { IfOk result (λ expected. expected.ifs ≤ 254) }
+    ensures { result ≡ expected_of (rows_of (found_of matches.now)) }
 {
     let ifs = size(word(matches, "ifs"))?;
     let number = number_or_zero(word(matches, "number"))?;
@@ -148,8 +142,7 @@ fn expected(matches: &ArgMatches) -> Result<Expected, Fault>
 
 /// What is to be built, of the words after its name.
 fn build(alloc: Global, matches: &ArgMatches) -> Result<Request, Fault>
-    ensures read { UnlessMemory result (build_of (rows_of (found_of matches.now))) }
-    ensures sized { IfOk result IsSized }
+    ensures { UnlessMemory result (build_of (rows_of (found_of matches.now))) }
 {
     let what = word(matches, "what").ok_or(Fault::Words)?;
     let words = all_words(matches, "words").unwrap_or(&[]);
@@ -165,8 +158,7 @@ fn build(alloc: Global, matches: &ArgMatches) -> Result<Request, Fault>
 
 /// What is to be built of words alone.
 fn build_of_words(alloc: Global, what: &str, words: &[&str]) -> Result<Request, Fault>
-    ensures read { UnlessMemory result (build_words what.now (map (λ word. word.now) words.now)) }
-    ensures sized { IfOk result IsSized }
+    ensures { UnlessMemory result (build_words what.now (map (λ word. word.now) words.now)) }
 {
     match what {
         "chain" => chain(alloc, words),
@@ -177,8 +169,7 @@ fn build_of_words(alloc: Global, what: &str, words: &[&str]) -> Result<Request, 
 
 /// The end at which recorded exchanges are replayed.
 fn replay(matches: &ArgMatches) -> Result<Request, Fault>
-    ensures read { result ≡ replay_of (rows_of (found_of matches.now)) }
-    ensures sized { IfOk result IsSized }
+    ensures { result ≡ replay_of (rows_of (found_of matches.now)) }
 {
     let side = end(word(matches, "end").ok_or(Fault::Words)?)?;
     Ok(Request::File(FileTask::Replay(side)))
@@ -197,16 +188,14 @@ fn drawing(matches: &ArgMatches) -> Drawing
 
 /// The answer to reset with which an exchange is made of the blocks that were seen.
 fn record(alloc: Global, matches: &ArgMatches) -> Result<Request, Fault>
-    ensures read { UnlessMemory result (record_of (rows_of (found_of matches.now))) }
-    ensures sized { IfOk result IsSized }
+    ensures { UnlessMemory result (record_of (rows_of (found_of matches.now))) }
 {
     Ok(Request::Record(atr(alloc, matches)?))
 }
 
 /// The answer to reset of the card on whose line blocks were seen, and what is judged.
 fn judge(alloc: Global, matches: &ArgMatches) -> Result<Request, Fault>
-    ensures read { UnlessMemory result (judge_of (rows_of (found_of matches.now))) }
-    ensures sized { IfOk result IsSized }
+    ensures { UnlessMemory result (judge_of (rows_of (found_of matches.now))) }
 {
     let ends = judged_ends(word(matches, "end"))?;
     let clock = clock(word(matches, "clock"))?;
@@ -225,8 +214,7 @@ fn atr(alloc: Global, matches: &ArgMatches) -> Result<Octets, Fault>
 
 /// A session of both ends, whose pairs are words, or the lines of standard input.
 fn simulate(alloc: Global, matches: &ArgMatches) -> Result<Request, Fault>
-    ensures read { UnlessMemory result (simulate_of (rows_of (found_of matches.now))) }
-    ensures sized { IfOk result IsSized }
+    ensures { UnlessMemory result (simulate_of (rows_of (found_of matches.now))) }
 {
     let pairs = all_words(matches, "pairs").unwrap_or(&[]);
     let are_lines = are_lines(word(matches, "stdin"), pairs)?;
@@ -239,9 +227,8 @@ fn simulate(alloc: Global, matches: &ArgMatches) -> Result<Request, Fault>
 
 /// A session of both ends with the pairs that these words say.
 fn session(alloc: Global, matches: &ArgMatches, words: &[&str]) -> Result<Session, Fault>
-    ensures read { UnlessMemory result
+    ensures { UnlessMemory result
         (session_of (map (λ word. word.now) words.now) (rows_of (found_of matches.now))) }
-    ensures sized { IfOk result (λ session. IsSize session.ifsd) }
 {
     let ifsd = asked_size(word(matches, "ifsd"))?;
     let lost = read_blocks(alloc, word(matches, "lose"))?;
@@ -261,9 +248,8 @@ fn session(alloc: Global, matches: &ArgMatches, words: &[&str]) -> Result<Sessio
 
 /// A forest to be tidied.
 fn tidy(alloc: Global, words: &[&str], form: Option<&str>) -> Result<Request, Fault>
-    ensures read { UnlessMemory result
+    ensures { UnlessMemory result
         (tidy_of (map (λ word. word.now) words.now) (option_map (λ word. word.now) form.entry)) }
-    ensures sized { IfOk result IsSized }
 {
     let hex = match words {
         [] => None,
@@ -275,8 +261,7 @@ fn tidy(alloc: Global, words: &[&str], form: Option<&str>) -> Result<Request, Fa
 
 /// A data object list to be filled, and what is known.
 fn fill(alloc: Global, words: &[&str]) -> Result<Request, Fault>
-    ensures read { UnlessMemory result (fill_of (map (λ word. word.now) words.now)) }
-    ensures sized { IfOk result IsSized }
+    ensures { UnlessMemory result (fill_of (map (λ word. word.now) words.now)) }
 {
     let Some((hex, known)) = words.split_first() else {
         return Err(Fault::Words);
@@ -291,8 +276,7 @@ fn fill(alloc: Global, words: &[&str]) -> Result<Request, Fault>
 
 /// A chain to be built: an information size, a first number and a message.
 fn chain(alloc: Global, words: &[&str]) -> Result<Request, Fault>
-    ensures read { UnlessMemory result (chain_of (map (λ word. word.now) words.now)) }
-    ensures sized { IfOk result IsSized }
+    ensures { UnlessMemory result (chain_of (map (λ word. word.now) words.now)) }
 {
     if words.len() != 3 {
         return Err(Fault::Words);
@@ -395,8 +379,7 @@ pub fn one_end(word: &str) -> Result<Ends, Fault>
 
 /// What a parse that gave no matches comes to: the text of a call for help, or a fault.
 fn help_or_fault(alloc: Global, error: &Error) -> Result<Asked, Fault>
-    ensures read { IsHelpOrFault (error_kind error.now) result }
-    ensures sized { IfOk result AreSized }
+    ensures { IsHelpOrFault (error_kind error.now) result }
 {
     match error.kind() {
         ErrorKind::OutOfMemory => Err(Fault::Memory),

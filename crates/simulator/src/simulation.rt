@@ -124,7 +124,7 @@ fn next<'a>(
 {
     match last {
         LastTurn::Nothing => match session.ifsd {
-            Some(size) => Some(Event::AskIfsd(size)),
+            Some(size) => Some(Event::AskIfsd(size.get())),
             None => begins(at),
         },
         LastTurn::Terminal(TerminalTurn::Send(_)) => Some(sends(fates, at)),

@@ -7,4 +7,4 @@ use Rattle.card_kinds.proofs.chain.blocks.Given as goal
 -- the lines made so far and those of the blocks that are left make the whole
 abbrev pub invariant-loop-block : goal.invariant-loop-block
 invariant-loop-block l = string_bytes l.lines
-    ++ blocks_text l.block-iterator ≡ blocks_text (chain_blocks l.fn.number (cut_of l.ifs l.message))
+    ++ blocks_text l.block-iterator ≡ blocks_text (chain_blocks l.fn.number (cut_of l.fn.ifs l.message))

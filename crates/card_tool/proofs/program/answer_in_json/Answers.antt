@@ -9,7 +9,7 @@ pub returns-clause-told : goal.returns-clause-told
 returns-clause-told g c =
     let of = c.in_ok-made.made in
     rw (c.alone.ensures.answer, c.alone.ensures.said, append-nil c.in_ok-text.text)
-    (made c.args.read of.answer.text (said_of of.note) c.requires.read c.in_ok-made.ensures.told
+    (made c.args.read of.answer.text (said_of of.note) c.requires c.in_ok-made.ensures.told
     (c.in_ok-text.ensures ∙ ap (λ (object : List ℕ). with_explanation object (said_of of.note))
     (c.object_by-object.ensures of.answer.status of.answer.text)))
 

@@ -43,7 +43,7 @@ returns-in-Err-Memory-clause-lines g c = λ task _.
     no-lines (g.R.Source.remaining c.args.reader.now) (g.R.Source.failures c.args.reader.now) _ _ _ _ _ c.report.ensures
     (telling_of (texts c.args.words.items) task)
 
-pub one_text-requires-clause-read : goal.one_text-requires-clause-read
-one_text-requires-clause-read g c =
+pub one_text-requires : goal.one_text-requires
+one_text-requires g c =
     request-read _ _ c.in-Ok-Once.request (c.in-Ok-Once.is ∙ ap read_as c.in-Ok-Once.field-0-is)
     c.read.ensures.read

@@ -8,16 +8,16 @@ use Rattle.card_tool.proofs.Answering.{refused-words}
 use Rattle.card_tool.proofs.Explaining.{fits-words, said-fault, said-nothing}
 use Rattle.card_tool.proofs.replies.reply.Goals as goal
 
-pub request_reply-requires-clause-read : goal.request_reply-requires-clause-read
-request_reply-requires-clause-read g c =
-    elim (rw c.in-Ok.is at c.requires.read) [
+pub request_reply-requires : goal.request_reply-requires
+request_reply-requires g c =
+    elim (rw c.in-Ok.is at c.requires) [
       | inl memory ↦ absurd (cc memory)
       | inr read ↦ read
     ]
 
 pub returns-in-Err-clause-told : goal.returns-in-Err-clause-told
 returns-in-Err-clause-told g c =
-    let read = rw c.in-Err.is at c.requires.read in
+    let read = rw c.in-Err.is at c.requires in
     said-fault (texts c.args.words.now) _ _ _ _ c.in-Err.fault (IsWordsNote (texts c.args.words.now))
     c.words_faulted.result (sym c.asks_to_explain.ensures ∙ c.if-asks_to_explain.true)
     (refused-words (texts c.args.words.now) _ _ c.in-Err.fault read) c.words_faulted.ensures.told
@@ -28,4 +28,4 @@ returns-in-Err-clause-told g c =
 pub returns-in-Err-2-clause-told : goal.returns-in-Err-2-clause-told
 returns-in-Err-2-clause-told g c = said-nothing (texts c.args.words.now) _ _ _ _ (fault_text c.in-Err-2.fault)
     status.Fault
-    (refused-words (texts c.args.words.now) _ _ c.in-Err-2.fault (rw c.in-Err-2.is at c.requires.read))
+    (refused-words (texts c.args.words.now) _ _ c.in-Err-2.fault (rw c.in-Err-2.is at c.requires))

@@ -26,7 +26,7 @@ returns-in-Ok-clause-told g c = said-asked (texts c.args.words.now) (g.R.Source.
     (sym c.asks_to_explain-explains.ensures ∙ c.if-explains.true)
     (replied-words (texts c.args.words.now) (g.R.Source.remaining c.args.reader.now)
     (g.R.Source.remaining c.replied_to.new.reader) (g.R.Source.failures c.args.reader.now)
-    (g.R.Source.failures c.replied_to.new.reader) c.args.request (made-as c.in-Ok.made) c.requires.read
+    (g.R.Source.failures c.replied_to.new.reader) c.args.request (made-as c.in-Ok.made) c.requires
     c.in-Ok.ensures.told)
 
 pub returns-in-Ok-2-clause-told : goal.returns-in-Ok-2-clause-told
@@ -35,7 +35,7 @@ returns-in-Ok-2-clause-told g c = said-alone (texts c.args.words.now) (g.R.Sourc
     (g.R.Source.failures c.replied_to.new.reader) c.in-Ok.made c.alone.result
     (replied-words (texts c.args.words.now) (g.R.Source.remaining c.args.reader.now)
     (g.R.Source.remaining c.replied_to.new.reader) (g.R.Source.failures c.args.reader.now)
-    (g.R.Source.failures c.replied_to.new.reader) c.args.request (made-as c.in-Ok.made) c.requires.read
+    (g.R.Source.failures c.replied_to.new.reader) c.args.request (made-as c.in-Ok.made) c.requires
     c.in-Ok.ensures.told) c.alone.ensures.answer c.alone.ensures.said
 
 pub returns-in-Err-clause-told : goal.returns-in-Err-clause-told
@@ -46,7 +46,7 @@ returns-in-Err-clause-told g c = said-fault (texts c.args.words.now) (g.R.Source
     (sym c.asks_to_explain-explains.ensures ∙ c.if-explains-2.true)
     (replied-words (texts c.args.words.now) (g.R.Source.remaining c.args.reader.now)
     (g.R.Source.remaining c.replied_to.new.reader) (g.R.Source.failures c.args.reader.now)
-    (g.R.Source.failures c.replied_to.new.reader) c.args.request (read-as c.in-Err.fault) c.requires.read
+    (g.R.Source.failures c.replied_to.new.reader) c.args.request (read-as c.in-Err.fault) c.requires
     c.in-Err.ensures.told) c.read_faulted.ensures.told
     (IfOk-weaker c.read_faulted.result _ _ (λ made large. fits-large (texts c.args.words.now) c.in-Err.fault large)
     c.read_faulted.ensures.large)
@@ -57,9 +57,9 @@ returns-in-Err-2-clause-told g c = said-nothing (texts c.args.words.now) (g.R.So
     (g.R.Source.failures c.replied_to.new.reader) (fault_text c.in-Err.fault) status.Fault
     (replied-words (texts c.args.words.now) (g.R.Source.remaining c.args.reader.now)
     (g.R.Source.remaining c.replied_to.new.reader) (g.R.Source.failures c.args.reader.now)
-    (g.R.Source.failures c.replied_to.new.reader) c.args.request (read-as c.in-Err.fault) c.requires.read
+    (g.R.Source.failures c.replied_to.new.reader) c.args.request (read-as c.in-Err.fault) c.requires
     c.in-Err.ensures.told)
 
 pub returns-in-Ok-clause-unread : goal.returns-in-Ok-clause-unread
 returns-in-Ok-clause-unread g c = λ free.
-    c.replied_to.ensures.unread (λ need. free (needs (texts c.args.words.now) c.args.request c.requires.read need))
+    c.replied_to.ensures.unread (λ need. free (needs (texts c.args.words.now) c.args.request c.requires need))

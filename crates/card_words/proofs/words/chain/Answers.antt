@@ -2,8 +2,8 @@ use Rattle.std.proofs.Common.{◌∙◌, [], ap, get_or, inr, length, sym, arith
 use Rattle.card_words.proofs.Reading.{chain-is, chain-built}
 use Rattle.card_words.proofs.words.chain.Goals as goal
 
-pub returns-clause-read : goal.returns-clause-read
-returns-clause-read c =
+pub returns : goal.returns
+returns c =
     let none : Bor (List ℕ) = record { ref_ptr = (0, 0); now = [] } in
     let word : ℕ → List ℕ = λ i. (get_or c.args.words.now i none).now in
     inr (chain-built (word 0) (word 1) (word 2) c.in_ok-ifs.ifs c.in_ok-number.number c.in_ok-message.message
