@@ -12277,26 +12277,25 @@ static void tlv_core_part_walk_next_part(struct call *m, u64 v0, u64 v1, u64 v2,
     u64 v17 = 0;
     u64 v18 = 0;
     u64 v19 = 0;
-    u64 v20 = 0;
-    u64 v21 = 0;
     u32 v12 = 0;
     u32 v13 = 0;
     u32 v14 = 0;
     u32 v15 = 0;
     u32 v16 = 0;
+    u32 t0 = 0;
     u32 t2 = 0;
     u64 w0 = 0;
-    u8 *f21 = NULL;
+    u8 *f19 = NULL;
     u8 *p50 = NULL;
-    u8 *p146 = NULL;
+    u8 *p145 = NULL;
     u8 *p308 = NULL;
     u8 *p560 = NULL;
     u8 *p582 = NULL;
     u8 *p600 = NULL;
     u8 *p622 = NULL;
-    v21 = m->g0 - 32ull;
-    f21 = at(m, v21, 32);
-    v4 = v21;
+    v19 = m->g0 - 32ull;
+    f19 = at(m, v19, 32);
+    v4 = v19;
     m->g0 = v4;
     v5 = load64(m, v1 + 8ull, 0);
     if (v5 >= v3) { goto after6; }
@@ -12310,15 +12309,15 @@ again7:;
     v9 = held64(p50, 0, m, v1 + 88ull);
     if (held8(p50, 8, m, v1 + 88ull)) { goto after10; }
     if (v9 > 15ull) { goto after10; }
-    put64(f21 + 8, 0ull);
+    put64(f19 + 8, 0ull);
     v10 = v8;
     v11 = v3 - v5;
     if (v11 > 7ull) { goto after11; }
-    tlv_core_short_front_of_few(m, v21 + 8ull, v8, v11);
-    v10 = v21 + 8ull;
+    tlv_core_short_front_of_few(m, v19 + 8ull, v8, v11);
+    v10 = v19 + 8ull;
 after11:;
     v10 = load64(m, v10, 0);
-    put64(f21, v10);
+    put64(f19, v10);
     v12 = (u32)v10;
     v13 = v12 & 31u;
     v14 = (u32)(v13 == 31u);
@@ -12328,51 +12327,51 @@ after11:;
     if ((v12 & 255u) == 0) { goto after10; }
     if (v14 & ((u32)((v15 & 127u) == 0))) { goto after10; }
     v14 = 1u;
-    v15 = ((v13 == 31u) ? 2u : 1u) + v16;
-    v17 = (u64)v15;
-    v18 = v21 | v17;
-    p146 = held(m, v18, 2);
-    v19 = (u64)held8(p146, 1, m, v18);
-    v13 = held8(p146, 0, m, v18);
-    switch (v13 + 0xFFFFFF80u) {
+    v13 = ((v13 == 31u) ? 2u : 1u) + v16;
+    v17 = v19 | ((u64)v13);
+    p145 = held(m, v17, 2);
+    v10 = (u64)held8(p145, 1, m, v17);
+    v16 = held8(p145, 0, m, v17);
+    switch (v16 + 0xFFFFFF80u) {
         case 0: goto after10;
         case 1: goto after12;
         case 2: goto after14;
         default: goto after13;
     }
 after14:;
-    v19 = (v19 << 8) | (u64)load8(m, v18, 2);
+    v10 = (v10 << 8) | (u64)load8(m, v17, 2);
     v14 = 2u;
     goto after12;
 after13:;
     v14 = 0u;
-    if (((spread32(v13, 8)) ^ 0x80000000u) < (0u ^ 0x80000000u)) { goto after10; }
-    v19 = (u64)v13;
+    if (((spread32(v16, 8)) ^ 0x80000000u) < (0u ^ 0x80000000u)) { goto after10; }
+    v10 = (u64)v16;
 after12:;
-    v12 = v12 & 32u;
-    v18 = (u64)((v15 + v14) + 1u);
-    if (v11 < ((v12 ? 0ull : v19) + v18)) { goto after10; }
-    v11 = v19 + v18;
+    v16 = v12 & 32u;
+    v17 = (u64)((v13 + v14) + 1u);
+    if (v11 < ((v16 ? 0ull : v10) + v17)) { goto after10; }
+    v11 = v10 + v17;
     if (v9 != 0ull) { goto after16; }
-    v20 = load64(m, v1, 0);
+    v18 = load64(m, v1, 0);
     goto after15;
 after16:;
-    v20 = (u64)load32(m, v7 + (v9 << 2), 0);
+    v18 = (u64)load32(m, v7 + (v9 << 2), 0);
 after15:;
-    if ((v20 - v5) < v11) { goto after10; }
-    w0 = (((v15 == 3u) ? (v10 & 0xFF0000ull) : 0ull) | (v17 << 24)) | ((v15 > 1u) ? (v10 & 65280ull) : 0ull);
-    v8 = w0 | (v10 & 255ull);
-    v3 = v5 + v18;
-    v10 = ((u64)v14) << 32;
-    v2 = v12 ? v18 : v11;
-    if (v2 != v11) { goto after18; }
+    if ((v18 - v5) < v11) { goto after10; }
+    t0 = ((((v15 << 8) & 65280u) | (v12 & 255u)) | (v12 & 0xFF0000u)) & ((0xFFFFFFFFu << ((v13 << 3) & 31)) ^
+        0xFFFFFFFFu);
+    v3 = (u64)(t0 | (v13 << 24));
+    v2 = v5 + v17;
+    v7 = ((u64)v14) << 32;
+    v17 = v16 ? v17 : v11;
+    if (v17 != v11) { goto after18; }
+    v8 = 0ull;
     if (v9 != 0ull) { goto after18; }
     store64(m, v1 + 8ull, 0, v11 + v5);
-    v5 = 0ull;
     goto after17;
 after18:;
-    store32(m, v6 + ((v2 < v11) ? (v9 << 2) : 64ull), 0, (u32)(v11 + v5));
-    v5 = v5 + v2;
+    store32(m, v6 + ((v17 < v11) ? (v9 << 2) : 64ull), 0, (u32)(v11 + v5));
+    v5 = v5 + v17;
     p308 = held(m, v1 + 8ull, 72);
     put_held64(p308, 0, m, v1 + 8ull, v5);
     v12 = (u32)v5;
@@ -12392,22 +12391,22 @@ after18:;
         ((u64)((u32)((held32(p308, 60, m, v1 + 8ull) ^ 0x80000000u) > (v12 ^ 0x80000000u))));
     w0 = (w0 + ((u64)((u32)((held32(p308, 64, m, v1 + 8ull) ^ 0x80000000u) > (v12 ^ 0x80000000u))))) +
         ((u64)((u32)((held32(p308, 68, m, v1 + 8ull) ^ 0x80000000u) > (v12 ^ 0x80000000u))));
-    v5 = w0;
+    v8 = w0;
 after17:;
-    put_held64(p50, 0, m, v1 + 88ull, v5);
-    v1 = (v3 & 0xFFFFFFFFull) | (v19 << 32);
-    v5 = (((v9 << 40) | v10) + v8) + 0x10000000000ull;
+    put_held64(p50, 0, m, v1 + 88ull, v8);
+    v1 = (v2 & 0xFFFFFFFFull) | (v10 << 32);
+    v5 = (((v9 << 40) | v7) + v3) + 0x10000000000ull;
     goto after2;
 after10:;
-    put32(f21 + 24, 0u);
-    put64(f21 + 16, 0ull);
-    put64(f21 + 8, 0ull);
+    put32(f19 + 24, 0u);
+    put64(f19 + 16, 0ull);
+    put64(f19 + 8, 0ull);
     t2 = load8(m, v8, 0);
-    tlv_core_progress_Progress_take(m, v21 + 8ull, v1, t2);
-    if (get8(f21 + 8)) { goto after5; }
-    if (get8(f21 + 12) != 2u) { goto after8; }
-    v1 = (u64)load32(m, v1 + 8ull, 0) | ((u64)get32(f21 + 24) << 32);
-    w0 = (((u64)get8(f21 + 20) << 32) | (((v9 << 40) + 0x10000000000ull) & 0xFF0000000000ull)) | (u64)get32(f21 + 16);
+    tlv_core_progress_Progress_take(m, v19 + 8ull, v1, t2);
+    if (get8(f19 + 8)) { goto after5; }
+    if (get8(f19 + 12) != 2u) { goto after8; }
+    v1 = (u64)load32(m, v1 + 8ull, 0) | ((u64)get32(f19 + 24) << 32);
+    w0 = (((u64)get8(f19 + 20) << 32) | (((v9 << 40) + 0x10000000000ull) & 0xFF0000000000ull)) | (u64)get32(f19 + 16);
     v5 = w0;
     goto after2;
 after9:;
@@ -12429,7 +12428,7 @@ after6:;
 after5:;
     v1 = load64(m, v1 + 8ull, 0);
     p582 = held(m, v0, 25);
-    put_held8(p582, 24, m, v0, get8(f21 + 9));
+    put_held8(p582, 24, m, v0, get8(f19 + 9));
     put_held64(p582, 16, m, v0, v1);
     put_held64(p582, 8, m, v0, 1ull);
     put_held64(p582, 0, m, v0, 1ull);
@@ -12448,7 +12447,7 @@ after2:;
     put_held64(p622, 16, m, v0, v1);
     put_held64(p622, 8, m, v0, v5);
 after1:;
-    m->g0 = v21 + 32ull;
+    m->g0 = v19 + 32ull;
 }
 
 static void tlv_core_tidy_form_put_objects(struct call *m, u64 v0, u64 v1, u64 v2, u64 v3, u64 v4, u64 v5)
@@ -12460,7 +12459,7 @@ static void tlv_core_tidy_form_put_objects(struct call *m, u64 v0, u64 v1, u64 v
     u64 v10 = 0;
     u64 v11 = 0;
     u64 v12 = 0;
-    u64 v20 = 0;
+    u64 v19 = 0;
     u64 v21 = 0;
     u64 v22 = 0;
     u64 v23 = 0;
@@ -12473,16 +12472,16 @@ static void tlv_core_tidy_form_put_objects(struct call *m, u64 v0, u64 v1, u64 v
     u32 v16 = 0;
     u32 v17 = 0;
     u32 v18 = 0;
-    u32 v19 = 0;
+    u32 v20 = 0;
     u32 t0 = 0;
     u64 w0 = 0;
     u8 *f26 = NULL;
-    u8 *p178 = NULL;
-    u8 *p521 = NULL;
-    u8 *p543 = NULL;
-    u8 *p570 = NULL;
-    u8 *p909 = NULL;
-    u8 *p910 = NULL;
+    u8 *p176 = NULL;
+    u8 *p515 = NULL;
+    u8 *p537 = NULL;
+    u8 *p564 = NULL;
+    u8 *p903 = NULL;
+    u8 *p904 = NULL;
     v26 = m->g0 - 288ull;
     f26 = at(m, v26, 288);
     v6 = v26;
@@ -12521,18 +12520,16 @@ after5:;
     v14 = v13 & 31u;
     v15 = (u32)(v14 == 31u);
     v16 = (u32)(v11 >> 8);
-    v17 = spread32(v16, 8);
-    v18 = v15 & ((u32)((v17 ^ 0x80000000u) < (0u ^ 0x80000000u)));
-    v19 = spread32(v13 >> 16, 8);
-    if (v18 & ((u32)((v19 ^ 0x80000000u) < (0u ^ 0x80000000u)))) { goto after4; }
+    v17 = v15 & ((u32)(((spread32(v16, 8)) ^ 0x80000000u) < (0u ^ 0x80000000u)));
+    if (v17 & ((u32)((v11 & 0x800000ull) >> 23))) { goto after4; }
     if ((v13 & 255u) == 0) { goto after4; }
     if (v15 & ((u32)((v16 & 127u) == 0))) { goto after4; }
     v15 = 1u;
-    v16 = ((v14 == 31u) ? 2u : 1u) + v18;
-    v11 = (v26 + 272ull) | ((u64)v16);
-    p178 = held(m, v11, 2);
-    v14 = held8(p178, 1, m, v11);
-    v18 = held8(p178, 0, m, v11);
+    v14 = ((v14 == 31u) ? 2u : 1u) + v17;
+    v11 = (v26 + 272ull) | ((u64)v14);
+    p176 = held(m, v11, 2);
+    v17 = held8(p176, 1, m, v11);
+    v18 = held8(p176, 0, m, v11);
     switch (v18 + 0xFFFFFF80u) {
         case 0: goto after4;
         case 1: goto after9;
@@ -12540,43 +12537,44 @@ after5:;
         default: goto after7;
     }
 after9:;
-    v14 = v14 & 255u;
+    v17 = v17 & 255u;
     goto after6;
 after8:;
-    v14 = (v14 << 8) | load8(m, v11, 2);
+    v17 = (v17 << 8) | load8(m, v11, 2);
     v15 = 2u;
     goto after6;
 after7:;
     v15 = 0u;
-    v14 = spread32(v18, 8);
-    if ((v14 ^ 0x80000000u) < (0u ^ 0x80000000u)) { goto after4; }
+    v17 = spread32(v18, 8);
+    if ((v17 ^ 0x80000000u) < (0u ^ 0x80000000u)) { goto after4; }
 after6:;
-    v20 = ((u64)v14) & 65535ull;
+    v19 = ((u64)v17) & 65535ull;
     v18 = v13 & 32u;
-    v11 = (u64)((v16 + v15) + 1u);
-    if (v12 < ((v18 ? 0ull : v20) + v11)) { goto after4; }
-    v12 = v11 + v20;
+    v11 = (u64)((v14 + v15) + 1u);
+    if (v12 < ((v18 ? 0ull : v19) + v11)) { goto after4; }
+    v12 = v11 + v19;
     if (v10 != 0ull) { goto after11; }
-    v20 = get64(f26 + 120);
+    v19 = get64(f26 + 120);
     goto after10;
 after11:;
-    v20 = (u64)load32(m, v9 + (v10 << 2), 0);
+    v19 = (u64)load32(m, v9 + (v10 << 2), 0);
 after10:;
-    if ((v20 - v3) < v12) { goto after4; }
-    t0 = (((((v16 == 3u) ? v19 : 0u) & 255u) << 16) | (v16 << 24)) | ((((v16 > 1u) ? v17 : 0u) & 255u) << 8);
-    v16 = t0 | (v13 & 255u);
-    v14 = v14 & 65535u;
+    if ((v19 - v3) < v12) { goto after4; }
+    t0 = ((((v16 << 8) & 65280u) | (v13 & 255u)) | (v13 & 0xFF0000u)) & ((0xFFFFFFFFu << ((v14 << 3) & 31)) ^
+        0xFFFFFFFFu);
+    v16 = t0 | (v14 << 24);
+    v14 = v17 & 65535u;
     v17 = ((u32)v10) + 1u;
-    v19 = (u32)(v3 + v11);
-    v20 = v18 ? v11 : v12;
-    if (v20 != v12) { goto after13; }
+    v20 = (u32)(v3 + v11);
+    v19 = v18 ? v11 : v12;
+    if (v19 != v12) { goto after13; }
     v11 = 0ull;
     if (v10 != 0ull) { goto after13; }
     put64(f26 + 128, v12 + v3);
     goto after12;
 after13:;
-    store32(m, v8 + ((v20 < v12) ? (v10 << 2) : 64ull), 0, (u32)(v12 + v3));
-    v3 = v3 + v20;
+    store32(m, v8 + ((v19 < v12) ? (v10 << 2) : 64ull), 0, (u32)(v12 + v3));
+    v3 = v3 + v19;
     put64(f26 + 128, v3);
     v13 = (u32)v3;
     w0 = ((u64)((u32)((get32(f26 + 136) ^ 0x80000000u) > (v13 ^ 0x80000000u)))) + ((u64)((u32)((get32(f26 + 140) ^
@@ -12602,7 +12600,7 @@ after12:;
     put8(f26 + 252, v15);
     put32(f26 + 248, v16);
     put32(f26 + 260, v14);
-    put32(f26 + 256, v19);
+    put32(f26 + 256, v20);
     put64(f26 + 208, v11);
     v3 = get64(f26 + 248);
     v11 = get64(f26 + 256);
@@ -12614,32 +12612,32 @@ after4:;
     if (get8(f26 + 240)) { goto after15; }
     if ((get8(f26 + 244) & 255u) == 1u) { goto after3; }
     tlv_core_tidy_form_TidyForm_close_to(m, v26 + 40ull, 1ull, v4, v5);
-    p521 = held(m, v0, 25);
-    put_held8(p521, 24, m, v0, 0u);
-    put_held64(p521, 16, m, v0, 0ull);
-    put_held64(p521, 0, m, v0, 0ull);
-    put_held64(p521, 8, m, v0, (u64)get32(f26 + 112));
+    p515 = held(m, v0, 25);
+    put_held8(p515, 24, m, v0, 0u);
+    put_held64(p515, 16, m, v0, 0ull);
+    put_held64(p515, 0, m, v0, 0ull);
+    put_held64(p515, 8, m, v0, (u64)get32(f26 + 112));
     goto after14;
 after15:;
     v13 = get8(f26 + 264);
-    p543 = held(m, v0, 25);
-    put_held64(p543, 0, m, v0, 1ull);
-    put_held8(p543, 24, m, v0, v13);
-    put_held64(p543, 16, m, v0, v11);
-    put_held64(p543, 8, m, v0, v3 & 255ull);
+    p537 = held(m, v0, 25);
+    put_held64(p537, 0, m, v0, 1ull);
+    put_held8(p537, 24, m, v0, v13);
+    put_held64(p537, 16, m, v0, v11);
+    put_held64(p537, 8, m, v0, v3 & 255ull);
 after14:;
     m->g0 = v26 + 288ull;
     return;
 after3:;
-    p570 = held(m, v7, 3);
-    put_held16(p570, 0, m, v7, 0u);
-    put_held8(p570, 2, m, v7, 0u);
+    p564 = held(m, v7, 3);
+    put_held16(p564, 0, m, v7, 0u);
+    put_held8(p564, 2, m, v7, 0u);
     v21 = v11 & 0xFFFFFFFFull;
     put64(f26 + 16, v21);
     put32(f26 + 8, (u32)v3);
     put8(f26 + 12, (u32)(v3 >> 32));
-    v20 = v1 + v21;
-    put64(f26 + 24, v20);
+    v19 = v1 + v21;
+    put64(f26 + 24, v19);
     v11 = v11 >> 32;
     v10 = v2 - v21;
     v10 = (v11 < v10) ? v11 : v10;
@@ -12666,50 +12664,50 @@ after17:;
     v13 = (u32)v10;
     v3 = 1ull;
     v12 = 0ull;
-    v15 = 0u;
     v16 = 0u;
+    v15 = 0u;
     v14 = 0u;
     goto after18;
 after19:;
     if (v10 > 255ull) { goto after20; }
-    v15 = (u32)v10;
+    v16 = (u32)v10;
     v3 = 2ull;
     v12 = 0ull;
-    v16 = 0u;
+    v15 = 0u;
     v13 = 129u;
     v14 = 0u;
     goto after18;
 after20:;
-    v18 = (u32)(v10 >> 8);
+    v17 = (u32)(v10 >> 8);
     if (v10 > 65535ull) { goto after21; }
-    v16 = (u32)v10;
+    v15 = (u32)v10;
     v3 = 3ull;
     v12 = 0ull;
     v14 = 0u;
     v13 = 130u;
-    v15 = v18;
+    v16 = v17;
     goto after18;
 after21:;
     v3 = v10 >> 16;
     if (v10 > 0xFFFFFFull) { goto after22; }
     v13 = (u32)v10;
-    v15 = right32(v13 & 255u, 8u);
-    v16 = (v15 | ((v13 << 8) & 0xFF0000u)) >> 16;
-    v14 = v15 >> 24;
-    v15 = (u32)v3;
+    v16 = right32(v13 & 255u, 8u);
+    v15 = (v16 | ((v13 << 8) & 0xFF0000u)) >> 16;
+    v14 = v16 >> 24;
+    v16 = (u32)v3;
     v3 = 4ull;
     v12 = 0ull;
     v13 = 131u;
     goto after18;
 after22:;
     v12 = (v10 << 32) & 0xFF00000000ull;
-    v15 = (u32)(v10 >> 24);
-    v16 = (u32)v3;
+    v16 = (u32)(v10 >> 24);
+    v15 = (u32)v3;
     v3 = 5ull;
     v13 = 132u;
-    v14 = v18;
+    v14 = v17;
 after18:;
-    put64(f26 + 240, v12 | ((u64)((((v15 & 255u) << 8) | v13) | ((v14 << 24) | ((v16 << 16) & 0xFF0000u)))));
+    put64(f26 + 240, v12 | ((u64)((((v16 & 255u) << 8) | v13) | ((v14 << 24) | ((v15 << 16) & 0xFF0000u)))));
     put64(f26 + 248, v3);
     v12 = v3 + v11;
     if (v12 > v5) { goto after23; }
@@ -12720,7 +12718,7 @@ after23:;
     v24 = v23 + v10;
     if (v24 > v5) { goto after24; }
     v22 = v4 + v23;
-    if ((v22 - v20) >= v10) { goto after25; }
+    if ((v22 - v19) >= v10) { goto after25; }
     v12 = v10 & 3ull;
     v11 = 0ull;
     if (v10 < 4ull) { goto after26; }
@@ -12728,13 +12726,13 @@ after23:;
     v11 = 0ull;
 again27:;
     v3 = v22 + v11;
-    v10 = v20 + v11;
-    p909 = held(m, v10, 4);
-    p910 = held(m, v3, 4);
-    put_held8(p910, 0, m, v3, held8(p909, 0, m, v10));
-    put_held8(p910, 1, m, v3, held8(p909, 1, m, v10));
-    put_held8(p910, 2, m, v3, held8(p909, 2, m, v10));
-    put_held8(p910, 3, m, v3, held8(p909, 3, m, v10));
+    v10 = v19 + v11;
+    p903 = held(m, v10, 4);
+    p904 = held(m, v3, 4);
+    put_held8(p904, 0, m, v3, held8(p903, 0, m, v10));
+    put_held8(p904, 1, m, v3, held8(p903, 1, m, v10));
+    put_held8(p904, 2, m, v3, held8(p903, 2, m, v10));
+    put_held8(p904, 3, m, v3, held8(p903, 3, m, v10));
     v11 = v11 + 4ull;
     if (v25 != v11) { goto again27; }
     if (v12 == 0) { goto after24; }
@@ -12750,7 +12748,7 @@ again28:;
     goto after24;
 after25:;
     if (v10 == 0) { goto after24; }
-    copy(m, v22, v20, v10);
+    copy(m, v22, v19, v10);
 after24:;
     put32(f26 + 112, (u32)((v24 < 0xFFFFFFFFull) ? v24 : 0xFFFFFFFFull));
     goto again2;
@@ -19131,300 +19129,294 @@ static void rattle_export_scard_tlv_parts(struct call *m, u64 v0, u64 v1, u64 v2
     u64 v13 = 0;
     u64 v14 = 0;
     u64 v15 = 0;
+    u64 v22 = 0;
+    u64 v23 = 0;
     u64 v24 = 0;
     u64 v25 = 0;
-    u64 v26 = 0;
-    u64 v27 = 0;
     u32 v16 = 0;
     u32 v17 = 0;
     u32 v18 = 0;
     u32 v19 = 0;
     u32 v20 = 0;
     u32 v21 = 0;
-    u32 v22 = 0;
-    u32 v23 = 0;
     u32 t0 = 0;
     u32 t1 = 0;
     u64 w0 = 0;
-    u8 *f27 = NULL;
-    u8 *p216 = NULL;
-    u8 *p454 = NULL;
-    u8 *p641 = NULL;
-    u8 *p992 = NULL;
-    u8 *p1077 = NULL;
-    v27 = m->g0 - 176ull;
-    f27 = at(m, v27, 176);
-    v6 = v27;
+    u8 *f25 = NULL;
+    u8 *p211 = NULL;
+    u8 *p442 = NULL;
+    u8 *p619 = NULL;
+    u8 *p962 = NULL;
+    u8 *p1047 = NULL;
+    v25 = m->g0 - 176ull;
+    f25 = at(m, v25, 176);
+    v6 = v25;
     m->g0 = v6;
     v7 = 0ull;
     v8 = 4ull;
     if (v3 > 0x100000ull) { goto after1; }
     v9 = v4 + ((v4 == 0) ? 4096ull : 0ull);
     v10 = v1 + ((v1 == 0) ? 4096ull : 0ull);
-    memset(f27 + 16, (int)(0u & 255u), 112);
-    put64(f27 + 8, v3);
-    v11 = v27 + 24ull;
-    v12 = v27 + 20ull;
+    memset(f25 + 16, (int)(0u & 255u), 112);
+    put64(f25 + 8, v3);
+    v11 = v25 + 24ull;
+    v12 = v25 + 20ull;
     v3 = 0ull;
     v7 = 0ull;
 again5:;
     if (v3 != 0ull) { goto after10; }
     v4 = v9 + (v7 * 24ull);
-    v13 = get64(f27 + 8);
-    v3 = get64(f27 + 16);
+    v13 = get64(f25 + 8);
+    v3 = get64(f25 + 16);
 again11:;
     if (v2 <= v3) { goto after8; }
-    if (get8(f27 + 104) == 0) { goto after12; }
-    put64(f27 + 152, 0ull);
-    put64(f27 + 144, 0ull);
-    put64(f27 + 136, 0ull);
-    put64(f27 + 128, 0ull);
+    if (get8(f25 + 104) == 0) { goto after12; }
+    put64(f25 + 152, 0ull);
+    put64(f25 + 144, 0ull);
+    put64(f25 + 136, 0ull);
+    put64(f25 + 128, 0ull);
     goto after7;
 after12:;
-    v1 = get64(f27 + 96);
+    v1 = get64(f25 + 96);
     if (v1 < 16ull) { goto after13; }
-    put64(f27 + 152, 0ull);
-    put64(f27 + 144, 0ull);
-    put64(f27 + 136, 0ull);
-    put64(f27 + 128, 0ull);
+    put64(f25 + 152, 0ull);
+    put64(f25 + 144, 0ull);
+    put64(f25 + 136, 0ull);
+    put64(f25 + 128, 0ull);
     goto after7;
 after13:;
-    put64(f27 + 128, 0ull);
+    put64(f25 + 128, 0ull);
     v14 = v10 + v3;
     v8 = v14;
     v15 = v2 - v3;
     if (v15 > 7ull) { goto after14; }
-    tlv_core_short_front_of_few(m, v27 + 128ull, v14, v15);
-    v8 = v27 + 128ull;
+    tlv_core_short_front_of_few(m, v25 + 128ull, v14, v15);
+    v8 = v25 + 128ull;
 after14:;
     v8 = load64(m, v8, 0);
-    put64(f27 + 168, v8);
+    put64(f25 + 168, v8);
     v16 = (u32)v8;
-    v17 = spread32(v16 >> 16, 8);
-    v18 = v16 & 31u;
-    v19 = (u32)(v18 == 31u);
-    v20 = (u32)(v8 >> 8);
-    v21 = spread32(v20, 8);
-    v22 = v19 & ((u32)((v21 ^ 0x80000000u) < (0u ^ 0x80000000u)));
-    if (((u32)((v17 ^ 0x80000000u) < (0u ^ 0x80000000u))) & v22) { goto after9; }
+    v17 = v16 & 31u;
+    v18 = (u32)(v17 == 31u);
+    v19 = (u32)(v8 >> 8);
+    v20 = v18 & ((u32)(((spread32(v19, 8)) ^ 0x80000000u) < (0u ^ 0x80000000u)));
+    if ((v16 >> 23) & v20) { goto after9; }
     if ((v16 & 255u) == 0) { goto after9; }
-    if (v19 & ((u32)((v20 & 127u) == 0))) { goto after9; }
-    v23 = 1u;
-    v20 = ((v18 == 31u) ? 2u : 1u) + v22;
-    v8 = (v27 + 168ull) | ((u64)v20);
-    p216 = held(m, v8, 2);
-    v24 = (u64)held8(p216, 1, m, v8);
-    v19 = held8(p216, 0, m, v8);
-    switch (v19 + 0xFFFFFF80u) {
+    if (v18 & ((u32)((v19 & 127u) == 0))) { goto after9; }
+    v21 = 1u;
+    v17 = ((v17 == 31u) ? 2u : 1u) + v20;
+    v8 = (v25 + 168ull) | ((u64)v17);
+    p211 = held(m, v8, 2);
+    v22 = (u64)held8(p211, 1, m, v8);
+    v18 = held8(p211, 0, m, v8);
+    switch (v18 + 0xFFFFFF80u) {
         case 0: goto after9;
         case 1: goto after15;
         case 2: goto after17;
         default: goto after16;
     }
 after17:;
-    v24 = (v24 << 8) | (u64)load8(m, v8, 2);
-    v23 = 2u;
+    v22 = (v22 << 8) | (u64)load8(m, v8, 2);
+    v21 = 2u;
     goto after15;
 after16:;
-    v23 = 0u;
-    if (((spread32(v19, 8)) ^ 0x80000000u) < (0u ^ 0x80000000u)) { goto after9; }
-    v24 = (u64)v19;
+    v21 = 0u;
+    if (((spread32(v18, 8)) ^ 0x80000000u) < (0u ^ 0x80000000u)) { goto after9; }
+    v22 = (u64)v18;
 after15:;
-    v19 = v16 >> 5;
-    v25 = (u64)((v20 + v23) + 1u);
-    if (v15 < (((v19 & 1u) ? 0ull : v24) + v25)) { goto after9; }
-    v8 = v24 + v25;
-    v26 = v13;
+    v18 = v16 & 32u;
+    v23 = (u64)((v17 + v21) + 1u);
+    if (v15 < ((v18 ? 0ull : v22) + v23)) { goto after9; }
+    v8 = v22 + v23;
+    v24 = v13;
     if (v1 == 0) { goto after18; }
-    v26 = (u64)load32(m, v12 + (v1 << 2), 0);
+    v24 = (u64)load32(m, v12 + (v1 << 2), 0);
 after18:;
-    if ((v26 - v3) < v8) { goto after9; }
-    v18 = v19 & 7u;
-    v26 = (v18 & 1u) ? v25 : v8;
+    if ((v24 - v3) < v8) { goto after9; }
+    v24 = v18 ? v23 : v8;
     if (v1 != 0ull) { goto after20; }
-    if (v26 != v8) { goto after20; }
+    if (v24 != v8) { goto after20; }
     v8 = v8 + v3;
-    v26 = 0ull;
+    v24 = 0ull;
     goto after19;
 after20:;
-    store32(m, v11 + ((v26 < v8) ? (v1 << 2) : 64ull), 0, (u32)(v8 + v3));
-    v8 = v26 + v3;
-    v19 = (u32)v8;
-    w0 = ((u64)((u32)((get32(f27 + 28) ^ 0x80000000u) > (v19 ^ 0x80000000u)))) + ((u64)((u32)((get32(f27 + 24) ^
-        0x80000000u) > (v19 ^ 0x80000000u))));
-    w0 = (w0 + ((u64)((u32)((get32(f27 + 32) ^ 0x80000000u) > (v19 ^ 0x80000000u))))) + ((u64)((u32)((get32(f27 + 36)
-        ^ 0x80000000u) > (v19 ^ 0x80000000u))));
-    w0 = (w0 + ((u64)((u32)((get32(f27 + 40) ^ 0x80000000u) > (v19 ^ 0x80000000u))))) + ((u64)((u32)((get32(f27 + 44)
-        ^ 0x80000000u) > (v19 ^ 0x80000000u))));
-    w0 = (w0 + ((u64)((u32)((get32(f27 + 48) ^ 0x80000000u) > (v19 ^ 0x80000000u))))) + ((u64)((u32)((get32(f27 + 52)
-        ^ 0x80000000u) > (v19 ^ 0x80000000u))));
-    w0 = (w0 + ((u64)((u32)((get32(f27 + 56) ^ 0x80000000u) > (v19 ^ 0x80000000u))))) + ((u64)((u32)((get32(f27 + 60)
-        ^ 0x80000000u) > (v19 ^ 0x80000000u))));
-    w0 = (w0 + ((u64)((u32)((get32(f27 + 64) ^ 0x80000000u) > (v19 ^ 0x80000000u))))) + ((u64)((u32)((get32(f27 + 68)
-        ^ 0x80000000u) > (v19 ^ 0x80000000u))));
-    w0 = (w0 + ((u64)((u32)((get32(f27 + 72) ^ 0x80000000u) > (v19 ^ 0x80000000u))))) + ((u64)((u32)((get32(f27 + 76)
-        ^ 0x80000000u) > (v19 ^ 0x80000000u))));
-    w0 = (w0 + ((u64)((u32)((get32(f27 + 80) ^ 0x80000000u) > (v19 ^ 0x80000000u))))) + ((u64)((u32)((get32(f27 + 84)
-        ^ 0x80000000u) > (v19 ^ 0x80000000u))));
-    v26 = w0;
+    store32(m, v11 + ((v24 < v8) ? (v1 << 2) : 64ull), 0, (u32)(v8 + v3));
+    v8 = v24 + v3;
+    v18 = (u32)v8;
+    w0 = ((u64)((u32)((get32(f25 + 28) ^ 0x80000000u) > (v18 ^ 0x80000000u)))) + ((u64)((u32)((get32(f25 + 24) ^
+        0x80000000u) > (v18 ^ 0x80000000u))));
+    w0 = (w0 + ((u64)((u32)((get32(f25 + 32) ^ 0x80000000u) > (v18 ^ 0x80000000u))))) + ((u64)((u32)((get32(f25 + 36)
+        ^ 0x80000000u) > (v18 ^ 0x80000000u))));
+    w0 = (w0 + ((u64)((u32)((get32(f25 + 40) ^ 0x80000000u) > (v18 ^ 0x80000000u))))) + ((u64)((u32)((get32(f25 + 44)
+        ^ 0x80000000u) > (v18 ^ 0x80000000u))));
+    w0 = (w0 + ((u64)((u32)((get32(f25 + 48) ^ 0x80000000u) > (v18 ^ 0x80000000u))))) + ((u64)((u32)((get32(f25 + 52)
+        ^ 0x80000000u) > (v18 ^ 0x80000000u))));
+    w0 = (w0 + ((u64)((u32)((get32(f25 + 56) ^ 0x80000000u) > (v18 ^ 0x80000000u))))) + ((u64)((u32)((get32(f25 + 60)
+        ^ 0x80000000u) > (v18 ^ 0x80000000u))));
+    w0 = (w0 + ((u64)((u32)((get32(f25 + 64) ^ 0x80000000u) > (v18 ^ 0x80000000u))))) + ((u64)((u32)((get32(f25 + 68)
+        ^ 0x80000000u) > (v18 ^ 0x80000000u))));
+    w0 = (w0 + ((u64)((u32)((get32(f25 + 72) ^ 0x80000000u) > (v18 ^ 0x80000000u))))) + ((u64)((u32)((get32(f25 + 76)
+        ^ 0x80000000u) > (v18 ^ 0x80000000u))));
+    w0 = (w0 + ((u64)((u32)((get32(f25 + 80) ^ 0x80000000u) > (v18 ^ 0x80000000u))))) + ((u64)((u32)((get32(f25 + 84)
+        ^ 0x80000000u) > (v18 ^ 0x80000000u))));
+    v24 = w0;
 after19:;
-    put64(f27 + 96, v26);
-    put64(f27 + 16, v8);
+    put64(f25 + 96, v24);
+    put64(f25 + 16, v8);
     if (v7 >= v5) { goto after21; }
-    p454 = held(m, v4, 24);
-    put_held8(p454, 0, m, v4, ((u32)v1) + 1u);
-    put_held64(p454, 16, m, v4, v24);
-    put_held64(p454, 8, m, v4, (v3 + v25) & 0xFFFFFFFFull);
-    put_held8(p454, 2, m, v4, v23 + 1u);
-    put_held8(p454, 1, m, v4, v18 & 1u);
-    t1 = (((((v20 == 3u) ? v17 : 0u) & 255u) << 16) | (v20 << 24)) | ((((v20 > 1u) ? v21 : 0u) & 255u) << 8);
-    put_held32(p454, 3, m, v4, t1 | (v16 & 255u));
+    p442 = held(m, v4, 24);
+    put_held8(p442, 0, m, v4, ((u32)v1) + 1u);
+    put_held64(p442, 16, m, v4, v22);
+    put_held64(p442, 8, m, v4, (v3 + v23) & 0xFFFFFFFFull);
+    t1 = (((v19 << 8) & 65280u) | (v16 & 0xFF00FFu)) & ((0xFFFFFFFFu << ((v17 << 3) & 31)) ^ 0xFFFFFFFFu);
+    v18 = t1;
+    put_held32(p442, 3, m, v4, v18 | (v17 << 24));
+    put_held8(p442, 2, m, v4, v21 + 1u);
+    put_held8(p442, 1, m, v4, (v18 >> 5) & 1u);
 after21:;
     v4 = v4 + 24ull;
     v7 = v7 + 1ull;
     v3 = v8;
-    if (get64(f27 + 120) == 0) { goto again11; }
+    if (get64(f25 + 120) == 0) { goto again11; }
 after10:;
-    put64(f27 + 152, 0ull);
-    put64(f27 + 144, 0ull);
-    put64(f27 + 136, 0ull);
-    put64(f27 + 128, 0ull);
+    put64(f25 + 152, 0ull);
+    put64(f25 + 144, 0ull);
+    put64(f25 + 136, 0ull);
+    put64(f25 + 128, 0ull);
     goto after7;
 after9:;
-    put64(f27 + 152, 0ull);
-    put64(f27 + 144, 0ull);
-    put64(f27 + 136, 0ull);
-    put64(f27 + 128, 0ull);
-    put64(f27 + 168, 0ull);
+    put64(f25 + 152, 0ull);
+    put64(f25 + 144, 0ull);
+    put64(f25 + 136, 0ull);
+    put64(f25 + 128, 0ull);
+    put64(f25 + 168, 0ull);
     if (v15 > 7ull) { goto after22; }
-    tlv_core_short_front_of_few(m, v27 + 168ull, v14, v15);
-    v14 = v27 + 168ull;
+    tlv_core_short_front_of_few(m, v25 + 168ull, v14, v15);
+    v14 = v25 + 168ull;
 after22:;
     v8 = load64(m, v14, 0);
-    put64(f27 + 160, v8);
-    v19 = (u32)v8;
-    v22 = spread32(v19 >> 16, 8);
-    v23 = v19 & 31u;
-    v16 = (u32)(v23 == 31u);
-    v20 = (u32)(v8 >> 8);
-    v17 = spread32(v20, 8);
-    v18 = v16 & ((u32)((v17 ^ 0x80000000u) < (0u ^ 0x80000000u)));
-    if (((u32)((v22 ^ 0x80000000u) < (0u ^ 0x80000000u))) & v18) { goto after7; }
-    if ((v19 & 255u) == 0) { goto after7; }
-    if (v16 & ((u32)((v20 & 127u) == 0))) { goto after7; }
-    v16 = 1u;
-    v20 = ((v23 == 31u) ? 2u : 1u) + v18;
-    v8 = (v27 + 160ull) | ((u64)v20);
-    p641 = held(m, v8, 2);
-    v23 = held8(p641, 1, m, v8);
-    v18 = held8(p641, 0, m, v8);
-    switch (v18 + 0xFFFFFF80u) {
+    put64(f25 + 160, v8);
+    v18 = (u32)v8;
+    v17 = v18 & 31u;
+    v21 = (u32)(v17 == 31u);
+    v16 = (u32)(v8 >> 8);
+    v19 = v21 & ((u32)(((spread32(v16, 8)) ^ 0x80000000u) < (0u ^ 0x80000000u)));
+    if ((v18 >> 23) & v19) { goto after7; }
+    if ((v18 & 255u) == 0) { goto after7; }
+    if (v21 & ((u32)((v16 & 127u) == 0))) { goto after7; }
+    v21 = 1u;
+    v17 = ((v17 == 31u) ? 2u : 1u) + v19;
+    v8 = (v25 + 160ull) | ((u64)v17);
+    p619 = held(m, v8, 2);
+    v19 = held8(p619, 1, m, v8);
+    v20 = held8(p619, 0, m, v8);
+    switch (v20 + 0xFFFFFF80u) {
         case 0: goto after7;
         case 1: goto after26;
         case 2: goto after25;
         default: goto after24;
     }
 after26:;
-    v23 = v23 & 255u;
+    v19 = v19 & 255u;
     goto after23;
 after25:;
-    v23 = (v23 << 8) | load8(m, v8, 2);
-    v16 = 2u;
+    v19 = (v19 << 8) | load8(m, v8, 2);
+    v21 = 2u;
     goto after23;
 after24:;
-    v16 = 0u;
-    v23 = spread32(v18, 8);
-    if ((v23 ^ 0x80000000u) < (0u ^ 0x80000000u)) { goto after7; }
+    v21 = 0u;
+    v19 = spread32(v20, 8);
+    if ((v19 ^ 0x80000000u) < (0u ^ 0x80000000u)) { goto after7; }
 after23:;
-    v4 = ((u64)v23) & 65535ull;
-    v18 = v19 & 32u;
-    v8 = (u64)((v20 + v16) + 1u);
-    if (v15 < ((v18 ? 0ull : v4) + v8)) { goto after7; }
+    v4 = ((u64)v19) & 65535ull;
+    v20 = v18 & 32u;
+    v8 = (u64)((v17 + v21) + 1u);
+    if (v15 < ((v20 ? 0ull : v4) + v8)) { goto after7; }
     v4 = v8 + v4;
     if (v1 == 0) { goto after27; }
     v13 = (u64)load32(m, v12 + (v1 << 2), 0);
 after27:;
     if ((v13 - v3) < v4) { goto after7; }
-    t0 = (((((v20 == 3u) ? v22 : 0u) & 255u) << 16) | (v20 << 24)) | ((((v20 > 1u) ? v17 : 0u) & 255u) << 8);
-    v20 = t0 | (v19 & 255u);
-    v24 = v18 ? v8 : v4;
-    v23 = v23 & 65535u;
-    v18 = ((u32)v1) + 1u;
-    v22 = (u32)(v3 + v8);
+    t0 = (((v16 << 8) & 65280u) | (v18 & 0xFF00FFu)) & ((0xFFFFFFFFu << ((v17 << 3) & 31)) ^ 0xFFFFFFFFu);
+    v16 = t0 | (v17 << 24);
+    v22 = v20 ? v8 : v4;
+    v17 = v19 & 65535u;
+    v19 = ((u32)v1) + 1u;
+    v20 = (u32)(v3 + v8);
     if (v1 != 0ull) { goto after29; }
-    if (v24 != v4) { goto after29; }
+    if (v22 != v4) { goto after29; }
     v3 = v4 + v3;
     v8 = 0ull;
     goto after28;
 after29:;
-    store32(m, v11 + ((v24 < v4) ? (v1 << 2) : 64ull), 0, (u32)(v4 + v3));
-    v3 = v24 + v3;
-    v19 = (u32)v3;
-    w0 = ((u64)((u32)((get32(f27 + 28) ^ 0x80000000u) > (v19 ^ 0x80000000u)))) + ((u64)((u32)((get32(f27 + 24) ^
-        0x80000000u) > (v19 ^ 0x80000000u))));
-    w0 = (w0 + ((u64)((u32)((get32(f27 + 32) ^ 0x80000000u) > (v19 ^ 0x80000000u))))) + ((u64)((u32)((get32(f27 + 36)
-        ^ 0x80000000u) > (v19 ^ 0x80000000u))));
-    w0 = (w0 + ((u64)((u32)((get32(f27 + 40) ^ 0x80000000u) > (v19 ^ 0x80000000u))))) + ((u64)((u32)((get32(f27 + 44)
-        ^ 0x80000000u) > (v19 ^ 0x80000000u))));
-    w0 = (w0 + ((u64)((u32)((get32(f27 + 48) ^ 0x80000000u) > (v19 ^ 0x80000000u))))) + ((u64)((u32)((get32(f27 + 52)
-        ^ 0x80000000u) > (v19 ^ 0x80000000u))));
-    w0 = (w0 + ((u64)((u32)((get32(f27 + 56) ^ 0x80000000u) > (v19 ^ 0x80000000u))))) + ((u64)((u32)((get32(f27 + 60)
-        ^ 0x80000000u) > (v19 ^ 0x80000000u))));
-    w0 = (w0 + ((u64)((u32)((get32(f27 + 64) ^ 0x80000000u) > (v19 ^ 0x80000000u))))) + ((u64)((u32)((get32(f27 + 68)
-        ^ 0x80000000u) > (v19 ^ 0x80000000u))));
-    w0 = (w0 + ((u64)((u32)((get32(f27 + 72) ^ 0x80000000u) > (v19 ^ 0x80000000u))))) + ((u64)((u32)((get32(f27 + 76)
-        ^ 0x80000000u) > (v19 ^ 0x80000000u))));
-    w0 = (w0 + ((u64)((u32)((get32(f27 + 80) ^ 0x80000000u) > (v19 ^ 0x80000000u))))) + ((u64)((u32)((get32(f27 + 84)
-        ^ 0x80000000u) > (v19 ^ 0x80000000u))));
+    store32(m, v11 + ((v22 < v4) ? (v1 << 2) : 64ull), 0, (u32)(v4 + v3));
+    v3 = v22 + v3;
+    v18 = (u32)v3;
+    w0 = ((u64)((u32)((get32(f25 + 28) ^ 0x80000000u) > (v18 ^ 0x80000000u)))) + ((u64)((u32)((get32(f25 + 24) ^
+        0x80000000u) > (v18 ^ 0x80000000u))));
+    w0 = (w0 + ((u64)((u32)((get32(f25 + 32) ^ 0x80000000u) > (v18 ^ 0x80000000u))))) + ((u64)((u32)((get32(f25 + 36)
+        ^ 0x80000000u) > (v18 ^ 0x80000000u))));
+    w0 = (w0 + ((u64)((u32)((get32(f25 + 40) ^ 0x80000000u) > (v18 ^ 0x80000000u))))) + ((u64)((u32)((get32(f25 + 44)
+        ^ 0x80000000u) > (v18 ^ 0x80000000u))));
+    w0 = (w0 + ((u64)((u32)((get32(f25 + 48) ^ 0x80000000u) > (v18 ^ 0x80000000u))))) + ((u64)((u32)((get32(f25 + 52)
+        ^ 0x80000000u) > (v18 ^ 0x80000000u))));
+    w0 = (w0 + ((u64)((u32)((get32(f25 + 56) ^ 0x80000000u) > (v18 ^ 0x80000000u))))) + ((u64)((u32)((get32(f25 + 60)
+        ^ 0x80000000u) > (v18 ^ 0x80000000u))));
+    w0 = (w0 + ((u64)((u32)((get32(f25 + 64) ^ 0x80000000u) > (v18 ^ 0x80000000u))))) + ((u64)((u32)((get32(f25 + 68)
+        ^ 0x80000000u) > (v18 ^ 0x80000000u))));
+    w0 = (w0 + ((u64)((u32)((get32(f25 + 72) ^ 0x80000000u) > (v18 ^ 0x80000000u))))) + ((u64)((u32)((get32(f25 + 76)
+        ^ 0x80000000u) > (v18 ^ 0x80000000u))));
+    w0 = (w0 + ((u64)((u32)((get32(f25 + 80) ^ 0x80000000u) > (v18 ^ 0x80000000u))))) + ((u64)((u32)((get32(f25 + 84)
+        ^ 0x80000000u) > (v18 ^ 0x80000000u))));
     v8 = w0;
 after28:;
-    put16(f27 + 142, 0u);
-    put8(f27 + 141, v18);
-    put8(f27 + 140, v16);
-    put32(f27 + 136, v20);
-    put32(f27 + 148, v23);
-    put32(f27 + 144, v22);
-    put64(f27 + 96, v8);
-    put64(f27 + 16, v3);
-    v3 = get64(f27 + 136);
-    v4 = get64(f27 + 144);
+    put16(f25 + 142, 0u);
+    put8(f25 + 141, v19);
+    put8(f25 + 140, v21);
+    put32(f25 + 136, v16);
+    put32(f25 + 148, v17);
+    put32(f25 + 144, v20);
+    put64(f25 + 96, v8);
+    put64(f25 + 16, v3);
+    v3 = get64(f25 + 136);
+    v4 = get64(f25 + 144);
     goto after6;
 after8:;
-    put64(f27 + 152, 0ull);
-    put64(f27 + 144, 0ull);
-    put64(f27 + 136, 0ull);
-    put64(f27 + 128, 0ull);
+    put64(f25 + 152, 0ull);
+    put64(f25 + 144, 0ull);
+    put64(f25 + 136, 0ull);
+    put64(f25 + 128, 0ull);
 after7:;
-    tlv_core_part_walk_next_part(m, v27 + 128ull, v27 + 8ull, v10, v2);
-    v4 = get64(f27 + 144);
-    v3 = get64(f27 + 136);
-    if (get8(f27 + 128)) { goto after4; }
-    if ((get8(f27 + 132) & 255u) != 1u) { goto after2; }
+    tlv_core_part_walk_next_part(m, v25 + 128ull, v25 + 8ull, v10, v2);
+    v4 = get64(f25 + 144);
+    v3 = get64(f25 + 136);
+    if (get8(f25 + 128)) { goto after4; }
+    if ((get8(f25 + 132) & 255u) != 1u) { goto after2; }
 after6:;
     if (v7 >= v5) { goto after30; }
     v8 = v9 + (v7 * 24ull);
-    p992 = held(m, v8, 24);
-    put_held8(p992, 0, m, v8, (u32)(v3 >> 40));
-    put_held64(p992, 16, m, v8, v4 >> 32);
-    put_held64(p992, 8, m, v8, v4 & 0xFFFFFFFFull);
-    put_held32(p992, 3, m, v8, (u32)v3);
-    put_held8(p992, 2, m, v8, ((u32)(v3 >> 32)) + 1u);
-    put_held8(p992, 1, m, v8, (((u32)v3) >> 5) & 1u);
+    p962 = held(m, v8, 24);
+    put_held8(p962, 0, m, v8, (u32)(v3 >> 40));
+    put_held64(p962, 16, m, v8, v4 >> 32);
+    put_held64(p962, 8, m, v8, v4 & 0xFFFFFFFFull);
+    put_held32(p962, 3, m, v8, (u32)v3);
+    put_held8(p962, 2, m, v8, ((u32)(v3 >> 32)) + 1u);
+    put_held8(p962, 1, m, v8, (((u32)v3) >> 5) & 1u);
 after30:;
     v7 = v7 + 1ull;
-    v3 = get64(f27 + 120);
+    v3 = get64(f25 + 120);
     goto again5;
 after4:;
-    v8 = ((v3 & 255ull) == 0) ? 1ull : (((((u64)(get8(f27 + 152) + 1u)) & 255ull) << 8) | 2ull);
+    v8 = ((v3 & 255ull) == 0) ? 1ull : (((((u64)(get8(f25 + 152) + 1u)) & 255ull) << 8) | 2ull);
     v7 = v4;
     goto after1;
 after2:;
     v8 = (v7 > v5) ? 4ull : 0ull;
 after1:;
-    p1077 = held(m, v0, 16);
-    put_held64(p1077, 8, m, v0, v7);
-    put_held64(p1077, 0, m, v0, v8);
-    m->g0 = v27 + 176ull;
+    p1047 = held(m, v0, 16);
+    put_held64(p1047, 8, m, v0, v7);
+    put_held64(p1047, 0, m, v0, v8);
+    m->g0 = v25 + 176ull;
 }
 
 static void module_scard_tlv_tidy(struct call *m, u64 v0, u64 v1, u64 v2, u64 v3, u64 v4, u64 v5)

@@ -90,7 +90,8 @@ struct scard_verdict {
     uint8_t status; /* enum scard_status */
     uint8_t reason; /* the reason, from the codec's enum below; 0 unless the status is SCARD_AT */
     scard_size place; /* depends on the status, so check the status first. SCARD_OK: the number of octets written or
-                         consumed. SCARD_ARGUMENT: the room needed, and the call wrote nothing */
+                         consumed. SCARD_ARGUMENT: the room needed. The call wrote nothing, except that the
+                         arrays of scard_tlv_parts and scard_dol_entries are unspecified then */
 };
 
 /* The codecs, as numbers for scard_reason_name. */
