@@ -71,13 +71,20 @@ IsSize Ifs inf = IsFieldSize (slice_index inf 0)
 IsSize Abort inf = Unit {0}
 IsSize Wtx inf = Unit {0}
 
--- the information field that a block carries, where an I-block has at most ifs octets: 11.3.2.3 and 11.4.2. An R-block
--- has none.
+-- the length of the information field of a block: an I-block has at most ifs octets, an R-block none, and an S-block what
+-- it is about: 11.3.2.3 and 11.4.2
+abbrev pub FitsLen : ℕ → Pcb → ℕ → Type 0
+FitsLen ifs (Info number more) len = len ≤ ifs
+FitsLen ifs (Ready number fault) len = len ≡ 0
+FitsLen ifs (Request s) len = len ≡ supervisory_len s
+FitsLen ifs (Response s) len = len ≡ supervisory_len s
+
+-- the information field that a block carries: its length fits, and the size in a block about IFS is one
 abbrev pub Suits : ℕ → Pcb → List ℕ → Type 0
-Suits ifs (Info number more) inf = length inf ≤ ifs
-Suits ifs (Ready number fault) inf = length inf ≡ 0
-Suits ifs (Request s) inf = (length inf ≡ supervisory_len s) × IsSize s inf
-Suits ifs (Response s) inf = (length inf ≡ supervisory_len s) × IsSize s inf
+Suits ifs (Info number more) inf = FitsLen ifs (Info number more) (length inf)
+Suits ifs (Ready number fault) inf = FitsLen ifs (Ready number fault) (length inf)
+Suits ifs (Request s) inf = FitsLen ifs (Request s) (length inf) × IsSize s inf
+Suits ifs (Response s) inf = FitsLen ifs (Response s) (length inf) × IsSize s inf
 
 -- what has a spelling
 pub record IsProper (ifs : ℕ) (v : Parts) : Type 0 where
@@ -105,25 +112,18 @@ pub record IsPut (v : Parts) (old new : List ℕ) (count : ℕ) : Type 0 where
   pub counted : count ≡ length octets
   pub buffer : new ≡ octets ++ drop count old
 
--- a length that no field of such a block has: FF is reserved: 11.3.2.3
+-- a length that no field of such a block has at any size: FF is reserved, and 254 is the largest size: 11.3.2.3
 abbrev pub IsBadLen : Pcb → ℕ → Type 0
 IsBadLen (Info number more) len = len ≡ 255
-IsBadLen (Ready number fault) len = len ≢ 0
-IsBadLen (Request s) len = len ≢ supervisory_len s
-IsBadLen (Response s) len = len ≢ supervisory_len s
+IsBadLen (Ready number fault) len = FitsLen 254 (Ready number fault) len → ⊥
+IsBadLen (Request s) len = FitsLen 254 (Request s) len → ⊥
+IsBadLen (Response s) len = FitsLen 254 (Response s) len → ⊥
 
 abbrev pub IsInfo : Pcb → Type 0
 IsInfo (Info number more) = Unit {0}
 IsInfo (Ready number fault) = ⊥
 IsInfo (Request s) = ⊥
 IsInfo (Response s) = ⊥
-
--- the length of a field that such a block may have
-abbrev pub FitsLen : ℕ → Pcb → ℕ → Type 0
-FitsLen ifs (Info number more) len = len ≤ ifs
-FitsLen ifs (Ready number fault) len = len ≡ 0
-FitsLen ifs (Request s) len = len ≡ supervisory_len s
-FitsLen ifs (Response s) len = len ≡ supervisory_len s
 
 -- what is wrong with a length
 abbrev pub IsLenFault : ℕ → Pcb → ℕ → BlockReason → Type 0

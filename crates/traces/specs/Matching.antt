@@ -10,11 +10,13 @@ use Rattle.traces.specs.declared.standing.Standing.TheVariants.{Left, Waits, Sen
 use Rattle.traces.specs.Following.{is_spelled, whole}
 use Rattle.traces.specs.Seen.{seen}
 
+-- Octets that are the block match it whole. If they are no proper block, they are the block, changed on the way.
 abbrev pub match_with : Parts → List ℕ → Match
 match_with block octets =
     if is_spelled block octets then Whole (spelling block)
     else (if is_none (seen octets) then Changed (spelling block) else Other)
 
+-- only an end that is about to send a block can have sent the octets
 abbrev pub match_of : Standing → List ℕ → Match
 match_of (Sends block) octets = match_with block octets
 match_of Left octets = Other
