@@ -14,6 +14,7 @@ use Rattle.card_words.specs.declared.request.Asked.{Asked}
 use Rattle.card_words.specs.declared.request.Asked.TheVariants.{Once}
 use Rattle.card_words.specs.declared.request.Request.{Request}
 use Rattle.card_words.specs.declared.request.Request.TheVariants.{Help, Version}
+use Rattle.card_tool.specs.Calls.{calls, Calls}
 use Rattle.card_tool.specs.Answers.{IsAnswerTo, IsRight, IsRightTo, IsToldOf}
 use Rattle.card_tool.specs.Files.{IsTaken, ReadsWhole}
 use Rattle.card_kinds.specs.declared.status.Status.{Status}
@@ -25,7 +26,7 @@ read_as fault = Err fault
 -- a request that asks for no file is answered without the reader
 pub told-at_once : (request : Request) (held : Option (List ℕ)) (count : ℕ) (text : List ℕ) (ended : Status)
     → (NeedsFile request → ⊥) → IsAnswerTo request (Ok []) text ended
-    → IsRightTo request held held count count text ended
+    → IsRightTo request (calls held held count count) text ended
 told-at_once request held count text ended free answer =
     inl (record { file = Ok []; is_file = λ needs. absurd (free needs); is_answer = answer })
 
@@ -58,10 +59,10 @@ asks-none words fault (taken are e) ask =
 asks-none words fault (called_for_help parsed among help e) ask = cc e
 asks-none words fault (not_taken parsed other e) ask = let bad = subst HasOther ask.0.free other in bad.1
 
-module _ (words : List (List ℕ)) (held left : Option (List ℕ)) (before after : ℕ) where
+module _ (words : List (List ℕ)) (reads : Calls) where
   -- what is right of the request is right of the words that were read as it
   pub right : (request : Request) (text : List ℕ) (ended : Status) → IsRead words (Ok (Once request))
-      → IsRightTo request held left before after text ended → IsRight words held left before after text ended
+      → IsRightTo request reads text ended → IsRight words reads text ended
   right request text ended read (inl to) = inl (record {
     file = to.file;
     is_file = λ ask. to.is_file (asks words request read ask);
@@ -72,7 +73,7 @@ module _ (words : List (List ℕ)) (held left : Option (List ℕ)) (before after
 -- the line of the fault of words that were refused, or of memory
 pub refused-words : (words : List (List ℕ)) (held : Option (List ℕ)) (count : ℕ) (fault : Fault)
     → (read_as fault ≡ Err Memory) ⊎ IsRead words (Err fault)
-    → IsRight words held held count count (fault_text fault) status.Fault
+    → IsRight words (calls held held count count) (fault_text fault) status.Fault
 refused-words words held count fault (inl memory) =
     let same : fault ≡ Memory = cc memory in
     inr (ap fault_text same, refl, refl)
@@ -99,13 +100,12 @@ needs-octets words asked (not_taken parsed other e) need = cc e
 
 -- a request that tells of the octets that are given
 module _ (request : Request) (given : OctetSource) (Told : List ℕ → List ℕ → Status → Type 0)
-    (held left : Option (List ℕ))
-    (before after : ℕ) (need : NeedsFile request → IsFromReader given)
+    (reads : Calls) (need : NeedsFile request → IsFromReader given)
     (answers : (file : Result (List ℕ) Fault) (text : List ℕ) (ended : Status)
     → IsToldOf Told (octets_given given file) text ended → IsAnswerTo request file text ended) where
   -- where no octets were taken, the line of that fault is a right answer
-  pub told-fault : (fault : Fault) → IsTaken given held left before after (Err fault)
-      → IsRightTo request held left before after (fault_text fault) status.Fault
+  pub told-fault : (fault : Fault) → IsTaken given reads (Err fault)
+      → IsRightTo request reads (fault_text fault) status.Fault
   told-fault fault had =
       elim had.is_taken [
         | inl is ↦
@@ -120,19 +120,19 @@ module _ (request : Request) (given : OctetSource) (Told : List ℕ → List ℕ
       ]
 
   -- where memory runs out after they were taken, the line of that does
-  pub told-wanting : (octets : List ℕ) → IsTaken given held left before after (Ok octets)
-      → IsRightTo request held left before after (fault_text Memory) status.Fault
+  pub told-wanting : (octets : List ℕ) → IsTaken given reads (Ok octets)
+      → IsRightTo request reads (fault_text Memory) status.Fault
   told-wanting octets had = inr (refl, refl, had.count)
 
 -- ---- a whole file
 
 -- a request that tells of what standard input has
-module _ (request : Request) (Told : List ℕ → List ℕ → Status → Type 0) (held left : Option (List ℕ)) (before after : ℕ)
+module _ (request : Request) (Told : List ℕ → List ℕ → Status → Type 0) (reads : Calls)
     (answers : (file : Result (List ℕ) Fault) (text : List ℕ) (ended : Status) → IsToldOf Told file text ended
     → IsAnswerTo request file text ended) where
   -- the line of a fault in reading it answers the request
-  pub file-fault : (fault : Fault) → ReadsWhole held left before after (Err fault)
-      → IsRightTo request held left before after (fault_text fault) status.Fault
+  pub file-fault : (fault : Fault) → ReadsWhole reads (Err fault)
+      → IsRightTo request reads (fault_text fault) status.Fault
   file-fault fault had = inl (record {
     file = Err fault;
     is_file = λ asked. had;
@@ -141,6 +141,6 @@ module _ (request : Request) (Told : List ℕ → List ℕ → Status → Type 0
   })
 
   -- and where memory runs out after it was read, the line of that does
-  pub file-wanting : (file : List ℕ) → ReadsWhole held left before after (Ok file)
-      → IsRightTo request held left before after (fault_text Memory) status.Fault
+  pub file-wanting : (file : List ℕ) → ReadsWhole reads (Ok file)
+      → IsRightTo request reads (fault_text Memory) status.Fault
   file-wanting file had = inr (refl, refl, had.count)

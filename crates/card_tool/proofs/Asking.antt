@@ -10,6 +10,7 @@ use Rattle.card_words.specs.declared.request.Request.{Request}
 use Rattle.card_words.specs.declared.request.Task.{Task}
 use Rattle.card_words.specs.declared.fault.Fault.TheVariants.{Memory}
 use Rattle.card_words.specs.Texts.{fault_text}
+use Rattle.card_tool.specs.Calls.{calls, Calls}
 use Rattle.card_tool.specs.Answers.{IsReadFrom, IsWritten, Writes}
 use Rattle.card_tool.specs.Explained.{IsRightWith}
 use Rattle.card_tool.specs.LineAnswers.{WritesLines, answered, wanting}
@@ -68,24 +69,25 @@ module _ (words : List (List ℕ)) where
 
 -- ---- where memory ran out before the words were read
 
-module _ (held : Option (List ℕ)) (count : ℕ) (old new : Option (List ℕ)) (before after : ℕ) (ended : Status)
-    (is : IsWritten (fault_text Memory) status.Fault old new before after ended) where
+module _ (held : Option (List ℕ)) (count : ℕ) (writes : Calls) (ended : Status)
+    (is : IsWritten (fault_text Memory) status.Fault writes ended) where
   -- the line of that is right of any words, for which nothing was read
-  pub no-words : (words : List (List ℕ)) → Writes (IsRightWith words held held count count) old new before after ended
+  pub no-words : (words : List (List ℕ)) → Writes (IsRightWith words (calls held held count count)) writes ended
   no-words words = record {
     text = fault_text Memory;
     right = status.Fault;
     is_right = record {
       text = fault_text Memory;
       note = [];
-      is_said = said-nothing words held held count count (fault_text Memory) status.Fault (inr (refl, refl, refl));
+      is_said = said-nothing words (calls held held count count) (fault_text Memory) status.Fault
+          (inr (refl, refl, refl));
       is_whole = sym (append-nil (fault_text Memory));
     };
     is_written = is;
   }
 
   -- and of lines, of which none was read
-  pub no-lines : (telling : Telling) → WritesLines telling held held count count old new before after ended
+  pub no-lines : (telling : Telling) → WritesLines telling (calls held held count count) writes ended
   no-lines telling = answered (record {
     text = fault_text Memory;
     right = status.Fault;

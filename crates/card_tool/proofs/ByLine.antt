@@ -9,6 +9,7 @@ use Rattle.octet_core.specs.Failures.{HasFailed}
 use Rattle.card_words.specs.Loose.{loose_octets}
 use Rattle.card_words.specs.declared.fault.Fault.{Fault}
 use Rattle.card_words.specs.declared.fault.Fault.TheVariants.{TooLarge}
+use Rattle.card_tool.specs.Calls.{calls}
 use Rattle.card_tool.specs.declared.telling.Telling.{Telling}
 use Rattle.card_tool.specs.Answers.{IsTold, IsToldOf, IsWritten, all, cut}
 use Rattle.card_tool.specs.Judged.{SaysIf}
@@ -248,8 +249,8 @@ Appends-then (Some a) (Some b) (Some c) x y p q = q ∙ ap (λ (l : List ℕ). l
 
 -- a text is written after another
 pub written-then : (first text : List ℕ) (right : Status) (a b c : Option (List ℕ)) (before after : ℕ) (ended : Status)
-    → Appends a b first → IsWritten text right b c before after ended
-    → IsWritten (first ++ text) right a c before after ended
+    → Appends a b first → IsWritten text right (calls b c before after) ended
+    → IsWritten (first ++ text) right (calls a c before after) ended
 written-then first text right a b c before after ended p (all q same is) =
     all (Appends-then a b c first text p q) same is
 written-then first text right a b c before after ended p (cut count few q fails is) =
@@ -258,16 +259,16 @@ written-then first text right a b c before after ended p (cut count few q fails 
 
 -- with no failure in the first
 pub written-all : (first text : List ℕ) (right : Status) (a b c : Option (List ℕ)) (before middle after : ℕ)
-    (ended : Status) → Appends a b first → middle ≡ before → IsWritten text right b c middle after ended
-    → IsWritten (first ++ text) right a c before after ended
+    (ended : Status) → Appends a b first → middle ≡ before → IsWritten text right (calls b c middle after) ended
+    → IsWritten (first ++ text) right (calls a c before after) ended
 written-all first text right a b c before middle after ended p same h =
     written-then first text right a b c before after ended p
-    (subst (λ (n : ℕ). IsWritten text right b c n after ended) same h)
+    (subst (λ (n : ℕ). IsWritten text right (calls b c n after) ended) same h)
 
 -- the writer failed in the first
 pub stopped-first : (first text : List ℕ) (right : Status) (a b : Option (List ℕ)) (before after : ℕ) (count : ℕ)
     → count < length first → Appends a b (take count first) → HasFailed before after
-    → IsWritten (first ++ text) right a b before after status.Fault
+    → IsWritten (first ++ text) right (calls a b before after) status.Fault
 stopped-first first text right a b before after count few p fails =
     cut count (omega (arith, few, length-append first text))
     (subst (Appends a b) (sym (take-append-le count first text (omega (arith, few)))) p) fails refl

@@ -14,6 +14,7 @@ use Rattle.card_words.specs.declared.fault.Fault.TheVariants.{Hex, Memory, TooLa
 use Rattle.card_words.specs.declared.given.OctetSource.{OctetSource}
 use Rattle.card_words.specs.declared.request.Asked.TheVariants.{Once}
 use Rattle.card_words.specs.declared.request.Request.{Request}
+use Rattle.card_tool.specs.Calls.{calls, Calls}
 use Rattle.card_tool.specs.Answers.{IsAnswerTo, IsRight, IsRightTo, IsToldOf}
 use Rattle.card_tool.specs.Explained.{differs, form_note, octets_of, on_known, on_words, said_of, silent, too_large, AreNoted, Fits, IsDifferenceNote, IsFaulted, IsFillNote, IsFormNote, IsKnownNote, IsNoted, IsNotedLine, IsNoteOn, IsNoteTo, IsReplyTo, IsSaid, IsTakenWith, Replies, RepliesTo, SaysOf}
 use Rattle.card_tool.specs.FileNotes.{line_text, IsWhy}
@@ -45,7 +46,7 @@ taken-as octets = Ok octets
 
 -- memory was wanting before anything was read
 pub wanting : (request : Request) (held : Option (List ℕ)) (count : ℕ)
-    → IsRightTo request held held count count (fault_text Memory) status.Fault
+    → IsRightTo request (calls held held count count) (fault_text Memory) status.Fault
 wanting request held count = inr (refl, refl, refl)
 
 -- where an end does a line otherwise, the line with the reason and its place is the note on the exchange
@@ -106,12 +107,12 @@ faulted told Note note (Err other) same h = same
 
 -- ---- answers to a request
 
-module _ (words : List (List ℕ)) (request : Request) (held left : Option (List ℕ)) (before after : ℕ) where
+module _ (words : List (List ℕ)) (request : Request) (reads : Calls) where
   -- an answer of which nothing is said
   pub alone : (made : WithNote) (file : Result (List ℕ) Fault)
-      → (NeedsFile request → ReadsWhole held left before after file)
+      → (NeedsFile request → ReadsWhole reads file)
       → IsAnswerTo request file made.answer.text made.answer.status
-      → IfOk made.note (λ note. string_bytes note ≡ []) → IsReplyTo words request held left before after made
+      → IfOk made.note (λ note. string_bytes note ≡ []) → IsReplyTo words request reads made
   alone made file is_file h none =
       record { file = file; is_file = is_file; is_answer = h; is_note = left-of made.note none }
     where
@@ -122,10 +123,10 @@ module _ (words : List (List ℕ)) (request : Request) (held left : Option (List
 
   -- an answer with a note
   pub with-note : (made : WithNote) (file : Result (List ℕ) Fault)
-      → (NeedsFile request → ReadsWhole held left before after file)
+      → (NeedsFile request → ReadsWhole reads file)
       → IsAnswerTo request file made.answer.text made.answer.status
       → IfOk made.note (λ note. IsNoteTo words request file (string_bytes note))
-      → IsReplyTo words request held left before after made
+      → IsReplyTo words request reads made
   with-note made file is_file h note =
       record { file = file; is_file = is_file; is_answer = h; is_note = right-of made.note note }
     where
@@ -140,7 +141,7 @@ module _ (words : List (List ℕ)) (request : Request) (held left : Option (List
 -- a word gave them, and there is no text
 pub word-taken-with : (explains : Bool) (octets : List ℕ) (note : Result (String Global) AllocError)
     (held : Option (List ℕ)) (count : ℕ) → IfOk note (λ text. string_bytes text ≡ [])
-    → IsTakenWith explains (Word octets) held held count count (Ok (Given octets note))
+    → IsTakenWith explains (Word octets) (calls held held count count) (Ok (Given octets note))
 word-taken-with explains octets note held count none = record {
   taken = record {
     file = Ok [];
@@ -157,11 +158,11 @@ word-taken-with explains octets note held count none = record {
     nothing false r h = h
 
 -- or a text was read, and they were taken from it
-pub read-with : (form : Form) (held left : Option (List ℕ)) (before after : ℕ) (text : List ℕ)
-    (result : Result Taken Fault) → ReadsWhole held left before after (Ok text)
+pub read-with : (form : Form) (reads : Calls) (text : List ℕ)
+    (result : Result Taken Fault) → ReadsWhole reads (Ok text)
     → UnlessMemory (octets_of result) (octets_in form text) → (explains asks : Bool) → explains ≡ asks
-    → IfOk result (SaysOf asks (Read form) (Ok text)) → IsTakenWith explains (Read form) held left before after result
-read-with form held left before after text result had octets explains asks same note = record {
+    → IfOk result (SaysOf asks (Read form) (Ok text)) → IsTakenWith explains (Read form) reads result
+read-with form reads text result had octets explains asks same note = record {
   taken = record {
     file = Ok text;
     is_file = λ asked. had;
@@ -169,7 +170,7 @@ read-with form held left before after text result had octets explains asks same 
       | inl memory ↦ inr (memory, had.count)
       | inr is ↦ inl is
     ];
-    count = counted before after (octets_of result) had.count;
+    count = counted reads.before reads.after (octets_of result) had.count;
   };
   is_note = rw same note;
 }
@@ -178,7 +179,7 @@ read-with form held left before after text result had octets explains asks same 
 module _ (explains : Bool) (words : List (List ℕ)) (request : Request) (given : OctetSource)
     (Told : List ℕ → List ℕ → Status → Type 0)
     (Note : List ℕ → List ℕ → Type 0)
-    (held left : Option (List ℕ)) (before after : ℕ) (need : NeedsFile request → IsFromReader given)
+    (reads : Calls) (need : NeedsFile request → IsFromReader given)
     (answers : (file : Result (List ℕ) Fault) (text : List ℕ) (ended : Status)
     → IsToldOf Told (octets_given given file) text ended → IsAnswerTo request file text ended)
     (notes : (file : Result (List ℕ) Fault) (note : List ℕ) → IsNoteOn given file Note note
@@ -207,13 +208,13 @@ module _ (explains : Bool) (words : List (List ℕ)) (request : Request) (given 
   on-given one other (Err e) file octets same h g both = tt
 
   pub noted-given : (octets : List ℕ) (note : Result (String Global) AllocError)
-      → IsTakenWith explains given held left before after (Ok (Given octets note))
+      → IsTakenWith explains given reads (Ok (Given octets note))
       → (one made : WithNote) → Told octets one.answer.text one.answer.status
       → IfOk one.note (λ text. SaysIf explains (Note octets) (string_bytes text))
       → made.answer ≡ one.answer
       → IfOk made.note (λ text. IsOkAnd one.note (λ first. IsOkAnd note (λ second.
       string_bytes text ≡ string_bytes first ++ string_bytes second)))
-      → IsReplyTo words request held left before after made
+      → IsReplyTo words request reads made
   noted-given octets note had one made answer fits same both =
       elim had.taken.is_taken [
         | inl is ↦ record {
@@ -228,8 +229,8 @@ module _ (explains : Bool) (words : List (List ℕ)) (request : Request) (given 
       ]
 
   -- or gets the line of the fault, with a note, of a text that isn't in its form
-  pub noted-refused : (made : WithNote) → IsTakenWith explains given held left before after (Ok (Refused made))
-      → IsReplyTo words request held left before after made
+  pub noted-refused : (made : WithNote) → IsTakenWith explains given reads (Ok (Refused made))
+      → IsReplyTo words request reads made
   noted-refused made had =
       elim had.taken.is_taken [
         | inl is ↦ record {
@@ -257,20 +258,20 @@ module _ (explains : Bool) (words : List (List ℕ)) (request : Request) (given 
 
 -- ---- answers to words
 
-module _ (words : List (List ℕ)) (held left : Option (List ℕ)) (before after : ℕ) where
+module _ (words : List (List ℕ)) (reads : Calls) where
   -- what is right of a request is right of the words
   pub noted-words : (request : Request) (made : WithNote) → IsRead words (Ok (Once request))
-      → IsReplyTo words request held left before after made
-      → IsNoted words held left before after made.answer.text (said_of made.note) made.answer.status
+      → IsReplyTo words request reads made
+      → IsNoted words reads made.answer.text (said_of made.note) made.answer.status
   noted-words request made read h = go made.note h.is_note
     where
-      is-right : IsRight words held left before after made.answer.text made.answer.status
-      is-right = right words held left before after request made.answer.text made.answer.status read
+      is-right : IsRight words reads made.answer.text made.answer.status
+      is-right = right words reads request made.answer.text made.answer.status read
           (inl (record { file = h.file; is_file = h.is_file; is_answer = h.is_answer }))
 
       go : {E : Type 0} (note : Result (String Global) E)
           → IfOk note (λ n. (string_bytes n ≡ []) ⊎ IsNoteTo words request h.file (string_bytes n))
-          → IsNoted words held left before after made.answer.text (said_of note) made.answer.status
+          → IsNoted words reads made.answer.text (said_of note) made.answer.status
       go (Ok n) (inl none) = inl (is-right, silent none)
       go (Ok n) (inr is) = inr (
         request,
@@ -285,29 +286,29 @@ module _ (words : List (List ℕ)) (held left : Option (List ℕ)) (before after
       go (Err e) is = inl (is-right, silent refl)
 
   pub replied-words : (request : Request) (r : Result WithNote Fault) → IsRead words (Ok (Once request))
-      → RepliesTo words request held left before after r → AreNoted words held left before after r
+      → RepliesTo words request reads r → AreNoted words reads r
   replied-words request (Ok made) read h = noted-words request made read h
-  replied-words request (Err fault) read h = right words held left before after request (fault_text fault) status.Fault
+  replied-words request (Err fault) read h = right words reads request (fault_text fault) status.Fault
       read h
 
-  pub right-noted : (text note : List ℕ) (ended : Status) → IsNoted words held left before after text note ended
-      → IsRight words held left before after text ended
+  pub right-noted : (text note : List ℕ) (ended : Status) → IsNoted words reads text note ended
+      → IsRight words reads text ended
   right-noted text note ended (inl to) = to.0
-  right-noted text note ended (inr from) = right words held left before after from.0 text ended from.1 (inl (record {
+  right-noted text note ended (inr from) = right words reads from.0 text ended from.1 (inl (record {
     file = from.2.file;
     is_file = from.2.is_file;
     is_answer = from.2.is_answer;
   }))
 
   -- a text of which nothing is said
-  pub said-nothing : (text : List ℕ) (ended : Status) → IsRight words held left before after text ended
-      → IsSaid words held left before after text [] ended
+  pub said-nothing : (text : List ℕ) (ended : Status) → IsRight words reads text ended
+      → IsSaid words reads text [] ended
   said-nothing text ended h =
       record { is_right = h; is_noted = inl (h, silent refl); unasked = λ _. refl }
 
   -- or a note, where it is asked for
   pub said-asked : (text note : List ℕ) (ended : Status) → asks_to_explain words ≡ true
-      → IsNoted words held left before after text note ended → IsSaid words held left before after text note ended
+      → IsNoted words reads text note ended → IsSaid words reads text note ended
   said-asked text note ended asks h = record {
     is_right = right-noted text note ended h;
     is_noted = h;
@@ -316,16 +317,16 @@ module _ (words : List (List ℕ)) (held left : Option (List ℕ)) (before after
 
   -- a note on the line of a fault, where it fits that
   pub said-fault : (fault : Fault) (Note : List ℕ → Type 0) (r : Result WithNote Fault) → asks_to_explain words ≡ true
-      → IsRight words held left before after (fault_text fault) status.Fault → IsFaulted fault Note r
+      → IsRight words reads (fault_text fault) status.Fault → IsFaulted fault Note r
       → IfOk r (λ _. (note : List ℕ) → Note note → Fits words (fault_text fault) note)
-      → Replies words held left before after r
+      → Replies words reads r
   said-fault fault Note (Ok made) asks h told fits = go made.note told.1
     where
-      is-right : IsRight words held left before after made.answer.text made.answer.status
+      is-right : IsRight words reads made.answer.text made.answer.status
       is-right = rw (told.0.status, told.0.text) h
 
       go : {E : Type 0} (note : Result (String Global) E) → IfOk note (λ n. Note (string_bytes n))
-          → IsSaid words held left before after made.answer.text (said_of note) made.answer.status
+          → IsSaid words reads made.answer.text (said_of note) made.answer.status
       go (Ok n) is = said-asked made.answer.text (string_bytes n) made.answer.status asks
           (inl (is-right, rw told.0.text (fits (string_bytes n) is)))
       go (Err e) is = said-nothing made.answer.text made.answer.status is-right
@@ -333,9 +334,9 @@ module _ (words : List (List ℕ)) (held left : Option (List ℕ)) (before after
       rw same (said-nothing (fault_text fault) status.Fault h)
 
   -- an answer whose note isn't asked for
-  pub said-alone : (made alone : WithNote) → IsNoted words held left before after made.answer.text
+  pub said-alone : (made alone : WithNote) → IsNoted words reads made.answer.text
       (said_of made.note) made.answer.status → alone.answer ≡ made.answer → said_of alone.note ≡ []
-      → IsSaid words held left before after alone.answer.text (said_of alone.note) alone.answer.status
+      → IsSaid words reads alone.answer.text (said_of alone.note) alone.answer.status
   said-alone made alone h same none = rw (same, none) (said-nothing made.answer.text made.answer.status
       (right-noted made.answer.text (said_of made.note) made.answer.status h))
 

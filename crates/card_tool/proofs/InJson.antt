@@ -7,22 +7,23 @@ use Rattle.card_words.specs.declared.fault.Fault.TheVariants.{Memory}
 use Rattle.card_kinds.specs.declared.answer.Answer.{Answer}
 use Rattle.card_kinds.specs.declared.status.Status.{Status}
 use Rattle.card_kinds.specs.declared.status.Status.TheVariants as status
+use Rattle.card_tool.specs.Calls.{calls, Calls}
 use Rattle.card_tool.specs.Answers.{IsWritten, Writes}
 use Rattle.card_tool.specs.Explained.{said_of, Gives, IsRightWith, IsSaid, Replies}
 use Rattle.card_tool.specs.InJson.{HaveAnswer, IsRightAsked, IsRightJson, in_json, in_lines, unmade}
 use Rattle.card_tool.specs.declared.judged.WithNote.{WithNote}
 use Rattle.card_tool.proofs.Asking.{no-words}
 
-module _ (words : List (List ℕ)) (held left : Option (List ℕ)) (before after : ℕ) where
+module _ (words : List (List ℕ)) (reads : Calls) where
   -- what is right in JSON is right where JSON is asked for
   pub json-asked : (r : Result WithNote Fault) → asks_for_json words ≡ true
-      → Gives (IsRightJson words held left before after) r → Gives (IsRightAsked words held left before after) r
+      → Gives (IsRightJson words reads) r → Gives (IsRightAsked words reads) r
   json-asked (Ok made) ask h = in_json ask h
   json-asked (Err fault) ask h = in_json ask h
 
   -- and what is right in lines where it isn't
   pub lines-asked : (r : Result WithNote Fault) → asks_for_json words ≡ false
-      → Replies words held left before after r → Gives (IsRightAsked words held left before after) r
+      → Replies words reads r → Gives (IsRightAsked words reads) r
   lines-asked (Ok made) ask h = in_lines ask (record {
     text = made.answer.text;
     note = said_of made.note;
@@ -37,12 +38,12 @@ module _ (words : List (List ℕ)) (held left : Option (List ℕ)) (before after
   })
 
 -- the line of a fault that is right is so as an answer of which nothing is said
-pub right-line : (words : List (List ℕ)) (held left : Option (List ℕ)) (before after : ℕ) (fault : Fault)
-    (answer : Answer) (made : WithNote) → IsSaid words held left before after (fault_text fault) [] status.Fault
+pub right-line : (words : List (List ℕ)) (reads : Calls) (fault : Fault)
+    (answer : Answer) (made : WithNote) → IsSaid words reads (fault_text fault) [] status.Fault
     → answer.text ≡ fault_text fault → answer.status ≡ status.Fault
     → made.answer ≡ answer → said_of made.note ≡ []
-    → IsSaid words held left before after made.answer.text (said_of made.note) made.answer.status
-right-line words held left before after fault answer made h text ended same none =
+    → IsSaid words reads made.answer.text (said_of made.note) made.answer.status
+right-line words reads fault answer made h text ended same none =
     rw (same, none, text, ended) h
 
 -- what holds anyway holds where a call fails
@@ -51,32 +52,32 @@ held-err (Ok a) p = tt
 held-err (Err e) p = p
 
 -- memory for the object was refused, where words have an answer
-pub not-made : {words : List (List ℕ)} {held left : Option (List ℕ)} {before after : ℕ} (r : Result WithNote Fault)
-    (fault : Fault) → r ≡ Err fault → fault ≡ Memory → HaveAnswer words held left before after
-    → Gives (IsRightJson words held left before after) r
+pub not-made : {words : List (List ℕ)} {reads : Calls} (r : Result WithNote Fault)
+    (fault : Fault) → r ≡ Err fault → fault ≡ Memory → HaveAnswer words reads
+    → Gives (IsRightJson words reads) r
 not-made r fault is memory h = rw (is, memory) (unmade h refl refl)
 
 -- words that have a text with what comes after it
-said-some : {words : List (List ℕ)} {held left : Option (List ℕ)} {before after : ℕ} {whole : List ℕ} (ended : Status)
-    → IsRightWith words held left before after whole ended → HaveAnswer words held left before after
+said-some : {words : List (List ℕ)} {reads : Calls} {whole : List ℕ} (ended : Status)
+    → IsRightWith words reads whole ended → HaveAnswer words reads
 said-some ended h = record { text = h.text; note = h.note; ended = ended; is_said = h.is_said }
 
 -- the line of memory that ran out before the words were read is right of any
-pub no-words-asked : (held : Option (List ℕ)) (count : ℕ) (old new : Option (List ℕ)) (before after : ℕ)
-    (ended : Status) → IsWritten (fault_text Memory) status.Fault old new before after ended
-    → (words : List (List ℕ)) → Writes (IsRightAsked words held held count count) old new before after ended
-no-words-asked held count old new before after ended is words = go (asks_for_json words) refl
+pub no-words-asked : (held : Option (List ℕ)) (count : ℕ) (writes : Calls)
+    (ended : Status) → IsWritten (fault_text Memory) status.Fault writes ended
+    → (words : List (List ℕ)) → Writes (IsRightAsked words (calls held held count count)) writes ended
+no-words-asked held count writes ended is words = go (asks_for_json words) refl
   where
     go : (asked : Bool) → asks_for_json words ≡ asked
-        → Writes (IsRightAsked words held held count count) old new before after ended
-    go true ask = let plain = no-words held count old new before after ended is words in record {
+        → Writes (IsRightAsked words (calls held held count count)) writes ended
+    go true ask = let plain = no-words held count writes ended is words in record {
       text = fault_text Memory;
       right = status.Fault;
       is_right = in_json ask (unmade (said-some plain.right plain.is_right) refl refl);
       is_written = is;
     }
     go false ask =
-        let plain = no-words held count old new before after ended is words in
+        let plain = no-words held count writes ended is words in
         record {
           text = plain.text;
           right = plain.right;

@@ -7,6 +7,7 @@ use Rattle.octet_core.specs.Failures.{next_count}
 use Rattle.card_words.specs.declared.fault.Fault.{Fault}
 use Rattle.card_words.specs.declared.fault.Fault.TheVariants.{Words, Hex, Memory, Read, TooLarge}
 use Rattle.card_words.specs.declared.given.OctetSource.TheVariants.{Word}
+use Rattle.card_tool.specs.Calls.{calls, Calls}
 use Rattle.card_tool.specs.Files.{largest_file, IsBegun, IsHeld, IsMore, IsTaken, IsTooLarge, IsWhole, ReadsMore, ReadsWhole}
 
 -- two reads in a row
@@ -29,12 +30,12 @@ Consumes-none None = tt
 Consumes-none (Some a) = refl
 
 -- before the first call no octet was read
-pub none-begun : (held : Option (List ℕ)) (most : ℕ) → IsBegun held held most
-none-begun held most = record { read = []; from = Consumes-none held; few = omega arith }
+pub none-begun : (held : Option (List ℕ)) (count most : ℕ) → IsBegun (calls held held count count) most
+none-begun held count most = record { read = []; from = Consumes-none held; few = omega arith }
 
 -- and none is in the buffer
 pub none-held : (held : Option (List ℕ)) (count : ℕ) (items : List ℕ) → items ≡ []
-    → IsHeld held held count count items 0
+    → IsHeld (calls held held count count) items 0
 none-held held count items none = record {
   inside = omega arith;
   most = rw none (omega arith);
@@ -44,10 +45,10 @@ none-held held count items none = record {
 }
 
 module _ (held between left : Option (List ℕ)) (before middle after : ℕ) (old new : List ℕ) (filled : ℕ)
-    (so_far : IsHeld held between before middle old filled) where
+    (so_far : IsHeld (calls held between before middle) old filled) where
   -- what a call brings comes after the octets before it
-  pub more-held : (count : ℕ) → IsMore between left middle after old new filled count
-      → IsHeld held left before after new (filled + count)
+  pub more-held : (count : ℕ) → IsMore (calls between left middle after) old new filled count
+      → IsHeld (calls held left before after) new (filled + count)
   more-held count more = record {
     inside = more.inside;
     most = more.most;
@@ -57,7 +58,7 @@ module _ (held between left : Option (List ℕ)) (before middle after : ℕ) (ol
     count = more.none_failed ∙ so_far.count;
   }
 
-  begun : filled ≤ largest_file → Keeps between left → IsBegun held left largest_file
+  begun : filled ≤ largest_file → Keeps between left → IsBegun (calls held left before after) largest_file
   begun few kept = record {
     read = take filled old;
     from =
@@ -68,7 +69,8 @@ module _ (held between left : Option (List ℕ)) (before middle after : ℕ) (ol
 
   -- a fault of a call is that of reading, where the octets so far fit a file
   pub fault-read : (fault : Fault) → filled ≤ largest_file
-      → ReadsMore between left middle after old new filled (Err fault) → ReadsWhole held left before after (Err fault)
+      → ReadsMore (calls between left middle after) old new filled (Err fault)
+      → ReadsWhole (calls held left before after) (Err fault)
   fault-read Words few h = absurd h
   fault-read Hex few h = absurd h
   fault-read TooLarge few h = absurd h
@@ -77,7 +79,8 @@ module _ (held between left : Option (List ℕ)) (before middle after : ℕ) (ol
 
   -- where a call brings no octet, those so far are all, if they fit a file
   pub whole-read : (count : ℕ) → count ≡ 0 → filled ≤ largest_file
-      → IsMore between left middle after old new filled count → IsWhole held left before after (take filled new)
+      → IsMore (calls between left middle after) old new filled count
+      → IsWhole (calls held left before after) (take filled new)
   whole-read count none few more = record {
     from = subst (λ (n : ℕ). Consumes held left (take n new)) (omega (arith, none)) (more-held count more).from;
     end = more.end none;
@@ -86,9 +89,9 @@ module _ (held between left : Option (List ℕ)) (before middle after : ℕ) (ol
   }
 
 -- more octets than fit a file are too many
-pub too-large : (held left : Option (List ℕ)) (before after : ℕ) (items : List ℕ) (filled : ℕ)
-    → IsHeld held left before after items filled → largest_file < filled → IsTooLarge held left before after
-too-large held left before after items filled so_far many = record {
+pub too-large : (reads : Calls) (items : List ℕ) (filled : ℕ) → IsHeld reads items filled → largest_file < filled
+    → IsTooLarge reads
+too-large reads items filled so_far many = record {
   read = take filled items;
   from = so_far.from;
   many = omega (arith, many, so_far.inside, so_far.most, length-take filled items);
@@ -99,7 +102,7 @@ too-large held left before after items filled so_far many = record {
 
 -- the octets that a word gives are taken, and the reader isn't called
 pub word-taken : (octets : List ℕ) (held : Option (List ℕ)) (count : ℕ)
-    → IsTaken (Word octets) held held count count (Ok octets)
+    → IsTaken (Word octets) (calls held held count count) (Ok octets)
 word-taken octets held count = record {
   file = Ok [];
   is_file = λ asked. absurd asked;

@@ -6,6 +6,7 @@ use Rattle.std.specs.Io.KnownBytes.{Appends, Consumes, IsAtEnd}
 use Rattle.octet_core.specs.Failures.{HasFailed, next_count}
 use Rattle.card_words.specs.Texts.{fault_text}
 use Rattle.card_words.specs.declared.fault.Fault.TheVariants.{Memory, Read, TooLarge}
+use Rattle.card_tool.specs.Calls.{calls}
 use Rattle.card_tool.specs.declared.telling.Telling.{Telling}
 use Rattle.card_kinds.specs.declared.status.Status.{Status}
 use Rattle.card_kinds.specs.declared.status.Status.TheVariants as status
@@ -28,7 +29,7 @@ appends-none (Some a) = sym (append-nil a)
 record HasTold (text : List ℕ) (right : Status) (old now : Wire) (ended : Status) : Type 0 where
   left : now.left ≡ old.left
   not_read : now.not_read ≡ old.not_read
-  is_written : IsWritten text right old.written now.written old.not_written now.not_written ended
+  is_written : IsWritten text right (calls old.written now.written old.not_written now.not_written) ended
 
 -- events that tell it do so
 has-told : (events : List Event) (text : List ℕ) (right : Status) (old now : Wire) (ended : Status)
@@ -72,13 +73,14 @@ module _ (telling : Telling) (held : Option (List ℕ)) (before : ℕ) (old : Op
     -- the lines are told, and the program ends so
     abbrev pub AreWritten : Wire → Status → Type 0
     AreWritten now ended =
-        WritesLines telling held now.left before now.not_read old now.written unwritten_before now.not_written ended
+        WritesLines telling (calls held now.left before now.not_read)
+        (calls old now.written unwritten_before now.not_written) ended
 
     module _ (read written : List ℕ) (first : Wire) (h : HasCome read written first) where
       -- the rest is written
       rest-written : (next now : Wire) (rest : List ℕ) (right ended : Status) → next.written ≡ first.written
           → next.not_written ≡ first.not_written → HasTold rest right next now ended
-          → IsWritten (written ++ rest) right old now.written unwritten_before now.not_written ended
+          → IsWritten (written ++ rest) right (calls old now.written unwritten_before now.not_written) ended
       rest-written next now rest right ended same none tells =
           written-all written rest right old next.written now.written
           unwritten_before next.not_written now.not_written ended (rw same h.put) (none ∙ h.none_unwritten)
@@ -86,7 +88,7 @@ module _ (telling : Telling) (held : Option (List ℕ)) (before : ℕ) (old : Op
 
       rest-told : (left : Option (List ℕ)) (count : ℕ) (rest : List ℕ) (right : Status) → Consumes held left read
           → IsAtEnd left → count ≡ before → IsRest telling (all_lines read) written rest right
-          → TellsLines telling held left before count (written ++ rest) right
+          → TellsLines telling (calls held left before count) (written ++ rest) right
       rest-told left count rest right p end same (all_told says) = whole read p end same says
       rest-told left count rest right p end same (first_told more begun is fault) =
           wanting read (written ++ more) begun.so_far begun.done begun.more p same begun.is_front begun.is_told
@@ -94,8 +96,8 @@ module _ (telling : Telling) (held : Option (List ℕ)) (before : ℕ) (old : Op
 
       -- and nothing was read after that
       still-told : (left now : Option (List ℕ)) (count after : ℕ) (text : List ℕ) (right : Status) → now ≡ left
-          → after ≡ count → TellsLines telling held left before count text right
-          → TellsLines telling held now before after text right
+          → after ≡ count → TellsLines telling (calls held left before count) text right
+          → TellsLines telling (calls held now before after) text right
       still-told left now count after text right is same says = rw (is, same) says
 
       -- nothing more was read
@@ -202,8 +204,8 @@ module _ (telling : Telling) (held : Option (List ℕ)) (before : ℕ) (old : Op
 -- a whole conversation about lines
 pub all-written : (telling : Telling) (first now : Wire) (events : List Event) (ended : Status)
     → AnswersLines telling [] [] events ended → HaveMoved first events now
-    → WritesLines telling first.left now.left first.not_read now.not_read first.written now.written first.not_written
-    now.not_written ended
+    → WritesLines telling (calls first.left now.left first.not_read now.not_read)
+    (calls first.written now.written first.not_written now.not_written) ended
 all-written telling first now events ended lines moved =
     lines-written telling first.left first.not_read first.written first.not_written events [] [] first now ended
     (record {

@@ -23,6 +23,7 @@ use Rattle.card_words.specs.declared.request.Aim.TheVariants.{Check, Show, Note}
 use Rattle.card_words.specs.declared.request.Layout.{Layout}
 use Rattle.card_words.specs.declared.request.Layout.TheVariants as layout
 use Rattle.card_words.specs.declared.request.Request.TheVariants.{BuildChain, BuildTidy, BuildFill, Tell, File, Record, Judge, Simulate, SimulateLines, Help, Version}
+use Rattle.card_tool.specs.Calls.{calls}
 use Rattle.card_tool.specs.Answers as same_text
 use Rattle.card_tool.specs.Answers.{AsksForNotes, AskForNotes, HaveNotes, IsAnswer, IsAnswerAsked, IsPlain, IsSameText, IsWithout}
 use Rattle.notes.specs.Noted.{without_notes}
@@ -183,8 +184,8 @@ some-text words file octets = let read = some-read words (asks_for_version words
 
 -- reading gives the octets, but for memory, where they are known and no call fails
 pub one-file : (b : List ℕ) (left : Option (List ℕ)) (before after : ℕ) (file : Result (List ℕ) Fault)
-    → ReadsWhole (Some b) left before after file → after ≡ before → before < most_failures → (file ≡ Err Memory)
-    ⊎ (file ≡ file_of b)
+    → ReadsWhole (calls (Some b) left before after) file → after ≡ before → before < most_failures
+    → (file ≡ Err Memory) ⊎ (file ≡ file_of b)
 one-file b None before after (Ok file) h kept few = absurd h.from
 one-file b (Some left) before after (Ok file) h kept few =
     let is : b ≡ file = h.from ∙ ap (λ (l : List ℕ). file ++ l) h.end ∙ append-nil file in

@@ -7,6 +7,7 @@ use Rattle.chain_core.specs.Chain.{chain_blocks}
 use Rattle.card_kinds.specs.ChainTexts.{blocks_text}
 use Rattle.card_words.specs.Texts.{fault_text}
 use Rattle.chain_core.specs.Cut.{cut_of}
+use Rattle.card_tool.specs.Calls.{Calls}
 use Rattle.card_tool.specs.ExchangeTexts.{TellsFile}
 use Rattle.card_tool.specs.SimulationTexts.{Simulates, SimulatesLines}
 use Rattle.card_tool.specs.RecordTexts.{Records}
@@ -220,50 +221,49 @@ pub record IsAnswer (words : List (List ℕ)) (file : Result (List ℕ) Fault) (
         (λ fault. (text ≡ fault_text fault) × (ended ≡ status.Fault))
 
 -- ---- where a reader has the octets or the file
---
--- held and left are the octets that the reader held before and after, where they are known; before and
--- after are the counts of its calls that failed.
 
 -- the line on memory with a fault, and no call of the reader failed
-abbrev pub IsWanting : ℕ → ℕ → List ℕ → Status → Type 0
-IsWanting before after text ended = (text ≡ fault_text Memory) × (ended ≡ status.Fault) × (after ≡ before)
+abbrev pub IsWanting : Calls → List ℕ → Status → Type 0
+IsWanting reads text ended = (text ≡ fault_text Memory) × (ended ≡ status.Fault) × (reads.after ≡ reads.before)
 
 -- the text and the status that the words have, with what was read where they ask for it
-pub record IsAnswerFrom (words : List (List ℕ)) (held left : Option (List ℕ)) (before after : ℕ) (text : List ℕ)
+pub record IsAnswerFrom (words : List (List ℕ)) (reads : Calls) (text : List ℕ)
     (ended : Status) : Type 0 where
   pub file : Result (List ℕ) Fault
-  pub is_file : AskForFile words → ReadsWhole held left before after file
+  pub is_file : AskForFile words → ReadsWhole reads file
   pub is_answer : IsAnswer words file text ended
 
 -- that, or memory was wanting
-abbrev pub IsRight : List (List ℕ) → Option (List ℕ) → Option (List ℕ) → ℕ → ℕ → List ℕ → Status → Type 0
-IsRight words held left before after text ended =
-    IsAnswerFrom words held left before after text ended ⊎ IsWanting before after text ended
+abbrev pub IsRight : List (List ℕ) → Calls → List ℕ → Status → Type 0
+IsRight words reads text ended =
+    IsAnswerFrom words reads text ended ⊎ IsWanting reads text ended
 
 -- the same for a request
-pub record IsAnswerToFrom (request : Request) (held left : Option (List ℕ)) (before after : ℕ) (text : List ℕ)
+pub record IsAnswerToFrom (request : Request) (reads : Calls) (text : List ℕ)
     (ended : Status) : Type 0 where
   pub file : Result (List ℕ) Fault
-  pub is_file : NeedsFile request → ReadsWhole held left before after file
+  pub is_file : NeedsFile request → ReadsWhole reads file
   pub is_answer : IsAnswerTo request file text ended
 
-abbrev pub IsRightTo : Request → Option (List ℕ) → Option (List ℕ) → ℕ → ℕ → List ℕ → Status → Type 0
-IsRightTo request held left before after text ended =
-    IsAnswerToFrom request held left before after text ended ⊎ IsWanting before after text ended
+abbrev pub IsRightTo : Request → Calls → List ℕ → Status → Type 0
+IsRightTo request reads text ended =
+    IsAnswerToFrom request reads text ended ⊎ IsWanting reads text ended
 
 -- how a text came to a writer, and how the program ended
-pub data IsWritten (text : List ℕ) (right : Status) (old new : Option (List ℕ)) (before after : ℕ) (ended : Status) :
+pub data IsWritten (text : List ℕ) (right : Status) (writes : Calls) (ended : Status) :
     Type 0 where
   -- it is written whole with no failure, and the program ends as is right
-  all : Appends old new text → after ≡ before → ended ≡ right → IsWritten text right old new before after ended
+  all : Appends writes.from writes.to text → writes.after ≡ writes.before → ended ≡ right
+      → IsWritten text right writes ended
   -- the writer failed, and a part of it is written
-  cut : (count : ℕ) → count < length text → Appends old new (take count text) → HasFailed before after
-      → ended ≡ status.Fault → IsWritten text right old new before after ended
+  cut : (count : ℕ) → count < length text → Appends writes.from writes.to (take count text)
+      → HasFailed writes.before writes.after
+      → ended ≡ status.Fault → IsWritten text right writes ended
 
 -- one text that is right is written
-pub record Writes (Right : List ℕ → Status → Type 0) (old new : Option (List ℕ)) (before after : ℕ) (ended : Status) :
+pub record Writes (Right : List ℕ → Status → Type 0) (writes : Calls) (ended : Status) :
     Type 0 where
   pub text : List ℕ
   pub right : Status
   pub is_right : Right text right
-  pub is_written : IsWritten text right old new before after ended
+  pub is_written : IsWritten text right writes ended

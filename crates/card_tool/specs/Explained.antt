@@ -1,7 +1,4 @@
 -- What the program says of words: a text, and an explanation of it where they ask for one.
---
--- held and left are the octets that the reader held before and after, where they are known; before and after are the
--- counts of its calls that failed.
 use Rattle.std.specs.Prelude.{◌≡◌, ◌⊎◌, ◌++◌, ℕ, List, [], length, Option, Some, None, Result, Ok, Err, IfOk, IsOkAnd, MatchResult, String, string_bytes, Bool, false}
 use Rattle.std.specs.declared.alloc.AllocError.{AllocError}
 use Rattle.std.specs.declared.alloc.Global.{Global}
@@ -36,6 +33,7 @@ use Rattle.explainer.specs.Known.{known_note, IsTwiceNote}
 use Rattle.explainer.specs.Texts as explained
 use Rattle.explainer.specs.Texts.{offsets_note}
 use Rattle.explainer.specs.Words.{IsWordsNote}
+use Rattle.card_tool.specs.Calls.{Calls}
 use Rattle.card_tool.specs.Answers.{IsAnswerTo, IsRight, IsRightTo}
 use Rattle.card_tool.specs.Files.{largest_file, IsTaken, ReadsWhole}
 use Rattle.card_tool.specs.Judged.{IsForestNote, IsKindNote, IsListNote, SaysIf}
@@ -137,19 +135,19 @@ pub data Fits (words : List (List ℕ)) (text note : List ℕ) : Type 0 where
   too_large : text ≡ fault_text fault.TooLarge → note ≡ large_note largest_file → Fits words text note
 
 -- an answer to a request of these words and the note on what it was given, which is empty where there is nothing to say
-pub record IsNotedFrom (words : List (List ℕ)) (request : Request) (held left : Option (List ℕ)) (before after : ℕ)
+pub record IsNotedFrom (words : List (List ℕ)) (request : Request) (reads : Calls)
     (text note : List ℕ) (ended : Status) : Type 0 where
   pub file : Result (List ℕ) Fault
-  pub is_file : NeedsFile request → ReadsWhole held left before after file
+  pub is_file : NeedsFile request → ReadsWhole reads file
   pub is_answer : IsAnswerTo request file text ended
   pub is_note : IsNoteTo words request file note
 
 -- and of words: the note is that on what a request was given, or it fits the text alone
-abbrev pub IsNoted : List (List ℕ) → Option (List ℕ) → Option (List ℕ) → ℕ → ℕ → List ℕ → List ℕ → Status → Type 0
-IsNoted words held left before after text note ended =
-    (IsRight words held left before after text ended × Fits words text note)
+abbrev pub IsNoted : List (List ℕ) → Calls → List ℕ → List ℕ → Status → Type 0
+IsNoted words reads text note ended =
+    (IsRight words reads text ended × Fits words text note)
     ⊎ ((request : Request) × IsRead words (Ok (Once request))
-    × IsNotedFrom words request held left before after text note ended)
+    × IsNotedFrom words request reads text note ended)
 
 -- ---- octets with a note on their text
 
@@ -172,10 +170,10 @@ SaysOf explains given file (Refused made) =
     IsFaultLine fault.Hex made.answer × IfOk made.note (λ note. IsFormNote given file (string_bytes note))
 
 -- what taking octets gives, and what is said of their text
-pub record IsTakenWith (explains : Bool) (given : OctetSource) (held left : Option (List ℕ)) (before after : ℕ)
+pub record IsTakenWith (explains : Bool) (given : OctetSource) (reads : Calls)
     (result : Result Taken Fault) :
     Type 0 where
-  pub taken : IsTaken given held left before after (octets_of result)
+  pub taken : IsTaken given reads (octets_of result)
   pub is_note : IfOk result (SaysOf explains given taken.file)
 
 -- ---- answers with notes
@@ -186,41 +184,41 @@ said_of (Ok note) = string_bytes note
 said_of (Err _) = []
 
 -- an answer to a request of these words, with the note on what that was given or none, where memory was there for it
-pub record IsReplyTo (words : List (List ℕ)) (request : Request) (held left : Option (List ℕ)) (before after : ℕ)
+pub record IsReplyTo (words : List (List ℕ)) (request : Request) (reads : Calls)
     (made : WithNote) :
     Type 0 where
   pub file : Result (List ℕ) Fault
-  pub is_file : NeedsFile request → ReadsWhole held left before after file
+  pub is_file : NeedsFile request → ReadsWhole reads file
   pub is_answer : IsAnswerTo request file made.answer.text made.answer.status
   pub is_note : IfOk made.note (λ note. (string_bytes note ≡ []) ⊎ IsNoteTo words request file (string_bytes note))
 
 -- what answers a request, or the fault for which nothing does
-abbrev pub RepliesTo : List (List ℕ) → Request → Option (List ℕ) → Option (List ℕ) → ℕ → ℕ → Result WithNote Fault
+abbrev pub RepliesTo : List (List ℕ) → Request → Calls → Result WithNote Fault
     → Type 0
-RepliesTo words request held left before after (Ok made) = IsReplyTo words request held left before after made
-RepliesTo words request held left before after (Err fault) =
-    IsRightTo request held left before after (fault_text fault) status.Fault
+RepliesTo words request reads (Ok made) = IsReplyTo words request reads made
+RepliesTo words request reads (Err fault) =
+    IsRightTo request reads (fault_text fault) status.Fault
 
 -- a text and a note that are right of words: no note where none is asked for
-pub record IsSaid (words : List (List ℕ)) (held left : Option (List ℕ)) (before after : ℕ) (text note : List ℕ)
+pub record IsSaid (words : List (List ℕ)) (reads : Calls) (text note : List ℕ)
     (ended : Status) : Type 0 where
-  pub is_right : IsRight words held left before after text ended
-  pub is_noted : IsNoted words held left before after text note ended
+  pub is_right : IsRight words reads text ended
+  pub is_noted : IsNoted words reads text note ended
   pub unasked : asks_to_explain words ≡ false → note ≡ []
 
 -- what answers words
-abbrev pub Replies : List (List ℕ) → Option (List ℕ) → Option (List ℕ) → ℕ → ℕ → Result WithNote Fault → Type 0
-Replies words held left before after (Ok made) =
-    IsSaid words held left before after made.answer.text (said_of made.note) made.answer.status
-Replies words held left before after (Err fault) =
-    IsSaid words held left before after (fault_text fault) [] status.Fault
+abbrev pub Replies : List (List ℕ) → Calls → Result WithNote Fault → Type 0
+Replies words reads (Ok made) =
+    IsSaid words reads made.answer.text (said_of made.note) made.answer.status
+Replies words reads (Err fault) =
+    IsSaid words reads (fault_text fault) [] status.Fault
 
 -- the same whether an explanation is asked for or not
-abbrev pub AreNoted : List (List ℕ) → Option (List ℕ) → Option (List ℕ) → ℕ → ℕ → Result WithNote Fault → Type 0
-AreNoted words held left before after (Ok made) =
-    IsNoted words held left before after made.answer.text (said_of made.note) made.answer.status
-AreNoted words held left before after (Err fault) =
-    IsRight words held left before after (fault_text fault) status.Fault
+abbrev pub AreNoted : List (List ℕ) → Calls → Result WithNote Fault → Type 0
+AreNoted words reads (Ok made) =
+    IsNoted words reads made.answer.text (said_of made.note) made.answer.status
+AreNoted words reads (Err fault) =
+    IsRight words reads (fault_text fault) status.Fault
 
 -- the line of a fault with this note on it, or the fault itself
 abbrev pub IsNotedLine : Fault → Result (String Global) AllocError → Result WithNote Fault → Type 0
@@ -233,11 +231,11 @@ IsFaulted told Note (Ok made) = IsFaultLine told made.answer × IfOk made.note (
 IsFaulted told Note (Err same) = same ≡ told
 
 -- the text that is right of words, with what is said after it
-pub record IsRightWith (words : List (List ℕ)) (held left : Option (List ℕ)) (before after : ℕ) (whole : List ℕ)
+pub record IsRightWith (words : List (List ℕ)) (reads : Calls) (whole : List ℕ)
     (ended : Status) : Type 0 where
   pub text : List ℕ
   pub note : List ℕ
-  pub is_said : IsSaid words held left before after text note ended
+  pub is_said : IsSaid words reads text note ended
   pub is_whole : whole ≡ text ++ note
 
 -- what makes an answer with what comes after it, or a fault

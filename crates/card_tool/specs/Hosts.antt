@@ -1,8 +1,4 @@
 -- What the program does on a system that gives it words.
---
--- held and left are the octets that the reader held before and after, where they are known; before and after are the
--- counts of its calls that failed. old and new are what the writer had, unwritten and failures the counts of its calls
--- that failed.
 use Rattle.std.specs.Prelude.{◌≡◌, ◌⊎◌, ℕ, List, Option}
 use Rattle.card_words.specs.Texts.{fault_text}
 use Rattle.card_words.specs.Words.{AskForLines}
@@ -11,6 +7,7 @@ use Rattle.card_words.specs.declared.fault.Fault.TheVariants.{Memory, Words}
 use Rattle.card_words.specs.declared.request.Task.{Task}
 use Rattle.card_kinds.specs.declared.status.Status.{Status}
 use Rattle.card_kinds.specs.declared.status.Status.TheVariants as status
+use Rattle.card_tool.specs.Calls.{Calls}
 use Rattle.card_tool.specs.Answers.{IsWritten, Writes}
 use Rattle.card_tool.specs.InJson.{IsRightAsked}
 use Rattle.card_tool.specs.LineAnswers.{AskForNoLines, WritesLines}
@@ -21,18 +18,17 @@ abbrev pub IsWithoutWords : Fault → Type 0
 IsWithoutWords fault = (fault ≡ Memory) ⊎ (fault ≡ Words)
 
 -- the texts that are right for some words, and how the program then ends
-pub record Runs (words : List (List ℕ)) (held left : Option (List ℕ)) (before after : ℕ) (old new : Option (List ℕ))
-    (unwritten failures : ℕ) (ended : Status) : Type 0 where
+pub record Runs (words : List (List ℕ)) (reads writes : Calls) (ended : Status) : Type 0 where
   pub written : AskForNoLines words
-      → Writes (IsRightAsked words held left before after) old new unwritten failures ended
+      → Writes (IsRightAsked words reads) writes ended
   pub lines : (task : Task) → AskForLines task words
-      → WritesLines (telling_of words task) held left before after old new unwritten failures ended
+      → WritesLines (telling_of words task) reads writes ended
 
 -- The text that is written and the status belong together: both are those of some words, or of a fault without any.
-pub data Does (held left : Option (List ℕ)) (before after : ℕ) (old new : Option (List ℕ)) (unwritten failures : ℕ)
+pub data Does (reads writes : Calls)
     (ended : Status) : Type 0 where
-  runs : (words : List (List ℕ)) → Runs words held left before after old new unwritten failures ended
-      → Does held left before after old new unwritten failures ended
+  runs : (words : List (List ℕ)) → Runs words reads writes ended
+      → Does reads writes ended
   faults : (fault : Fault) → IsWithoutWords fault
-      → IsWritten (fault_text fault) status.Fault old new unwritten failures ended
-      → Does held left before after old new unwritten failures ended
+      → IsWritten (fault_text fault) status.Fault writes ended
+      → Does reads writes ended

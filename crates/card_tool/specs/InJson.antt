@@ -1,7 +1,4 @@
 -- The text that words have as lines, or where they ask for it as an object of JSON.
---
--- held and left are the octets that the reader held before and after, where they are known; before and after are the
--- counts of its calls that failed.
 use Rattle.std.specs.Prelude.{◌≡◌, ℕ, List, [], ◌∷◌, ◌++◌, Option, Result, Ok, Err, codes, drop, true, false}
 use Rattle.command_line.specs.Asked.{asks_for_json}
 use Rattle.card_words.specs.Texts.{fault_text}
@@ -22,6 +19,7 @@ use Rattle.answer_json.specs.Answers.{json_text}
 use Rattle.answer_json.specs.Strings.{json_string, line_strings}
 use Rattle.card_kinds.specs.declared.status.Status.{Status}
 use Rattle.card_kinds.specs.declared.status.Status.TheVariants as status
+use Rattle.card_tool.specs.Calls.{Calls}
 use Rattle.card_tool.specs.Answers.{json_object, object_of, IsReadFrom}
 use Rattle.card_tool.specs.Explained.{IsRightWith, IsSaid}
 use Rattle.card_tool.specs.declared.json.Object.{Object}
@@ -116,27 +114,27 @@ with_explanation object [] = object
 with_explanation object (x ∷ note) = with_member object (explanation_member (x ∷ note))
 
 -- words have a text with what is said of it, by what was read
-pub record HaveAnswer (words : List (List ℕ)) (held left : Option (List ℕ)) (before after : ℕ) : Type 0 where
+pub record HaveAnswer (words : List (List ℕ)) (reads : Calls) : Type 0 where
   pub text : List ℕ
   pub note : List ℕ
   pub ended : Status
-  pub is_said : IsSaid words held left before after text note ended
+  pub is_said : IsSaid words reads text note ended
 
 -- The object of the text that is right, with its status and what is said of it; or memory was refused, where the words
 -- have a text by what was read.
-pub data IsRightJson (words : List (List ℕ)) (held left : Option (List ℕ)) (before after : ℕ) (whole : List ℕ)
+pub data IsRightJson (words : List (List ℕ)) (reads : Calls) (whole : List ℕ)
     (ended : Status) : Type 0 where
   made : (read : Result Request Fault) (text note : List ℕ) → IsReadFrom words read
-      → IsSaid words held left before after text note ended
+      → IsSaid words reads text note ended
       → whole ≡ with_explanation (object_by read ended text) note
-      → IsRightJson words held left before after whole ended
-  unmade : HaveAnswer words held left before after → whole ≡ fault_text Memory → ended ≡ status.Fault
-      → IsRightJson words held left before after whole ended
+      → IsRightJson words reads whole ended
+  unmade : HaveAnswer words reads → whole ≡ fault_text Memory → ended ≡ status.Fault
+      → IsRightJson words reads whole ended
 
 -- what is right of words
-pub data IsRightAsked (words : List (List ℕ)) (held left : Option (List ℕ)) (before after : ℕ) (whole : List ℕ)
+pub data IsRightAsked (words : List (List ℕ)) (reads : Calls) (whole : List ℕ)
     (ended : Status) : Type 0 where
-  in_lines : asks_for_json words ≡ false → IsRightWith words held left before after whole ended
-      → IsRightAsked words held left before after whole ended
-  in_json : asks_for_json words ≡ true → IsRightJson words held left before after whole ended
-      → IsRightAsked words held left before after whole ended
+  in_lines : asks_for_json words ≡ false → IsRightWith words reads whole ended
+      → IsRightAsked words reads whole ended
+  in_json : asks_for_json words ≡ true → IsRightJson words reads whole ended
+      → IsRightAsked words reads whole ended

@@ -8,6 +8,7 @@ pub mod TracePlaces
 pub mod RecordTexts
 pub mod JudgeTexts
 pub mod Conversations
+pub mod Calls
 pub mod Answers
 pub mod LineAnswers
 pub mod LineNotes

@@ -1,7 +1,4 @@
 -- What is written for each line of standard input.
---
--- held and left are the octets that the reader held before and after, where they are known; before and
--- after are the counts of its calls that failed.
 use Rattle.std.specs.Prelude.{◌≡◌, ◌<◌, ◌≤◌, ◌⊎◌, ◌++◌, ◌+◌, ◌^◌, ◌-◌, ℕ, List, [], ◌∷◌, Option, length, take}
 use Rattle.std.specs.Io.KnownBytes.{Appends, Consumes, IsAtEnd}
 use Rattle.octet_core.specs.Failures.{next_count, HasFailed}
@@ -9,6 +6,7 @@ use Rattle.card_words.specs.Texts.{fault_text}
 use Rattle.card_words.specs.Words.{AskForLines}
 use Rattle.card_words.specs.declared.fault.Fault.TheVariants.{Memory, Read, TooLarge}
 use Rattle.card_words.specs.declared.request.Task.{Task}
+use Rattle.card_tool.specs.Calls.{Calls}
 use Rattle.card_tool.specs.declared.telling.Telling.{Telling}
 use Rattle.card_tool.specs.Answers.{Writes}
 use Rattle.card_tool.specs.LineNotes.{AreLinesSaid}
@@ -29,36 +27,38 @@ abbrev pub most_read : ℕ
 most_read = 2 ^ 64 - 1
 
 -- What reading lines comes to.
-pub data TellsLines (telling : Telling) (held left : Option (List ℕ)) (before after : ℕ) (text : List ℕ)
+pub data TellsLines (telling : Telling) (reads : Calls) (text : List ℕ)
     (ended : Status) : Type 0 where
   -- all lines of the octets that the reader had
-  whole : (read : List ℕ) → Consumes held left read → IsAtEnd left → after ≡ before
-      → AreLinesSaid telling (all_lines read) text ended → TellsLines telling held left before after text ended
+  whole : (read : List ℕ) → Consumes reads.from reads.to read → IsAtEnd reads.to → reads.after ≡ reads.before
+      → AreLinesSaid telling (all_lines read) text ended → TellsLines telling reads text ended
   -- a call of the reader failed: the lines that ended before, and the line of that fault
-  failed : (read told : List ℕ) (so_far : Status) → Consumes held left read → after ≡ next_count before
+  failed : (read told : List ℕ) (so_far : Status) → Consumes reads.from reads.to read
+      → reads.after ≡ next_count reads.before
       → AreLinesSaid telling (ended_lines read) told so_far
-      → text ≡ told ++ fault_text Read → ended ≡ status.Fault → TellsLines telling held left before after text ended
+      → text ≡ told ++ fault_text Read → ended ≡ status.Fault → TellsLines telling reads text ended
   -- memory ran out: the first lines, and the line of that fault
-  wanting : (read told : List ℕ) (so_far : Status) (done more : List (List ℕ)) → Consumes held left read
-      → after ≡ before → all_lines read ≡ done ++ more → AreLinesSaid telling done told so_far
-      → text ≡ told ++ fault_text Memory → ended ≡ status.Fault → TellsLines telling held left before after text ended
+  wanting : (read told : List ℕ) (so_far : Status) (done more : List (List ℕ)) → Consumes reads.from reads.to read
+      → reads.after ≡ reads.before → all_lines read ≡ done ++ more → AreLinesSaid telling done told so_far
+      → text ≡ told ++ fault_text Memory → ended ≡ status.Fault → TellsLines telling reads text ended
   -- so many octets came that they can't be counted
-  endless : (read told : List ℕ) (so_far : Status) → Consumes held left read → after ≡ before → most_read ≤ length read
+  endless : (read told : List ℕ) (so_far : Status) → Consumes reads.from reads.to read → reads.after ≡ reads.before
+      → most_read ≤ length read
       → AreLinesSaid telling (ended_lines read) told so_far
       → text ≡ told ++ fault_text TooLarge → ended ≡ status.Fault
-      → TellsLines telling held left before after text ended
+      → TellsLines telling reads text ended
 
 -- What writing the answers to lines comes to.
-pub data WritesLines (telling : Telling) (held left : Option (List ℕ)) (before after : ℕ) (old new : Option (List ℕ))
-    (unwritten failures : ℕ) (ended : Status) : Type 0 where
+pub data WritesLines (telling : Telling) (reads writes : Calls) (ended : Status) : Type 0 where
   -- one such text is written, or the writer failed within it
-  answered : Writes (TellsLines telling held left before after) old new unwritten failures ended
-      → WritesLines telling held left before after old new unwritten failures ended
+  answered : Writes (TellsLines telling reads) writes ended
+      → WritesLines telling reads writes ended
   -- the writer failed within the text of the lines that had ended, and nothing was read after that
-  stopped : (read text : List ℕ) (so_far : Status) → Consumes held left read → after ≡ before
+  stopped : (read text : List ℕ) (so_far : Status) → Consumes reads.from reads.to read → reads.after ≡ reads.before
       → AreLinesSaid telling (ended_lines read) text so_far
-      → (count : ℕ) → count < length text → Appends old new (take count text) → HasFailed unwritten failures
-      → ended ≡ status.Fault → WritesLines telling held left before after old new unwritten failures ended
+      → (count : ℕ) → count < length text → Appends writes.from writes.to (take count text)
+          → HasFailed writes.before writes.after
+      → ended ≡ status.Fault → WritesLines telling reads writes ended
 
 -- ---- the lines so far
 

@@ -1,6 +1,7 @@
 //! A whole input, read into one buffer.
 
 ghost use Rattle.std.specs.Prelude.{◌≡◌, ◌<◌, ◌≤◌, OnOk, length, take};
+ghost use Rattle.card_tool.specs.Calls.{calls_of};
 ghost use Rattle.card_tool.specs.Files.{ReadsMore, ReadsWhole};
 
 use card_words::Fault;
@@ -19,8 +20,7 @@ const FIRST_ROOM: usize = 4_096;
 /// tried again, an interruption neither, and `Memory` where a growth was refused. No octet is read past
 /// the first 4,194,305, from a reader without an end neither.
 pub fn read_whole<R: Source>(alloc: Global, reader: &mut R) -> Result<Octets, Fault>
-    ensures { ReadsWhole (R.remaining reader.old) (R.remaining reader.new) (R.failures reader.old)
-        (R.failures reader.new) result }
+    ensures { ReadsWhole (calls_of R.remaining R.failures reader.old reader.new) result }
 {
     let mut held = Vec::new(alloc);
     let mut filled = 0;
@@ -41,8 +41,8 @@ fn read_more<R: Source>(reader: &mut R, held: &mut Vec<u8>, filled: usize) -> Re
     requires inside { filled ≤ length held.old.items }
     requires few { filled ≤ 4194304 }
     requires most { length held.old.items ≤ 4194305 }
-    ensures { ReadsMore (R.remaining reader.old) (R.remaining reader.new) (R.failures reader.old)
-        (R.failures reader.new) held.old.items held.new.items filled result }
+    ensures { ReadsMore (calls_of R.remaining R.failures reader.old reader.new) held.old.items
+        held.new.items filled result }
 {
     if filled == held.len() {
         grow(held)?;

@@ -2,6 +2,7 @@
 
 ghost use Rattle.std.specs.Prelude.{◌≡◌, IfErr};
 ghost use Rattle.std.specs.Process.{exit_status};
+ghost use Rattle.card_tool.specs.Calls.{calls_of};
 ghost use Rattle.card_tool.specs.Hosts.{Does, IsWithoutWords};
 ghost use Rattle.card_kinds.specs.Statuses.{exit_number};
 ghost use Rattle.card_kinds.specs.declared.status.Status.{Status as AnyStatus};
@@ -25,9 +26,7 @@ where
     R: Source,
     W: Sink,
     ensures { (status : AnyStatus) × (exit_status result ≡ exit_number status)
-        × Does (R.remaining reader.old) (R.remaining reader.new) (R.failures reader.old)
-        (R.failures reader.new) (W.contents writer.old) (W.contents writer.new)
-        (W.failures writer.old) (W.failures writer.new) status }
+        × Does (calls_of R.remaining R.failures reader.old reader.new) (calls_of W.contents W.failures writer.old writer.new) status }
 {
     let status = done(rt, reader, writer);
     ExitCode::from(status.number())
@@ -39,9 +38,8 @@ where
     H: Env + AllocGlobal,
     R: Source,
     W: Sink,
-    ensures { Does (R.remaining reader.old) (R.remaining reader.new) (R.failures reader.old)
-        (R.failures reader.new) (W.contents writer.old) (W.contents writer.new)
-        (W.failures writer.old) (W.failures writer.new) result }
+    ensures { Does (calls_of R.remaining R.failures reader.old reader.new)
+        (calls_of W.contents W.failures writer.old writer.new) result }
 {
     match words(rt) {
         Ok(words) => run(rt.alloc(), words, reader, writer),

@@ -6,6 +6,7 @@ ghost use Rattle.clap.specs.Words.{fault_of};
 ghost use Rattle.clap.specs.declared.error.kind.ErrorKind.TheVariants.{DisplayHelp};
 ghost use Rattle.octet_core.specs.Failures.{most_failures};
 ghost use Rattle.octet_core.specs.Octets.{AreOctets};
+ghost use Rattle.card_tool.specs.Calls.{calls};
 ghost use Rattle.card_tool.specs.Answers.{plain_asked, AreAlike, IsAnswer, IsAnswerAsked, IsPlain, IsSameText};
 ghost use Rattle.card_tool.specs.Conversations.{Event};
 ghost use Rattle.card_tool.specs.Files.{file_of, ReadsWhole};
@@ -58,7 +59,7 @@ pub fn one_text()
 /// `TooLarge` where they are too many, but for memory.
 pub fn one_file()
     ensures { (octets : List ℕ) (left : Option (List ℕ)) (before after : ℕ)
-        (file : Result (List ℕ) AnyFault) → ReadsWhole (Some octets) left before after file
+        (file : Result (List ℕ) AnyFault) → ReadsWhole (calls (Some octets) left before after) file
         → after ≡ before → before < most_failures → (file ≡ Err Memory) ⊎ (file ≡ file_of octets) }
 {}
 

@@ -1,6 +1,7 @@
 //! Lines of octets, each of which is answered as it comes.
 
 ghost use Rattle.std.specs.Prelude.{◌≡◌, ◌⊎◌, ◌++◌, ◌∷◌, [], ℕ, List, IfOk, IfErr, OnOk, OnErr, string_bytes};
+ghost use Rattle.card_tool.specs.Calls.{calls_of};
 ghost use Rattle.card_tool.specs.Answers.{lines_text};
 ghost use Rattle.card_tool.specs.Conversations.{Event, Happens, told, untold};
 ghost use Rattle.card_tool.specs.LineAnswers.{AreTelling, HasAnswered, HasBegun, HasSaid, IsRest, Tells, WritesLines};
@@ -82,9 +83,8 @@ pub(crate) fn tell_lines<R: Source, W: Sink>(
     reader: &mut R,
     writer: &mut W,
 ) -> Status
-    ensures { WritesLines telling (R.remaining reader.old) (R.remaining reader.new)
-        (R.failures reader.old) (R.failures reader.new) (W.contents writer.old)
-        (W.contents writer.new) (W.failures writer.old) (W.failures writer.new) result }
+    ensures { WritesLines telling (calls_of R.remaining R.failures reader.old reader.new)
+        (calls_of W.contents W.failures writer.old writer.new) result }
 {
     let mut streams = Streams { reader, writer };
     answer_lines(alloc, telling, &mut streams)

@@ -1,6 +1,7 @@
 //! The program: from its words to the text that it writes.
 
 ghost use Rattle.std.specs.Prelude.{◌≡◌, ◌++◌, IfErr, IfOk};
+ghost use Rattle.card_tool.specs.Calls.{calls_of};
 ghost use Rattle.card_tool.specs.Answers.{IsReadFrom, IsWritten, Writes};
 ghost use Rattle.card_tool.specs.Explained.{said_of, Gives, IsSaid};
 ghost use Rattle.card_tool.specs.InJson.{HaveAnswer, IsRightAsked, IsRightJson};
@@ -43,17 +44,13 @@ pub fn run<R: Source, W: Sink>(
     writer: &mut W,
 ) -> Status
     ensures written { AskForNoLines (texts words.items)
-        → Writes (IsRightAsked (texts words.items) (R.remaining reader.old) (R.remaining reader.new)
-        (R.failures reader.old) (R.failures reader.new)) (W.contents writer.old)
-        (W.contents writer.new) (W.failures writer.old) (W.failures writer.new) result }
+        → Writes (IsRightAsked (texts words.items) (calls_of R.remaining R.failures reader.old reader.new)) (calls_of W.contents W.failures writer.old writer.new) result }
     ensures lines { (task : AnyTask) → AskForLines task (texts words.items)
-        → WritesLines (telling_of (texts words.items) task) (R.remaining reader.old) (R.remaining reader.new)
-        (R.failures reader.old) (R.failures reader.new) (W.contents writer.old)
-        (W.contents writer.new) (W.failures writer.old) (W.failures writer.new) result }
+        → WritesLines (telling_of (texts words.items) task) (calls_of R.remaining R.failures reader.old reader.new) (calls_of W.contents W.failures writer.old writer.new) result }
     ensures unread { AskForNoLines (texts words.items) → (AskForFile (texts words.items) → ⊥)
         → reader.new ≡ reader.old }
     ensures few { AskForNoLines (texts words.items)
-        → IsBegun (R.remaining reader.old) (R.remaining reader.new) 4194305 }
+        → IsBegun (calls_of R.remaining R.failures reader.old reader.new) 4194305 }
 {
     let words = words.as_slice();
     match card_words::read(alloc, words) {
@@ -76,12 +73,11 @@ fn one_text<R: Source, W: Sink>(
     writer: &mut W,
 ) -> Status
     requires { IsReadFrom (texts words.now) read }
-    ensures written { Writes (IsRightAsked (texts words.now) (R.remaining reader.old)
-        (R.remaining reader.new) (R.failures reader.old) (R.failures reader.new))
-        (W.contents writer.old) (W.contents writer.new) (W.failures writer.old)
-        (W.failures writer.new) result }
+    ensures written { Writes (IsRightAsked (texts words.now)
+        (calls_of R.remaining R.failures reader.old reader.new))
+        (calls_of W.contents W.failures writer.old writer.new) result }
     ensures unread { (AskForFile (texts words.now) → ⊥) → reader.new ≡ reader.old }
-    ensures few { IsBegun (R.remaining reader.old) (R.remaining reader.new) 4194305 }
+    ensures few { IsBegun (calls_of R.remaining R.failures reader.old reader.new) 4194305 }
 {
     match answer_as_asked(alloc, words, read, reader) {
         Ok(made) => write_made(&made, writer),
@@ -91,16 +87,16 @@ fn one_text<R: Source, W: Sink>(
 
 /// Writes the line of a fault.
 pub fn report<W: Sink>(fault: Fault, writer: &mut W) -> Status
-    ensures { IsWritten (fault_text fault) ended.Fault (W.contents writer.old)
-        (W.contents writer.new) (W.failures writer.old) (W.failures writer.new) result }
+    ensures { IsWritten (fault_text fault) ended.Fault
+        (calls_of W.contents W.failures writer.old writer.new) result }
 {
     write(fault.text().as_bytes(), Status::Fault, writer)
 }
 
 /// Writes a text: the status, unless the writer fails.
 fn write<W: Sink>(text: &[u8], status: Status, writer: &mut W) -> Status
-    ensures { IsWritten text.now status (W.contents writer.old) (W.contents writer.new)
-        (W.failures writer.old) (W.failures writer.new) result }
+    ensures { IsWritten text.now status (calls_of W.contents W.failures writer.old writer.new)
+        result }
 {
     match write_octets(writer, text) {
         Ok(()) => status,
@@ -121,8 +117,7 @@ fn said(made: &WithNote) -> &[u8]
 /// Writes an answer and what is said of it: the status, unless the writer fails.
 fn write_made<W: Sink>(made: &WithNote, writer: &mut W) -> Status
     ensures { IsWritten (made.now.answer.text ++ said_of made.now.note) made.now.answer.status
-        (W.contents writer.old) (W.contents writer.new) (W.failures writer.old)
-        (W.failures writer.new) result }
+        (calls_of W.contents W.failures writer.old writer.new) result }
 {
     match write_octets(writer, made.answer.text.get()) {
         Ok(()) => write(said(made), made.answer.status, writer),
@@ -138,10 +133,10 @@ fn answer_as_asked<R: Source>(
     reader: &mut R,
 ) -> Result<WithNote, Fault>
     requires { IsReadFrom (texts words.now) read }
-    ensures told { Gives (IsRightAsked (texts words.now) (R.remaining reader.old)
-        (R.remaining reader.new) (R.failures reader.old) (R.failures reader.new)) result }
+    ensures told { Gives (IsRightAsked (texts words.now)
+        (calls_of R.remaining R.failures reader.old reader.new)) result }
     ensures unread { (AskForFile (texts words.now) → ⊥) → reader.new ≡ reader.old }
-    ensures few { IsBegun (R.remaining reader.old) (R.remaining reader.new) 4194305 }
+    ensures few { IsBegun (calls_of R.remaining R.failures reader.old reader.new) 4194305 }
 {
     if asks_for_json(words) {
         answer_in_json(alloc, words, read, reader)
@@ -158,10 +153,10 @@ fn answer_in_json<R: Source>(
     reader: &mut R,
 ) -> Result<WithNote, Fault>
     requires { IsReadFrom (texts words.now) read }
-    ensures told { Gives (IsRightJson (texts words.now) (R.remaining reader.old)
-        (R.remaining reader.new) (R.failures reader.old) (R.failures reader.new)) result }
+    ensures told { Gives (IsRightJson (texts words.now)
+        (calls_of R.remaining R.failures reader.old reader.new)) result }
     ensures unread { (AskForFile (texts words.now) → ⊥) → reader.new ≡ reader.old }
-    ensures few { IsBegun (R.remaining reader.old) (R.remaining reader.new) 4194305 }
+    ensures few { IsBegun (calls_of R.remaining R.failures reader.old reader.new) 4194305 }
 {
     let object = object_by(&read);
     let made = whole_reply(alloc, words, read, reader)?;
@@ -178,13 +173,14 @@ fn whole_reply<R: Source>(
     reader: &mut R,
 ) -> Result<WithNote, AllocError>
     requires { IsReadFrom (texts words.now) read }
-    ensures told { IfOk result (λ made. IsSaid (texts words.now) (R.remaining reader.old)
-        (R.remaining reader.new) (R.failures reader.old) (R.failures reader.new) made.answer.text
+    ensures told { IfOk result (λ made.
+        IsSaid (texts words.now) (calls_of R.remaining R.failures reader.old reader.new)
+        made.answer.text
         (said_of made.note) made.answer.status) }
-    ensures failed { IfErr result (λ _. HaveAnswer (texts words.now) (R.remaining reader.old)
-        (R.remaining reader.new) (R.failures reader.old) (R.failures reader.new)) }
+    ensures failed { IfErr result (λ _.
+        HaveAnswer (texts words.now) (calls_of R.remaining R.failures reader.old reader.new)) }
     ensures unread { (AskForFile (texts words.now) → ⊥) → reader.new ≡ reader.old }
-    ensures few { IsBegun (R.remaining reader.old) (R.remaining reader.new) 4194305 }
+    ensures few { IsBegun (calls_of R.remaining R.failures reader.old reader.new) 4194305 }
 {
     match reply(alloc, words, read, reader) {
         Ok(made) => Ok(made),

@@ -4,6 +4,7 @@
 //! memory for it is refused it is left out.
 
 ghost use Rattle.std.specs.Prelude.{◌≡◌, ◌≢◌, ℕ, List, Ok, true, false, IfOk, string_bytes};
+ghost use Rattle.card_tool.specs.Calls.{calls_of};
 ghost use Rattle.card_tool.specs.Answers.{IsReadFrom};
 ghost use Rattle.card_tool.specs.Explained.{octets_of, text_note, IsFaulted, IsNotedLine, IsTakenWith, Replies, RepliesTo, SaysOf};
 ghost use Rattle.card_tool.specs.Files.{largest_file, IsBegun};
@@ -36,10 +37,10 @@ pub(crate) fn reply<R: Source>(
     reader: &mut R,
 ) -> Result<WithNote, Fault>
     requires { IsReadFrom (texts words.now) read }
-    ensures told { Replies (texts words.now) (R.remaining reader.old) (R.remaining reader.new)
-        (R.failures reader.old) (R.failures reader.new) result }
+    ensures told { Replies (texts words.now) (calls_of R.remaining R.failures reader.old reader.new)
+        result }
     ensures unread { (AskForFile (texts words.now) → ⊥) → reader.new ≡ reader.old }
-    ensures few { IsBegun (R.remaining reader.old) (R.remaining reader.new) 4194305 }
+    ensures few { IsBegun (calls_of R.remaining R.failures reader.old reader.new) 4194305 }
 {
     match read {
         Ok(request) => request_reply(alloc, words, request, reader),
@@ -56,10 +57,10 @@ fn request_reply<R: Source>(
     reader: &mut R,
 ) -> Result<WithNote, Fault>
     requires { IsRead (texts words.now) (Ok (Once request)) }
-    ensures told { Replies (texts words.now) (R.remaining reader.old) (R.remaining reader.new)
-        (R.failures reader.old) (R.failures reader.new) result }
+    ensures told { Replies (texts words.now) (calls_of R.remaining R.failures reader.old reader.new)
+        result }
     ensures unread { (AskForFile (texts words.now) → ⊥) → reader.new ≡ reader.old }
-    ensures few { IsBegun (R.remaining reader.old) (R.remaining reader.new) 4194305 }
+    ensures few { IsBegun (calls_of R.remaining R.failures reader.old reader.new) 4194305 }
 {
     let explains = asks_to_explain(words);
     match replied_to(alloc, words, request, explains, reader) {
@@ -78,11 +79,10 @@ fn replied_to<R: Source>(
     explains: bool,
     reader: &mut R,
 ) -> Result<WithNote, Fault>
-    ensures told { RepliesTo (texts words.now) request (R.remaining reader.old)
-        (R.remaining reader.new)
-        (R.failures reader.old) (R.failures reader.new) result }
+    ensures told { RepliesTo (texts words.now) request
+        (calls_of R.remaining R.failures reader.old reader.new) result }
     ensures unread { (NeedsFile request → ⊥) → reader.new ≡ reader.old }
-    ensures few { IsBegun (R.remaining reader.old) (R.remaining reader.new) 4194305 }
+    ensures few { IsBegun (calls_of R.remaining R.failures reader.old reader.new) 4194305 }
 {
     match request {
         Request::Tell(task, given) => {
@@ -131,10 +131,9 @@ fn octets_told<R: Source>(
     reader: &mut R,
 ) -> Result<WithNote, Fault>
     ensures told { (words : List (List ℕ))
-        → RepliesTo words (AnyRequest.Tell telling.task given) (R.remaining reader.old)
-        (R.remaining reader.new) (R.failures reader.old) (R.failures reader.new) result }
+        → RepliesTo words (AnyRequest.Tell telling.task given) (calls_of R.remaining R.failures reader.old reader.new) result }
     ensures unread { (IsFromReader given → ⊥) → reader.new ≡ reader.old }
-    ensures few { IsBegun (R.remaining reader.old) (R.remaining reader.new) 4194305 }
+    ensures few { IsBegun (calls_of R.remaining R.failures reader.old reader.new) 4194305 }
 {
     match octets_taken(alloc, given, telling.explains, reader)? {
         Taken::Given(octets, note) => {
@@ -153,10 +152,9 @@ fn octets_tidied<R: Source>(
     reader: &mut R,
 ) -> Result<WithNote, Fault>
     ensures told { (words : List (List ℕ))
-        → RepliesTo words (AnyRequest.BuildTidy given) (R.remaining reader.old)
-        (R.remaining reader.new) (R.failures reader.old) (R.failures reader.new) result }
+        → RepliesTo words (AnyRequest.BuildTidy given) (calls_of R.remaining R.failures reader.old reader.new) result }
     ensures unread { (IsFromReader given → ⊥) → reader.new ≡ reader.old }
-    ensures few { IsBegun (R.remaining reader.old) (R.remaining reader.new) 4194305 }
+    ensures few { IsBegun (calls_of R.remaining R.failures reader.old reader.new) 4194305 }
 {
     match octets_taken(alloc, given, explains, reader)? {
         Taken::Given(octets, note) => {
@@ -184,10 +182,10 @@ fn octets_taken<R: Source>(
     explains: bool,
     reader: &mut R,
 ) -> Result<Taken, Fault>
-    ensures taken { IsTakenWith explains given (R.remaining reader.old) (R.remaining reader.new)
-        (R.failures reader.old) (R.failures reader.new) result }
+    ensures taken { IsTakenWith explains given
+        (calls_of R.remaining R.failures reader.old reader.new) result }
     ensures unread { (IsFromReader given → ⊥) → reader.new ≡ reader.old }
-    ensures few { IsBegun (R.remaining reader.old) (R.remaining reader.new) 4194305 }
+    ensures few { IsBegun (calls_of R.remaining R.failures reader.old reader.new) 4194305 }
 {
     match given {
         OctetSource::Word(octets) => Ok(Taken::Given(octets, Ok(String::new(alloc)))),

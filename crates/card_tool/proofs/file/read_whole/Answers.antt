@@ -34,5 +34,5 @@ loop-filled-preserved g c = record {
 }
 
 pub returns : goal.returns
-returns g c = too-large _ _ _ _ c.loop-filled.held.items c.loop-filled.filled c.loop-filled.invariant.so_far
+returns g c = too-large _ c.loop-filled.held.items c.loop-filled.filled c.loop-filled.invariant.so_far
     (omega (arith, c.loop-filled-test.false))

@@ -1,12 +1,9 @@
-use Rattle.std.proofs.Common.{◌≡◌, ◌∙◌, IfOk, List, Result, String, Ok, ap, arith, false, length, nat_eq, string_bytes, subst, sym, true, Bool, inl, inr}
+use Rattle.std.proofs.Common.{◌≡◌, ◌∙◌, String, arith, false, length, nat_eq, string_bytes, sym, true, Bool, inl, inr}
 use Rattle.std.specs.declared.alloc.Global.{Global}
 use Rattle.std.proofs.lemmas.Bool.Decides.{eqb_tells}
-use Rattle.std.proofs.lemmas.Result.{IfOk-weaker}
 use Rattle.std.specs.String.{string_len}
 use Rattle.command_line.specs.Form.{texts}
-use Rattle.card_words.specs.declared.fault.Fault.{Fault}
-use Rattle.tlv_core.specs.declared.known.Known.{Known}
-use Rattle.card_tool.specs.Explained.{on_list, IsKnownNote}
+use Rattle.card_tool.specs.Explained.{on_list}
 use Rattle.card_tool.proofs.Explaining.{known-noted}
 use Rattle.card_tool.proofs.judged.fill_note.Goals as goal
 

@@ -35,12 +35,12 @@ returns-in-Ok-Lines-clause-few g c =
 
 pub returns-in-Err-Memory-clause-written : goal.returns-in-Err-Memory-clause-written
 returns-in-Err-Memory-clause-written g c =
-    λ _. no-words-asked (g.R.Source.remaining c.args.reader.now) (g.R.Source.failures c.args.reader.now) _ _ _ _ _
+    λ _. no-words-asked (g.R.Source.remaining c.args.reader.now) (g.R.Source.failures c.args.reader.now) _ _
     c.report.ensures (texts c.args.words.items)
 
 pub returns-in-Err-Memory-clause-lines : goal.returns-in-Err-Memory-clause-lines
 returns-in-Err-Memory-clause-lines g c = λ task _.
-    no-lines (g.R.Source.remaining c.args.reader.now) (g.R.Source.failures c.args.reader.now) _ _ _ _ _ c.report.ensures
+    no-lines (g.R.Source.remaining c.args.reader.now) (g.R.Source.failures c.args.reader.now) _ _ c.report.ensures
     (telling_of (texts c.args.words.items) task)
 
 pub one_text-requires : goal.one_text-requires

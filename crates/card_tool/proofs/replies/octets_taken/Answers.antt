@@ -8,12 +8,12 @@ returns-in-Word-clause-taken g c =
 
 pub returns-then-explains-clause-taken : goal.returns-then-explains-clause-taken
 returns-then-explains-clause-taken g c =
-    rw c.in-Read.is (read-with c.in-Read.form _ _ _ _ c.in_ok-text-in-Read.text c.read_explained.result
+    rw c.in-Read.is (read-with c.in-Read.form _ c.in_ok-text-in-Read.text c.read_explained.result
     c.in_ok-text-in-Read.ensures c.read_explained.ensures.octets c.args.explains true c.if-explains.true
     c.read_explained.ensures.note)
 
 pub returns-else-explains-clause-taken : goal.returns-else-explains-clause-taken
 returns-else-explains-clause-taken g c =
-    rw c.in-Read.is (read-with c.in-Read.form _ _ _ _ c.in_ok-text-in-Read.text c.read_as.result
+    rw c.in-Read.is (read-with c.in-Read.form _ c.in_ok-text-in-Read.text c.read_as.result
     c.in_ok-text-in-Read.ensures c.read_as.ensures.octets c.args.explains false c.if-explains.false
     c.read_as.ensures.note)

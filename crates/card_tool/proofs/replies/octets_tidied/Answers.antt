@@ -1,6 +1,7 @@
 use Rattle.std.proofs.lemmas.Result.{err_from_is_err_and}
 use Rattle.card_words.specs.declared.request.Request.TheVariants.{BuildTidy}
 use Rattle.card_kinds.specs.Verdicts.{Tidies}
+use Rattle.card_tool.specs.Calls.{calls_of}
 use Rattle.card_tool.specs.Judged.{IsForestNote}
 use Rattle.card_tool.proofs.Answering.{told-fault, told-wanting}
 use Rattle.card_tool.proofs.Explaining.{noted-given, noted-refused}
@@ -10,9 +11,8 @@ pub returns-in_err-octets-clause-told : goal.returns-in_err-octets-clause-told
 returns-in_err-octets-clause-told g c = λ words.
     let fault = err_from_is_err_and c.from_residual.result c.from_residual.ensures.1 in
     rw (fault.1, fault.2) (told-fault (BuildTidy c.args.given) c.args.given Tidies
-    (g.R.Source.remaining c.args.reader.now)
-    (g.R.Source.remaining c.octets_taken.new.reader) (g.R.Source.failures c.args.reader.now)
-    (g.R.Source.failures c.octets_taken.new.reader) (λ need. need) (λ file text ended h. h)
+    (calls_of g.R.Source.remaining g.R.Source.failures c.args.reader.now c.octets_taken.new.reader) (λ need. need)
+    (λ file text ended h. h)
     c.in_err-octets.field-0.0 c.in_err-octets.ensures.taken.taken)
 
 pub returns-in_err-made-in-Given-clause-told : goal.returns-in_err-made-in-Given-clause-told
@@ -21,9 +21,8 @@ returns-in_err-made-in-Given-clause-told g c = λ words.
     c.from_residual-in_err-made-in-Given.ensures.1 in
     let had = rw c.in-Given.is at c.in_ok-octets.ensures.taken in
     rw (fault.1, fault.2) (told-wanting (BuildTidy c.args.given) c.args.given Tidies
-    (g.R.Source.remaining c.args.reader.now)
-    (g.R.Source.remaining c.octets_taken.new.reader) (g.R.Source.failures c.args.reader.now)
-    (g.R.Source.failures c.octets_taken.new.reader) (λ need. need) (λ file text ended h. h)
+    (calls_of g.R.Source.remaining g.R.Source.failures c.args.reader.now c.octets_taken.new.reader) (λ need. need)
+    (λ file text ended h. h)
     c.in-Given.octets had.taken)
 
 pub returns-in_ok-made-in-Given-clause-told : goal.returns-in_ok-made-in-Given-clause-told
@@ -31,9 +30,8 @@ returns-in_ok-made-in-Given-clause-told g c = λ words.
     let made = rw c.get.ensures at c.in_ok-made-in-Given.ensures in
     let had = rw c.in-Given.is at c.in_ok-octets.ensures.taken in
     noted-given c.args.explains words (BuildTidy c.args.given) c.args.given Tidies
-    IsForestNote (g.R.Source.remaining c.args.reader.now)
-    (g.R.Source.remaining c.octets_taken.new.reader) (g.R.Source.failures c.args.reader.now)
-    (g.R.Source.failures c.octets_taken.new.reader) (λ need. need) (λ file text ended h. h)
+    IsForestNote (calls_of g.R.Source.remaining g.R.Source.failures c.args.reader.now c.octets_taken.new.reader)
+    (λ need. need) (λ file text ended h. h)
     (λ file note h. h) c.in-Given.octets c.in-Given.note had
     c.in_ok-made-in-Given.made c.and.result made.0 made.1 c.and.ensures.answer c.and.ensures.note
 
@@ -41,7 +39,6 @@ pub returns-in-Refused-clause-told : goal.returns-in-Refused-clause-told
 returns-in-Refused-clause-told g c = λ words.
     let had = rw c.in-Refused.is at c.in_ok-octets.ensures.taken in
     noted-refused c.args.explains words (BuildTidy c.args.given) c.args.given Tidies
-    IsForestNote (g.R.Source.remaining c.args.reader.now)
-    (g.R.Source.remaining c.octets_taken.new.reader) (g.R.Source.failures c.args.reader.now)
-    (g.R.Source.failures c.octets_taken.new.reader) (λ need. need) (λ file text ended h. h)
+    IsForestNote (calls_of g.R.Source.remaining g.R.Source.failures c.args.reader.now c.octets_taken.new.reader)
+    (λ need. need) (λ file text ended h. h)
     (λ file note h. h) c.in-Refused.made had

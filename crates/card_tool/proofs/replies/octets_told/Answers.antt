@@ -1,5 +1,6 @@
 use Rattle.std.proofs.lemmas.Result.{err_from_is_err_and}
 use Rattle.card_words.specs.declared.request.Request.TheVariants.{Tell}
+use Rattle.card_tool.specs.Calls.{calls_of}
 use Rattle.card_tool.specs.Judged.{IsKindNote}
 use Rattle.card_tool.specs.Answers.{IsTold}
 use Rattle.card_tool.proofs.Answering.{told-fault, told-wanting}
@@ -11,9 +12,8 @@ returns-in_err-octets-clause-told g c = λ words.
     let fault = err_from_is_err_and c.from_residual.result c.from_residual.ensures.1 in
     let task = c.args.telling.task in
     rw (fault.1, fault.2) (told-fault (Tell task c.args.given) c.args.given (IsTold task)
-    (g.R.Source.remaining c.args.reader.now)
-    (g.R.Source.remaining c.octets_taken.new.reader) (g.R.Source.failures c.args.reader.now)
-    (g.R.Source.failures c.octets_taken.new.reader) (λ need. need) (λ file text ended h. h)
+    (calls_of g.R.Source.remaining g.R.Source.failures c.args.reader.now c.octets_taken.new.reader) (λ need. need)
+    (λ file text ended h. h)
     c.in_err-octets.field-0.0 c.in_err-octets.ensures.taken.taken)
 
 pub returns-in_err-made-in-Given-clause-told : goal.returns-in_err-made-in-Given-clause-told
@@ -23,9 +23,8 @@ returns-in_err-made-in-Given-clause-told g c = λ words.
     let had = rw c.in-Given.is at c.in_ok-octets.ensures.taken in
     let task = c.args.telling.task in
     rw (fault.1, fault.2) (told-wanting (Tell task c.args.given) c.args.given (IsTold task)
-    (g.R.Source.remaining c.args.reader.now)
-    (g.R.Source.remaining c.octets_taken.new.reader) (g.R.Source.failures c.args.reader.now)
-    (g.R.Source.failures c.octets_taken.new.reader) (λ need. need) (λ file text ended h. h)
+    (calls_of g.R.Source.remaining g.R.Source.failures c.args.reader.now c.octets_taken.new.reader) (λ need. need)
+    (λ file text ended h. h)
     c.in-Given.octets had.taken)
 
 pub returns-in_ok-made-in-Given-clause-told : goal.returns-in_ok-made-in-Given-clause-told
@@ -34,9 +33,9 @@ returns-in_ok-made-in-Given-clause-told g c = λ words.
     let had = rw c.in-Given.is at c.in_ok-octets.ensures.taken in
     let task = c.args.telling.task in
     noted-given c.args.telling.explains words (Tell task c.args.given) c.args.given (IsTold task)
-    (IsKindNote task.expected.kind task.expected) (g.R.Source.remaining c.args.reader.now)
-    (g.R.Source.remaining c.octets_taken.new.reader) (g.R.Source.failures c.args.reader.now)
-    (g.R.Source.failures c.octets_taken.new.reader) (λ need. need) (λ file text ended h. h)
+    (IsKindNote task.expected.kind task.expected)
+    (calls_of g.R.Source.remaining g.R.Source.failures c.args.reader.now c.octets_taken.new.reader) (λ need. need)
+    (λ file text ended h. h)
     (λ file note h. h) c.in-Given.octets c.in-Given.note had
     c.in_ok-made-in-Given.made c.and.result made.0 made.1 c.and.ensures.answer c.and.ensures.note
 
@@ -45,7 +44,7 @@ returns-in-Refused-clause-told g c = λ words.
     let had = rw c.in-Refused.is at c.in_ok-octets.ensures.taken in
     let task = c.args.telling.task in
     noted-refused c.args.telling.explains words (Tell task c.args.given) c.args.given (IsTold task)
-    (IsKindNote task.expected.kind task.expected) (g.R.Source.remaining c.args.reader.now)
-    (g.R.Source.remaining c.octets_taken.new.reader) (g.R.Source.failures c.args.reader.now)
-    (g.R.Source.failures c.octets_taken.new.reader) (λ need. need) (λ file text ended h. h)
+    (IsKindNote task.expected.kind task.expected)
+    (calls_of g.R.Source.remaining g.R.Source.failures c.args.reader.now c.octets_taken.new.reader) (λ need. need)
+    (λ file text ended h. h)
     (λ file note h. h) c.in-Refused.made had

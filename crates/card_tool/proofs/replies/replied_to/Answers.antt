@@ -3,13 +3,13 @@ use Rattle.command_line.specs.Form.{texts}
 use Rattle.card_words.specs.declared.request.Request.TheVariants.{BuildChain, BuildFill, Judge, Simulate, Help, Version}
 use Rattle.card_tool.proofs.Explaining.{alone, with-note}
 use Rattle.card_tool.proofs.replies.replied_to.Goals as goal
+use Rattle.card_tool.specs.Calls.{calls_of}
 
 pub returns-in_ok-text-in-BuildChain-clause-told : goal.returns-in_ok-text-in-BuildChain-clause-told
 returns-in_ok-text-in-BuildChain-clause-told g c =
     rw c.in-BuildChain.is (alone (texts c.args.words.now)
     (BuildChain c.in-BuildChain.ifs c.in-BuildChain.number c.in-BuildChain.message)
-    (g.R.Source.remaining c.args.reader.now) (g.R.Source.remaining c.args.reader.now)
-    (g.R.Source.failures c.args.reader.now) (g.R.Source.failures c.args.reader.now) c.alone.result (Ok [])
+    (calls_of g.R.Source.remaining g.R.Source.failures c.args.reader.now c.args.reader.now) c.alone.result (Ok [])
     (λ needs. absurd needs) (rw c.alone.ensures.answer (
       c.told.ensures.text ∙ rw c.get.ensures at c.in_ok-text-in-BuildChain.ensures,
       c.told.ensures.status,
@@ -19,38 +19,35 @@ pub returns-in_ok-filled-in-BuildFill-clause-told : goal.returns-in_ok-filled-in
 returns-in_ok-filled-in-BuildFill-clause-told g c =
     let made = rw c.get-in-BuildFill.ensures at c.in_ok-filled-in-BuildFill.ensures in
     rw c.in-BuildFill.is (with-note (texts c.args.words.now) (BuildFill c.in-BuildFill.list c.in-BuildFill.known)
-    (g.R.Source.remaining c.args.reader.now) (g.R.Source.remaining c.args.reader.now)
-    (g.R.Source.failures c.args.reader.now) (g.R.Source.failures c.args.reader.now)
+    (calls_of g.R.Source.remaining g.R.Source.failures c.args.reader.now c.args.reader.now)
     c.in_ok-filled-in-BuildFill.field-0 (Ok []) (λ needs. absurd needs) made.0 made.1)
 
 pub returns-in_ok-judged-in-Judge-clause-told : goal.returns-in_ok-judged-in-Judge-clause-told
 returns-in_ok-judged-in-Judge-clause-told g c =
     let made = rw (c.get-in-Judge.ensures, c.get-in-Judge-2.ensures) at c.in_ok-judged-in-Judge.ensures in
     rw c.in-Judge.is (with-note (texts c.args.words.now) (Judge c.in-Judge.atr c.in-Judge.judging)
-    (g.R.Source.remaining c.args.reader.now) (g.R.Source.remaining c.read_whole-in-Judge.new.reader)
-    (g.R.Source.failures c.args.reader.now) (g.R.Source.failures c.read_whole-in-Judge.new.reader)
+    (calls_of g.R.Source.remaining g.R.Source.failures c.args.reader.now c.read_whole-in-Judge.new.reader)
     c.in_ok-judged-in-Judge.field-0 (Ok c.in_ok-text-in-Judge.text) (λ needs. c.in_ok-text-in-Judge.ensures)
     made.0 made.1)
 
 pub returns-in_ok-simulated-in-Simulate-clause-told : goal.returns-in_ok-simulated-in-Simulate-clause-told
 returns-in_ok-simulated-in-Simulate-clause-told g c =
     rw c.in-Simulate.is (with-note (texts c.args.words.now) (Simulate c.in-Simulate.session)
-    (g.R.Source.remaining c.args.reader.now) (g.R.Source.remaining c.args.reader.now)
-    (g.R.Source.failures c.args.reader.now) (g.R.Source.failures c.args.reader.now)
+    (calls_of g.R.Source.remaining g.R.Source.failures c.args.reader.now c.args.reader.now)
     c.in_ok-simulated-in-Simulate.field-0 (Ok []) (λ needs. absurd needs)
     c.in_ok-simulated-in-Simulate.ensures.0 c.in_ok-simulated-in-Simulate.ensures.1)
 
 pub returns-in-Help-clause-told : goal.returns-in-Help-clause-told
 returns-in-Help-clause-told g c = rw c.in-Help.is (alone (texts c.args.words.now) (Help c.in-Help.text)
-    (g.R.Source.remaining c.args.reader.now) (g.R.Source.remaining c.args.reader.now)
-    (g.R.Source.failures c.args.reader.now) (g.R.Source.failures c.args.reader.now) c.alone-in-Help.result (Ok [])
+    (calls_of g.R.Source.remaining g.R.Source.failures c.args.reader.now c.args.reader.now) c.alone-in-Help.result
+    (Ok [])
     (λ needs. absurd needs) (rw c.alone-in-Help.ensures.answer
     (c.told-in-Help.ensures.text ∙ c.into_inner.ensures, c.told-in-Help.ensures.status)) c.alone-in-Help.ensures.note)
 
 pub returns-in_ok-line-in-Version-clause-told : goal.returns-in_ok-line-in-Version-clause-told
 returns-in_ok-line-in-Version-clause-told g c = rw c.in-Version.is (alone (texts c.args.words.now) Version
-    (g.R.Source.remaining c.args.reader.now) (g.R.Source.remaining c.args.reader.now)
-    (g.R.Source.failures c.args.reader.now) (g.R.Source.failures c.args.reader.now) c.alone-in-Version.result (Ok [])
+    (calls_of g.R.Source.remaining g.R.Source.failures c.args.reader.now c.args.reader.now) c.alone-in-Version.result
+    (Ok [])
     (λ needs. absurd needs) (rw c.alone-in-Version.ensures.answer
     (c.told-in-Version.ensures.text ∙ c.in_ok-line-in-Version.ensures.ok, c.told-in-Version.ensures.status))
     c.alone-in-Version.ensures.note)

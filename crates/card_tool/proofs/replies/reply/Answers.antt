@@ -18,7 +18,7 @@ request_reply-requires g c =
 pub returns-in-Err-clause-told : goal.returns-in-Err-clause-told
 returns-in-Err-clause-told g c =
     let read = rw c.in-Err.is at c.requires in
-    said-fault (texts c.args.words.now) _ _ _ _ c.in-Err.fault (IsWordsNote (texts c.args.words.now))
+    said-fault (texts c.args.words.now) _ c.in-Err.fault (IsWordsNote (texts c.args.words.now))
     c.words_faulted.result (sym c.asks_to_explain.ensures ∙ c.if-asks_to_explain.true)
     (refused-words (texts c.args.words.now) _ _ c.in-Err.fault read) c.words_faulted.ensures.told
     (IfOk-weaker c.words_faulted.result _ _
@@ -26,6 +26,6 @@ returns-in-Err-clause-told g c =
     c.words_faulted.ensures.other)
 
 pub returns-in-Err-2-clause-told : goal.returns-in-Err-2-clause-told
-returns-in-Err-2-clause-told g c = said-nothing (texts c.args.words.now) _ _ _ _ (fault_text c.in-Err-2.fault)
+returns-in-Err-2-clause-told g c = said-nothing (texts c.args.words.now) _ (fault_text c.in-Err-2.fault)
     status.Fault
     (refused-words (texts c.args.words.now) _ _ c.in-Err-2.fault (rw c.in-Err-2.is at c.requires))

@@ -1,4 +1,4 @@
-use Rattle.std.proofs.Common.{◌≡◌, ◌++◌, ◌∙◌, List, ℕ, ap, append_assoc, string_bytes}
+use Rattle.std.proofs.Common.{◌++◌, ◌∙◌, List, ℕ, ap, append_assoc, string_bytes}
 use Rattle.card_tool.specs.Waits.{in_session, state_of}
 use Rattle.card_tool.proofs.waits.push_state.Goals as goal
 
