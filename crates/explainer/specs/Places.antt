@@ -32,7 +32,11 @@ is_option word = starts_with (λ x y. x == y) word (codes "--")
 -- an option that has no value
 abbrev pub is_flag : List ℕ → Bool
 is_flag word =
-    bytes_eq word (codes "--explain") || (bytes_eq word (codes "--notes") || bytes_eq word (codes "--svg"))
+    bytes_eq word (codes "--explain")
+    || (bytes_eq word (codes "--json")
+    || (bytes_eq word (codes "--notes")
+    || (bytes_eq word (codes "--rules")
+    || bytes_eq word (codes "--svg"))))
 
 -- the value of an option is the next word, unless the option has none or has it after an equals sign
 abbrev pub has_next : List ℕ → Bool

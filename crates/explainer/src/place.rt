@@ -87,7 +87,10 @@ fn has_next(word: &str) -> bool
 fn is_flag(word: &str) -> bool
     ensures { result ≡ is_flag word.now }
 {
-    matches!(word, "--explain" | "--notes" | "--svg")
+    matches!(
+        word,
+        "--explain" | "--json" | "--notes" | "--rules" | "--svg"
+    )
 }
 
 /// The number of the word that has the value of an option; past the end where the option isn't given.
