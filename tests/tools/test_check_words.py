@@ -31,6 +31,11 @@ class Words(unittest.TestCase):
     def test_code_is_left_out(self):
         self.assertEqual(self.found("`is told`\n\n    that is none\n\n```\ndear\n```\nA line.\n"), [])
 
+    def test_of_a_crate_only_comments_are_read(self):
+        text = "/// It is told.\nfn told() {\n    // that\n    // is none\n    say(\"is dear\")\n}\n"
+        said = tool.comments_of(text, tool.COMMENT[".rt"])
+        self.assertEqual(self.found(said), [(1, "is told"), (3, "that is none")])
+
     def test_the_pages_have_none(self):
         self.assertEqual(tool.main([]), 0)
 

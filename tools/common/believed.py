@@ -12,17 +12,18 @@ CLAUSE = re.compile(r"\b[1-9]\d?(?:\.[1-9]\d?)+\b(?!\.\d)|(?<=clause )\d+\b")
 HEAD = """\
 # What has to be believed
 
-The checker proves that the code does what definitions say. That the definitions say what the standards say, no proof
-checks: somebody has to read them. This page lists them in reading order, the lowest crate first.
-`tools/daily/reference` makes it from the sources.
+The proofs show that the code does what definitions say. No proof shows that the definitions say what the standards say:
+a person has to read them. This page lists the definitions to read, the lowest crate first. `tools/daily/reference`
+makes it from the sources.
 
-A row has a file of `crates/CRATE/specs`, its lines without remarks, the clauses that it cites (of ISO/IEC 7816-3:2006
-but in tlv_core and apdu_core, whose are of EMV Book 3 and ISO/IEC 7816-4), and its first sentence. This shows a file:
+A row has a file of `crates/CRATE/specs`, the number of its lines without comments, the clauses that it cites, and its
+first sentence. The clauses are those of ISO/IEC 7816-3:2006. In tlv_core and apdu_core they are those of EMV Book 3 and
+ISO/IEC 7816-4. To read a file:
 
     less crates/block_core/specs/Block.antt
 
-In crates that part their definitions, only the files that have to be believed are here; the others say what the code
-keeps between calls. In the other crates it is each file. *(own)* in a file marks what is this project's choice.
+Some crates separate the definitions to believe from those of what the code keeps between calls. For these crates, only
+the files to believe are listed here. *(own)* in a file marks a choice of this project.
 """
 
 

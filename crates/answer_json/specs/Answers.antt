@@ -14,7 +14,7 @@ use Rattle.answer_json.specs.declared.forms.Array.TheVariants.{Exchanges}
 use Rattle.answer_json.specs.declared.forms.Place.{Place}
 use Rattle.answer_json.specs.declared.forms.Place.TheVariants.{Members, Closes, Item}
 
--- what the lines so far said: members of the object, the array that has begun with its items, and lines of no form
+-- what the lines so far gave: members of the object, the array that has begun with its items, and lines without a form
 pub record Kept : Type 0 where
   pub named : Named
   pub begun : Option Array
@@ -34,7 +34,7 @@ nothing_kept begun = record { named = []; begun = begun; items = []; lines = [] 
 
 -- ---- a line
 
--- a line of no form, or one of whose members the object has one
+-- a line without a form, or with a member that the object already has
 abbrev pub with_line_itself : Kept → List ℕ → Kept
 with_line_itself k line = record {
   named = k.named;
@@ -43,7 +43,7 @@ with_line_itself k line = record {
   lines = k.lines ++ string (characters line) ∷ [];
 }
 
--- members of the object, with the array that has begun then
+-- members of the object, with the array that has begun after them
 abbrev pub with_named : Kept → List ℕ → Option Array → Named → Kept
 with_named k line begun named = if shares k.named named then with_line_itself k line
     else record { named = k.named ++ named; begun = begun; items = k.items; lines = k.lines }
@@ -52,14 +52,14 @@ abbrev pub with_item : Kept → Option Array → Named → Kept
 with_item k begun named =
     record { named = k.named; begun = begun; items = k.items ++ object_of named ∷ []; lines = k.lines }
 
--- what a line says goes to its place
+-- what a line gives is added to its place
 abbrev pub with_said : Kept → List ℕ → Option (Place × Named) → Kept
 with_said k line None = with_line_itself k line
 with_said k line (Some (Members, named)) = with_named k line k.begun named
 with_said k line (Some (Closes a, named)) = with_named k line (Some a) named
 with_said k line (Some (Item a, named)) = with_item k (Some a) named
 
--- an empty line says nothing
+-- an empty line adds nothing
 abbrev pub with_one : Kept → List ℕ → Kept
 with_one k [] = k
 with_one k (x ∷ line) = with_said k (x ∷ line) (by_table k.begun (x ∷ line))
@@ -83,18 +83,18 @@ ended k = object_of (k.named ++ begun_array k.begun k.items ++ line_array k.line
 
 -- ---- lines
 
--- the end that a line is said of, with the line that is said
+-- the end that a line is about, and the line without that end's name
 abbrev pub owned : List ℕ → Option (List ℕ × List ℕ)
 owned line = or_else
     (option_map (λ rest. (codes "terminal", rest)) (after (codes "terminal: ") line))
     (option_map (λ rest. (codes "card", rest)) (after (codes "card: ") line))
 
--- a line of no form that is said of no end; an empty one says nothing
+-- a line without a form that isn't about an end; an empty line adds nothing
 abbrev pub with_unowned : Kept → List ℕ → Kept
 with_unowned k [] = k
 with_unowned k (x ∷ line) = with_line_itself k (x ∷ line)
 
--- an end has the object of its line
+-- the member of an end is the object of its line
 abbrev pub with_owned : Kept → List ℕ → Option (List ℕ × List ℕ) → Kept
 with_owned k line None = with_unowned k line
 with_owned k line (Some (end, said)) =
@@ -114,7 +114,7 @@ with_lines k (line ∷ lines) = with_lines (with_line k line) lines
 
 -- ---- a text
 
--- an answer of no line has no exchange
+-- an answer without lines has an empty array of exchanges
 abbrev pub begun_by : List ℕ → Option Array
 begun_by [] = Some Exchanges
 begun_by (x ∷ text) = None
@@ -123,6 +123,6 @@ begun_by (x ∷ text) = None
 unfoldable pub json_data : List ℕ → Data
 json_data text = ended (with_lines (nothing_kept (begun_by text)) (slice_split (λ x. x == 10) text))
 
--- and its line
+-- the object of an answer, in one line
 abbrev pub json_text : List ℕ → List ℕ
 json_text text = compact_text (json_data text) ++ 10 ∷ []

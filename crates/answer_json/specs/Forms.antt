@@ -1,4 +1,4 @@
--- What a line says by a form, and by the first that it has.
+-- What a line gives by a form, and by the first form that fits it.
 use Rattle.std.specs.Prelude.{ℕ, ◌||◌, ◌==◌, List, [], ◌∷◌, ◌++◌, codes, Bool, true, false, Option, Some, None, option_map, option_and_then, bytes_eq, if◌then◌else◌, encode_utf8, is_some}
 use Rattle.std.specs.List.{slice_split}
 use Rattle.serde_json.specs.Data.{Data, array, boolean, null, number, string, unsigned}
@@ -16,7 +16,7 @@ use Rattle.answer_json.specs.declared.forms.Place.TheVariants.{Members, Closes, 
 abbrev pub is_none : List ℕ → Bool
 is_none word = bytes_eq word (codes "none")
 
--- a word has an octet at least
+-- a word has at least one octet
 abbrev pub text_said : List ℕ → Option Data
 text_said [] = None
 text_said (x ∷ word) = Some (string (characters (x ∷ word)))
@@ -27,7 +27,7 @@ number_of n = number (unsigned n)
 abbrev pub number_said : List ℕ → Option Data
 number_said word = option_map number_of (decimal_number word)
 
--- numbers after those so far
+-- numbers, after those so far
 abbrev pub numbers_from : List Data → List (List ℕ) → Option (List Data)
 numbers_from numbers [] = Some numbers
 numbers_from numbers (word ∷ words) =
@@ -38,11 +38,11 @@ abbrev pub numbers_said : List ℕ → Option Data
 numbers_said word =
     option_map (λ numbers. array (items_of numbers)) (numbers_from [] (slice_split (λ x. x == 44) word))
 
--- what is said by the word none, or else by another
+-- the value of the word none, or of another word
 abbrev pub unless_none : Data → Option Data → List ℕ → Option Data
 unless_none none other word = if is_none word then Some none else other
 
--- what a word says at a place with this mark
+-- the value of a word at a place with this mark
 abbrev pub word_said : ℕ → List ℕ → Option Data
 word_said mark word =
     if mark == 63 then unless_none null (number_said word) word
@@ -53,7 +53,7 @@ word_said mark word =
 
 -- ---- places
 
--- data, and what is left of a line
+-- a value, and the rest of a line
 abbrev pub Read : Type 0
 Read = Data × List ℕ
 
@@ -63,21 +63,21 @@ with_rest rest it = (it, rest)
 abbrev pub with_data : Data → List ℕ → Read
 with_data it rest = (it, rest)
 
--- what the word at the front of a line says
+-- the value of the word at the front of a line
 abbrev pub at_word : ℕ → List ℕ → Option Read
 at_word mark line = let w = word_and_rest line in option_map (with_rest w.1) (word_said mark w.0)
 
--- what the number at the front of a line says
+-- the value of the number at the front of a line
 abbrev pub at_number : List ℕ → Option Read
 at_number line = let w = number_and_rest line in option_map (with_rest w.1) (number_said w.0)
 
--- a text after some characters: what comes before the first place at which the line goes on with another
+-- the line up to the first place where this text comes, after the characters so far
 abbrev pub up_to : List ℕ → List ℕ → List ℕ → Option Read
 up_to text said [] = None
 up_to text said (x ∷ line) = if is_some (after text (x ∷ line)) then Some (string said, x ∷ line)
     else up_to text (said ++ encode_utf8 x) line
 
--- what a line says at a place with this mark and this text
+-- the value of a line at a place with this mark and this text
 abbrev pub data_said : ℕ → List ℕ → List ℕ → Option Read
 data_said mark text line =
     if mark == 61 then option_map (with_data (string (characters text))) (after text line)
@@ -91,7 +91,7 @@ data_said mark text line =
 
 -- ---- forms
 
--- what a line said so far, and what is left of it
+-- the members of a line so far, and the rest of the line
 abbrev pub Said : Type 0
 Said = Named × List ℕ
 
@@ -108,7 +108,7 @@ at_place [] said = None
 at_place (mark ∷ place) said =
     let p = parted 58 place in option_map (named_by p.0 said.0) (data_said mark (or_nothing p.1) said.1)
 
--- words that stand in the line themselves
+-- words that the line itself must have
 abbrev pub past : List ℕ → Said → Option Said
 past words said = option_map (λ rest. (said.0, rest)) (after words said.1)
 
@@ -125,12 +125,12 @@ abbrev pub whole : Said → Option Named
 whole (named, []) = Some named
 whole (named, x ∷ line) = None
 
--- what a line says by the pieces of a form that are left
+-- the members of a line by the remaining pieces of a form
 abbrev pub by_pieces : List (List ℕ) → Said → Option Named
 by_pieces [] said = whole said
 by_pieces (piece ∷ pieces) said = option_and_then (by_pieces pieces) (at_piece piece said)
 
--- what a line says by a form
+-- the members of a line by a form
 abbrev pub by_form : List ℕ → List ℕ → Option Named
 by_form form line = by_pieces (slice_split (λ x. x == 123) form) ([], line)
 
@@ -160,17 +160,17 @@ may_stand Members begun = true
 may_stand (Closes a) begun = is_nothing begun || has_begun a begun
 may_stand (Item a) begun = is_nothing begun || has_begun a begun
 
--- what the first says, where it says something, and else the second
+-- the first, if there is one, and else the second
 abbrev pub or_else : {X : Type 0} → Option X → Option X → Option X
 or_else (Some x) other = Some x
 or_else None other = other
 
--- what a line says by a form, and where that goes, with the array that has begun
+-- the members of a line by a form, and where they go, with the array that has begun
 abbrev pub by_row : Option Array → Place → List ℕ → List ℕ → Option (Place × Named)
 by_row begun place form line =
     if may_stand place begun then option_map (λ named. (place, named)) (by_form form line) else None
 
--- the same by the first row whose form the line has
+-- the members of a line by the first row whose form fits it
 abbrev pub by_rows : {Row : Type 0} → (Row → Place) → (Row → List ℕ) → Option Array → List Row → List ℕ
     → Option (Place × Named)
 by_rows place form begun [] line = None

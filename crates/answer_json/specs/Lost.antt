@@ -6,8 +6,7 @@ use Rattle.answer_json.specs.Named.{object_of, Named}
 use Rattle.answer_json.specs.Words.{characters}
 use Rattle.answer_json.specs.declared.forms.Array.{Array}
 
--- What a line says is added, one or more members, an item of the array that has begun then or the line itself, and nothing
--- is taken away.
+-- A line adds one or more members, an item of the array that has begun then, or itself, and removes nothing.
 pub data Adds (old : Kept) (line : List ℕ) (new : Kept) : Type 0 where
   members : (named : Named) → named ≢ [] → new.named ≡ old.named ++ named → new.items ≡ old.items
       → new.lines ≡ old.lines → Adds old line new

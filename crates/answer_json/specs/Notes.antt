@@ -5,17 +5,17 @@ use Rattle.answer_json.specs.Forms.{or_else}
 use Rattle.answer_json.specs.Strings.{line_string, separator}
 use Rattle.answer_json.specs.Words.{after}
 
--- what a line has before its first mark and after that, where it has one and begins with this
+-- a line up to its first mark, and the rest after it, if there is one; `front` comes before this rest of the line
 abbrev pub note_after : List ℕ → List ℕ → List ℕ → Option (List ℕ × List ℕ)
 note_after mark front [] = None
 note_after mark front (x ∷ rest) =
     or_else (option_map (λ note. (front, note)) (after mark (x ∷ rest))) (note_after mark (front ++ x ∷ []) rest)
 
--- a line, and the note on it, where it has one
+-- a line and the note on it, if it has one
 abbrev pub line_and_note : List ℕ → List ℕ → Option (List ℕ × List ℕ)
 line_and_note mark line = note_after mark [] line
 
--- both as an object
+-- a line and its note as an object
 abbrev pub note_object : List ℕ → List ℕ → List ℕ
 note_object line note =
     codes "{\"line\":" ++ (line_string line ++ (codes ",\"note\":" ++ (line_string note ++ codes "}")))
@@ -23,7 +23,7 @@ note_object line note =
 abbrev pub with_object : List ℕ → List ℕ → List ℕ → List ℕ
 with_object items line note = items ++ (separator items ++ note_object line note)
 
--- the items of an array, and a line that has a note
+-- the items of an array, and a line if it has a note
 abbrev pub with_note : List ℕ → Option (List ℕ × List ℕ) → List ℕ
 with_note items None = items
 with_note items (Some (line, note)) = with_object items line note

@@ -5,20 +5,20 @@ use Rattle.serde_json.specs.Data.{string}
 use Rattle.serde_json.specs.Written.{compact_text}
 use Rattle.answer_json.specs.Words.{characters}
 
--- a text as a string of JSON, with its quotation marks
+-- a text as a JSON string, with its quotation marks
 abbrev pub json_string : List ℕ → List ℕ
 json_string text = compact_text (string text)
 
--- a line as a string, in which an octet stands for the character that has its number
+-- a line as a string: each octet becomes the character with its number
 abbrev pub line_string : List ℕ → List ℕ
 line_string line = json_string (characters line)
 
--- what comes between the items of an array and one more
+-- what separates the items of an array from the next item
 abbrev pub separator : List ℕ → List ℕ
 separator [] = []
 separator (x ∷ items) = 44 ∷ []
 
--- a line after the items of an array; an empty one is left out
+-- a line after the items of an array; an empty line is left out
 abbrev pub with_string : List ℕ → List ℕ → List ℕ
 with_string items [] = items
 with_string items (x ∷ line) = items ++ (separator items ++ line_string (x ∷ line))

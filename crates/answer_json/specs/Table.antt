@@ -1,5 +1,5 @@
--- The lines that have members of their own in an object of JSON, and these members: the lines of replay, apdus and
--- judge, and those of a refusal or a fault.
+-- The lines that have members of their own in a JSON object, and these members: the lines of replay, apdus and judge,
+-- and those of a refusal or a fault.
 use Rattle.std.specs.Prelude.{ℕ, List, [], ◌∷◌, ◌++◌, codes, Option, None, option_map, option_and_then, if◌then◌else◌}
 use Rattle.answer_json.specs.Named.{Named}
 use Rattle.answer_json.specs.Forms.{data_said, may_stand, named_by, or_else, past, whole, Said}
@@ -11,7 +11,7 @@ use Prim.Native.String.{String}
 
 -- ---- the parts of a line
 
--- words that the line has, or a member: by its mark, which tells what the line has there, its name, and a text
+-- words that the line has; or a member by its mark, which says what the line has there, its name, and a text
 pub data Part : Type 0 where
   has : List ℕ → Part
   says : (mark : ℕ) → (name text : List ℕ) → Part
@@ -44,7 +44,7 @@ word_or_none name = says 37 (codes name) []
 abbrev pub rest : String → Part
 rest name = says 38 (codes name) []
 
--- what comes before the first place at which the line goes on with this
+-- the text before the first place where this text comes
 abbrev pub text_before : String → String → Part
 text_before name text = says 64 (codes name) (codes text)
 
@@ -52,14 +52,14 @@ text_before name text = says 64 (codes name) (codes text)
 abbrev pub text_of : String → String → Part
 text_of name text = says 61 (codes name) (codes text)
 
--- this text, for null and for true
+-- this text, for null or for true
 abbrev pub null_at : String → String → Part
 null_at name text = says 126 (codes name) (codes text)
 
 abbrev pub true_at : String → String → Part
 true_at name text = says 33 (codes name) (codes text)
 
--- nothing: the member has this text in each such line
+-- nothing in the line: the member always has this text
 abbrev pub always : String → String → Part
 always name text = says 43 (codes name) (codes text)
 
@@ -74,7 +74,7 @@ exchange_line =
 
 -- ---- judge
 
--- what it tells of a block, or of no block
+-- the lines of judge about a block, or about a missing block
 abbrev pub late_line : List Part
 late_line =
     words "block " ∷ number "block" ∷ words " " ∷ word "end" ∷ words ": late, " ∷ number "after"
@@ -102,14 +102,14 @@ no_answer_line =
     text_of "end" "card" ∷ words ": no answer to block " ∷ number "before" ∷ words ", which it got  ("
     ∷ text_before "clause" ")" ∷ words ")" ∷ always "rule" "no block" ∷ always "kind" "deviation" ∷ []
 
--- what it tells of PPS, with F and D
+-- the line of judge about PPS, with F and D
 abbrev pub pps_line : Part → Part → List Part
 pps_line f d = text_of "kind" "pps" ∷ words " F " ∷ f ∷ words " D " ∷ d ∷ []
 
 abbrev pub neither_line : List Part
 neither_line = words "line " ∷ number "line" ∷ words ": neither PPS nor a block" ∷ always "kind" "neither" ∷ []
 
--- what it tells of each rule and each state
+-- the lines of judge about each rule and each state
 abbrev pub rule_never_line : List Part
 rule_never_line =
     text_of "kind" "rule" ∷ words " " ∷ text_before "rule" ": never" ∷ words ": " ∷ true_at "never" "never" ∷ []
@@ -129,11 +129,11 @@ state_line =
     text_of "kind" "state" ∷ words " " ∷ text_before "state" ": terminal" ∷ words ": terminal "
     ∷ number "terminal" ∷ words ", card " ∷ number "card" ∷ []
 
--- its last line, where nothing deviates: one block or more, and those that may have come unseen
+-- the last line of judge if no end deviates: one or more blocks, and those that may have come unseen
 abbrev pub ok_line : String → List Part → List Part
 ok_line blocks more = text_of "verdict" "ok" ∷ words " " ∷ number "blocks" ∷ words blocks ∷ more
 
--- and where something does: one block or more, one deviation or more, and those that came late
+-- the last line of judge if an end deviates: one or more blocks, one or more deviations, and the blocks that came late
 abbrev pub deviates_line : String → String → List Part → List Part
 deviates_line blocks deviations late =
     number "blocks" ∷ words blocks ∷ number "deviations" ∷ words deviations ∷ number "terminal" ∷ words ", card "
@@ -172,7 +172,7 @@ fault_line = text_of "verdict" "fault" ∷ words ": " ∷ word "fault" ∷ []
 
 -- ---- all of them
 
--- the lines with their places; the first that a line is counts
+-- the lines with their places; the first that fits a line counts
 unfoldable pub table : List (Place × List Part)
 table =
     (Item Exchanges, exchange_line)
@@ -212,7 +212,7 @@ table =
     ∷ (Members, differs_line)
     ∷ []
 
--- ---- what a line says
+-- ---- what a line gives
 
 abbrev pub by_part : Part → Said → Option Said
 by_part (has text) said = past text said
@@ -222,7 +222,7 @@ abbrev pub by_parts : List Part → Said → Option Named
 by_parts [] said = whole said
 by_parts (part ∷ parts) said = option_and_then (by_parts parts) (by_part part said)
 
--- where the members of a line go that has these parts, with the array that has begun
+-- the members of a line with these parts, and where they go, with the array that has begun
 abbrev pub by_line : Option Array → Place → List Part → List ℕ → Option (Place × Named)
 by_line begun place parts line =
     if may_stand place begun then option_map (λ named. (place, named)) (by_parts parts ([], line)) else None

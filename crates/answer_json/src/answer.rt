@@ -1,4 +1,4 @@
-//! What the lines of an answer said so far.
+//! The object of an answer while its lines are read.
 
 ghost use Rattle.std.specs.Prelude.{◌≡◌, ◌∷◌, ◌++◌, [], map, option_map, string_bytes, IfOk, OnOk};
 ghost use Rattle.serde_json.specs.Data.{put};
@@ -14,24 +14,24 @@ use crate::words::after;
 use serde_json::{Map, Value};
 use std::alloc::{AllocError, Global};
 
-/// The name of the array of the lines that have none of the forms.
+/// The name of the array of the lines without a form.
 const OTHER: &str = "other";
 
-/// What the lines of an answer said so far.
+/// What the lines of an answer gave so far.
 #[derive(Drop)]
 pub(crate) struct Answer {
-    /// The members of its object.
+    /// The members of the answer's object.
     named: Named,
     /// The array that has begun.
     begun: Option<Array>,
     /// The items of that array.
     items: Vec<Value>,
-    /// The lines that have none of the forms.
+    /// The lines without a form.
     lines: Vec<Value>,
 }
 
 impl Answer {
-    /// What no line said, with an array that has begun.
+    /// Returns an answer without lines, in which this array has begun.
     pub(crate) fn new(alloc: Global, begun: Option<Array>) -> Self
         ensures { kept result ≡ nothing_kept begun }
     {
@@ -53,7 +53,7 @@ impl Answer {
         }
     }
 
-    /// Takes a line of no form: it may be said of an end.
+    /// Takes a line without a form, which may be about an end.
     fn take_owned(&mut self, alloc: Global, line: &[u8]) -> Result<(), AllocError>
         ensures { OnOk result (kept self.new
             ≡ with_owned (kept self.old) line.now (owned line.now)) }
@@ -67,7 +67,7 @@ impl Answer {
         }
     }
 
-    /// Takes a line of no form that is said of no end. An empty one says nothing.
+    /// Takes a line without a form that isn't about an end. An empty line adds nothing.
     fn take_unowned(&mut self, alloc: Global, line: &[u8]) -> Result<(), AllocError>
         ensures { OnOk result (kept self.new ≡ with_unowned (kept self.old) line.now) }
     {
@@ -77,7 +77,7 @@ impl Answer {
         }
     }
 
-    /// Takes a line. An empty one says nothing.
+    /// Takes a line. An empty line adds nothing.
     fn take_one(&mut self, alloc: Global, line: &[u8]) -> Result<(), AllocError>
         ensures { OnOk result (kept self.new ≡ with_one (kept self.old) line.now) }
     {
@@ -90,7 +90,7 @@ impl Answer {
         }
     }
 
-    /// Takes what a line says to its place.
+    /// Adds to its place what a line gives.
     fn take_said(
         &mut self,
         alloc: Global,
@@ -113,7 +113,8 @@ impl Answer {
         }
     }
 
-    /// Adds members to the object, with the array that has begun then. Where it has one of them, the line is added.
+    /// Adds members to the object, and sets the array that has begun. If the object has one of them, adds the line
+    /// instead.
     fn put_all(
         &mut self,
         alloc: Global,
@@ -133,7 +134,7 @@ impl Answer {
         Ok(())
     }
 
-    /// Adds a member to the object, or the line where it has that.
+    /// Adds a member to the object. If the object has it, adds the line instead.
     fn put(
         &mut self,
         alloc: Global,
@@ -149,7 +150,7 @@ impl Answer {
         self.put_all(alloc, line, self.begun, named)
     }
 
-    /// Adds a line itself.
+    /// Adds the line itself.
     fn put_line(&mut self, alloc: Global, line: &[u8]) -> Result<(), AllocError>
         ensures { OnOk result (kept self.new ≡ with_line_itself (kept self.old) line.now) }
     {
@@ -166,7 +167,7 @@ impl Answer {
         Ok(())
     }
 
-    /// The object of what was said.
+    /// Returns the object of what the lines gave.
     pub(crate) fn end(self, alloc: Global) -> Result<Value, AllocError>
         ensures { IfOk result (λ value. view value ≡ ended (kept self)) }
     {
@@ -186,7 +187,7 @@ impl Answer {
     }
 }
 
-/// Adds an array with its name.
+/// Adds an array by its name.
 fn put_array(
     alloc: Global,
     named: &mut Named,
@@ -200,7 +201,7 @@ fn put_array(
     Ok(())
 }
 
-/// The object of values with their names; of two with one name the first counts.
+/// Returns the object of named values. Of two values with the same name, the first counts.
 fn object_of(alloc: Global, named: Named) -> Result<Value, AllocError>
     ensures { IfOk result (λ value. view value ≡ object_of (named_view named.items)) }
 {
@@ -212,7 +213,7 @@ fn object_of(alloc: Global, named: Named) -> Result<Value, AllocError>
     Ok(Value::Object(members))
 }
 
-/// Puts a member in place of one that has its name.
+/// Inserts a member. It replaces a member with the same name.
 fn insert(members: &mut Map<String, Value>, name: String, value: Value) -> Result<(), AllocError>
     ensures { OnOk result (members_view members.new.entries
         ≡ put (string_bytes name) (view value) (members_view members.old.entries)) }
@@ -221,7 +222,7 @@ fn insert(members: &mut Map<String, Value>, name: String, value: Value) -> Resul
     Ok(())
 }
 
-/// The object of one line.
+/// Returns the object of one line.
 fn object_of_one(alloc: Global, line: &[u8]) -> Result<Value, AllocError>
     ensures { IfOk result (λ value. view value ≡ ended (with_one (nothing_kept None) line.now)) }
 {
@@ -230,7 +231,7 @@ fn object_of_one(alloc: Global, line: &[u8]) -> Result<Value, AllocError>
     answer.end(alloc)
 }
 
-/// The end that a line is said of, and the line that is said.
+/// Returns the end that a line is about, and the line without that end's name.
 fn owned(line: &[u8]) -> Option<(&'static str, &[u8])>
     ensures { option_map (λ o. (o.0.now, o.1.now)) result ≡ owned line.now }
 {
@@ -243,7 +244,7 @@ fn owned(line: &[u8]) -> Option<(&'static str, &[u8])>
     }
 }
 
-/// What a line says by the forms of all lines, with the array that has begun.
+/// Returns what a line gives by the forms of all lines, with the array that has begun.
 fn said_by(
     alloc: Global,
     begun: Option<Array>,
@@ -255,7 +256,7 @@ fn said_by(
     by_rows(alloc, &ROWS, begun, line)
 }
 
-/// Whether there are values with one name among these and those.
+/// Whether one of these values and one of those have the same name.
 fn shares(these: &[(String, Value)], those: &[(String, Value)]) -> bool
     ensures { result ≡ shares (named_view these.now) (named_view those.now) }
 {
@@ -269,7 +270,7 @@ fn shares(these: &[(String, Value)], those: &[(String, Value)]) -> bool
     false
 }
 
-/// Whether there is a value with this name among these.
+/// Whether one of these values has this name.
 fn has_name(these: &[(String, Value)], name: &[u8]) -> bool
     ensures { result ≡ has_name (named_view these.now) name.now }
 {

@@ -1,4 +1,4 @@
-//! What one place of a line says.
+//! The values at the places of a line.
 
 ghost use Rattle.std.specs.Prelude.{◌≡◌, ◌==◌, ◌∷◌, ◌++◌, [], option_map, string_bytes, bytes_eq, codes, map, Some, IfOk};
 ghost use Rattle.std.specs.List.{slice_split};
@@ -12,13 +12,13 @@ use octet_core::decimal_of;
 use serde_json::Value;
 use std::alloc::{AllocError, Global};
 
-/// The word for nothing.
+/// The word for no value.
 const NONE: &str = "none";
 
-/// A value that was read, and what is left of the line.
+/// A value that was read, and the rest of the line.
 type Read<'a> = Option<(Value, &'a [u8])>;
 
-/// What a line says at a place with this mark and this text, and what is left of it.
+/// Reads the value of a line at a place with this mark and this text. Returns it with the rest of the line.
 pub(crate) fn data_said<'a>(
     alloc: Global,
     mark: u8,
@@ -40,7 +40,7 @@ pub(crate) fn data_said<'a>(
     }
 }
 
-/// A text that a line has to begin with.
+/// Reads a text that the line must begin with.
 fn past_text<'a>(alloc: Global, text: &[u8], line: &'a [u8]) -> Result<Read<'a>, AllocError>
     ensures { IfOk result (λ read. option_map (λ r. (view r.0, r.1.now)) read
         ≡ option_map (with_data (string (characters text.now))) (after text.now line.now)) }
@@ -51,7 +51,7 @@ fn past_text<'a>(alloc: Global, text: &[u8], line: &'a [u8]) -> Result<Read<'a>,
     }
 }
 
-/// A value for a text that a line has to begin with.
+/// Returns a value if the line begins with a text.
 fn past<'a>(value: Value, text: &[u8], line: &'a [u8]) -> Read<'a>
     ensures { option_map (λ r. (view r.0, r.1.now)) result
         ≡ option_map (with_data (view value)) (after text.now line.now) }
@@ -62,7 +62,7 @@ fn past<'a>(value: Value, text: &[u8], line: &'a [u8]) -> Read<'a>
     }
 }
 
-/// What comes before the first place at which a line goes on with this text.
+/// Reads the line up to the first place where this text comes.
 fn up_to<'a>(alloc: Global, text: &[u8], line: &'a [u8]) -> Result<Read<'a>, AllocError>
     ensures { IfOk result (λ read. option_map (λ r. (view r.0, r.1.now)) read
         ≡ up_to text.now [] line.now) }
@@ -79,7 +79,7 @@ fn up_to<'a>(alloc: Global, text: &[u8], line: &'a [u8]) -> Result<Read<'a>, All
     Ok(None)
 }
 
-/// What the number at the front of a line says.
+/// Reads the number at the front of a line.
 fn at_number(line: &[u8]) -> Read<'_>
     ensures { option_map (λ r. (view r.0, r.1.now)) result ≡ at_number line.now }
 {
@@ -90,7 +90,7 @@ fn at_number(line: &[u8]) -> Read<'_>
     }
 }
 
-/// What the word at the front of a line says.
+/// Reads the word at the front of a line.
 fn at_word<'a>(alloc: Global, mark: u8, line: &'a [u8]) -> Result<Read<'a>, AllocError>
     ensures { IfOk result (λ read. option_map (λ r. (view r.0, r.1.now)) read
         ≡ at_word mark line.now) }
@@ -102,7 +102,7 @@ fn at_word<'a>(alloc: Global, mark: u8, line: &'a [u8]) -> Result<Read<'a>, Allo
     }
 }
 
-/// What a word says at a place with this mark.
+/// Returns the value of a word at a place with this mark.
 fn word_said(alloc: Global, mark: u8, word: &[u8]) -> Result<Option<Value>, AllocError>
     ensures { IfOk result (λ value. option_map view value ≡ word_said mark word.now) }
 {
@@ -117,14 +117,14 @@ fn word_said(alloc: Global, mark: u8, word: &[u8]) -> Result<Option<Value>, Allo
     }
 }
 
-/// Whether it is the word for nothing.
+/// Whether the word is the one for no value.
 fn is_none(word: &[u8]) -> bool
     ensures { result ≡ is_none word.now }
 {
     word == NONE.as_bytes()
 }
 
-/// A word as text.
+/// Returns a word as text.
 fn text_said(alloc: Global, word: &[u8]) -> Result<Option<Value>, AllocError>
     ensures { IfOk result (λ value. option_map view value ≡ text_said word.now) }
 {
@@ -134,14 +134,14 @@ fn text_said(alloc: Global, word: &[u8]) -> Result<Option<Value>, AllocError>
     }
 }
 
-/// Octets as text.
+/// Returns octets as text.
 pub(crate) fn string(alloc: Global, octets: &[u8]) -> Result<Value, AllocError>
     ensures { IfOk result (λ value. view value ≡ string (characters octets.now)) }
 {
     Ok(Value::String(characters(alloc, octets)?))
 }
 
-/// A word as a number.
+/// Returns a word as a number.
 fn number_said(word: &[u8]) -> Option<Value>
     ensures { option_map view result ≡ number_said word.now }
 {
@@ -151,7 +151,7 @@ fn number_said(word: &[u8]) -> Option<Value>
     }
 }
 
-/// A word as numbers with commas between them.
+/// Returns a word as numbers with commas between them.
 fn numbers_said(alloc: Global, word: &[u8]) -> Result<Option<Value>, AllocError>
     ensures { IfOk result (λ value. option_map view value ≡ numbers_said word.now) }
 {

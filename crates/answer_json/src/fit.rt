@@ -1,4 +1,4 @@
-//! What a line says by the first form that it has.
+//! What a line gives by the first form that fits it.
 
 ghost use Rattle.std.specs.Prelude.{◌≡◌, ◌==◌, ◌∷◌, ◌++◌, [], option_map, IfOk};
 ghost use Rattle.answer_json.specs.Forms.{at_piece, at_place, by_form, by_row, by_rows, or_nothing};
@@ -14,7 +14,7 @@ use std::alloc::{AllocError, Global};
 /// Values with their names.
 pub(crate) type Named = Vec<(String, Value)>;
 
-/// What a line says by the first of these rows that it has, with the array that has begun.
+/// Returns what a line gives by the first of these rows that fits it, with the array that has begun.
 pub(crate) fn by_rows(
     alloc: Global,
     rows: &[Row],
@@ -34,7 +34,7 @@ pub(crate) fn by_rows(
     Ok(None)
 }
 
-/// What a line says by a form whose members go to this place, with the array that has begun.
+/// Returns what a line gives by a form whose members go to this place, with the array that has begun.
 fn by_row(
     alloc: Global,
     place: Place,
@@ -52,7 +52,7 @@ fn by_row(
     }
 }
 
-/// What a line says by a form.
+/// Returns what a line gives by a form.
 fn by_form(alloc: Global, form: &[u8], line: &[u8]) -> Result<Option<Named>, AllocError>
     ensures { IfOk result (λ said. option_map (λ s. named_view s.items) said
         ≡ by_form form.now line.now) }
@@ -74,7 +74,7 @@ fn by_form(alloc: Global, form: &[u8], line: &[u8]) -> Result<Option<Named>, All
     Ok(if rest.is_empty() { Some(named) } else { None })
 }
 
-/// What is left of a line after a piece of a form: a place, a brace and words, or words alone.
+/// Returns the rest of a line after a piece of a form. A piece is a place, a brace and words, or words alone.
 fn at_piece<'a>(
     alloc: Global,
     piece: &[u8],
@@ -93,7 +93,7 @@ fn at_piece<'a>(
     }
 }
 
-/// What is left of a line after a place, whose value is named.
+/// Returns the rest of a line after a place, and adds the place's value by its name.
 fn at_place<'a>(
     alloc: Global,
     place: &[u8],
@@ -116,7 +116,7 @@ fn at_place<'a>(
     }
 }
 
-/// The text of a place, which may have none.
+/// Returns the text of a place, empty if it has none.
 fn or_nothing(text: Option<&[u8]>) -> &[u8]
     ensures { result.now ≡ or_nothing (lent text.entry) }
 {

@@ -11,12 +11,12 @@ use Place::{Closes, Item, Members};
 pub(crate) enum Array {
     /// The exchanges of a recorded exchange.
     Exchanges,
-    /// What a judged trace comes to.
+    /// What the judge says about a trace.
     Told,
 }
 
 impl Array {
-    /// The name of the member that has it.
+    /// Returns the name of the member with the array.
     pub(crate) fn name(self) -> &'static str
         ensures { result.now ≡ array_name self }
     {
@@ -26,7 +26,7 @@ impl Array {
         }
     }
 
-    /// Whether it is the array that has begun.
+    /// Whether this is the array that has begun.
     fn has_begun(self, begun: Option<Array>) -> bool
         ensures { result ≡ has_begun self begun }
     {
@@ -37,14 +37,14 @@ impl Array {
     }
 }
 
-/// Where what a line says goes.
+/// Where the members of a line go.
 #[derive(Clone, Copy)]
 pub(crate) enum Place {
-    /// Into the object of the answer.
+    /// To the object of the answer.
     Members,
-    /// Into the object of the answer, where this array has begun, or none. Then this one begins.
+    /// To the object of the answer, if this array or none has begun. Then this one begins.
     Closes(Array),
-    /// Into an object of its own at the end of this array, where it has begun, or none. Then this one begins.
+    /// To an object of its own at the end of this array, if this array or none has begun. Then this one begins.
     Item(Array),
 }
 
@@ -62,9 +62,9 @@ impl Place {
     }
 }
 
-/// A form of lines, and where what they say goes.
+/// A form of lines, and where its members go.
 ///
-/// A form is a line with places in braces. A mark says what a line has there, and the member that it gives has the name
+/// A form is a line with places in braces. A mark says what the line has at the place. The name of the member comes
 /// after the mark:
 ///
 /// - `{#octets}` a number;
@@ -73,15 +73,15 @@ impl Place {
 /// - `{%answer}` a word, or `none` for the empty text;
 /// - `{$reason}` a word;
 /// - `{&gives}` the rest of the line;
-/// - `{@rule:, due }` what comes before the first `, due `;
+/// - `{@rule:, due }` the text before the first `, due `;
 /// - `{=verdict:ok}` the word `ok`, as text;
 /// - `{~F:reserved}` the word `reserved`, for null;
 /// - `{!never:never}` the word `never`, for true;
 /// - `{+verdict:ok}` nothing, for the text `ok`.
 pub(crate) type Row = (Place, &'static str);
 
-/// The forms of all lines that have one. The first that a line has counts; those of which an answer may have many come
-/// first. `specs/Table.antt` has the same table, which the contracts cite.
+/// The forms of all lines that have one. The first form that fits a line counts. Forms that an answer may have many
+/// times come first. `specs/Table.antt` has the same table, which the contracts cite.
 pub(crate) const ROWS: [Row; 35] = [
     (
         Item(Exchanges),

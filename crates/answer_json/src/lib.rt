@@ -1,8 +1,8 @@
 //! The lines that the program prints, as one JSON object.
 //!
-//! [`json_line`] gives the object of any text, by its lines. A table of forms, `ROWS`, states which line has which
-//! members. `specs/Forms.antt` defines what that comes to for one line, and `specs/Answers.antt` for a text.
-//! [`line_strings`] gives the lines of any text as the strings of an array, and [`note_items`] those with notes as
+//! [`json_line`] returns the object of any text, by its lines. A table of forms, `ROWS`, states which line has which
+//! members. `specs/Forms.antt` defines the result for one line, and `specs/Answers.antt` that for a text.
+//! [`line_strings`] returns the lines of any text as the strings of an array, and [`note_items`] those with notes as
 //! objects.
 #![tactic(auto)]
 

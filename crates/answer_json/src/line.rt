@@ -1,4 +1,4 @@
-//! The line of JSON that stands for the lines of an answer.
+//! The lines of an answer as one line of JSON.
 
 ghost use Rattle.std.specs.Prelude.{◌≡◌, string_bytes, IfOk};
 ghost use Rattle.serde_json.specs.View.{view};
@@ -11,10 +11,10 @@ use crate::words::parted;
 use serde_json::Value;
 use std::alloc::{AllocError, Global};
 
-/// The object of an answer in one line: of all its lines, each with its LF.
+/// Returns the object of an answer in one line. The text is all lines of the answer, each with its LF.
 ///
-/// Any text has one. A line that has none of the forms, or gives a member that the object has, is a string of its
-/// array `other`, and an empty line says nothing. An octet stands for the character that has its number.
+/// Any text has an object. A line without a form is a string of its array `other`, and so is a line with a member that
+/// the object already has. An empty line adds nothing. Each octet becomes the character with its number.
 pub fn json_line(alloc: Global, text: &[u8]) -> Result<String, AllocError>
     ensures { IfOk result (λ line. string_bytes line ≡ json_text text.now) }
 {
@@ -23,14 +23,14 @@ pub fn json_line(alloc: Global, text: &[u8]) -> Result<String, AllocError>
     Ok(line)
 }
 
-/// The object of an answer as text.
+/// Returns the object of an answer as text.
 fn object_text(alloc: Global, text: &[u8]) -> Result<String, AllocError>
     ensures { IfOk result (λ object. string_bytes object ≡ compact_text (json_data text.now)) }
 {
     json_value(alloc, text)?.to_string(alloc)
 }
 
-/// The object of an answer.
+/// Returns the object of an answer.
 #[tactic(auto, unfolding(crate::specs::Answers::json_data))]
 fn json_value(alloc: Global, text: &[u8]) -> Result<Value, AllocError>
     ensures { IfOk result (λ value. view value ≡ json_data text.now) }
@@ -48,7 +48,7 @@ fn json_value(alloc: Global, text: &[u8]) -> Result<Value, AllocError>
     answer.end(alloc)
 }
 
-/// The array that has begun before the first line: an answer of no line has no exchange.
+/// Returns the array that has begun before the first line. An answer without lines has an empty array of exchanges.
 fn begun_by(text: &[u8]) -> Option<Array>
     ensures { result ≡ begun_by text.now }
 {

@@ -7,8 +7,9 @@ use crate::strings::{line_string, separator};
 use crate::words::{after, parted};
 use std::alloc::{AllocError, Global};
 
-/// The lines of a text that have a note, as the items of an array of JSON, with a comma between two: an object with the
-/// line before its first `mark`, and the note after that. An octet stands for the character that has its number.
+/// Returns the lines of a text that have a note as the items of a JSON array, with a comma between two. An item is an
+/// object with the line before its first `mark`, and the note after that. Each octet becomes the character with its
+/// number.
 #[tactic(auto, unfolding(crate::specs::Notes::note_items))]
 pub fn note_items(alloc: Global, mark: &[u8], text: &[u8]) -> Result<String, AllocError>
     ensures { IfOk result (λ items. string_bytes items ≡ note_items mark.now text.now) }
@@ -26,7 +27,7 @@ pub fn note_items(alloc: Global, mark: &[u8], text: &[u8]) -> Result<String, All
     Ok(items)
 }
 
-/// Adds a line with its note to the items, where it has one.
+/// Appends a line with its note to the items, if it has one.
 fn push_note(alloc: Global, items: &mut String, mark: &[u8], line: &[u8]) -> Result<(), AllocError>
     ensures { OnOk result (string_bytes items.new
         ≡ with_note (string_bytes items.old) (line_and_note mark.now line.now)) }
@@ -37,7 +38,7 @@ fn push_note(alloc: Global, items: &mut String, mark: &[u8], line: &[u8]) -> Res
     }
 }
 
-/// Adds a line and its note to the items.
+/// Appends a line and its note to the items.
 fn push_object(
     alloc: Global,
     items: &mut String,
@@ -52,7 +53,7 @@ fn push_object(
     items.push_str(object.as_str())
 }
 
-/// A line and its note as an object.
+/// Returns a line and its note as an object.
 fn note_object(alloc: Global, line: &[u8], note: &[u8]) -> Result<String, AllocError>
     ensures { IfOk result (λ object. string_bytes object ≡ note_object line.now note.now) }
 {
@@ -61,7 +62,7 @@ fn note_object(alloc: Global, line: &[u8], note: &[u8]) -> Result<String, AllocE
     format!(in alloc; "{{\"line\":{line},\"note\":{note}}}")
 }
 
-/// What a line has before its first mark, and the note after that, where it has one.
+/// Returns a line up to its first mark, and the note after that, if it has one.
 fn line_and_note<'a>(mark: &[u8], line: &'a [u8]) -> Option<(&'a [u8], &'a [u8])>
     ensures { option_map (λ p. (p.0.now, p.1.now)) result ≡ line_and_note mark.now line.now }
 {

@@ -7,15 +7,15 @@ use crate::words::{characters, parted};
 use serde_json::Value;
 use std::alloc::{AllocError, Global};
 
-/// A text as a string of JSON, with its quotation marks.
+/// Returns a text as a JSON string, with its quotation marks.
 pub fn json_string(alloc: Global, text: String) -> Result<String, AllocError>
     ensures { IfOk result (λ written. string_bytes written ≡ json_string (string_bytes text)) }
 {
     Value::String(text).to_string(alloc)
 }
 
-/// The lines of a text as the items of an array of JSON, each a string, with a comma between two. An empty line is left
-/// out. An octet stands for the character that has its number.
+/// Returns the lines of a text as the items of a JSON array, each a string, with a comma between two. Empty lines are
+/// left out. Each octet becomes the character with its number.
 #[tactic(auto, unfolding(crate::specs::Strings::line_strings))]
 pub fn line_strings(alloc: Global, text: &[u8]) -> Result<String, AllocError>
     ensures { IfOk result (λ items. string_bytes items ≡ line_strings text.now) }
@@ -33,7 +33,7 @@ pub fn line_strings(alloc: Global, text: &[u8]) -> Result<String, AllocError>
     Ok(items)
 }
 
-/// Adds a line to the items, unless it is empty.
+/// Appends a line to the items, unless it is empty.
 fn push_line(alloc: Global, items: &mut String, line: &[u8]) -> Result<(), AllocError>
     ensures { OnOk result (string_bytes items.new ≡ with_string (string_bytes items.old) line.now) }
 {
@@ -45,14 +45,14 @@ fn push_line(alloc: Global, items: &mut String, line: &[u8]) -> Result<(), Alloc
     items.push_str(item.as_str())
 }
 
-/// A line as a string of JSON.
+/// Returns a line as a JSON string.
 pub(crate) fn line_string(alloc: Global, line: &[u8]) -> Result<String, AllocError>
     ensures { IfOk result (λ item. string_bytes item ≡ line_string line.now) }
 {
     json_string(alloc, characters(alloc, line)?)
 }
 
-/// What comes between the items of an array and one more.
+/// Returns what separates the items of an array from the next item.
 pub(crate) fn separator(items: &str) -> &'static str
     ensures { result.now ≡ separator items.now }
 {

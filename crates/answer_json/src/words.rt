@@ -1,4 +1,4 @@
-//! Texts that come apart at an octet, and words in them.
+//! Texts that are split at an octet, and the words in them.
 
 ghost use Rattle.std.specs.Prelude.{◌≡◌, ◌==◌, ◌∷◌, ◌<◌, length, option_map, string_bytes, IfOk, IfSome};
 ghost use Rattle.std.specs.List.{position_from, slice_split};
@@ -6,7 +6,7 @@ ghost use Rattle.answer_json.specs.Words.{after, after_mark, characters, ends_nu
 
 use std::alloc::{AllocError, Global};
 
-/// What is before the first of these marks, and what is after it, where there is one.
+/// Returns the octets before the first of these marks, and those after it if there is one.
 pub(crate) fn parted(octets: &[u8], mark: u8) -> (&[u8], Option<&[u8]>)
     ensures parted { (result.0.now, lent result.1) ≡ parted mark octets.now }
     ensures split { slice_split (λ x. x == mark) octets.now
@@ -19,7 +19,7 @@ pub(crate) fn parted(octets: &[u8], mark: u8) -> (&[u8], Option<&[u8]>)
     }
 }
 
-/// The place of the first of these marks.
+/// Returns the place of the first of these marks.
 fn place_of(octets: &[u8], mark: u8) -> Option<usize>
     ensures place { result ≡ position_from (λ x. x == mark) 0 octets.now }
     ensures inside { IfSome result (λ place. place < length octets.now) }
@@ -27,7 +27,7 @@ fn place_of(octets: &[u8], mark: u8) -> Option<usize>
     octets.iter().position(|&x| x == mark)
 }
 
-/// What follows a text at the front of a line, where it is there.
+/// Returns the rest of a line after this text, if the line begins with it.
 pub(crate) fn after<'a>(text: &[u8], line: &'a [u8]) -> Option<&'a [u8]>
     ensures { option_map (λ rest. rest.now) result ≡ after text.now line.now }
 {
@@ -43,7 +43,7 @@ pub(crate) fn after<'a>(text: &[u8], line: &'a [u8]) -> Option<&'a [u8]>
     Some(rest)
 }
 
-/// The word at the front of a line, up to a blank or a colon, and what is after it.
+/// Returns the word at the front of a line, up to a blank or a colon, and the rest of the line.
 pub(crate) fn word(line: &[u8]) -> (&[u8], &[u8])
     ensures { (result.0.now, result.1.now) ≡ word_and_rest line.now }
 {
@@ -53,7 +53,7 @@ pub(crate) fn word(line: &[u8]) -> (&[u8], &[u8])
     }
 }
 
-/// The number at the front of a line, up to a blank, a colon or a comma, and what is after it.
+/// Returns the number at the front of a line, up to a blank, a colon or a comma, and the rest of the line.
 pub(crate) fn number(line: &[u8]) -> (&[u8], &[u8])
     ensures { (result.0.now, result.1.now) ≡ number_and_rest line.now }
 {
@@ -63,7 +63,7 @@ pub(crate) fn number(line: &[u8]) -> (&[u8], &[u8])
     }
 }
 
-/// The place before which the number at the front of a line ends.
+/// Returns the place where the number at the front of a line ends.
 fn end_of_number(line: &[u8]) -> Option<usize>
     ensures place { result ≡ position_from ends_number 0 line.now }
     ensures inside { IfSome result (λ place. place < length line.now) }
@@ -71,14 +71,14 @@ fn end_of_number(line: &[u8]) -> Option<usize>
     line.iter().position(|&x| ends_number(x))
 }
 
-/// Whether a number ends before it.
+/// Whether a number ends before this octet.
 fn ends_number(x: u8) -> bool
     ensures { result ≡ ends_number x }
 {
     ends_word(x) || x == b','
 }
 
-/// The place before which the word at the front of a line ends.
+/// Returns the place where the word at the front of a line ends.
 fn end_of_word(line: &[u8]) -> Option<usize>
     ensures place { result ≡ position_from ends_word 0 line.now }
     ensures inside { IfSome result (λ place. place < length line.now) }
@@ -86,14 +86,14 @@ fn end_of_word(line: &[u8]) -> Option<usize>
     line.iter().position(|&x| ends_word(x))
 }
 
-/// Whether a word ends before it.
+/// Whether a word ends before this octet.
 fn ends_word(x: u8) -> bool
     ensures { result ≡ ends_word x }
 {
     x == b' ' || x == b':'
 }
 
-/// The text of octets, each the character that has its number.
+/// Returns octets as text: each becomes the character with its number.
 pub(crate) fn characters(alloc: Global, octets: &[u8]) -> Result<String, AllocError>
     ensures { IfOk result (λ text. string_bytes text ≡ characters octets.now) }
 {

@@ -1,4 +1,4 @@
--- Bodies whose data field stands in the octets that were read.
+-- Bodies whose data field is borrowed from the octets that were decoded.
 use Rattle.std.specs.Prelude.{◌≡◌, ℕ, List, drop}
 use Rattle.apdu_core.specs.declared.command.Body.{Body}
 use Rattle.apdu_core.specs.declared.command.Body.TheVariants.{Empty, ShortLe, ShortPart, ShortBoth, LongLe, LongPart, LongBoth}
@@ -6,7 +6,7 @@ use Rattle.apdu_core.specs.declared.command_ref.BodyRef.{BodyRef}
 use Rattle.apdu_core.specs.declared.command_ref.BodyRef.TheVariants as lent
 use Rattle.apdu_core.specs.Command.{FitsFields, IsPlaced, body_octets}
 
--- the body with a data field of its own
+-- the body as one that owns its data field
 abbrev pub body_of : BodyRef → Body
 body_of lent.Empty = Empty
 body_of (lent.ShortLe le) = ShortLe le

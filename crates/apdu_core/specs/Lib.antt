@@ -3,7 +3,7 @@ pub mod Command
 pub mod Response
 pub mod Status
 pub mod Arrival
--- what the code keeps between calls, what calls answer, and what is printed
+-- what the code keeps between calls, what calls return, and what is printed
 pub mod Borrowed
 pub mod Sending
 pub mod Receiving

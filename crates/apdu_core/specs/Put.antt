@@ -1,7 +1,8 @@
--- What a buffer holds once octets were put into it.
+-- What a buffer holds after octets were put into it.
 use Rattle.std.specs.Prelude.{◌≡◌, ℕ, ◌+◌, List, ◌++◌, length, take, drop}
 
--- the octets were put from the place start up to the place end, and the rest of the buffer stays
+-- the octets were put from place `start` up to place `end`, and the rest of the buffer stays as it
+-- was
 pub record IsPutAt (start : ℕ) (octets old new : List ℕ) (end : ℕ) : Type 0 where
   pub ends : end ≡ start + length octets
   pub long : length new ≡ length old

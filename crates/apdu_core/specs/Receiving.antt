@@ -1,5 +1,5 @@
--- What a call that receives an APDU as a chain answers, and what it leaves: remaining tells what a reader still holds,
--- where it is known, failures how many of its calls failed.
+-- What a call that receives an APDU as a chain returns, and what it leaves. `remaining` is what a reader still holds,
+-- if it is known, and `failures` is how many of its calls failed.
 use Rattle.std.specs.Prelude.{◌≡◌, ◌⊎◌, ℕ, List, length, Option, Some, Result, Ok, Err}
 use Rattle.std.specs.Io.KnownBytes.{Consumes, IsAtEnd}
 use Rattle.octet_core.specs.Failures.{HasFailed, next_count}
@@ -27,7 +27,7 @@ module _ {Reader : Type 0} (limit ifs : ℕ) (number : Number) (remaining : Read
     pub chain : IsChain ifs number limit fields read
     pub none_failed : failures new ≡ failures old
 
-  -- so many octets were read, with which a chain begins, and then just one call of the reader failed
+  -- `taken` octets were read, with which a chain begins, and then exactly one call of the reader failed
   pub record BreaksOff (taken : ℕ) : Type 0 where
     pub read : List ℕ
     pub from : Consumes (remaining old) (remaining new) read
@@ -36,7 +36,7 @@ module _ {Reader : Type 0} (limit ifs : ℕ) (number : Number) (remaining : Read
     pub failed : HasFailed (failures old) (failures new)
     pub failed_once : failures new ≡ next_count (failures old)
 
-  -- where the octets read end: with the input, or near the one that was refused
+  -- where the octets read end: at the end of the input, or near the refused octet
   abbrev pub EndsAt : List ℕ → Stop ChainReason → Type 0
   EndsAt read (Short p) = IsAtEnd (remaining new)
   EndsAt read (At p r) = EndsNear number read p
@@ -49,7 +49,7 @@ module _ {Reader : Type 0} (limit ifs : ℕ) (number : Number) (remaining : Read
     pub end : EndsAt read stop
     pub none_failed : failures new ≡ failures old
 
--- a chain was read whose message spells v
+-- a chain was read whose message encodes v
 pub record IsReceived {V Reader : Type 0} (S : V → List ℕ → Type 0) (limit ifs : ℕ) (number : Number)
     (remaining : Reader → Option (List ℕ)) (failures : Reader → ℕ) (old new : Reader) (v : V) : Type 0 where
   pub fields : List (List ℕ)
@@ -64,7 +64,7 @@ pub record IsNoApdu {V R Reader : Type 0} (S : V → List ℕ → Type 0) (Reaso
   pub all : ReadsWhole limit ifs number remaining failures old new fields
   pub refused : Refuses whole S Reason (message_of fields) stop
 
--- what each fault leaves; where memory was refused nothing was read, or a chain whose message spells something
+-- what each fault leaves; if an allocation failed, nothing was read, or a chain whose message encodes an APDU
 abbrev pub IsReceiveFault : {V R Reader : Type 0} (S : V → List ℕ → Type 0) (Reason : R → List ℕ → Type 0)
     (limit ifs : ℕ) (number : Number) (remaining : Reader → Option (List ℕ)) (failures : Reader → ℕ) (old new : Reader)
     → ReceiveFault R → Type 0
@@ -77,18 +77,18 @@ IsReceiveFault S Reason limit ifs number remaining failures old new (Chain stop)
 IsReceiveFault S Reason limit ifs number remaining failures old new (Apdu stop) =
     IsNoApdu S Reason limit ifs number remaining failures old new stop
 
--- the fault that a refusal of read_chain becomes
+-- the fault for a refusal by read_chain
 abbrev pub fault_of_chain : {R : Type 0} → ReadRefusal → ReceiveFault R
 fault_of_chain (refusals.Read taken) = Read taken
 fault_of_chain (refusals.Stop stop) = Chain stop
 
--- the fault that a refusal of a decoder becomes
+-- the fault for a refusal by a decoder
 abbrev pub fault_of_apdu : {R : Type 0} → Refused R → ReceiveFault R
 fault_of_apdu (refusal.Stop stop) = Apdu stop
 fault_of_apdu refusal.Memory = Memory
 
--- What can come where the reader held a chain whose message spells v and then more octets: v, with those octets left;
--- or a growth of memory or a call of the reader failed.
+-- The possible results if the reader held a chain whose message encodes v, and more octets after it. The result is v,
+-- with those octets left, unless an allocation or a call of the reader failed.
 abbrev pub ArrivesUnlessFault : {V R : Type 0} → V → List ℕ → Option (List ℕ) → Result V (ReceiveFault R) → Type 0
 ArrivesUnlessFault v more left (Ok w) = (w ≡ v) × (left ≡ Some more)
 ArrivesUnlessFault v more left (Err Memory) = Unit {0}

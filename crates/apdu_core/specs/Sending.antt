@@ -1,5 +1,5 @@
--- What a call that sends an APDU as a chain leaves: contents tells what a writer holds, where it is known, failures how
--- many of its calls failed.
+-- What a call that sends an APDU as a chain leaves. `contents` is what a writer holds, if it is known, and `failures`
+-- is how many of its calls failed.
 use Rattle.std.specs.Prelude.{◌≡◌, ℕ, ◌<◌, List, length, take, Option}
 use Rattle.std.specs.Io.KnownBytes.{Appends}
 use Rattle.octet_core.specs.Failures.{HasFailed, next_count}
@@ -9,11 +9,11 @@ use Rattle.chain_core.specs.Cut.{cut_of}
 use Rattle.apdu_core.specs.declared.sending.SendFault.{SendFault}
 use Rattle.apdu_core.specs.declared.sending.SendFault.TheVariants.{Memory, Write}
 
--- the octets of the chain into which octets are cut
+-- the octets of the chain for these octets
 abbrev pub chain_of : ℕ → Number → List ℕ → List ℕ
 chain_of ifs number octets = spelling number (cut_of ifs octets)
 
--- the octets that spell v were written, as a chain
+-- the octets that encode v were written as a chain
 pub record IsSent {V W : Type 0} (S : V → List ℕ → Type 0) (v : V) (ifs : ℕ) (number : Number)
     (contents : W → Option (List ℕ)) (failures : W → ℕ) (old new : W) : Type 0 where
   pub octets : List ℕ
@@ -21,7 +21,7 @@ pub record IsSent {V W : Type 0} (S : V → List ℕ → Type 0) (v : V) (ifs : 
   pub all : Appends (contents old) (contents new) (chain_of ifs number octets)
   pub none_failed : failures new ≡ failures old
 
--- of that chain only so many octets were written, and then just one call of the writer failed
+-- only the first `written` octets of that chain were written, and then exactly one call of the writer failed
 pub record IsCutShort {V W : Type 0} (S : V → List ℕ → Type 0) (v : V) (ifs : ℕ) (number : Number)
     (contents : W → Option (List ℕ)) (failures : W → ℕ) (old new : W) (written : ℕ) : Type 0 where
   pub octets : List ℕ

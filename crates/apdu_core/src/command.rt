@@ -1,17 +1,17 @@
-//! Command APDUs as values.
+//! Command APDUs that own their data field.
 
 use crate::command_ref::{BodyRef, CommandRef};
 use octet_core::Octets;
 use std::fmt::{self, Debug, Formatter, Write};
 use std::marker::Model;
 
-/// What follows the header of a command (ISO/IEC 7816-3, clause 12), in its seven shapes: a data field
-/// of Lc octets, and Le, the greatest number of octets that are expected back. A short length field has
-/// one octet, in which Le 256 is written 00; an extended one has two, in which Le 65,536 is written
-/// 0000, and the first of a body is announced by an octet 00.
+/// What follows the header of a command (ISO/IEC 7816-3, clause 12), in one of seven shapes. It may have a data
+/// field of Lc octets, and Le, the greatest number of octets that the response may have in its data field. A
+/// short length field has one octet, and Le 256 is encoded as 00. An extended length field has two octets, and
+/// Le 65,536 is encoded as 0000. An octet 00 precedes the first extended length field of a body.
 #[derive(Debug, PartialEq, Eq, Drop)]
 pub enum Body {
-    /// Case 1: nothing.
+    /// Case 1: no octets.
     Empty,
     /// Case 2 short: `le` is 1 to 256.
     ShortLe { le: u32 },
@@ -27,7 +27,7 @@ pub enum Body {
     LongBoth { part: Octets, le: u32 },
 }
 
-/// Which of its seven shapes a body has.
+/// The shape of a body, one of seven.
 #[derive(Clone, Copy, Debug, PartialEq, Eq)]
 pub enum Shape {
     /// Case 1.
@@ -46,8 +46,8 @@ pub enum Shape {
     LongBoth,
 }
 
-/// A command (ISO/IEC 7816-3, clause 12): CLA, INS, P1 and P2, and a body whose numbers its length
-/// fields can tell. Its spelling has 4 to 65,544 octets.
+/// A command (ISO/IEC 7816-3, clause 12): CLA, INS, P1 and P2, and a body whose numbers fit its length fields.
+/// Its encoding has 4 to 65,544 octets.
 #[derive(PartialEq, Eq, Drop)]
 pub struct Command {
     header: [u8; 4],
@@ -71,8 +71,9 @@ impl Command {
     ghost use Rattle.apdu_core.specs.Command.{FitsFields, HasSpelling, IsProper, spelling};
     ghost use Rattle.chain_core.specs.Longest.{longest_command};
 
-    /// The command of this header, CLA, INS, P1 and P2, and this body, exactly where it has a spelling. The
-    /// body comes back where its data field or its `le` has none of the lengths or numbers of its shape.
+    /// Makes a command of its header (CLA, INS, P1 and P2) and its body. The error returns the body if the
+    /// length of its data field, or its `le`, is outside the range of its shape. Every other command has an
+    /// encoding.
     pub fn new(header: [u8; 4], body: Body) -> Result<Command, Body>
         ensures value { IfOk result (λ c. c ≡ record { header = header; body = body }) }
         ensures spelled { IfOk result HasSpelling }
@@ -86,7 +87,7 @@ impl Command {
         }
     }
 
-    /// The command of these parts, which have a spelling.
+    /// Makes a command of a header and a body that has an encoding.
     pub(crate) fn of_parts(header: [u8; 4], body: Body) -> Command
         requires { FitsFields body }
         ensures { result ≡ record { header = header; body = body } }
@@ -94,14 +95,14 @@ impl Command {
         Command { header, body }
     }
 
-    /// CLA, INS, P1 and P2.
+    /// Returns CLA, INS, P1 and P2.
     pub fn header(&self) -> [u8; 4]
         ensures { result ≡ self.now.header }
     {
         self.header
     }
 
-    /// How many octets spell the command, 4 to 65,544.
+    /// Returns how many octets the encoded command has, 4 to 65,544.
     pub fn encoded_len(&self) -> usize
         ensures len { result ≡ length (spelling self.now) }
         ensures most { result ≤ longest_command }
@@ -109,14 +110,14 @@ impl Command {
         self.lent().encoded_len()
     }
 
-    /// The command, with its data field lent from this one.
+    /// Returns the command with its data field borrowed from this one.
     pub fn lent(&self) -> CommandRef<'_>
         ensures { result ≡ self.now }
     {
         CommandRef::of_parts(self.header, self.body.lent())
     }
 
-    /// What follows the header.
+    /// Borrows what follows the header.
     pub fn body(&self) -> &Body
         ensures body { result.now ≡ self.now.body }
         ensures proper { IsProper self.now }
@@ -130,7 +131,7 @@ impl Body {
     ghost use Rattle.apdu_core.specs.Command.{part_of};
     ghost use Rattle.apdu_core.specs.Borrowed.{body_of};
 
-    /// The body, with its data field lent from this one.
+    /// Returns the body with its data field borrowed from this one.
     pub(crate) fn lent(&self) -> BodyRef<'_>
         ensures { body_of result ≡ self.now }
     {
@@ -151,7 +152,7 @@ impl Body {
         }
     }
 
-    /// The data field, none where there is none.
+    /// Returns the data field, which is empty if the body has none.
     pub(crate) fn part(&self) -> &[u8]
         ensures { result.now ≡ part_of self.now }
     {
@@ -165,7 +166,8 @@ impl Body {
     }
 }
 
-/// The shape, how many octets the data field has, and Le. A command may carry a PIN, so no octet of it is shown.
+/// Shows the shape, how many octets the data field has, and Le. A command may carry a PIN, so no octet of it is
+/// shown.
 impl Debug for Command {
     fn fmt<W: Write>(&self, f: &mut Formatter<W>) -> fmt::Result {
         f.debug_struct("Command").field("body", &self.body).finish()

@@ -1,4 +1,4 @@
-//! Commands read where their octets stand.
+//! Command APDUs that borrow their data field.
 
 ghost use Rattle.std.specs.Prelude.{◌≡◌, ◌≢◌, ◌≤◌, ◌<◌, ◌↔◌, ◌∷◌, [], IfOk, IfErr, IfSome, IsTrue, SomeIff, length, slice_index, take};
 ghost use Rattle.octet_core.specs.Octets.{AreOctets};
@@ -15,10 +15,10 @@ use std::alloc::{AllocError, Global};
 use std::fmt::{self, Debug, Formatter, Write};
 use std::marker::Model;
 
-/// The body of a command, with its data field lent: the shapes and numbers are those of a [`Body`].
+/// The body of a command with a borrowed data field. The shapes and numbers are those of a [`Body`].
 #[derive(Clone, Copy, PartialEq, Eq)]
 pub enum BodyRef<'a> {
-    /// Case 1: nothing.
+    /// Case 1: no octets.
     Empty,
     /// Case 2 short.
     ShortLe { le: u32 },
@@ -34,7 +34,7 @@ pub enum BodyRef<'a> {
     LongBoth { part: &'a [u8], le: u32 },
 }
 
-/// A command whose data field is lent, as from the octets that were read (ISO/IEC 7816-3, clause 12).
+/// A command with a borrowed data field, such as one decoded from octets (ISO/IEC 7816-3, clause 12).
 #[derive(Drop)]
 pub struct CommandRef<'a> {
     header: [u8; 4],
@@ -59,11 +59,11 @@ impl<'a> CommandRef<'a> {
     ghost use Rattle.apdu_core.specs.Put.{IsPutAt};
     ghost use Rattle.chain_core.specs.Longest.{longest_command};
 
-    /// The command that all these octets are. It takes no memory, and time that doesn't grow with them:
-    /// only the length, the header and the length fields are looked at.
+    /// Decodes all the octets as one command. It allocates nothing, and its time doesn't grow with the octets:
+    /// it looks only at their length, the header and the length fields.
     ///
-    /// Octets with which a command could still go on are `Short` at their end. Else the first octet after
-    /// the last that the length fields allow is refused, as `Trailing`.
+    /// The error is `Short` at the end of the octets if a command could continue there. Otherwise it is
+    /// `Trailing` at the first octet after the last that the length fields allow.
     pub fn decode(octets: &'a [u8]) -> Result<CommandRef<'a>, Stop<CommandReason>>
         ensures found { IfOk result
             (λ c. Accepts whole IsCommand octets.now c (length octets.now)) }
@@ -80,8 +80,8 @@ impl<'a> CommandRef<'a> {
         })
     }
 
-    /// The command of this header, CLA, INS, P1 and P2, and this body, exactly where it has a spelling: `None`
-    /// where its data field or its `le` has none of the lengths or numbers of its shape.
+    /// Makes a command of its header (CLA, INS, P1 and P2) and its body. The result is `None` if the length of
+    /// its data field, or its `le`, is outside the range of its shape. Every other command has an encoding.
     pub fn new(header: [u8; 4], body: BodyRef<'a>) -> Option<CommandRef<'a>>
         ensures value { SomeIff result (FitsFields (body_of body.entry))
             (record { header = header; body = body_of body.entry }) }
@@ -94,7 +94,7 @@ impl<'a> CommandRef<'a> {
         }
     }
 
-    /// The command of these parts, which have a spelling.
+    /// Makes a command of a header and a body that has an encoding.
     pub(crate) fn of_parts(header: [u8; 4], body: BodyRef<'a>) -> CommandRef<'a>
         requires { FitsFields (body_of body) }
         ensures { result ≡ record { header = header; body = body_of body.entry } }
@@ -102,14 +102,14 @@ impl<'a> CommandRef<'a> {
         CommandRef { header, body }
     }
 
-    /// CLA, INS, P1 and P2.
+    /// Returns CLA, INS, P1 and P2.
     pub fn header(&self) -> [u8; 4]
         ensures { result ≡ self.now.header }
     {
         self.header
     }
 
-    /// Which of the seven shapes the body has.
+    /// Returns the shape of the body.
     pub fn shape(&self) -> Shape
         ensures { result ≡ shape_of self.now.body }
     {
@@ -124,8 +124,7 @@ impl<'a> CommandRef<'a> {
         }
     }
 
-    /// The data field, lent from the octets that were read, where it is after Lc; of a body without
-    /// one no octets.
+    /// Returns the data field, borrowed from the octets that were decoded. It is empty if the body has none.
     pub fn part(&self) -> &'a [u8]
         ensures { result.now ≡ part_of self.now.body }
     {
@@ -138,8 +137,8 @@ impl<'a> CommandRef<'a> {
         }
     }
 
-    /// The greatest number of octets that are expected back, 1 to 256 in a short field and 1 to 65,536 in
-    /// an extended one; `None` where there is no such field.
+    /// Returns the greatest number of octets that the response may have in its data field. It is 1 to 256 in a
+    /// short field, and 1 to 65,536 in an extended one. The result is `None` if the body has no Le.
     pub fn le(&self) -> Option<u32>
         ensures { result ≡ le_of self.now.body }
     {
@@ -152,7 +151,7 @@ impl<'a> CommandRef<'a> {
         }
     }
 
-    /// How many octets spell the command, 4 to 65,544.
+    /// Returns how many octets the encoded command has, 4 to 65,544.
     pub fn encoded_len(&self) -> usize
         ensures len { result ≡ length (spelling self.now) }
         ensures most { result ≤ longest_command }
@@ -160,8 +159,8 @@ impl<'a> CommandRef<'a> {
         4 + self.body.encoded_len()
     }
 
-    /// Puts the octets that spell the command to the front of the buffer, and says how many they are, as
-    /// [`CommandRef::encoded_len`] does; the rest of the buffer stays.
+    /// Encodes the command at the front of the buffer, and returns how many octets it has, as
+    /// [`CommandRef::encoded_len`] does. The rest of the buffer stays as it was.
     pub fn encode_into(&self, out: &mut [u8]) -> usize
         requires room { length (spelling self.now) ≤ length out.old }
         ensures command { IsCommand self.now (take result out.new) }
@@ -171,7 +170,7 @@ impl<'a> CommandRef<'a> {
         put_body(out, end, self.body)
     }
 
-    /// The command with a copy of its data field.
+    /// Returns the command with a copy of its data field.
     pub(crate) fn copied(&self, alloc: Global) -> Result<Command, AllocError>
         ensures { IfOk result (λ c. c ≡ self.now) }
     {
@@ -184,7 +183,7 @@ impl<'a> BodyRef<'a> {
     ghost use Rattle.apdu_core.specs.Command.{FitsFields, body_octets, part_of};
     ghost use Rattle.apdu_core.specs.Borrowed.{IsBodyOf, body_of};
 
-    /// Whether the length fields can tell the numbers of the body.
+    /// Whether the numbers of the body fit its length fields.
     pub(crate) fn fits(&self) -> bool
         ensures fits { IsTrue result ↔ FitsFields (body_of self.now) }
         ensures octets { AreOctets (part_of (body_of self.now)) }
@@ -200,7 +199,7 @@ impl<'a> BodyRef<'a> {
         }
     }
 
-    /// How many octets spell the body.
+    /// Returns how many octets the encoded body has.
     fn encoded_len(&self) -> usize
         requires { FitsFields (body_of self.now) }
         ensures len { result ≡ length (body_octets (body_of self.now)) }
@@ -217,7 +216,7 @@ impl<'a> BodyRef<'a> {
         }
     }
 
-    /// The body after the header of a command.
+    /// Decodes the body after the header of a command.
     fn read(octets: &'a [u8]) -> Result<BodyRef<'a>, Stop<CommandReason>>
         requires { 4 ≤ length octets.now }
         ensures found { IfOk result (λ body. IsBodyOf octets.now (body_of body)) }
@@ -231,7 +230,7 @@ impl<'a> BodyRef<'a> {
         }
     }
 
-    /// A body that begins with a short Lc.
+    /// Decodes a body that begins with a short Lc.
     fn read_short(octets: &'a [u8]) -> Result<BodyRef<'a>, Stop<CommandReason>>
         requires more { 5 < length octets.now }
         requires lc { slice_index octets.now 4 ≢ 0 }
@@ -248,12 +247,12 @@ impl<'a> BodyRef<'a> {
                 part,
                 le: short_le(*le),
             }),
-            // Behind the header, Lc, the data field and Le.
+            // after the header, Lc, the data field and Le
             _ => Err(trailing(lc + 6)),
         }
     }
 
-    /// A body that begins with an extended Lc or Le.
+    /// Decodes a body that begins with an extended Lc or Le.
     fn read_long(octets: &'a [u8]) -> Result<BodyRef<'a>, Stop<CommandReason>>
         requires more { 5 < length octets.now }
         requires long { slice_index octets.now 4 ≡ 0 }
@@ -270,7 +269,7 @@ impl<'a> BodyRef<'a> {
         }
         let lc = usize::from(*high) * 256 + usize::from(*low);
         if lc == 0 {
-            // Behind the header and an extended Le.
+            // after the header and an extended Le
             return Err(trailing(7));
         }
         let Some((part, rest)) = rest.split_at_checked(lc) else {
@@ -283,12 +282,12 @@ impl<'a> BodyRef<'a> {
                 part,
                 le: long_le(*high, *low),
             }),
-            // Behind the header, an extended Lc, the data field and an extended Le.
+            // after the header, an extended Lc, the data field and an extended Le
             _ => Err(trailing(lc + 9)),
         }
     }
 
-    /// The body with a copy of its data field.
+    /// Returns the body with a copy of its data field.
     fn copied(&self, alloc: Global) -> Result<Body, AllocError>
         ensures { IfOk result (λ body. body ≡ body_of self.now) }
     {
@@ -314,14 +313,14 @@ impl<'a> BodyRef<'a> {
     }
 }
 
-/// Whether a length field that tells at most `most` can tell this number.
+/// Whether this number fits a length field whose greatest number is `most`.
 fn is_count(number: u32, most: u32) -> bool
     ensures { IsTrue result ↔ IsCount number most }
 {
     (1..=most).contains(&number)
 }
 
-/// Whether a length field that tells at most `most` can tell the length of this data field.
+/// Whether the length of this data field fits a length field whose greatest number is `most`.
 fn is_part(part: &[u8], most: usize) -> bool
     ensures count { IsTrue result ↔ IsCount (length part.now) most }
     ensures octets { AreOctets part.now }
@@ -329,7 +328,7 @@ fn is_part(part: &[u8], most: usize) -> bool
     (1..=most).contains(&part.len())
 }
 
-/// A copy of these octets.
+/// Copies octets.
 pub(crate) fn copy_of(alloc: Global, octets: &[u8]) -> Result<Octets, AllocError>
     ensures { IfOk result (λ copy. copy ≡ octets.now) }
 {
@@ -337,7 +336,7 @@ pub(crate) fn copy_of(alloc: Global, octets: &[u8]) -> Result<Octets, AllocError
     Ok(Octets::of(copy))
 }
 
-/// A command could still go on where the octets end.
+/// Returns the stop for octets at whose end a command could continue.
 fn short(octets: &[u8]) -> Stop<CommandReason>
     ensures { result ≡ Short (length octets.now) }
 {
@@ -346,7 +345,7 @@ fn short(octets: &[u8]) -> Stop<CommandReason>
     }
 }
 
-/// No command goes on with the octet at this place.
+/// Returns the stop for an octet at this place with which no command can continue.
 fn trailing(place: usize) -> Stop<CommandReason>
     ensures { result ≡ At place Trailing }
 {
@@ -356,7 +355,7 @@ fn trailing(place: usize) -> Stop<CommandReason>
     }
 }
 
-/// The number that a short Le tells.
+/// Returns the number in a short Le.
 fn short_le(octet: u8) -> u32
     ensures count { IsCount result 256 }
     ensures spelled { short_of result ≡ octet ∷ [] }
@@ -367,7 +366,7 @@ fn short_le(octet: u8) -> u32
     }
 }
 
-/// The number that an extended Le tells.
+/// Returns the number in an extended Le.
 fn long_le(high: u8, low: u8) -> u32
     ensures count { IsCount result 65536 }
     ensures spelled { long_of result ≡ high ∷ low ∷ [] }
@@ -378,7 +377,7 @@ fn long_le(high: u8, low: u8) -> u32
     }
 }
 
-/// The shape, how many octets the data field has, and Le: as of a [`Command`], no octet is shown.
+/// Shows the shape, how many octets the data field has, and Le. No octet is shown, as with a [`Command`].
 impl Debug for CommandRef<'_> {
     fn fmt<W: Write>(&self, f: &mut Formatter<W>) -> fmt::Result {
         f.debug_struct("CommandRef")

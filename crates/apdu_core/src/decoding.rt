@@ -1,4 +1,4 @@
-//! APDUs read into values of their own.
+//! Decoding of APDUs that own their data field.
 
 ghost use Rattle.std.specs.Prelude.{◌≡◌, IfOk, IfErr, length};
 ghost use Rattle.octet_core.specs.Grammar.{whole, Accepts, RefusesUnlessMemory};
@@ -16,11 +16,11 @@ use crate::response_ref::ResponseRef;
 use octet_core::Refused;
 use std::alloc::Global;
 
-/// The command that all these octets are, with a copy of its data field.
+/// Decodes all the octets as one command, with a copy of its data field.
 ///
-/// Octets with which a command could still go on are `Short` at their end. Else the first octet after
-/// the last that the length fields allow is refused, as `Trailing`. `Memory` is answered where memory
-/// for the copy was refused; the octets are then a command.
+/// The error is `Short` at the end of the octets if a command could continue there. Otherwise it is
+/// `Trailing` at the first octet after the last that the length fields allow. It is `Memory` if an
+/// allocation for the copy fails; the octets are a command then.
 pub fn decode_command(alloc: Global, octets: &[u8]) -> Result<Command, Refused<CommandReason>>
     ensures found { IfOk result (λ c. Accepts whole IsCommand octets.now c (length octets.now)) }
     ensures refused { IfErr result
@@ -34,11 +34,11 @@ pub fn decode_command(alloc: Global, octets: &[u8]) -> Result<Command, Refused<C
     }
 }
 
-/// The response that all these octets are, with a copy of its data field.
+/// Decodes all the octets as one response, with a copy of its data field.
 ///
-/// Fewer than two octets are `Short` at their end; of more than 65,538 the one at place 65,538 is
-/// refused, as `TooLong`. `Memory` is answered where memory for the copy was refused; the octets are
-/// then a response.
+/// The error is `Short` at the end of fewer than two octets, or `TooLong` at place 65,538 of more
+/// than 65,538 octets. It is `Memory` if an allocation for the copy fails; the octets are a response
+/// then.
 pub fn decode_response(alloc: Global, octets: &[u8]) -> Result<Response, Refused<ResponseReason>>
     ensures found { IfOk result (λ r. Accepts whole IsResponse octets.now r (length octets.now)) }
     ensures refused { IfErr result

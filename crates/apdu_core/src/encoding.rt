@@ -1,4 +1,4 @@
-//! The octets of APDUs.
+//! Encoding of APDUs.
 
 ghost use Rattle.std.specs.Prelude.{◌≡◌, ◌≤◌, ◌+◌, ◌++◌, ◌∷◌, IfOk, length, take};
 ghost use Rattle.apdu_core.specs.Command.{IsCommand, FitsFields, IsCount, spelling, body_octets, long_of, short_of};
@@ -11,7 +11,8 @@ use crate::command_ref::BodyRef;
 use crate::response::Response;
 use std::alloc::{AllocError, Global};
 
-/// The octets that spell a command (ISO/IEC 7816-3, clause 12): the header and its body.
+/// Encodes a command (ISO/IEC 7816-3, clause 12): the header and its body. The error is a failed
+/// allocation.
 pub fn encode_command(alloc: Global, command: &Command) -> Result<Vec<u8>, AllocError>
     ensures { IfOk result (λ octets. IsCommand command.now octets.items) }
 {
@@ -20,8 +21,8 @@ pub fn encode_command(alloc: Global, command: &Command) -> Result<Vec<u8>, Alloc
     Ok(octets)
 }
 
-/// Puts the octets that spell a command (ISO/IEC 7816-3, clause 12) to the front of the buffer, and says
-/// how many they are, as [`Command::encoded_len`] does; the rest of the buffer stays.
+/// Encodes a command (ISO/IEC 7816-3, clause 12) at the front of the buffer, and returns how many octets
+/// it has, as [`Command::encoded_len`] does. The rest of the buffer stays as it was.
 pub fn encode_command_into(command: &Command, out: &mut [u8]) -> usize
     requires room { length (spelling command.now) ≤ length out.old }
     ensures command { IsCommand command.now (take result out.new) }
@@ -30,7 +31,8 @@ pub fn encode_command_into(command: &Command, out: &mut [u8]) -> usize
     command.lent().encode_into(out)
 }
 
-/// The octets that spell a response (ISO/IEC 7816-3, clause 12): its data field, SW1 and SW2.
+/// Encodes a response (ISO/IEC 7816-3, clause 12): its data field, SW1 and SW2. The error is a failed
+/// allocation.
 pub fn encode_response(alloc: Global, response: &Response) -> Result<Vec<u8>, AllocError>
     ensures { IfOk result (λ octets. IsResponse response.now octets.items) }
 {
@@ -40,7 +42,7 @@ pub fn encode_response(alloc: Global, response: &Response) -> Result<Vec<u8>, Al
     Ok(octets)
 }
 
-/// Puts what follows the header of a command, from this place on: the place where it ends.
+/// Puts the encoded body of a command at `start`, and returns the place where it ends.
 pub(crate) fn put_body(out: &mut [u8], start: usize, body: BodyRef<'_>) -> usize
     requires fits { FitsFields (body_of body) }
     requires room { start + length (body_octets (body_of body)) ≤ length out.old }
@@ -63,7 +65,7 @@ pub(crate) fn put_body(out: &mut [u8], start: usize, body: BodyRef<'_>) -> usize
     }
 }
 
-/// Puts a short Lc and a data field.
+/// Puts a short Lc and a data field at `start`, and returns the place where they end.
 fn put_short_part(out: &mut [u8], start: usize, part: &[u8]) -> usize
     requires count { IsCount (length part.now) 255 }
     requires room { start + (1 + length part.now) ≤ length out.old }
@@ -73,7 +75,7 @@ fn put_short_part(out: &mut [u8], start: usize, part: &[u8]) -> usize
     put(out, end, part)
 }
 
-/// Puts an extended Lc and a data field.
+/// Puts an extended Lc and a data field at `start`, and returns the place where they end.
 fn put_long_part(out: &mut [u8], start: usize, part: &[u8]) -> usize
     requires { start + (3 + length part.now) ≤ length out.old }
     ensures { IsPutAt start (0 ∷ long_of (length part.now) ++ part.now) out.old out.new result }
@@ -82,7 +84,8 @@ fn put_long_part(out: &mut [u8], start: usize, part: &[u8]) -> usize
     put(out, end, part)
 }
 
-/// Puts the first extended length field of a body: an octet 00, and the number in two octets.
+/// Puts the first extended length field of a body at `start`: an octet 00, and the number in two octets.
+/// Returns the place where it ends.
 fn put_long(out: &mut [u8], start: usize, number: usize) -> usize
     requires { start + 3 ≤ length out.old }
     ensures { IsPutAt start (0 ∷ long_of number) out.old out.new result }
@@ -91,7 +94,7 @@ fn put_long(out: &mut [u8], start: usize, number: usize) -> usize
     put(out, start, &[0, high, low])
 }
 
-/// Puts octets from this place on: the place where they end.
+/// Puts octets at `start`, and returns the place where they end.
 pub(crate) fn put(out: &mut [u8], start: usize, octets: &[u8]) -> usize
     requires { start + length octets.now ≤ length out.old }
     ensures { IsPutAt start octets.now out.old out.new result }
@@ -101,14 +104,14 @@ pub(crate) fn put(out: &mut [u8], start: usize, octets: &[u8]) -> usize
     end
 }
 
-/// A number in one octet.
+/// Returns the low octet of a number, in which a short length field has it.
 fn short(number: usize) -> [u8; 1]
     ensures { result ≡ short_of number }
 {
     [(number % 256) as u8]
 }
 
-/// A number in two octets, the high one first.
+/// Returns the low two octets of a number, the high one first, in which an extended length field has it.
 fn long(number: usize) -> [u8; 2]
     ensures { result ≡ long_of number }
 {

@@ -13,21 +13,21 @@ ghost use Rattle.apdu_core.specs.declared.status.StatusClass.{StatusClass as Any
 
 use crate::{Command, Response};
 
-/// What `==` tells of commands: whether they have the same header and body.
+/// `==` says whether two commands have the same header and body.
 pub fn are_equal_commands(a: &Command, b: &Command) -> bool
     ensures { IsTrue result ↔ (a.now ≡ b.now) }
 {
     a == b
 }
 
-/// What `==` tells of responses: whether they have the same data field and status bytes.
+/// `==` says whether two responses have the same data field and status bytes.
 pub fn are_equal_responses(a: &Response, b: &Response) -> bool
     ensures { IsTrue result ↔ (a.now ≡ b.now) }
 {
     a == b
 }
 
-/// No octets spell two commands or two responses, and status bytes have one class.
+/// Octets encode at most one command and at most one response. Status bytes have exactly one class.
 pub fn one_value()
     ensures command { (v w : CommandParts) (b : List ℕ) → IsCommand v b → IsCommand w b → v ≡ w }
     ensures response { (v w : ResponseParts) (b : List ℕ) → IsResponse v b
@@ -37,7 +37,8 @@ pub fn one_value()
     ensures some_class { (sw1 sw2 : ℕ) → (c : AnyClass) × IsOfClass c sw1 sw2 }
 {}
 
-/// A command goes on from octets exactly where none trails, and a response from at most 65,538.
+/// A command begins with these octets if and only if no octet of them trails. A response begins with these
+/// octets if and only if they are at most 65,538.
 pub fn goes_on()
     ensures command_stops { (b : List ℕ) → IsTrailing b → Begins IsCommand b → ⊥ }
     ensures command_begins { (b : List ℕ) → AreOctets b → (IsTrailing b → ⊥) → Begins IsCommand b }
@@ -46,7 +47,7 @@ pub fn goes_on()
         → Begins IsResponse b }
 {}
 
-/// How many octets spell a command or a response.
+/// Encoded commands and responses have lengths within these bounds.
 pub fn lengths()
     ensures command { (c : CommandParts) (b : List ℕ) → IsCommand c b
         → (4 ≤ length b) × (length b ≤ longest_command) }
@@ -54,7 +55,7 @@ pub fn lengths()
         → (2 ≤ length b) × (length b ≤ longest_response) }
 {}
 
-/// An APDU that is cut into a chain, under any sizes and whatever follows, arrives as that APDU.
+/// An APDU that is cut into a chain arrives as that APDU, for all sizes and whatever follows the chain.
 pub fn arrives()
     ensures command { (c : CommandParts) (b : List ℕ) (size ifs max : ℕ) (number : Number)
         (more : List ℕ) → IsCommand c b → 1 ≤ size → size ≤ ifs → length b ≤ max

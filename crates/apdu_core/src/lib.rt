@@ -1,13 +1,13 @@
-//! Command and response APDUs (ISO/IEC 7816-3, clause 12; ISO/IEC 7816-4, clause 5.1), and their way
-//! through chains of blocks.
+//! Command and response APDUs (ISO/IEC 7816-3, clause 12; ISO/IEC 7816-4, clause 5.1), and their
+//! transfer in chains of blocks.
 //!
-//! A command is a header and one of seven bodies, a response a data field and two status bytes. Two
+//! A command is a header and one of seven bodies. A response is a data field and two status bytes. Two
 //! grammars, `IsCommand` in `specs/Command.antt` and `IsResponse` in `specs/Response.antt`, relate them
-//! to whole lists of octets. `CommandRef` and `ResponseRef` give the whole verdict without memory, and
-//! lend the data field from the octets that they read; `decode_command` and `decode_response` copy it.
-//! `encode_command` and `encode_response` give the octets back. `send_command` and `send_response` write
-//! them as a chain, `receive_command` and `receive_response` read one and leave what follows it. `laws`
-//! says what holds of the two grammars alone, and of an APDU that is cut into a chain.
+//! to whole lists of octets. `CommandRef` and `ResponseRef` decode without allocating, and borrow the
+//! data field from the octets. `decode_command` and `decode_response` copy it. `encode_command` and
+//! `encode_response` encode. `send_command` and `send_response` write an APDU as a chain;
+//! `receive_command` and `receive_response` read one, and leave what follows it unread. `laws` states
+//! what holds of the two grammars alone, and of an APDU that is cut into a chain.
 #![tactic(auto)]
 
 pub mod command;

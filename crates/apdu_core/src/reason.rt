@@ -4,10 +4,10 @@ use octet_core::Named;
 use std::error::Error;
 use std::fmt::{self, Display, Formatter, Write};
 
-/// Why octets are no command APDU.
+/// Why octets aren't a command APDU.
 #[derive(Clone, Copy, Debug, PartialEq, Eq)]
 pub enum CommandReason {
-    /// The octet is after the last that the length fields allow.
+    /// The octet is after the last one that the length fields allow.
     Trailing,
 }
 
@@ -23,7 +23,7 @@ impl Named for CommandReason {
     }
 }
 
-/// The reason's name.
+/// Writes the reason's name.
 impl Display for CommandReason {
     ghost use Rattle.std.specs.Prelude.{Some};
     ghost use Rattle.apdu_core.specs.Names.{command_reason_name};
@@ -37,10 +37,10 @@ impl Display for CommandReason {
 
 impl Error for CommandReason {}
 
-/// Why octets are no response APDU.
+/// Why octets aren't a response APDU.
 #[derive(Clone, Copy, Debug, PartialEq, Eq)]
 pub enum ResponseReason {
-    /// The octet is at place 65,538, after the last that the longest response has.
+    /// The octet is at place 65,538, after the last one of the longest response.
     TooLong,
 }
 
@@ -56,7 +56,7 @@ impl Named for ResponseReason {
     }
 }
 
-/// The reason's name.
+/// Writes the reason's name.
 impl Display for ResponseReason {
     ghost use Rattle.std.specs.Prelude.{Some};
     ghost use Rattle.apdu_core.specs.Names.{response_reason_name};

@@ -1,4 +1,4 @@
-//! APDUs read from chains.
+//! Receiving of APDUs from chains.
 
 ghost use Rattle.std.specs.Prelude.{◌≡◌, ◌≤◌, ◌++◌, ℕ, List, Some, IfOk, IfErr, length};
 ghost use Rattle.octet_core.specs.Grammar.{whole, Accepts, RefusesUnlessMemory};
@@ -25,21 +25,21 @@ use std::alloc::{AllocError, Global};
 use std::error::Error;
 use std::fmt::{self, Debug, Display, Formatter, Write};
 
-/// Why no APDU was received, with its reasons.
+/// Why no APDU was received. `R` is the type of the reasons of its decoder.
 #[derive(Clone, Copy, Debug, PartialEq, Eq)]
 pub enum ReceiveFault<R> {
-    /// Memory was refused: for the message, and then nothing was read, or for the copy of the data field, and
-    /// then the whole chain was read and no more.
+    /// An allocation failed. If it was for the message, nothing was read. If it was for the copy of the data
+    /// field, the whole chain was read, and no more.
     Memory,
-    /// The reader failed, by an interruption too, after `taken` octets.
+    /// The reader failed after `taken` octets. An interruption is a failure too.
     Read { taken: usize },
-    /// The octets are no chain with such a message, or ended before it was whole.
+    /// The octets aren't a chain with such a message, or they ended before the chain was whole.
     Chain(Stop<ChainReason>),
-    /// The whole chain was read and no more, and its message is no such APDU.
+    /// The whole chain was read, and no more, and its message isn't such an APDU.
     Apdu(Stop<R>),
 }
 
-/// `memory`, `Read after N octets`, or `Chain: ` or `Apdu: ` and the stop.
+/// Writes `memory`, `Read after N octets`, or `Chain: ` or `Apdu: ` and the stop.
 impl<R: Display> Display for ReceiveFault<R> {
     ghost use Rattle.apdu_core.specs.Names.{receive_fault_text};
 
@@ -96,18 +96,23 @@ impl<R> From<Refused<R>> for ReceiveFault<R> {
     }
 }
 
-/// Reads a chain (ISO/IEC 7816-3, clause 11.6) to its end and the command that its message is. `ifs` is
-/// the information size, 1 to 254, `number` the number of the first block; the message has at most
-/// 65,544 octets. What follows the chain stays unread. Where the reader held a chain whose message is a
-/// command, in whatever fields of at most `ifs` octets, nothing else can come than that command, but for
-/// out of memory and a reader that fails.
+/// Reads a chain (ISO/IEC 7816-3, clause 11.6) to its end, and decodes its message as a command. `ifs` is the
+/// information field size, 1 to 254. `number` is the number of the first block. The message has at most
+/// 65,544 octets. What follows the chain stays unread. The reader may hold a chain whose message is a
+/// command, in whatever fields of at most `ifs` octets. Then the result is that command, unless an allocation
+/// or the reader fails.
 ///
-/// `Memory` comes where memory was refused: for the message, and then nothing was read, or for the copy
-/// of the data field, and then exactly a chain whose message is a command. `Read` comes where a call of the
-/// reader failed, which isn't tried again, after `taken` octets with which a chain begins. `Chain` is the
-/// refusal of what was read as a chain: `Short` where the reader ended, `At` the first octet after which no
-/// chain goes on, and then no octet is read past the first three of its block, or past that octet.
-/// `Apdu` is the refusal of the message as a command; exactly the chain was then read.
+/// The error is `Memory` if an allocation fails. If it was for the message, nothing was read. If it was for
+/// the copy of the data field, exactly the chain was read, and its message is a command.
+///
+/// It is `Read` if a call of the reader fails, after `taken` octets with which a chain begins. The call isn't
+/// retried.
+///
+/// It is `Chain` if what was read isn't a chain. The stop is `Short` if the reader ended, or `At` the first
+/// octet after which no chain can continue. Then no octet was read past the first three of its block, or past
+/// that octet.
+///
+/// It is `Apdu` if the message isn't a command. Then exactly the chain was read.
 pub fn receive_command<R: Source>(
     alloc: Global,
     reader: &mut R,
@@ -129,8 +134,8 @@ pub fn receive_command<R: Source>(
     read(alloc, reader, ifs, number, LONGEST_COMMAND)
 }
 
-/// Reads a chain (ISO/IEC 7816-3, clause 11.6) to its end and the response that its message is, which has
-/// at most 65,538 octets, with the size, the number and the faults of `receive_command`.
+/// Reads a chain (ISO/IEC 7816-3, clause 11.6) to its end, and decodes its message as a response. The message
+/// has at most 65,538 octets. `ifs`, `number` and the errors are as for `receive_command`.
 pub fn receive_response<R: Source>(
     alloc: Global,
     reader: &mut R,
@@ -152,17 +157,17 @@ pub fn receive_response<R: Source>(
     read(alloc, reader, ifs, number, LONGEST_RESPONSE)
 }
 
-/// An APDU that comes as the message of a chain.
+/// An APDU that is the message of a chain.
 trait Apdu: Drop {
-    /// Why octets are none.
+    /// Why octets aren't such an APDU.
     type Reason;
 
-    /// Which octets spell it, and why others don't.
+    /// Which octets encode it, and why others don't.
     ghost spells: { Self → List ℕ → Type 0 };
 
     ghost reason: { Self.Reason → List ℕ → Type 0 };
 
-    /// The one that all these octets are.
+    /// Decodes all the octets as one APDU.
     fn decode(alloc: Global, octets: &[u8]) -> Result<Self, Refused<Self::Reason>>
         ensures found { IfOk result (λ v. Accepts whole spells octets.now v (length octets.now)) }
         ensures refused { IfErr result (RefusesUnlessMemory whole spells reason octets.now) }
@@ -194,7 +199,7 @@ impl Apdu for Response {
     }
 }
 
-/// Reads a chain, and decodes its message, which has at most `limit` octets.
+/// Reads a chain, and decodes its message of at most `limit` octets.
 fn read<A: Apdu, R: Source>(
     alloc: Global,
     reader: &mut R,

@@ -1,4 +1,4 @@
-//! Response APDUs as values.
+//! Response APDUs that own their data field.
 
 ghost use Rattle.std.specs.Prelude.{◌↔◌, ◌≤◌, IsTrue, length};
 ghost use Rattle.octet_core.specs.Octets.{AreOctets};
@@ -9,11 +9,11 @@ use octet_core::Octets;
 use std::fmt::{self, Debug, Formatter, Write};
 use std::marker::Model;
 
-/// The octets of the longest data field of a response.
+/// The greatest length of a response's data field, in octets.
 pub const LONGEST_PART: usize = 65_536;
 
 /// A response (ISO/IEC 7816-3, clause 12): a data field of at most 65,536 octets, and the status bytes
-/// SW1 and SW2. Its spelling has 2 to 65,538 octets.
+/// SW1 and SW2. Its encoding has 2 to 65,538 octets.
 #[derive(PartialEq, Eq, Drop)]
 pub struct Response {
     part: Octets,
@@ -37,8 +37,8 @@ impl Response {
     ghost use Rattle.std.specs.Prelude.{◌≡◌, ◌<◌, ◌≤◌, OnErr, IfOk, IfErr, length};
     ghost use Rattle.apdu_core.specs.Response.{HasSpelling};
 
-    /// The response of this data field and these status bytes, whatever they tell, exactly where it has a
-    /// spelling. The data field comes back where it has more than 65,536 octets.
+    /// Makes a response of its data field and any two status bytes. The error returns the data field if
+    /// it has more than 65,536 octets. Every other response has an encoding.
     pub fn new(part: Octets, sw1: u8, sw2: u8) -> Result<Response, Octets>
         ensures value { IfOk result (λ r. r ≡ record { part = part; sw1 = sw1; sw2 = sw2 }) }
         ensures spelled { IfOk result HasSpelling }
@@ -52,7 +52,7 @@ impl Response {
         }
     }
 
-    /// The response of these parts, which have a spelling.
+    /// Makes a response of parts that have an encoding.
     pub(crate) fn of_parts(part: Octets, sw1: u8, sw2: u8) -> Response
         requires { length part ≤ 65536 }
         ensures { result ≡ record { part = part; sw1 = sw1; sw2 = sw2 } }
@@ -60,7 +60,7 @@ impl Response {
         Response { part, sw1, sw2 }
     }
 
-    /// The data field.
+    /// Borrows the data field.
     pub fn part(&self) -> &[u8]
         ensures part { result.now ≡ self.now.part }
         ensures fits { length self.now.part ≤ 65536 }
@@ -68,21 +68,21 @@ impl Response {
         self.part.get()
     }
 
-    /// The response, with its data field lent from this one.
+    /// Returns the response with its data field borrowed from this one.
     pub fn lent(&self) -> ResponseRef<'_>
         ensures { result ≡ self.now }
     {
         ResponseRef::of_parts(self.part.get(), self.sw1, self.sw2)
     }
 
-    /// The first status byte.
+    /// Returns the first status byte.
     pub fn sw1(&self) -> u8
         ensures { result ≡ self.now.sw1 }
     {
         self.sw1
     }
 
-    /// The second status byte.
+    /// Returns the second status byte.
     pub fn sw2(&self) -> u8
         ensures { result ≡ self.now.sw2 }
     {
@@ -98,7 +98,7 @@ pub(crate) fn is_part(part: &[u8]) -> bool
     part.len() <= LONGEST_PART
 }
 
-/// How many octets the data field has, and the class of the status bytes: no octet is shown.
+/// Shows how many octets the data field has, and the class of the status bytes, but no octet.
 impl Debug for Response {
     fn fmt<W: Write>(&self, f: &mut Formatter<W>) -> fmt::Result {
         f.debug_struct("Response")

@@ -1,4 +1,4 @@
-//! Responses read where their octets stand.
+//! Response APDUs that borrow their data field.
 
 ghost use Rattle.std.specs.Prelude.{◌≡◌, ◌≤◌, IfOk, IfErr, IfSome, SomeIff, length, take, ◌-◌};
 ghost use Rattle.octet_core.specs.Grammar.{whole, Accepts, Refuses};
@@ -14,7 +14,7 @@ use std::alloc::{AllocError, Global};
 use std::fmt::{self, Debug, Formatter, Write};
 use std::marker::Model;
 
-/// A response whose data field is lent, as from the octets that were read (ISO/IEC 7816-3, clause 12).
+/// A response with a borrowed data field, such as one decoded from octets (ISO/IEC 7816-3, clause 12).
 #[derive(Drop)]
 pub struct ResponseRef<'a> {
     part: &'a [u8],
@@ -37,11 +37,11 @@ impl<'a> ResponseRef<'a> {
     ghost use Rattle.apdu_core.specs.Put.{IsPutAt};
     ghost use Rattle.chain_core.specs.Longest.{longest_response};
 
-    /// The response that all these octets are. It takes no memory, and time that doesn't grow with them:
-    /// only the length and the last two octets are looked at.
+    /// Decodes all the octets as one response. It allocates nothing, and its time doesn't grow with the
+    /// octets: it looks only at their length and the last two of them.
     ///
-    /// Fewer than two octets are `Short` at their end; of more than 65,538 the one at place 65,538 is
-    /// refused, as `TooLong`.
+    /// The error is `Short` at the end of fewer than two octets, or `TooLong` at place 65,538 of more
+    /// than 65,538 octets.
     pub fn decode(octets: &'a [u8]) -> Result<ResponseRef<'a>, Stop<ResponseReason>>
         ensures found { IfOk result
             (λ r. Accepts whole IsResponse octets.now r (length octets.now)) }
@@ -66,8 +66,8 @@ impl<'a> ResponseRef<'a> {
         })
     }
 
-    /// The response of this data field and these status bytes, whatever they tell, exactly where it has a
-    /// spelling: `None` where the data field has more than 65,536 octets.
+    /// Makes a response of its data field and any two status bytes. The result is `None` if the data
+    /// field has more than 65,536 octets. Every other response has an encoding.
     pub fn new(part: &'a [u8], sw1: u8, sw2: u8) -> Option<ResponseRef<'a>>
         ensures value { SomeIff result (length part.now ≤ 65536)
             (record { part = part.now; sw1 = sw1; sw2 = sw2 }) }
@@ -80,7 +80,7 @@ impl<'a> ResponseRef<'a> {
         }
     }
 
-    /// The response of these parts, which have a spelling.
+    /// Makes a response of parts that have an encoding.
     pub(crate) fn of_parts(part: &'a [u8], sw1: u8, sw2: u8) -> ResponseRef<'a>
         requires { length part.now ≤ 65536 }
         ensures { result ≡ record { part = part.now; sw1 = sw1; sw2 = sw2 } }
@@ -88,7 +88,7 @@ impl<'a> ResponseRef<'a> {
         ResponseRef { part, sw1, sw2 }
     }
 
-    /// How many octets spell the response, 2 to 65,538.
+    /// Returns how many octets the encoded response has, 2 to 65,538.
     pub fn encoded_len(&self) -> usize
         ensures len { result ≡ length (spelling self.now) }
         ensures most { result ≤ longest_response }
@@ -96,8 +96,8 @@ impl<'a> ResponseRef<'a> {
         2 + self.part.len()
     }
 
-    /// Puts the octets that spell the response to the front of the buffer, and says how many they are, as
-    /// [`ResponseRef::encoded_len`] does; the rest of the buffer stays.
+    /// Encodes the response at the front of the buffer, and returns how many octets it has, as
+    /// [`ResponseRef::encoded_len`] does. The rest of the buffer stays as it was.
     pub fn encode_into(&self, out: &mut [u8]) -> usize
         requires room { length (spelling self.now) ≤ length out.old }
         ensures response { IsResponse self.now (take result out.new) }
@@ -107,28 +107,28 @@ impl<'a> ResponseRef<'a> {
         put(out, end, &[self.sw1, self.sw2])
     }
 
-    /// The data field, lent from the octets that were read, of which it is the front.
+    /// Returns the data field, borrowed from the front of the octets that were decoded.
     pub fn part(&self) -> &'a [u8]
         ensures { result.now ≡ self.now.part }
     {
         self.part
     }
 
-    /// The first status byte.
+    /// Returns the first status byte.
     pub fn sw1(&self) -> u8
         ensures { result ≡ self.now.sw1 }
     {
         self.sw1
     }
 
-    /// The second status byte.
+    /// Returns the second status byte.
     pub fn sw2(&self) -> u8
         ensures { result ≡ self.now.sw2 }
     {
         self.sw2
     }
 
-    /// The response with a copy of its data field.
+    /// Returns the response with a copy of its data field.
     pub(crate) fn copied(&self, alloc: Global) -> Result<Response, AllocError>
         ensures { IfOk result (λ r. r ≡ self.now) }
     {
@@ -137,7 +137,7 @@ impl<'a> ResponseRef<'a> {
     }
 }
 
-/// How many octets the data field has, and the class of the status bytes: no octet is shown.
+/// Shows how many octets the data field has, and the class of the status bytes, but no octet.
 impl Debug for ResponseRef<'_> {
     fn fmt<W: Write>(&self, f: &mut Formatter<W>) -> fmt::Result {
         f.debug_struct("ResponseRef")

@@ -1,4 +1,4 @@
-//! APDUs written as chains.
+//! Sending of APDUs as chains.
 
 ghost use Rattle.std.specs.Prelude.{◌≤◌, OnOk, IfErr};
 ghost use Rattle.apdu_core.specs.Command.{IsCommand};
@@ -18,13 +18,13 @@ use std::fmt::{self, Display, Formatter, Write};
 /// Why no whole APDU was sent.
 #[derive(Clone, Copy, Debug, PartialEq, Eq)]
 pub enum SendFault {
-    /// Memory for the octets was refused; nothing was written.
+    /// An allocation for the octets failed. Nothing was written.
     Memory,
     /// The writer failed, or took no octet, after the first `written` octets of the chain.
     Write { written: usize },
 }
 
-/// `memory`, or `Write after N octets`.
+/// Writes `memory`, or `Write after N octets`.
 impl Display for SendFault {
     ghost use Rattle.std.specs.Prelude.{Some};
     ghost use Rattle.apdu_core.specs.Names.{send_fault_text};
@@ -65,12 +65,12 @@ impl From<WriteFault> for SendFault {
     }
 }
 
-/// Writes the chain of a command (ISO/IEC 7816-3, clause 11.6): fields of `ifs` octets, 1 to 254, but for
-/// the last, and the first block with this number.
+/// Writes the chain of a command (ISO/IEC 7816-3, clause 11.6). All fields but the last have `ifs` octets,
+/// which is 1 to 254, and the first block has this number.
 ///
-/// `Memory` comes where memory for the octets was refused, and then nothing was written. `Write` comes
-/// where the writer failed: it has taken the first `written` octets of the chain, fewer than all; a failed
-/// call isn't tried again, an interruption neither.
+/// The error is `Memory` if an allocation for the octets fails. Then nothing was written. It is `Write` if
+/// the writer fails. The writer has taken the first `written` octets of the chain, fewer than all. A
+/// failed call isn't retried, not even after an interruption.
 pub fn send_command<W: Sink>(
     alloc: Global,
     writer: &mut W,
@@ -90,8 +90,8 @@ pub fn send_command<W: Sink>(
     Ok(())
 }
 
-/// Writes the chain of a response (ISO/IEC 7816-3, clause 11.6), with the sizes, the number and the faults
-/// of `send_command`.
+/// Writes the chain of a response (ISO/IEC 7816-3, clause 11.6). `ifs`, `number` and the errors are as for
+/// `send_command`.
 pub fn send_response<W: Sink>(
     alloc: Global,
     writer: &mut W,

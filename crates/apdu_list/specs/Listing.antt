@@ -1,5 +1,5 @@
--- The exchanges of command and answer in a recorded exchange, as a text with a line for each: what its lines come to, one
--- after another.
+-- The exchanges of command and answer in a recorded exchange, as a text with a line for each: the result of its lines
+-- in order.
 use Rattle.std.specs.Prelude.{ℕ, ◌+◌, ◌-◌, List, [], ◌∷◌, ◌++◌, codes, decimal, Option, Some, None}
 use Rattle.exchange_text.specs.Text.{octets_text}
 use Rattle.exchange_text.specs.declared.line.Arrival.{Arrival}
@@ -30,8 +30,8 @@ from_last (Between first last) = Since last
 abbrev pub start : Account
 start = record { commands = 0; sent = 0; span = Unknown; begun = None }
 
--- the application hands over a command: its exchange begins with the last moment, if one came since the exchange before
--- it ended
+-- the application passes a command: its exchange begins with the last moment, if one came since the exchange before it
+-- ended
 abbrev pub begins : Account → Account
 begins a = record {
   commands = a.commands + 1;
@@ -40,11 +40,11 @@ begins a = record {
   begun = Some (record { before = a.sent; lost = []; damaged = [] });
 }
 
--- the exchange under way ends
+-- the unfinished exchange ends
 abbrev pub ends : Account → Account
 ends a = record { commands = a.commands; sent = a.sent; span = Unknown; begun = None }
 
--- what became of the block with this number, among those of an exchange
+-- an exchange with the arrival of the block with this number
 abbrev pub with_block : ℕ → Arrival → Begun → Begun
 with_block number Whole begun = begun
 with_block number Lost begun =
@@ -78,7 +78,7 @@ after a (FromCard sent arrival) = sends a arrival
 after a (Moment moment) = comes a moment
 after a _ = a
 
--- ---- what each line brings to the text
+-- ---- what each line adds to the text
 
 -- numbers with commas between them
 abbrev pub more_text : List ℕ → List ℕ
@@ -89,7 +89,7 @@ abbrev pub numbers_text : List ℕ → List ℕ
 numbers_text [] = codes "none"
 numbers_text (number ∷ numbers) = decimal number ++ more_text numbers
 
--- microseconds between two moments
+-- the microseconds between two moments
 abbrev pub time_text : Span → List ℕ
 time_text Unknown = codes "none"
 time_text (Since first) = codes "none"
@@ -106,7 +106,7 @@ blocks_text a begun =
 abbrev pub rest_text : Account → Begun → List ℕ
 rest_text a begun = blocks_text a begun ++ (codes " time " ++ (time_text a.span ++ codes "\n"))
 
--- the end of a line, where one is begun
+-- the end of a line, if one is begun
 abbrev pub ended_by : Account → List ℕ → Option Begun → List ℕ
 ended_by a answer None = []
 ended_by a answer (Some begun) = codes " answer " ++ (answer ++ rest_text a begun)
@@ -117,11 +117,11 @@ end_text a answer = ended_by a answer a.begun
 abbrev pub answer_text : Account → List ℕ → List ℕ
 answer_text a octets = end_text a (octets_text octets)
 
--- the begin of one
+-- the beginning of a line
 abbrev pub command_text : ℕ → List ℕ → List ℕ
 command_text number octets = codes "exchange " ++ (decimal number ++ (codes " command " ++ octets_text octets))
 
--- an exchange that is under way when the next command comes stays open
+-- if an exchange is unfinished when the next command comes, it stays open
 abbrev pub told : Account → Line → List ℕ
 told a (Command octets) = end_text a (codes "open") ++ command_text (a.commands + 1) octets
 told a (Answer octets) = answer_text a octets
@@ -131,7 +131,7 @@ told a _ = []
 
 -- ---- the text
 
--- and so does one that is under way at the end
+-- an exchange that is unfinished at the end stays open too
 abbrev pub text_from : Account → List Line → List ℕ
 text_from a [] = end_text a (codes "open")
 text_from a (line ∷ lines) = told a line ++ text_from (after a line) lines

@@ -1,4 +1,4 @@
-//! What the lines of a recorded exchange come to, one after another.
+//! The account of the lines of a recorded exchange, in order.
 
 ghost use Rattle.std.specs.Prelude.{◌≡◌, ◌+◌, ◌<◌, ◌^◌, IfOk, [], None};
 ghost use Rattle.apdu_list.specs.Listing as listing;
@@ -8,32 +8,32 @@ use crate::span::Span;
 use exchange_text::{Arrival, Line};
 use std::alloc::{AllocError, Global};
 
-/// An exchange of command and answer that is under way.
+/// An unfinished exchange of command and answer.
 #[derive(Drop)]
 pub(crate) struct Begun {
     /// How many blocks were sent before it.
     pub(crate) before: usize,
-    /// Its blocks that were lost, by their numbers.
+    /// The numbers of its blocks that were lost.
     pub(crate) lost: Numbers,
-    /// Its blocks that arrived damaged.
+    /// The numbers of its blocks that arrived damaged.
     pub(crate) damaged: Numbers,
 }
 
-/// What is kept of the lines so far.
+/// The account of the lines so far.
 #[derive(Drop)]
 pub(crate) struct Account {
-    /// How many commands the application handed over.
+    /// How many commands the application passed.
     pub(crate) commands: usize,
     /// How many blocks both ends sent.
     pub(crate) sent: usize,
     /// The moments since the last exchange of command and answer ended.
     pub(crate) span: Span,
-    /// The exchange under way.
+    /// The unfinished exchange, if any.
     pub(crate) begun: Option<Begun>,
 }
 
 impl Account {
-    /// Nothing is kept before the first line.
+    /// Returns the account before the first line.
     pub(crate) fn new() -> Account
         ensures { result ≡ listing.start }
     {
@@ -45,7 +45,7 @@ impl Account {
         }
     }
 
-    /// What is kept after a line.
+    /// Returns the account after a line.
     pub(crate) fn after(self, alloc: Global, line: &Line) -> Result<Account, AllocError>
         requires commands { self.commands + 1 < 2 ^ 64 }
         requires sent { self.sent + 1 < 2 ^ 64 }
@@ -61,7 +61,7 @@ impl Account {
         }
     }
 
-    /// The application hands over a command.
+    /// Begins the exchange of a command.
     fn begin(self, alloc: Global) -> Account
         requires { self.commands + 1 < 2 ^ 64 }
         ensures { result ≡ listing.begins self }
@@ -79,7 +79,7 @@ impl Account {
         }
     }
 
-    /// The exchange under way ends.
+    /// Ends the unfinished exchange.
     fn end(self) -> Account
         ensures { result ≡ listing.ends self }
     {
@@ -91,7 +91,7 @@ impl Account {
         }
     }
 
-    /// An end sends a block.
+    /// Counts a block that an end sends.
     fn send(self, arrival: &Arrival) -> Result<Account, AllocError>
         requires { self.sent + 1 < 2 ^ 64 }
         ensures { IfOk result (λ account. account ≡ listing.sends self arrival.now) }
@@ -106,7 +106,7 @@ impl Account {
         })
     }
 
-    /// A moment comes.
+    /// Adds a moment.
     fn at(self, moment: u64) -> Account
         ensures { result ≡ listing.comes self moment }
     {
@@ -119,7 +119,7 @@ impl Account {
     }
 }
 
-/// The exchange under way, where there is one, with the block of this number.
+/// Returns the unfinished exchange, if any, with the block of this number.
 fn with_block_in(
     begun: Option<Begun>,
     number: usize,
@@ -134,7 +134,7 @@ fn with_block_in(
 }
 
 impl Begun {
-    /// The same with the block of this number.
+    /// Returns the exchange with the block of this number.
     fn with_block(self, number: usize, arrival: &Arrival) -> Result<Begun, AllocError>
         ensures { IfOk result (λ begun. begun ≡ listing.with_block number arrival.now self) }
     {

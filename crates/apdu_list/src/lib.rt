@@ -1,8 +1,8 @@
-//! The exchanges of command and answer in a recorded exchange, as a text: a line for each.
+//! Lists the exchanges of command and answer in a recorded exchange, as a text with a line for each.
 //!
-//! A line has the command, what the terminal had of it, how many blocks were sent for it, which of them were lost or
-//! damaged, and how long it took. `specs/Listing.antt` says what the lines of a recorded exchange come to, one after
-//! another, and [`list_apdus`] gives that text.
+//! A line has the command and its answer at the terminal. It says how many blocks were sent for it, which of them were
+//! lost or damaged, and how long it took. [`list_apdus`] returns the text. `specs/Listing.antt` says what each line of
+//! a recorded exchange adds to it.
 #![tactic(auto)]
 
 mod account;

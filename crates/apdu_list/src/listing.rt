@@ -10,21 +10,24 @@ use crate::span::Span;
 use exchange_text::{Exchange, Line, Name, push_message};
 use std::alloc::{AllocError, Global};
 
-/// The word in place of an answer where the file ends, or the next command comes, before.
+/// The word instead of an answer, if the file ends or the next command comes before one.
 const OPEN: &str = "open";
 
-/// The word for no blocks, and for a time that isn't known.
+/// The word for no blocks, and for an unknown time.
 const NONE: &str = "none";
 
-/// A line for each command of a recorded exchange, with what came of it.
+/// Returns a line for each command of a recorded exchange, with its outcome.
 ///
 /// `exchange N command OCTETS answer ANSWER blocks N lost LIST damaged LIST time TIME`
 ///
-/// The first N counts from 1, OCTETS are as in the file, ANSWER is OCTETS, `given-up`, `dead` or `open`, where none of
-/// these comes before the end or the next command. The second N says how many blocks were sent for it, LIST which of
-/// them, by their numbers with commas between them or `none`; blocks are counted from 1 over the whole file, in its
-/// order. TIME is the microseconds from the last moment before the command, or the first after it, to the last before
-/// the end of the exchange, and `none` without two moments.
+/// - The first N is the number of the command, from 1. OCTETS are as in the file.
+/// - ANSWER is OCTETS, `given-up`, `dead`, or `open` if no such line comes before the next command or the end.
+/// - The second N says how many blocks were sent for the command.
+/// - LIST has the numbers of the lost or damaged blocks, with commas between them, or is `none`.
+/// - Blocks are counted from 1 over the whole file, in order.
+/// - TIME is in microseconds, or `none` without two moments.
+/// - It begins at the last moment before the command, or the first after it.
+/// - It ends at the last moment before the end of the exchange.
 pub fn list_apdus(alloc: Global, exchange: &Exchange) -> Result<Vec<u8>, AllocError>
     ensures { IfOk result (λ text. text.items ≡ apdus_text exchange.now.lines) }
 {
@@ -33,7 +36,7 @@ pub fn list_apdus(alloc: Global, exchange: &Exchange) -> Result<Vec<u8>, AllocEr
     Ok(text.into_bytes())
 }
 
-/// Adds what lines come to.
+/// Appends the text of lines.
 fn push_lines(alloc: Global, text: &mut String, lines: &[Line]) -> Result<(), AllocError>
     ensures { OnOk result (string_bytes text.new ≡ string_bytes text.old ++ apdus_text lines.now) }
 {
@@ -45,7 +48,7 @@ fn push_lines(alloc: Global, text: &mut String, lines: &[Line]) -> Result<(), Al
     push_word(alloc, text, &account, OPEN)
 }
 
-/// Adds what a line brings to the text.
+/// Appends what a line adds to the text.
 fn push_line(
     alloc: Global,
     text: &mut String,
@@ -68,7 +71,7 @@ fn push_line(
     }
 }
 
-/// Adds the begin of a line: its number and the command.
+/// Appends the beginning of a line: its number and the command.
 fn push_command(
     alloc: Global,
     text: &mut String,
@@ -84,7 +87,7 @@ fn push_command(
     push_message(alloc, text, Name::Command, octets)
 }
 
-/// Adds the rest of the line that is begun, where one is, with octets for its answer.
+/// Appends the rest of the line that is begun, if any, with octets for its answer.
 fn push_answer(
     alloc: Global,
     text: &mut String,
@@ -104,7 +107,7 @@ fn push_answer(
     }
 }
 
-/// The same with a word in place of an answer.
+/// Appends the rest of the line that is begun, if any, with a word instead of an answer.
 fn push_word(
     alloc: Global,
     text: &mut String,
@@ -126,7 +129,7 @@ fn push_word(
     }
 }
 
-/// Adds what comes after an answer: the blocks and the time.
+/// Appends what comes after an answer: the blocks and the time.
 fn push_rest(
     alloc: Global,
     text: &mut String,
@@ -142,7 +145,7 @@ fn push_rest(
     text.push_str("\n")
 }
 
-/// Adds how many blocks were sent, and which of them were lost or damaged.
+/// Appends how many blocks were sent, and which of them were lost or damaged.
 fn push_blocks(
     alloc: Global,
     text: &mut String,
@@ -160,7 +163,7 @@ fn push_blocks(
     push_numbers(alloc, text, &begun.damaged)
 }
 
-/// Adds numbers with commas between them, or that there are none.
+/// Appends numbers with commas between them, or `none`.
 fn push_numbers(alloc: Global, text: &mut String, numbers: &Numbers) -> Result<(), AllocError>
     ensures { OnOk result (string_bytes text.new
         ≡ string_bytes text.old ++ listing.numbers_text numbers.now) }
@@ -174,7 +177,7 @@ fn push_numbers(alloc: Global, text: &mut String, numbers: &Numbers) -> Result<(
     }
 }
 
-/// Adds numbers, each with a comma before it.
+/// Appends numbers, each with a comma before it.
 fn push_more(alloc: Global, text: &mut String, numbers: &[usize]) -> Result<(), AllocError>
     ensures { OnOk result (string_bytes text.new
         ≡ string_bytes text.old ++ listing.more_text numbers.now) }
@@ -186,14 +189,14 @@ fn push_more(alloc: Global, text: &mut String, numbers: &[usize]) -> Result<(), 
     Ok(())
 }
 
-/// Adds a number in decimal digits.
+/// Appends a number in decimal digits.
 fn push_number(alloc: Global, text: &mut String, number: usize) -> Result<(), AllocError>
     ensures { OnOk result (string_bytes text.new ≡ string_bytes text.old ++ decimal number) }
 {
     text.push_str(format!(in alloc; "{number}")?.as_str())
 }
 
-/// Adds how many microseconds a span has.
+/// Appends how many microseconds a span has.
 fn push_time(alloc: Global, text: &mut String, span: Span) -> Result<(), AllocError>
     ensures { OnOk result (string_bytes text.new
         ≡ string_bytes text.old ++ listing.time_text span) }

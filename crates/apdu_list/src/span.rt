@@ -3,19 +3,19 @@
 ghost use Rattle.std.specs.Prelude.{◌≡◌};
 ghost use Rattle.apdu_list.specs.Listing as listing;
 
-/// What is known of the first and the last moment of an exchange of command and answer, in microseconds.
+/// What is known about the first and the last moment of an exchange of command and answer, in microseconds.
 #[derive(Clone, Copy)]
 pub(crate) enum Span {
-    /// None came.
+    /// No moment came.
     Unknown,
-    /// One came.
+    /// One moment came.
     Since(u64),
-    /// Two or more came, of which these are the first and the last.
+    /// Two or more moments came. These are the first and the last.
     Between(u64, u64),
 }
 
 impl Span {
-    /// The span with one more moment.
+    /// Returns the span with one more moment.
     pub(crate) fn until(self, moment: u64) -> Span
         ensures { result ≡ listing.until self moment }
     {
@@ -26,7 +26,7 @@ impl Span {
         }
     }
 
-    /// The span that begins with the last moment.
+    /// Returns the span that begins with the last moment.
     pub(crate) fn from_last(self) -> Span
         ensures { result ≡ listing.from_last self }
     {

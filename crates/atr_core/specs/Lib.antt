@@ -3,7 +3,7 @@ pub mod Atr
 pub mod Rates
 pub mod T1
 pub mod Waiting
--- what the code keeps between calls, what calls answer, and what is printed
+-- what the code keeps between calls, what calls return, and what is printed
 pub mod Partial
 pub mod Taking
 pub mod Stage

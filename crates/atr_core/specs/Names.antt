@@ -1,4 +1,4 @@
--- The names of reasons and faults, each that of its variant.
+-- The names of reasons and faults: the names of their variants.
 use Rattle.std.specs.Prelude.{ℕ, List, codes}
 use Rattle.atr_core.specs.declared.reason.AtrReason.{AtrReason}
 use Rattle.atr_core.specs.declared.reason.AtrReason.TheVariants as own

@@ -1,4 +1,4 @@
--- Answers to reset of which some octets have come: which octets these are.
+-- Unfinished answers to reset: the octets of them that have come.
 use Rattle.std.specs.Prelude.{◌≡◌, ℕ, ◌+◌, ◌%◌, ◌<◌, ◌≤◌, ◌||◌, List, [], ◌∷◌, ◌++◌, length, Bool, true, false, IsTrue, Option, Some, None, Result, Ok, Err, IfNone}
 use Rattle.std.specs.List.{AllByRecursion}
 use Rattle.octet_core.specs.Octets.{AreOctets, xor_of}
@@ -12,9 +12,9 @@ use Rattle.atr_core.specs.declared.partial.Partial.{Partial}
 use Rattle.atr_core.specs.declared.partial.Partial.TheVariants as partial
 use Rattle.atr_core.specs.Atr.{AtrParts, count_of, ts_of, announcing, goes_on, octets_of, up_to_td, interface_octets, needs_tck, spelling, IsAtr, IsReason}
 
--- ---- interface bytes under way
+-- ---- unfinished interface bytes
 
--- a byte, or 0 where one is awaited
+-- a byte, or 0 if it is awaited
 abbrev pub or_awaited : Bool → Option ℕ → Option ℕ
 or_awaited true o = Some 0
 or_awaited false o = o
@@ -36,7 +36,7 @@ told bytes left low = announcing (filled bytes left) left.td low
 abbrev pub no_bytes : Interface
 no_bytes = record { ta = None; tb = None; tc = None }
 
--- left is what the octet announces
+-- the octet announces exactly what is awaited
 abbrev pub Announces : Announced → ℕ → Type 0
 Announces left octet = told no_bytes left (octet % 16) ≡ octet
 
@@ -60,13 +60,13 @@ AwaitsTd left = (awaits_byte left ≡ false) × (left.td ≡ true)
 abbrev pub awaited_count : Announced → ℕ
 awaited_count left = count_of left.ta + count_of left.tb + count_of left.tc + count_of left.td
 
--- no byte has come that is after one that is awaited
+-- no byte has come that is after an awaited one
 pub record InOrder (bytes : Interface) (left : Announced) : Type 0 where
   pub ta : IsTrue left.ta → (bytes.ta ≡ None) × (bytes.tb ≡ None) × (bytes.tc ≡ None)
   pub tb : IsTrue left.tb → (bytes.tb ≡ None) × (bytes.tc ≡ None)
   pub tc : IsTrue left.tc → bytes.tc ≡ None
 
--- an interface byte x that comes changes the bytes and what is awaited so
+-- the interface byte x changes the bytes and what is awaited to `after` and `later`
 pub record Puts (bytes : Interface) (left : Announced) (x : ℕ) (after : Interface) (later : Announced) : Type 0 where
   pub ordered : InOrder after later
   pub same : (low : ℕ) → told after later low ≡ told bytes left low
@@ -80,12 +80,12 @@ abbrev pub first_under : Option ℕ → Interface → Interface → Interface
 first_under None first bytes = bytes
 first_under (Some protocol) first bytes = first
 
--- the TDs with those whose bytes come now
+-- the TDs, including the one whose bytes come now
 abbrev pub tds_under : Option ℕ → List Indicated → Interface → List Indicated
 tds_under None indicated bytes = indicated
 tds_under (Some protocol) indicated bytes = indicated ++ (record { protocol = protocol; bytes = bytes }) ∷ []
 
--- the bytes of T0, also while they come
+-- the bytes of T0, some of which may still be to come
 abbrev pub first_of : Header → Interface
 first_of h = first_under h.under h.first h.bytes
 
@@ -93,7 +93,7 @@ first_of h = first_under h.under h.first h.bytes
 abbrev pub tds_of : Header → List Indicated
 tds_of h = tds_under h.under h.indicated.items h.bytes
 
--- the octets from T0 on, where k historical bytes are announced
+-- the octets from T0 on, if T0 announces k historical bytes
 abbrev pub from_t0 : Option ℕ → Interface → List Indicated → Interface → Announced → ℕ → List ℕ
 from_t0 None first indicated bytes left k = told bytes left k ∷ octets_of bytes
 from_t0 (Some protocol) first indicated bytes left k =
@@ -107,7 +107,7 @@ header_checked h = from_t0 h.under h.first h.indicated.items h.bytes h.awaited h
 abbrev pub header_taken : Header → List ℕ
 header_taken h = ts_of h.convention ∷ header_checked h
 
--- the fields agree with the octets, and an answer of at most 33 octets goes on
+-- the fields agree with the octets, and an answer of at most 33 octets can continue
 pub record HeaderHolds (h : Header) : Type 0 where
   pub few : h.historical_len < 16
   pub protocols : AllByRecursion (λ x. x.protocol < 16) (tds_of h)
@@ -140,7 +140,7 @@ parts_of t = record {
       t.historical.items;
 }
 
--- the fields agree with the octets, and an answer of at most 33 octets goes on
+-- the fields agree with the octets, and an answer of at most 33 octets can continue
 pub record TailHolds (t : Tail) : Type 0 where
   pub few : t.historical_len < 16
   pub within : length t.historical.items ≤ t.historical_len
@@ -150,15 +150,15 @@ pub record TailHolds (t : Tail) : Type 0 where
   pub sum : t.sum ≡ xor_of (tail_checked t)
   pub most : 2 + length (interface_octets t.first t.indicated.items) + t.historical_len + count_of t.tck ≤ 33
 
--- more must come
+-- more octets must come
 abbrev pub TailAwaits : Tail → Type 0
 TailAwaits t = length t.historical.items + 1 ≤ t.historical_len + count_of t.tck
 
--- all have come, and no TCK is to come
+-- all octets have come, and there is no TCK
 abbrev pub TailEnds : Tail → Type 0
 TailEnds t = (length t.historical.items ≡ t.historical_len) × (t.tck ≡ false)
 
--- the octets after the interface bytes: more of them, the last, or refused at the last octet
+-- the result of the octets so far: more must come, the answer is whole, or the last octet is refused
 abbrev pub IsTailStep : List ℕ → Tail → Result Bool AtrReason → Type 0
 IsTailStep octets t (Ok false) = TailHolds t × TailAwaits t × (tail_taken t ≡ octets)
 IsTailStep octets t (Ok true) = TailHolds t × (length t.historical.items ≡ t.historical_len) × IsAtr (parts_of t) octets
@@ -166,7 +166,7 @@ IsTailStep octets t (Err reason) = IsReason reason octets
 
 -- ---- all stages
 
--- they are a whole answer
+-- the octets are a whole answer
 abbrev pub is_whole : Partial → Bool
 is_whole partial.Start = false
 is_whole (partial.Opened convention) = false
@@ -174,7 +174,7 @@ is_whole (partial.Header h) = false
 is_whole (partial.Tail t) = false
 is_whole (partial.Whole a) = true
 
--- what is kept agrees with the octets that have come, and more must come unless they are a whole answer
+-- the state agrees with the octets that have come, and more must come unless they are a whole answer
 abbrev pub Holds : Partial → Type 0
 Holds partial.Start = Unit {0}
 Holds (partial.Opened convention) = Unit {0}

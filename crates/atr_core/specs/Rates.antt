@@ -16,6 +16,6 @@ baud_rates = None ∷ Some 1 ∷ Some 2 ∷ Some 4 ∷ Some 8 ∷ Some 16 ∷ So
 abbrev pub ta1_of : AtrParts → ℕ
 ta1_of a = unwrap_or a.first.ta 0x11
 
--- Fi and Di of TA1; none where reserved
+-- Fi and Di of TA1; a reserved one is None
 abbrev pub rates_of : AtrParts → Option ℕ × Option ℕ
 rates_of a = (slice_index_or clock_rates (ta1_of a / 16) None, slice_index_or baud_rates (ta1_of a % 16) None)

@@ -1,4 +1,4 @@
--- When two readers of answers to reset are the same.
+-- When two readers of answers to reset are equal.
 use Rattle.std.specs.Prelude.{Bool, ℕ, List, [], ◌∷◌, ◌==◌, Option, Some, None}
 use Rattle.std.specs.Ordering.{on, eq_of_both}
 use Rattle.std.specs.Cmp.{IsEquivalence}
@@ -9,18 +9,18 @@ use Rattle.atr_core.specs.declared.reason.AtrReason.{AtrReason}
 use Rattle.atr_core.specs.declared.reason.AtrReason.TheVariants.{BadTs, TooLong, BadTck}
 use Rattle.atr_core.specs.Taking.{Taking}
 
--- a reason as a number of its own
+-- a number for each reason
 abbrev pub reason_number : AtrReason → ℕ
 reason_number BadTs = 0
 reason_number TooLong = 1
 reason_number BadTck = 2
 
--- a refusal as numbers of its own
+-- a list of numbers for each refusal
 abbrev pub refusal_numbers : Option (Refusal AtrReason) → List ℕ
 refusal_numbers None = []
 refusal_numbers (Some refusal) = refusal.place ∷ reason_number refusal.reason ∷ []
 
--- readers that have taken the same octets, or keep the same refusal
+-- the readers have taken the same octets, or keep the same refusal
 abbrev pub same_taking : Taking → Taking → Bool
 same_taking = eq_of_both (on (λ s. s.octets) (pointwise ◌==◌)) (on (λ s. refusal_numbers s.refusal) (pointwise ◌==◌))
 

@@ -1,4 +1,4 @@
--- What a reader of answers to reset keeps, and what a piece makes of it.
+-- The state of a reader of answers to reset, and how a piece changes it.
 use Rattle.std.specs.Prelude.{◌≡◌, ℕ, ◌+◌, ◌≤◌, List, [], ◌++◌, length, take, Some, None, false, Result, Ok, Err}
 use Rattle.octet_core.specs.Grammar.{IsStuck, self_ended}
 use Rattle.octet_core.specs.declared.stop.Refusal.{Refusal}
@@ -14,12 +14,13 @@ abbrev pub taking_of : Stage → Taking
 taking_of (Taken p) = record { octets = taken_of p; refusal = None }
 taking_of (Refused r) = record { octets = []; refusal = Some r }
 
--- what a reader keeps of an answer that goes on, or is whole, agrees with the octets that it has taken
+-- the state of an answer that can continue, or is whole, agrees with the octets that the reader has taken
 abbrev pub Agrees : Stage → List ℕ → Type 0
 Agrees (Taken p) octets = Holds p × (octets ≡ taken_of p)
 Agrees (Refused r) octets = Unit {0}
 
--- what a piece makes of the octets before it: so many of it are taken, all unless the answer ends, or one is refused
+-- The state after a piece, if t are the octets before it: n octets of the piece were taken, or one was refused. The
+-- n octets are the whole piece unless the answer ends in it.
 abbrev pub IsTaken : List ℕ → List ℕ → Partial → Result ℕ (Refusal AtrReason) → Type 0
 IsTaken t piece p (Ok n) = Holds p × (taken_of p ≡ t ++ take n piece) × (n ≤ length piece)
     × (is_whole p ≡ false → n ≡ length piece)

@@ -14,7 +14,7 @@ pub record T1Values : Type 0 where
   pub bwi : ℕ
   pub cwi : ℕ
 
--- 00 and FF are reserved as sizes
+-- the size isn't 00 or FF, which are reserved, and the indexes fit in nibbles
 pub record IsUsable (p : T1Values) : Type 0 where
   pub least : 1 ≤ p.ifsc
   pub most : p.ifsc ≤ 254
@@ -50,7 +50,7 @@ chooses_crc a = unwrap_or (first_for_t1 (λ bytes. bytes.tc) a) 0 % 2 == 1
 abbrev pub t1_values_of : AtrParts → T1Values
 t1_values_of a = record { ifsc = ifsc_of a; bwi = waiting_of a / 16; cwi = waiting_of a % 16 }
 
--- the parameters of T=1, or the first reason that there are none
+-- the parameters of T=1, or the first fault that holds
 abbrev pub t1_params_of : AtrParts → Result T1Values ParamFault
 t1_params_of a =
     if offers_t1 a.indicated

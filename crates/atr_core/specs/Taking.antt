@@ -1,11 +1,11 @@
--- Answers to reset that come in pieces: what a reader has taken.
+-- What a reader of answers to reset that come in pieces has taken.
 use Rattle.std.specs.Prelude.{◌≡◌, ℕ, List, [], Option, None}
 use Rattle.octet_core.specs.Grammar.{Begins}
 use Rattle.octet_core.specs.declared.stop.Refusal.{Refusal}
 use Rattle.atr_core.specs.declared.reason.AtrReason.{AtrReason}
 use Rattle.atr_core.specs.Atr.{IsAtr}
 
--- what a reader shows: the octets that it has taken, and the refusal that it keeps
+-- what contracts see of a reader: the octets that it has taken, and the refusal that it keeps
 pub record Taking : Type 0 where
   pub octets : List ℕ
   pub refusal : Option (Refusal AtrReason)

@@ -6,10 +6,10 @@ use Rattle.atr_core.specs.T1.{T1Values}
 abbrev pub character_waiting : T1Values → ℕ
 character_waiting v = 11 + 2 ^ v.cwi
 
--- the block waiting time is 11 elementary time units and so many cycles of a clock of which 372 are a unit
+-- the block waiting time without its 11 elementary time units, in cycles of the clock
 abbrev pub block_cycles : T1Values → ℕ
 block_cycles v = 2 ^ v.bwi * (960 * 372)
 
--- the block waiting time, where an elementary time unit is `fi / di` cycles of the clock: in parts, `fi` of which are a unit
+-- the block waiting time in units of 1/fi of an elementary time unit, which is `fi / di` cycles of the clock
 abbrev pub block_waiting : T1Values → ℕ → ℕ → ℕ
 block_waiting v fi di = 11 * fi + block_cycles v * di

@@ -8,7 +8,7 @@ ghost use Rattle.atr_core.specs.Atr.{AtrParts, IsProper, interface_octets, needs
 use arrayvec::ArrayVec;
 use std::marker::Model;
 
-/// How the characters of a card code octets, which TS tells (ISO/IEC 7816-3, clause 8.2).
+/// How the characters of a card encode octets, as TS says (ISO/IEC 7816-3, clause 8.2).
 #[derive(Clone, Copy, Debug, PartialEq, Eq)]
 pub enum Convention {
     /// TS is 3B.
@@ -17,7 +17,7 @@ pub enum Convention {
     Inverse,
 }
 
-/// The interface bytes TA, TB and TC that T0 or one TD announces, `None` for one that doesn't stand.
+/// The interface bytes TA, TB and TC that T0 or one TD announces. An absent one is `None`.
 #[derive(Clone, Copy, Debug, Default, PartialEq, Eq)]
 pub struct Interface {
     pub ta: Option<u8>,
@@ -26,7 +26,7 @@ pub struct Interface {
 }
 
 impl Interface {
-    /// Each of these bytes, or that of `other` where it doesn't stand.
+    /// Returns each of these bytes, or that of `other` if it is absent.
     pub(crate) fn or(self, other: Interface) -> Interface
         ensures ta { result.ta ≡ option_or self.ta other.ta }
         ensures tb { result.tb ≡ option_or self.tb other.tb }
@@ -39,7 +39,7 @@ impl Interface {
         }
     }
 
-    /// How many of the bytes stand.
+    /// Returns how many of the bytes are present.
     fn count(self) -> usize
         ensures value { result ≡ length (octets_of self) }
         ensures few { result ≤ 3 }
@@ -50,7 +50,7 @@ impl Interface {
     }
 }
 
-/// One TD: the number of the protocol that it indicates, and the TA, TB and TC after it.
+/// One TD: the number of the protocol that it indicates, and the TA, TB and TC that it announces.
 #[derive(Clone, Copy, Debug, Default, PartialEq, Eq)]
 pub struct Indicated {
     /// T, at most 15 in an answer.
@@ -58,8 +58,8 @@ pub struct Indicated {
     pub bytes: Interface,
 }
 
-/// An answer to reset (ISO/IEC 7816-3, clause 8.2). Its spelling has at most 33 octets, and each
-/// protocol is at most 15. TCK is no field: the others give it.
+/// An answer to reset (ISO/IEC 7816-3, clause 8.2). Its encoding has at most 33 octets, and each
+/// protocol is at most 15. There is no field for TCK, which the other fields determine.
 #[derive(Debug, Drop, PartialEq, Eq)]
 pub struct Atr {
     convention: Convention,
@@ -68,7 +68,7 @@ pub struct Atr {
     historical: ArrayVec<u8, 15>,
 }
 
-/// The most octets of an answer to reset.
+/// The greatest number of octets of an answer to reset.
 pub(crate) const MOST_OCTETS: usize = 33;
 
 impl Model for Atr {
@@ -102,8 +102,8 @@ impl Model for Atr {
 }
 
 impl Atr {
-    /// The answer with these parts, exactly where each protocol is at most 15 and the spelling has at
-    /// most 33 octets; else `None`.
+    /// Makes an answer of its parts. The result is `None` if a protocol is greater than 15, or the
+    /// encoding has more than 33 octets.
     pub fn new(
         convention: Convention,
         first: Interface,
@@ -133,7 +133,7 @@ impl Atr {
         })
     }
 
-    /// The answer with these parts, which are known to be proper.
+    /// Makes an answer of parts that are known to be proper.
     pub(crate) fn of_parts(
         convention: Convention,
         first: Interface,
@@ -163,21 +163,21 @@ impl Atr {
         }
     }
 
-    /// How the card codes octets: TS.
+    /// Returns how the card encodes octets, as TS says.
     pub fn convention(&self) -> Convention
         ensures { result ≡ self.now.convention }
     {
         self.convention
     }
 
-    /// The interface bytes that T0 announces: TA1, TB1 and TC1.
+    /// Returns the interface bytes that T0 announces: TA1, TB1 and TC1.
     pub fn first(&self) -> Interface
         ensures { result ≡ self.now.first }
     {
         self.first
     }
 
-    /// The TDs in their order, at most 31, each with the interface bytes that it announces.
+    /// Returns the TDs in their order, at most 31, each with the interface bytes that it announces.
     pub fn indicated(&self) -> &[Indicated]
         ensures value { result.now ≡ self.now.indicated }
         ensures proper { IsProper self.now }
@@ -186,7 +186,7 @@ impl Atr {
         self.indicated.as_slice()
     }
 
-    /// The historical bytes.
+    /// Returns the historical bytes.
     pub fn historical(&self) -> &[u8]
         ensures value { result.now ≡ self.now.historical }
         ensures proper { IsProper self.now }
@@ -195,7 +195,7 @@ impl Atr {
     }
 }
 
-/// How many interface bytes and TDs stand.
+/// Returns how many interface bytes and TDs are present.
 fn interface_len(first: Interface, indicated: &[Indicated]) -> usize
     requires { length indicated.now ≤ 31 }
     ensures value { result ≡ length (interface_octets first indicated.now) }
@@ -204,7 +204,7 @@ fn interface_len(first: Interface, indicated: &[Indicated]) -> usize
     first.count() + after_len(indicated)
 }
 
-/// How many TDs and interface bytes after TDs stand.
+/// Returns how many TDs, and interface bytes after TDs, are present.
 fn after_len(indicated: &[Indicated]) -> usize
     requires { length indicated.now ≤ 31 }
     ensures { result ≡ sum_by (λ x. 1 + length (octets_of x.bytes)) indicated.now }
@@ -212,14 +212,14 @@ fn after_len(indicated: &[Indicated]) -> usize
     indicated.iter().map(|x| 1 + x.bytes.count()).sum()
 }
 
-/// Whether each protocol fits into the low nibble of its TD.
+/// Whether each protocol fits in the low nibble of its TD.
 fn are_protocols(indicated: &[Indicated]) -> bool
     ensures { IsTrue result ↔ AllByRecursion (λ x. x.protocol < 16) indicated.now }
 {
     indicated.iter().all(|x| x.protocol < 16)
 }
 
-/// Whether there is a TCK: where some protocol other than T=0 is indicated.
+/// Whether there is a TCK: there is one if a protocol other than T=0 is indicated.
 pub(crate) fn has_tck(indicated: &[Indicated]) -> bool
     ensures { result ≡ needs_tck indicated.now }
 {

@@ -1,4 +1,4 @@
-//! Octets as an answer to reset.
+//! Decoding of answers to reset.
 
 ghost use Rattle.std.specs.Prelude.{IfOk, IfErr};
 ghost use Rattle.octet_core.specs.Grammar.{Accepts, Refuses, self_ended};
@@ -10,11 +10,11 @@ use crate::whole::Parts;
 use crate::{Atr, AtrReason};
 use octet_core::Stop;
 
-/// The answer to reset with which the octets begin, and how many octets it takes; what follows is
-/// left (ISO/IEC 7816-3, clause 8.2).
+/// Decodes the answer to reset at the front of the octets (ISO/IEC 7816-3, clause 8.2). Returns the answer,
+/// and how many octets it takes. What follows it isn't read.
 ///
-/// Else the octets are refused at the first one after which no answer goes on, with its reason, or
-/// are short where they end and an answer could go on.
+/// The error is `At` the first octet after which no answer can continue, with the reason. It is `Short` at
+/// the end of the octets if an answer could continue there.
 pub fn decode(octets: &[u8]) -> Result<(Atr, usize), Stop<AtrReason>>
     ensures found { IfOk result (λ found. Accepts self_ended IsAtr octets.now found.0 found.1) }
     ensures refused { IfErr result (λ stop. Refuses self_ended IsAtr IsReason octets.now stop) }
@@ -26,8 +26,8 @@ pub fn decode(octets: &[u8]) -> Result<(Atr, usize), Stop<AtrReason>>
     }
 }
 
-/// How many octets the answer to reset takes with which the octets begin: the verdict of [`decode`], without
-/// the answer.
+/// Returns how many octets the answer to reset at the front of the octets takes. The verdict is that of
+/// [`decode`], without the answer.
 #[inline(always)]
 pub fn check(octets: &[u8]) -> Result<usize, Stop<AtrReason>>
     ensures found { IfOk result (λ count. (atr : AtrParts)
@@ -40,8 +40,8 @@ pub fn check(octets: &[u8]) -> Result<usize, Stop<AtrReason>>
     }
 }
 
-/// The verdict of [`check`] octet by octet. It stands apart, so that `check` has no room for an answer, which
-/// each call would clear.
+/// Returns the verdict of [`check`], octet by octet. This is a separate function so that `check` has no local
+/// answer, which each call would clear.
 #[inline(never)]
 fn len_by_octets(octets: &[u8]) -> Result<usize, Stop<AtrReason>>
     ensures found { IfOk result (λ count. (atr : AtrParts)
@@ -54,7 +54,7 @@ fn len_by_octets(octets: &[u8]) -> Result<usize, Stop<AtrReason>>
     }
 }
 
-/// The verdict of [`decode`] octet by octet, which tells the place and the reason of a refusal.
+/// Returns the verdict of [`decode`], octet by octet, with the place and the reason of a refusal.
 #[inline(never)]
 fn by_octets(octets: &[u8]) -> Result<(Atr, usize), Stop<AtrReason>>
     ensures found { IfOk result (λ found. Accepts self_ended IsAtr octets.now found.0 found.1) }

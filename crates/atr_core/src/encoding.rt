@@ -1,4 +1,4 @@
-//! The spelling of an answer to reset.
+//! Encoding of answers to reset.
 
 ghost use Rattle.std.specs.Prelude.{◌≡◌, ◌+◌, ◌<◌, ◌≤◌, ◌++◌, length};
 ghost use Rattle.std.specs.Option.{option_to_list};
@@ -12,7 +12,7 @@ use crate::{Atr, Convention, Indicated, Interface};
 use arrayvec::ArrayVec;
 use octet_core::lrc;
 
-/// The octets that spell the answer, from TS to TCK (ISO/IEC 7816-3, clause 8.2).
+/// Encodes the answer, from TS to TCK (ISO/IEC 7816-3, clause 8.2).
 pub fn encode(atr: &Atr) -> ArrayVec<u8, 33>
     ensures { IsAtr atr.now result.items }
 {
@@ -26,8 +26,8 @@ pub fn encode(atr: &Atr) -> ArrayVec<u8, 33>
 }
 
 impl Atr {
-    /// TCK, which makes the exclusive-or of all octets from T0 on 00; `None` where only T=0 is
-    /// indicated, also by default.
+    /// Returns TCK, which makes the exclusive-or of all octets from T0 on 00. It is `None` if only T=0
+    /// is indicated, or no protocol is.
     pub fn tck(&self) -> Option<u8>
         ensures { result ≡ tck_of self.now }
     {
@@ -36,8 +36,9 @@ impl Atr {
 }
 
 impl Indicated {
-    /// The octet of the TD: its high nibble announces the bytes that follow it, with `more` another TD
-    /// among them, its low nibble is the protocol, at most 15 (ISO/IEC 7816-3, clause 8.2).
+    /// Returns the octet of the TD (ISO/IEC 7816-3, clause 8.2). Its high nibble announces the bytes
+    /// that follow it, including another TD if `more` is true. Its low nibble is the protocol, at most
+    /// 15.
     pub fn octet(self, more: bool) -> u8
         requires { self.protocol < 16 }
         ensures { result ≡ announcing self.bytes more self.protocol }
@@ -46,7 +47,7 @@ impl Indicated {
     }
 }
 
-/// TS of a convention.
+/// Returns TS for a convention.
 fn ts(convention: Convention) -> u8
     ensures { result ≡ ts_of convention }
 {
@@ -56,7 +57,7 @@ fn ts(convention: Convention) -> u8
     }
 }
 
-/// The octets that TCK checks: from T0 to the last historical byte.
+/// Returns the octets that TCK checks: from T0 to the last historical byte.
 fn checked_octets(atr: &Atr) -> ArrayVec<u8, 32>
     ensures value { result.items ≡ checked_octets atr.now }
     ensures proper { IsProper atr.now }
@@ -88,7 +89,7 @@ fn push_indicated(octets: &mut ArrayVec<u8, 32>, indicated: &[Indicated])
     }
 }
 
-/// T0 or a TD: the bits of the bytes that follow, and the low nibble.
+/// Returns T0 or a TD: the bits of the bytes that follow, and the low nibble.
 fn announcing(bytes: Interface, td: bool, low: u8) -> u8
     requires { low < 16 }
     ensures { result ≡ announcing bytes td low }
@@ -100,7 +101,7 @@ fn announcing(bytes: Interface, td: bool, low: u8) -> u8
         + low
 }
 
-/// The bit that announces an interface byte, 0 where it doesn't stand.
+/// Returns the bit that announces an interface byte, 0 if the byte is absent.
 fn bit(byte: Option<u8>, weight: u8) -> u8
     ensures value { result ≡ bit_of byte weight }
     ensures most { result ≤ weight }
@@ -108,7 +109,7 @@ fn bit(byte: Option<u8>, weight: u8) -> u8
     if byte.is_some() { weight } else { 0 }
 }
 
-/// Appends the interface bytes that stand.
+/// Appends the interface bytes that are present.
 fn push_bytes(octets: &mut ArrayVec<u8, 32>, bytes: Interface)
     requires { array_vec_len octets.old + length (octets_of bytes) ≤ 32 }
     ensures { octets.new.items ≡ octets.old.items ++ octets_of bytes }
@@ -118,7 +119,7 @@ fn push_bytes(octets: &mut ArrayVec<u8, 32>, bytes: Interface)
     push_byte(octets, bytes.tc);
 }
 
-/// Appends an interface byte, if it is there.
+/// Appends an interface byte, if it is present.
 fn push_byte(octets: &mut ArrayVec<u8, 32>, byte: Option<u8>)
     requires { array_vec_len octets.old + length (option_to_list byte) ≤ 32 }
     ensures { octets.new.items ≡ octets.old.items ++ option_to_list byte }

@@ -1,4 +1,4 @@
-//! How long a whole answer to reset is, in one pass that keeps none of its parts.
+//! The length of a whole answer to reset, computed in one pass that keeps none of its parts.
 
 ghost use Rattle.std.specs.Prelude.{◌+◌, ◌≤◌, IfSome, false, length};
 ghost use Rattle.octet_core.specs.Grammar.{Accepts, self_ended};
@@ -8,8 +8,8 @@ ghost use Rattle.atr_core.specs.Whole.{HasHeadBefore};
 use crate::partial::{Announced, opened};
 use crate::whole::ended_after;
 
-/// How many octets the answer takes with which the octets begin. `None` where they begin with none; why is
-/// not told.
+/// Returns how many octets the answer at the front of the octets takes. The result is `None` if there is no
+/// whole answer there; it doesn't say why.
 #[inline]
 pub(crate) fn whole_len(octets: &[u8]) -> Option<usize>
     ensures { IfSome result (λ count. (v : AtrParts)
@@ -29,8 +29,8 @@ pub(crate) fn whole_len(octets: &[u8]) -> Option<usize>
     ended_after(checked, from, tck, needed)
 }
 
-/// Skips the interface bytes and TDs of the octets from T0 on: whether they need TCK, and the place after the
-/// last. Octets that end before that place don't have all of them.
+/// Skips the interface bytes and TDs of the octets from T0 on. Returns whether they require a TCK, and the
+/// place after the last of them. If the octets end before that place, some of these bytes are missing.
 #[inline]
 fn skip_head(t0: u8, from: &[u8]) -> Option<(bool, usize)>
     ensures passed { IfSome result (λ head. HasHeadBefore t0 from.now head.0 false head.1) }

@@ -1,10 +1,10 @@
-//! Answers to reset (ISO/IEC 7816-3, clause 8): the first octets of a card, as a value and as octets,
+//! Answers to reset (ISO/IEC 7816-3, clause 8): decoding and encoding of the first octets that a card sends,
 //! and what they say about the rates and about T=1.
 //!
-//! `specs/Atr.antt` has the grammar: TS, T0, the interface bytes, the historical bytes and TCK as a
-//! function of the value. [`decode`] answers the verdict of that grammar, [`check`] the same without the value,
-//! and [`encode`] its spelling.
-//! `specs/T1.antt` and `specs/Rates.antt` have what the interface bytes mean. No call takes memory.
+//! `specs/Atr.antt` has the grammar: TS, T0, the interface bytes, the historical bytes and TCK as a function of
+//! the value. [`decode`] returns the verdict of that grammar, [`check`] returns it without the value, and
+//! [`encode`] returns the encoding. `specs/T1.antt` and `specs/Rates.antt` define what the interface bytes
+//! mean. No call allocates.
 #![tactic(auto)]
 
 pub mod atr;

@@ -11,13 +11,13 @@ use std::error::Error;
 use std::fmt::{self, Display, Formatter, Write};
 use std::marker::Model;
 
-/// IFSC where there is no TA for T=1.
+/// IFSC if there is no TA for T=1.
 const DEFAULT_IFSC: u8 = 32;
 
-/// BWI 4 and CWI 13, where there is no TB for T=1.
+/// BWI 4 and CWI 13, if there is no TB for T=1.
 const DEFAULT_WAITING: u8 = 0x4D;
 
-/// The LRC, where there is no TC for T=1.
+/// The choice of the LRC, if there is no TC for T=1.
 const DEFAULT_CODE: u8 = 0;
 
 /// The parameters of T=1 (ISO/IEC 7816-3, clause 11.4).
@@ -41,8 +41,8 @@ impl Model for T1Params {
 }
 
 impl T1Params {
-    /// The parameters with these values, exactly where `ifsc` is neither 0 nor 255 and the indexes are
-    /// at most 15; else `None`.
+    /// Makes parameters with these values. The result is `None` if `ifsc` is 0 or 255, or an index is
+    /// greater than 15.
     pub fn new(ifsc: u8, bwi: u8, cwi: u8) -> Option<T1Params>
         ensures { let values : T1Values = record { ifsc = ifsc; bwi = bwi; cwi = cwi } in
             SomeIff result (IsUsable values) values }
@@ -53,7 +53,7 @@ impl T1Params {
         Some(T1Params { ifsc, bwi, cwi })
     }
 
-    /// The most octets of an information field that the card takes, 1 to 254.
+    /// Returns the greatest number of octets of an information field that the card takes, 1 to 254.
     pub fn ifsc(&self) -> u8
         ensures value { result ≡ self.now.ifsc }
         ensures least { 1 ≤ result }
@@ -62,7 +62,7 @@ impl T1Params {
         self.ifsc
     }
 
-    /// The index of the block waiting time, at most 15.
+    /// Returns the index of the block waiting time, at most 15.
     pub fn bwi(&self) -> u8
         ensures value { result ≡ self.now.bwi }
         ensures most { result ≤ 15 }
@@ -70,7 +70,7 @@ impl T1Params {
         self.bwi
     }
 
-    /// The index of the character waiting time, at most 15.
+    /// Returns the index of the character waiting time, at most 15.
     pub fn cwi(&self) -> u8
         ensures value { result ≡ self.now.cwi }
         ensures most { result ≤ 15 }
@@ -78,10 +78,10 @@ impl T1Params {
         self.cwi
     }
 
-    /// The character waiting time CWT in elementary time units: 11 + 2^CWI, so 12 to 32,779.
+    /// Returns the character waiting time CWT in elementary time units: 11 + 2^CWI, so 12 to 32,779.
     ///
-    /// It is the longest time between the leading edges of two characters of one block (ISO/IEC 7816-3,
-    /// clause 11.4).
+    /// This is the longest time between the leading edges of two consecutive characters of a block
+    /// (ISO/IEC 7816-3, clause 11.4).
     pub fn cwt_etu(&self) -> u32
         ensures value { result ≡ character_waiting self.now }
         ensures most { result ≤ 32779 }
@@ -89,11 +89,11 @@ impl T1Params {
         11 + (1 << self.cwi)
     }
 
-    /// The part of the block waiting time BWT after its 11 elementary time units, in cycles of the card's
+    /// Returns the block waiting time BWT without its 11 elementary time units, in cycles of the card's
     /// clock: 2^BWI x 960 x 372.
     ///
-    /// BWT is the longest time between the leading edge of the last character of a block that the card
-    /// received and that of the first character of its answer (ISO/IEC 7816-3, clause 11.4).
+    /// BWT is the longest time between two leading edges: that of the last character of a block that the
+    /// card received, and that of the first character of its answer (ISO/IEC 7816-3, clause 11.4).
     pub fn bwt_cycles(&self) -> u64
         ensures value { result ≡ block_cycles self.now }
         ensures most { result ≤ 11702108160 }
@@ -101,12 +101,12 @@ impl T1Params {
         (1 << self.bwi) * 357_120
     }
 
-    /// The block waiting time BWT in parts of an elementary time unit, `fi` of which are one unit:
-    /// 11 x `fi` + 2^BWI x 960 x 372 x `di`.
+    /// Returns the block waiting time BWT in units of 1/`fi` of an elementary time unit: 11 x `fi` +
+    /// 2^BWI x 960 x 372 x `di`.
     ///
-    /// `fi` and `di` are the integers Fi and Di that are in use, 372 and 1 until others are negotiated
-    /// ([`rates`](crate::rates) says which the card offers). No fraction is lost: divide by `fi` for
-    /// elementary time units, or by `di` and the clock's frequency for seconds, and round up.
+    /// `fi` and `di` are the integers Fi and Di that are in use: 372 and 1 until others are negotiated.
+    /// [`rates`](crate::rates) returns those that the card offers. No fraction is lost: divide by `fi`
+    /// for elementary time units, or by `di` and the clock's frequency for seconds, and round up.
     pub fn bwt(&self, fi: u16, di: u16) -> u64
         ensures { result ≡ block_waiting self.now fi di }
     {
@@ -114,14 +114,14 @@ impl T1Params {
     }
 }
 
-/// Why an answer to reset gives no parameters of T=1.
+/// Why an answer to reset has no parameters of T=1.
 #[derive(Clone, Copy, Debug, PartialEq, Eq)]
 pub enum ParamFault {
     /// No TD indicates T=1.
     NoT1,
     /// IFSC is 00 or FF, which are reserved.
     ReservedIfsc,
-    /// The CRC is chosen as redundancy code, which this stack doesn't do.
+    /// The CRC is chosen as the redundancy code. This stack doesn't support it.
     Crc,
 }
 
@@ -139,7 +139,7 @@ impl Named for ParamFault {
     }
 }
 
-/// The fault's name.
+/// Writes the fault's name.
 impl Display for ParamFault {
     ghost use Rattle.std.specs.Prelude.{Some};
     ghost use Rattle.atr_core.specs.Names.{param_fault_name};
@@ -153,9 +153,11 @@ impl Display for ParamFault {
 
 impl Error for ParamFault {}
 
-/// The parameters of T=1 that the answer gives, by the first TA, TB and TC for T=1, each found apart
-/// after the second TD or a later one, or their defaults 20, 4D and 00 (ISO/IEC 7816-3, clause
-/// 11.4). Else the first of the faults that holds, in the order of [`ParamFault`].
+/// Returns the parameters of T=1 in the answer. They are in the first TA, the first TB and the first TC
+/// for T=1, which may be after different TDs, the second or a later one. Their defaults are 20, 4D and 00
+/// (ISO/IEC 7816-3, clause 11.4).
+///
+/// The error is the first fault that holds, in the order of [`ParamFault`].
 pub fn t1_params(atr: &Atr) -> Result<T1Params, ParamFault>
     ensures { result ≡ t1_params_of atr.now }
 {
@@ -185,7 +187,8 @@ fn offers_t1(indicated: &[Indicated]) -> bool
     indicated.iter().any(|x| x.protocol == 1)
 }
 
-/// The first TA, TB and TC after TDs that indicate T=1, each apart.
+/// Returns the first TA, the first TB and the first TC after TDs that indicate T=1, which may be
+/// different TDs.
 fn first_after_t1(indicated: &[Indicated]) -> Interface
     ensures ta { result.ta ≡ first_after_t1 (λ bytes. bytes.ta) indicated.now }
     ensures tb { result.tb ≡ first_after_t1 (λ bytes. bytes.tb) indicated.now }

@@ -1,4 +1,4 @@
-//! An answer to reset of which some octets have come, octet by octet.
+//! An unfinished answer to reset, taken octet by octet.
 
 ghost use Rattle.std.specs.Prelude.{◌≡◌, ℕ, List, MatchOption, ◌+◌, ◌<◌, ◌≤◌, ◌/◌, ◌%◌, ◌++◌, [], ◌∷◌, true, false, IfOk, IfErr, IfSome, IfNone, IsTrue, MatchBool, length, not, ◌||◌, ◌==◌};
 ghost use Rattle.atr_core.specs.Atr.{AtrParts, IsAtr, IsReason, count_of, ts_of};
@@ -11,7 +11,7 @@ use arrayvec::ArrayVec;
 /// The octets of an answer that have come.
 #[derive(Drop)]
 pub(crate) enum Partial {
-    /// None: TS is next.
+    /// No octets: TS is next.
     Start,
     /// TS: T0 is next.
     Opened(Convention),
@@ -19,11 +19,11 @@ pub(crate) enum Partial {
     Header(Header),
     /// A historical byte or TCK is next.
     Tail(Tail),
-    /// All of them.
+    /// All octets of an answer.
     Whole(Atr),
 }
 
-/// TS, T0 and interface bytes.
+/// TS, T0 and interface bytes, not all of which have come.
 #[derive(Drop)]
 pub(crate) struct Header {
     convention: Convention,
@@ -33,11 +33,11 @@ pub(crate) struct Header {
     first: Interface,
     /// The TDs whose bytes have all come.
     indicated: ArrayVec<Indicated, 31>,
-    /// The protocol of the TD whose bytes come now; `None` where those of T0 do.
+    /// The protocol of the TD whose bytes come now, or `None` if those of T0 do.
     under: Option<u8>,
-    /// Those bytes, as far as they have come.
+    /// Those of them that have come.
     bytes: Interface,
-    /// What the same T0 or TD announces and hasn't come.
+    /// Those of them that haven't come.
     awaited: Announced,
     /// Whether there is a TCK: some protocol isn't 0.
     tck: bool,
@@ -47,7 +47,7 @@ pub(crate) struct Header {
     count: usize,
 }
 
-/// All up to the interface bytes, and historical bytes.
+/// All octets up to the last interface byte, and some of the historical bytes.
 #[derive(Drop)]
 pub(crate) struct Tail {
     convention: Convention,
@@ -72,14 +72,14 @@ pub(crate) struct Announced {
 }
 
 impl Partial {
-    /// Whether they are a whole answer, after which none is taken.
+    /// Whether the octets are a whole answer. No octet is taken after it.
     pub(crate) fn is_whole(&self) -> bool
         ensures { result ≡ is_whole self.now }
     {
         matches!(self, Partial::Whole(_))
     }
 
-    /// The answer, once it is whole.
+    /// Returns the answer, once it is whole.
     pub(crate) fn answer(&self) -> Option<&Atr>
         requires { Holds self.now }
         ensures { (t : List ℕ) → t ≡ taken_of self.now
@@ -91,7 +91,7 @@ impl Partial {
         }
     }
 
-    /// Takes the next octet, or says why no answer goes on.
+    /// Takes the next octet. The error is why no answer can continue with it.
     pub(crate) fn take(&mut self, octet: u8) -> Result<(), AtrReason>
         requires holds { Holds self.old }
         requires unended { is_whole self.old ≡ false }
@@ -118,7 +118,7 @@ impl Partial {
     }
 }
 
-/// What TS says.
+/// Returns the convention that TS says.
 pub(crate) fn opened(ts: u8) -> Result<Convention, AtrReason>
     ensures is { IfOk result (λ convention. ts_of convention ≡ ts) }
     ensures refused { IfErr result (λ reason. IsReason reason (ts ∷ [])) }
@@ -131,7 +131,7 @@ pub(crate) fn opened(ts: u8) -> Result<Convention, AtrReason>
 }
 
 impl Announced {
-    /// What the high nibble of T0 or of a TD announces.
+    /// Returns what the high nibble of T0 or of a TD announces.
     pub(crate) fn by(octet: u8) -> Announced
         ensures { Announces result octet }
     {
@@ -143,7 +143,7 @@ impl Announced {
         }
     }
 
-    /// How many of TA, TB and TC follow.
+    /// Returns how many of TA, TB and TC follow.
     #[inline]
     pub(crate) fn byte_count(self) -> usize
         ensures value { result ≡ count_of self.ta + count_of self.tb + count_of self.tc }
@@ -168,7 +168,7 @@ impl Announced {
 }
 
 impl Interface {
-    /// The bytes with the first one that is awaited, and what is awaited then.
+    /// Puts the first byte that is awaited. Returns the bytes, and what is still awaited.
     fn with(self, awaited: Announced, octet: u8) -> (Interface, Announced)
         requires ordered { InOrder self awaited }
         requires awaited { AwaitsByte awaited }
@@ -215,7 +215,7 @@ impl Interface {
 }
 
 impl Header {
-    /// After TS and T0.
+    /// Starts after TS and T0.
     fn new(convention: Convention, t0: u8) -> Header
         ensures holds { HeaderHolds result }
         ensures taken { header_taken result ≡ ts_of convention ∷ t0 ∷ [] }
@@ -234,7 +234,8 @@ impl Header {
         }
     }
 
-    /// What has come after TS and T0: all up to the interface bytes where none is announced.
+    /// Returns the state after the last octet. If no further interface byte is announced, all of
+    /// them have come.
     fn settled(self) -> Partial
         requires { HeaderHolds self }
         ensures { IsNow (header_taken self) result }
@@ -246,7 +247,7 @@ impl Header {
         header.end().settled()
     }
 
-    /// Takes an interface byte or a TD: whether it is the last.
+    /// Takes an interface byte or a TD. Returns whether it is the last one.
     fn take(&mut self, octet: u8) -> Result<bool, AtrReason>
         requires holds { HeaderHolds self.old }
         requires announced { is_announced self.old.awaited ≡ true }
@@ -277,7 +278,7 @@ impl Header {
         self.count += 1;
     }
 
-    /// Takes a TD, or refuses it as too long.
+    /// Takes a TD. The error is `TooLong` if the answer would have more than 33 octets.
     fn take_td(&mut self, octet: u8) -> Result<(), AtrReason>
         requires holds { HeaderHolds self.old }
         requires awaited { AwaitsTd self.old.awaited }
@@ -303,7 +304,7 @@ impl Header {
         Ok(())
     }
 
-    /// Puts the bytes under way to those of T0 or to the TDs whose bytes have all come.
+    /// Moves the bytes that came now to `first` or, with their TD, to `indicated`.
     fn close_section(&mut self)
         requires { length self.old.indicated.items < 31 }
         ensures { self.new ≡ record self.old
@@ -318,7 +319,7 @@ impl Header {
         }
     }
 
-    /// After the last interface byte.
+    /// Returns the state after the last interface byte.
     fn end(&mut self) -> Tail
         requires holds { HeaderHolds self.old }
         requires none { is_announced self.old.awaited ≡ false }
@@ -338,7 +339,8 @@ impl Header {
     }
 }
 
-/// Whether a TCK is after a TD with this protocol; `before` says it of the TDs before it.
+/// Whether there is a TCK if a TD has this protocol. `before` says whether the TDs before it
+/// require one.
 fn needs_tck_after(protocol: u8, before: bool) -> bool
     ensures { result ≡ (not (protocol == 0) || before) }
 {
@@ -346,7 +348,7 @@ fn needs_tck_after(protocol: u8, before: bool) -> bool
 }
 
 impl Tail {
-    /// What has come after the last interface byte: a whole answer where nothing more must.
+    /// Returns the state after the last octet: a whole answer if nothing more must come.
     fn settled(self) -> Partial
         requires { TailHolds self }
         ensures { IsNow (tail_taken self) result }
@@ -358,7 +360,7 @@ impl Tail {
         Partial::Whole(tail.atr())
     }
 
-    /// Takes a historical byte or TCK: whether it is the last.
+    /// Takes a historical byte or TCK. Returns whether it is the last octet.
     fn take(&mut self, octet: u8) -> Result<bool, AtrReason>
         requires holds { TailHolds self.old }
         requires awaits { TailAwaits self.old }
@@ -375,7 +377,7 @@ impl Tail {
         Ok(true)
     }
 
-    /// Whether more must come.
+    /// Whether more octets must come.
     fn awaits(&self) -> bool
         requires { TailHolds self.now }
         ensures { MatchBool result (TailAwaits self.now) (TailEnds self.now) }
@@ -383,7 +385,7 @@ impl Tail {
         self.historical.len() < self.historical_len || self.tck
     }
 
-    /// The answer, once all historical bytes have come.
+    /// Returns the answer, once all historical bytes have come.
     fn atr(&mut self) -> Atr
         requires holds { TailHolds self.old }
         requires all { length self.old.historical.items ≡ self.old.historical_len }

@@ -5,10 +5,10 @@ ghost use Rattle.atr_core.specs.Rates.{rates_of};
 
 use crate::Atr;
 
-/// TA1 where there is none: Fi 372 and Di 1.
+/// TA1 if the answer has none: Fi 372 and Di 1.
 const DEFAULT_TA1: u8 = 0x11;
 
-/// The clock rate conversion integers Fi by their index, `None` where reserved.
+/// The clock rate conversion integers Fi by their index. A reserved one is `None`.
 const CLOCK_RATES: [Option<u16>; 16] = [
     Some(372),
     Some(372),
@@ -28,7 +28,7 @@ const CLOCK_RATES: [Option<u16>; 16] = [
     None,
 ];
 
-/// The baud rate adjustment integers Di by their index, `None` where reserved.
+/// The baud rate adjustment integers Di by their index. A reserved one is `None`.
 const BAUD_RATES: [Option<u16>; 16] = [
     None,
     Some(1),
@@ -48,8 +48,9 @@ const BAUD_RATES: [Option<u16>; 16] = [
     None,
 ];
 
-/// The integers Fi and Di that TA1 gives by its high and its low nibble, or those of the default 11
-/// where there is no TA1; `None` for one whose index is reserved (ISO/IEC 7816-3, clause 8.3).
+/// Returns the integers Fi and Di (ISO/IEC 7816-3, clause 8.3). Their indexes are the high and the
+/// low nibble of TA1, which is 11 if the answer has none. An integer with a reserved index is
+/// `None`.
 pub fn rates(atr: &Atr) -> (Option<u16>, Option<u16>)
     ensures { result ≡ rates_of atr.now }
 {

@@ -1,4 +1,4 @@
-//! Answers to reset that come in pieces.
+//! Reading of answers to reset that come in pieces.
 
 ghost use Rattle.std.specs.Prelude.{◌≡◌, ◌↔◌, ◌≤◌, ℕ, List, [], None, false, IfNone, IfSome, IsSome, IsNone, MatchOption, Ok, length};
 ghost use Rattle.octet_core.specs.Reader.{IsFed, IsFinished};
@@ -18,20 +18,20 @@ use octet_core::{Refusal, Stop};
 use std::fmt::{self, Debug, Formatter, Write};
 use std::marker::Model;
 
-/// What the octets so far have come to.
+/// The result of the octets so far.
 #[derive(Drop)]
 pub(crate) enum Stage {
-    /// An answer goes on or ends with them.
+    /// An answer is whole with them, or can continue.
     Taken(Partial),
-    /// One was refused.
+    /// One of them was refused.
     Refused(Refusal<AtrReason>),
 }
 
 /// A reader of one answer to reset that is fed in pieces of any length (ISO/IEC 7816-3, clause 8.2). It
-/// takes no memory, and keeps at most 33 octets and what they say.
+/// allocates nothing, and keeps at most 33 octets and what they say.
 ///
-/// Contracts see the octets that it has taken, and the refusal that it keeps, and so does `==`: readers are
-/// equal where they have taken the same octets, or keep the same refusal.
+/// Contracts see the octets that it has taken and the refusal that it keeps. `==` compares these: readers
+/// are equal if they have taken the same octets, or keep the same refusal.
 #[derive(Drop)]
 pub struct AtrReader {
     stage: Stage,
@@ -75,14 +75,14 @@ impl Eq for AtrReader {
     ghost laws = { taking_equiv };
 }
 
-/// Whether these are the same octets.
+/// Whether two lists of octets are equal.
 fn same_octets(octets: &[u8], others: &[u8]) -> bool
     ensures { IsTrue result ↔ (octets.now ≡ others.now) }
 {
     octets == others
 }
 
-/// Whether these are at one place, for one reason.
+/// Whether two refusals have the same place and the same reason.
 fn same_refusal(refusal: Refusal<AtrReason>, other: Refusal<AtrReason>) -> bool
     ensures { IsTrue result ↔ (refusal ≡ other) }
 {
@@ -90,7 +90,7 @@ fn same_refusal(refusal: Refusal<AtrReason>, other: Refusal<AtrReason>) -> bool
 }
 
 impl AtrReader {
-    /// A reader that has taken nothing.
+    /// Makes a reader that has taken nothing.
     pub fn new() -> Self
         ensures { result ≡ nothing_taken }
     {
@@ -100,12 +100,12 @@ impl AtrReader {
         }
     }
 
-    /// Takes octets of the next piece: how many, and whether the answer is whole. It takes the whole
-    /// piece unless the answer ends in it, and nothing once it is whole.
+    /// Takes octets of the next piece. Returns how many were taken, and whether the answer is whole. The
+    /// whole piece is taken unless the answer ends in it. Once the answer is whole, no octet is taken.
     ///
-    /// A refusal is `At` the first octet after which no answer goes on, counted from the first ever fed;
-    /// those before it count as taken. From then on each call answers the same refusal and changes
-    /// nothing, until `reset`.
+    /// The error is `At` the first octet after which no answer can continue, counted from the first octet
+    /// ever fed. Those before it count as taken. From then on each call returns the same refusal and
+    /// changes nothing, until `reset`.
     #[inline]
     pub fn feed(&mut self, piece: &[u8]) -> Result<(usize, bool), Stop<AtrReason>>
         ensures { IsFed IsAtr IsReason HasTaken refusal_of self.old self.new piece.now result }
@@ -129,7 +129,7 @@ impl AtrReader {
         }
     }
 
-    /// The answer, once it is whole.
+    /// Returns the answer, once it is whole.
     pub fn value(&self) -> Option<&Atr>
         ensures value { (t : List ℕ) → HasTaken self.now t
             → MatchOption result ((v : AtrParts) → IsAtr v t → ⊥) (λ atr. IsAtr atr.now t) }
@@ -141,8 +141,8 @@ impl AtrReader {
         }
     }
 
-    /// That no more octets come: `Ok` where the answer is whole, the refusal that it keeps, or `Short` at
-    /// the end of the octets taken. It changes nothing.
+    /// Ends the octets. Returns `Ok` if the answer is whole, the refusal that was kept, or `Short` at the
+    /// end of the octets taken. It changes nothing.
     pub fn finish(&self) -> Result<(), Stop<AtrReason>>
         ensures { IsFinished IsAtr IsReason HasTaken refusal_of self.now result }
     {
@@ -158,7 +158,7 @@ impl AtrReader {
         })
     }
 
-    /// Begins again, with nothing taken and no refusal.
+    /// Starts again, with nothing taken and no refusal.
     pub fn reset(&mut self)
         ensures { self.new ≡ nothing_taken }
     {
@@ -168,8 +168,8 @@ impl AtrReader {
 }
 
 impl Partial {
-    /// Takes octets of a piece after `count` octets, until the answer is whole or one is refused: how
-    /// many.
+    /// Takes octets of a piece after `count` octets, until the answer is whole or an octet is refused.
+    /// Returns how many were taken.
     pub(crate) fn take_piece(
         &mut self,
         count: usize,
@@ -188,8 +188,8 @@ impl Partial {
         self.take_octets(count, piece)
     }
 
-    /// Takes a whole answer from the front of a piece, where no octet has come before: how many octets.
-    /// `None` where the piece doesn't begin with one.
+    /// Takes a whole answer from the front of a piece, before which no octet has come. Returns how many
+    /// octets it has, or `None` if there is no whole answer at the front.
     #[inline(never)]
     fn take_whole(&mut self, piece: &[u8]) -> Option<usize>
         ensures taken { IfSome result (λ count. IsTaken [] piece.now self.new (Ok count)) }
@@ -201,7 +201,7 @@ impl Partial {
         Some(count)
     }
 
-    /// The same octet by octet.
+    /// Takes octets of a piece as `take_piece` does, octet by octet.
     pub(crate) fn take_octets(
         &mut self,
         count: usize,
@@ -228,7 +228,7 @@ impl Partial {
     }
 }
 
-/// How many octets were taken, and the refusal that it keeps.
+/// Shows how many octets were taken, and the refusal that is kept.
 impl Debug for AtrReader {
     fn fmt<W: Write>(&self, f: &mut Formatter<W>) -> fmt::Result {
         let refusal = match &self.stage {

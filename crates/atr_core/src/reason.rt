@@ -1,16 +1,16 @@
-//! Why octets are no answer to reset.
+//! Why octets aren't an answer to reset.
 
 use octet_core::Named;
 use std::error::Error;
 use std::fmt::{self, Display, Formatter, Write};
 
-/// Why octets are no answer to reset.
+/// Why octets aren't an answer to reset.
 #[derive(Clone, Copy, Debug, PartialEq, Eq)]
 pub enum AtrReason {
-    /// TS is neither 3B nor 3F.
+    /// TS isn't 3B or 3F.
     BadTs,
-    /// After this TD no answer goes on: the bytes that it announces, the TD, the historical bytes and
-    /// the TCK that must still come would make more than 33 octets.
+    /// No answer can continue after this TD. The octets that must still come would make more than 33:
+    /// the bytes and the TD that it announces, the historical bytes, and TCK.
     TooLong,
     /// TCK doesn't make the exclusive-or of all octets from T0 on 00.
     BadTck,
@@ -30,7 +30,7 @@ impl Named for AtrReason {
     }
 }
 
-/// The reason's name.
+/// Writes the reason's name.
 impl Display for AtrReason {
     ghost use Rattle.std.specs.Prelude.{Some};
     ghost use Rattle.atr_core.specs.Names.{reason_name};

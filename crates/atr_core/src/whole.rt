@@ -1,4 +1,4 @@
-//! A whole answer to reset, read in one pass.
+//! Reading of a whole answer to reset in one pass.
 
 ghost use Rattle.std.specs.Prelude.{◌≡◌, ◌+◌, ◌-◌, ◌<◌, ◌≤◌, ◌++◌, ℕ, Bool, [], IfSome, length, take};
 ghost use Rattle.std.specs.Option.{option_to_list};
@@ -14,7 +14,7 @@ use crate::{Atr, Convention, Indicated, Interface};
 use arrayvec::ArrayVec;
 use octet_core::lrc;
 
-/// The parts of an answer, each written where it is kept.
+/// The parts of an answer, each written to its final place.
 #[derive(Drop)]
 pub(crate) struct Parts {
     convention: Convention,
@@ -23,18 +23,18 @@ pub(crate) struct Parts {
     historical: ArrayVec<u8, 15>,
 }
 
-/// What T0 or a TD announces up to the next TD, taken from the front of octets.
+/// The interface bytes that T0 or a TD announces, as read from the front of octets.
 #[derive(Clone, Copy)]
 struct Section<'a> {
     bytes: Interface,
-    /// Whether a TD follows.
+    /// Whether another TD follows.
     td: bool,
-    /// The octets that are left.
+    /// The octets after them.
     rest: &'a [u8],
 }
 
 impl Parts {
-    /// Parts of which none is read yet.
+    /// Makes parts before any is read.
     #[inline]
     pub(crate) fn new() -> Parts
         ensures indicated { result.indicated.items ≡ [] }
@@ -48,8 +48,8 @@ impl Parts {
         }
     }
 
-    /// Reads the answer with which the octets begin: how many octets it takes. `None` where they begin
-    /// with none; why is not told.
+    /// Reads the answer at the front of the octets, and returns how many octets it takes. The result is
+    /// `None` if there is no whole answer there; it doesn't say why.
     #[inline]
     pub(crate) fn read(&mut self, octets: &[u8]) -> Option<usize>
         requires indicated { self.old.indicated.items ≡ [] }
@@ -74,7 +74,7 @@ impl Parts {
         ended(from, tck, has_tck(self.indicated.as_slice()))
     }
 
-    /// The answer with these parts.
+    /// Returns the answer with these parts.
     #[inline]
     pub(crate) fn atr(self) -> Atr
         requires { IsProper (made_of self) }
@@ -84,7 +84,7 @@ impl Parts {
     }
 }
 
-/// The interface bytes that T0 or a TD announces, from the front of the octets after it.
+/// Reads the interface bytes that T0 or a TD announces from the front of the octets after it.
 #[inline]
 fn read_section(octet: u8, octets: &[u8]) -> Option<Section<'_>>
     ensures { IfSome result (λ section.
@@ -101,7 +101,7 @@ fn read_section(octet: u8, octets: &[u8]) -> Option<Section<'_>>
     })
 }
 
-/// An interface byte from the front of octets, where it is announced, and the octets that are left.
+/// Reads an interface byte from the front of octets if it is announced. Returns it, and the octets after it.
 #[inline]
 fn read_byte(announced: bool, octets: &[u8]) -> Option<(Option<u8>, &[u8])>
     ensures told { IfSome result (λ taken. (weight : ℕ)
@@ -117,8 +117,8 @@ fn read_byte(announced: bool, octets: &[u8]) -> Option<(Option<u8>, &[u8])>
     Some((Some(*octet), rest))
 }
 
-/// Reads each TD with its bytes from the front of octets: the octets that are left. `td` says whether
-/// there is a first one.
+/// Reads each TD with its bytes from the front of octets, and returns the octets after them. `td` says
+/// whether there is a first TD.
 #[inline]
 fn read_tds<'a>(
     indicated: &mut ArrayVec<Indicated, 31>,
@@ -147,7 +147,7 @@ fn read_tds<'a>(
     Some(rest)
 }
 
-/// Reads so many historical bytes from the front of octets: the octets that are left.
+/// Reads `count` historical bytes from the front of octets, and returns the octets after them.
 #[inline]
 fn read_historical<'a>(
     historical: &mut ArrayVec<u8, 15>,
@@ -164,8 +164,8 @@ fn read_historical<'a>(
     Some(rest)
 }
 
-/// How many octets an answer has whose octets from T0 on are at the front of `from`: `tck` is what `from` has
-/// after the historical bytes, and whether TCK is there is `needed`.
+/// Returns how many octets the answer has. `from` are its octets from T0 on, and what follows. `tck` is the
+/// part of `from` after the historical bytes, and `needed` says whether there is a TCK.
 #[inline]
 fn ended(from: &[u8], tck: &[u8], needed: bool) -> Option<usize>
     requires { length tck.now ≤ length from.now }
@@ -174,7 +174,7 @@ fn ended(from: &[u8], tck: &[u8], needed: bool) -> Option<usize>
     ended_after(&from[..from.len() - tck.len()], from, tck, needed)
 }
 
-/// The same where those of `from` up to the last historical byte are `checked`.
+/// Returns the same as `ended`. `checked` is the part of `from` up to the last historical byte.
 #[inline]
 pub(crate) fn ended_after(checked: &[u8], from: &[u8], tck: &[u8], needed: bool) -> Option<usize>
     requires inside { length tck.now ≤ length from.now }
@@ -189,7 +189,8 @@ pub(crate) fn ended_after(checked: &[u8], from: &[u8], tck: &[u8], needed: bool)
     Some(count)
 }
 
-/// The octets that are left after TCK, where it is `needed`: the exclusive-or of those that it checks.
+/// Returns the octets after TCK. If TCK is `needed`, it must be the exclusive-or of the octets that it
+/// checks.
 #[inline]
 fn after_tck<'a>(needed: bool, checked: &[u8], octets: &'a [u8]) -> Option<&'a [u8]>
     ensures { IfSome result (λ left. octets.now ≡ option_to_list (tck_after needed checked.now)

@@ -1,4 +1,4 @@
-//! Answers to reset checked and decoded, whole and octet by octet.
+//! Checking and decoding of answers to reset, whole and octet by octet.
 
 use crate::work::Work;
 use atr_core::AtrReader;
@@ -8,7 +8,7 @@ use std::time::Instant;
 /// How often each answer is decoded.
 const TIMES: usize = 100_000;
 
-/// Answers with protocol 1, and without and with historical bytes.
+/// Answers with protocol 1: one without historical bytes, and one with.
 const ANSWERS: [&[u8]; 2] = [
     &[0x3B, 0x80, 0x81, 0x31, 0x20, 0x45, 0x55],
     &[
@@ -17,7 +17,7 @@ const ANSWERS: [&[u8]; 2] = [
     ],
 ];
 
-/// Checks each answer, and decodes it as often whole, and as often octet by octet.
+/// Checks each answer, decodes it whole, and decodes it octet by octet, each equally often.
 pub(crate) fn decode_each(rt: &HostRuntime, timed: bool) -> io::Result<()> {
     for &octets in &ANSWERS {
         let started = Instant::now(rt)?;

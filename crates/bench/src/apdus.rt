@@ -1,4 +1,4 @@
-//! Commands decoded in place.
+//! Decoding of commands with a borrowed data field.
 
 use crate::work::Work;
 use apdu_core::CommandRef;
@@ -9,7 +9,8 @@ use std::time::Instant;
 /// How often each command is decoded.
 const TIMES: usize = 100_000;
 
-/// Decodes commands with data fields of 1 to 65,535 octets, each as often: the time is the same.
+/// Decodes commands with data fields of 1 to 65,535 octets equally often. All of them take the same
+/// time.
 pub(crate) fn decode_each(rt: &HostRuntime, timed: bool) -> io::Result<()> {
     for lc in [1u16, 255, 4_096, 65_535] {
         let command = command(rt.alloc(), lc)?;
@@ -18,7 +19,7 @@ pub(crate) fn decode_each(rt: &HostRuntime, timed: bool) -> io::Result<()> {
     Ok(())
 }
 
-/// A command with a data field of so many octets.
+/// Makes a command with a data field of `lc` octets.
 fn command(alloc: Global, lc: u16) -> Result<Vec<u8>, AllocError> {
     let part = vec![in alloc; 0xA5u8; lc as usize]?;
     let [high, low] = lc.to_be_bytes();
@@ -27,7 +28,7 @@ fn command(alloc: Global, lc: u16) -> Result<Vec<u8>, AllocError> {
     Ok(command)
 }
 
-/// Decodes a command with a data field of so many octets.
+/// Decodes a command with a data field of `len` octets.
 fn decode(rt: &HostRuntime, command: &[u8], len: usize, timed: bool) -> io::Result<()> {
     let started = Instant::now(rt)?;
     if !is_decoded(command, len) {
@@ -42,7 +43,7 @@ fn decode(rt: &HostRuntime, command: &[u8], len: usize, timed: bool) -> io::Resu
     work.tell(rt, started, timed)
 }
 
-/// Whether a command is decoded each time, with a data field of so many octets, and is short each time
+/// Whether a command is decoded each time, with a data field of `len` octets, and is short each time
 /// without its last octet.
 fn is_decoded(octets: &[u8], len: usize) -> bool {
     for turn in 0..TIMES {

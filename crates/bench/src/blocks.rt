@@ -1,14 +1,15 @@
-//! Blocks read from their octets.
+//! Decoding of blocks.
 
 use crate::work::Work;
 use block_core::{Block, BlockRef, Number, decode, encode};
 use std::io::{self, ErrorKind};
 use std::time::Instant;
 
-/// How often a block is decoded under each of the 256 node addresses.
+/// How often a block is decoded for each of the 256 node addresses.
 const ROUNDS: usize = 400;
 
-/// Decodes blocks with information fields of 5 and of 254 octets, with a copy of the field and in place.
+/// Decodes blocks with information fields of 5 and of 254 octets, with a copied and with a borrowed
+/// field.
 pub(crate) fn decode_each(rt: &HostRuntime, timed: bool) -> io::Result<()> {
     let field = [0xA5u8; 254];
     for len in [5usize, 254] {
@@ -20,7 +21,7 @@ pub(crate) fn decode_each(rt: &HostRuntime, timed: bool) -> io::Result<()> {
     Ok(())
 }
 
-/// Decodes a block with a field of so many octets both ways.
+/// Decodes a block with a field of `len` octets both ways.
 fn decode_both(rt: &HostRuntime, octets: &mut [u8], len: usize, timed: bool) -> io::Result<()> {
     let started = Instant::now(rt)?;
     if !is_decoded(octets, len) {
@@ -34,7 +35,7 @@ fn decode_both(rt: &HostRuntime, octets: &mut [u8], len: usize, timed: bool) -> 
     told("block decoded in place", octets.len()).tell(rt, started, timed)
 }
 
-/// Work over a block.
+/// Returns the work of decoding a block.
 fn told(name: &'static str, octets: usize) -> Work {
     Work {
         name,
@@ -44,7 +45,7 @@ fn told(name: &'static str, octets: usize) -> Work {
     }
 }
 
-/// Whether the block is decoded each time, with a field of so many octets.
+/// Whether the block is decoded each time, with a field of `len` octets.
 fn is_decoded(octets: &mut [u8], len: usize) -> bool {
     for _ in 0..ROUNDS {
         for nad in 0..=255u8 {
@@ -58,7 +59,7 @@ fn is_decoded(octets: &mut [u8], len: usize) -> bool {
     true
 }
 
-/// The same in place.
+/// Whether the block is decoded each time with a borrowed field of `len` octets.
 fn is_lent(octets: &mut [u8], len: usize) -> bool {
     for _ in 0..ROUNDS {
         for nad in 0..=255u8 {
@@ -72,13 +73,13 @@ fn is_lent(octets: &mut [u8], len: usize) -> bool {
     true
 }
 
-/// Whether it is the block. Since this isn't inlined, the whole block has to be made.
+/// Whether this is the block. The function isn't inlined, so that the whole block has to be made.
 #[inline(never)]
 fn is_such(block: &Block, nad: u8, len: usize) -> bool {
     block.nad() == nad && block.inf().len() == len
 }
 
-/// Gives the block another node address, and the LRC that goes with it.
+/// Sets another node address in the block, and the LRC that fits it.
 fn readdress(octets: &mut [u8], nad: u8) {
     if let [first, .., last] = octets {
         *last ^= *first ^ nad;

@@ -1,4 +1,4 @@
-//! Exchanges between both ends of T=1 in memory, whose blocks are put into two buffers.
+//! Exchanges between both ends of T=1 in memory, whose blocks are written to two buffers.
 
 ghost use Rattle.std.specs.Prelude.{◌≤◌, length, IfSome};
 
@@ -8,7 +8,7 @@ use std::io;
 use std::time::Instant;
 use t1_core::{Card, EncodedCardTurn, EncodedTerminalTurn, Terminal};
 
-/// Exchanges the longest command and response under the information sizes 254 and 32.
+/// Exchanges the longest command and response with information field sizes of 254 and 32.
 pub(crate) fn exchange_each(
     rt: &HostRuntime,
     command: &[u8],
@@ -27,7 +27,8 @@ pub(crate) fn exchange_each(
     Ok(())
 }
 
-/// How many blocks an exchange over a line without faults takes, none where it isn't answered.
+/// Returns how many blocks an exchange over a line without faults takes, or `None` if it isn't
+/// answered.
 fn exchange(
     terminal: &mut Terminal,
     card: &mut Card,
@@ -52,7 +53,7 @@ fn exchange(
     None
 }
 
-/// How many octets the card sends for a block, where its host replies at once.
+/// Returns how many octets the card sends for a block, with a host that replies at once.
 pub(crate) fn served(card: &mut Card, octets: &[u8], reply: &[u8], out: &mut [u8]) -> Option<usize>
     requires { 258 ≤ length out.old }
     ensures { IfSome result (λ count. count ≤ 258) }

@@ -1,4 +1,4 @@
-//! Messages carried by chains over memory.
+//! Transfer of messages as chains in memory.
 
 use crate::work::Work;
 use block_core::Number;
@@ -8,7 +8,7 @@ use std::alloc::Global;
 use std::io::{self, ErrorKind};
 use std::time::Instant;
 
-/// The information size.
+/// The information field size.
 const IFS: u8 = 254;
 
 /// Carries messages of 16 to 128 KiB.
@@ -28,7 +28,7 @@ pub(crate) fn carry_each(rt: &HostRuntime, timed: bool) -> io::Result<()> {
     Ok(())
 }
 
-/// Writes a message as a chain and reads it again: how many blocks it has.
+/// Writes a message as a chain, and reads it again. Returns how many blocks it has.
 fn carry(alloc: Global, message: &[u8]) -> io::Result<usize> {
     if message.len() > LONGEST_MESSAGE {
         return Err(ErrorKind::InvalidInput.into());

@@ -1,4 +1,4 @@
-//! Files of recorded exchanges, read, replayed at both ends and written.
+//! Reading, replay at both ends and writing of files of recorded exchanges.
 
 use crate::work::Work;
 use exchange_core::{Exchange, Side, read_exchange, replay, write_exchange};
@@ -6,13 +6,14 @@ use std::alloc::{AllocError, Global};
 use std::io::{self, ErrorKind};
 use std::time::Instant;
 
-/// The lines that a file begins with.
+/// The lines at the beginning of a file.
 const HEAD: &[u8] = b"scard-exchange 1\natr 3B808131204555\n";
 
-/// A question about a size, which leaves both ends as they were.
+/// A request for a size, which leaves both ends as they were.
 const QUESTION: &[u8] = b"ifsd FE\nt 00C101FE3E\nc 00E101FE1E\nifs-set\n";
 
-/// Reads, replays and writes files of 1, 2 and 4 MiB, less than a question each.
+/// Reads, replays and writes files of 1, 2 and 4 MiB, each shorter than that by less than one
+/// request.
 pub(crate) fn replay_each(rt: &HostRuntime, timed: bool) -> io::Result<()> {
     for size in [1_048_576, 2_097_152, 4_194_304] {
         let text = file(rt.alloc(), size)?;
@@ -59,7 +60,7 @@ fn write_in_time(
     told.tell(rt, "file of an exchange written", started, timed)
 }
 
-/// The exchange of a file.
+/// Reads the exchange of a file.
 fn read(alloc: Global, text: &[u8]) -> io::Result<Exchange> {
     read_exchange(alloc, text).map_err(|_| ErrorKind::InvalidData.into())
 }
@@ -69,7 +70,7 @@ fn is_written(alloc: Global, exchange: &Exchange, text: &[u8]) -> io::Result<boo
     Ok(write_exchange(alloc, exchange)?.as_slice() == text)
 }
 
-/// The octets and the lines of a file.
+/// The number of octets and of lines of a file.
 #[derive(Clone, Copy)]
 struct Told {
     octets: usize,
@@ -115,7 +116,7 @@ fn replay_both(rt: &HostRuntime, exchange: &Exchange, told: Told, timed: bool) -
     Ok(())
 }
 
-/// A file of at most so many octets.
+/// Makes a file of at most `most` octets.
 fn file(alloc: Global, most: usize) -> Result<Vec<u8>, AllocError> {
     let mut text = HEAD.to_vec(alloc)?;
     for _ in 0..most / QUESTION.len() {

@@ -1,4 +1,4 @@
-//! Forests of data objects, checked and read.
+//! Checking and reading of forests of data objects.
 
 ghost use Rattle.std.specs.Prelude.{◌<◌, length};
 
@@ -17,11 +17,11 @@ pub(crate) const OBJECTS: [u8; 18] = [
 /// A primitive object with a value of six octets.
 const OBJECT: [u8; 9] = [0x9F, 0x02, 0x06, 0x00, 0x00, 0x00, 0x12, 0x34, 0x56];
 
-/// A primitive object whose value has 60,000 octets begins so.
+/// The first octets of a primitive object whose value has 60,000 octets.
 const LARGE: [u8; 4] = [0x5A, 0x82, 0xEA, 0x60];
 
-/// Judges forests of many small and of few large objects, of 64 KiB and of 1 MiB, and a flat one of 370
-/// small objects.
+/// Checks and reads forests of many small and of few large objects, of 64 KiB and of 1 MiB, and a flat
+/// forest of 370 small objects.
 pub(crate) fn judge_each(rt: &HostRuntime, timed: bool) -> io::Result<()> {
     for size in [65_536, LARGEST_FOREST] {
         let many = many(rt.alloc(), &OBJECTS, size)?;
@@ -33,7 +33,7 @@ pub(crate) fn judge_each(rt: &HostRuntime, timed: bool) -> io::Result<()> {
     judge(rt, timed, "flat objects", flat.as_slice())
 }
 
-/// The same objects again and again, in at most so many octets.
+/// Repeats objects, in at most `size` octets.
 pub(crate) fn many(alloc: Global, objects: &[u8], size: usize) -> io::Result<Vec<u8>>
     requires { 0 < length objects.now }
 {
@@ -44,7 +44,7 @@ pub(crate) fn many(alloc: Global, objects: &[u8], size: usize) -> io::Result<Vec
     Ok(octets)
 }
 
-/// Objects with values of 60,000 octets, in at most so many octets.
+/// Makes objects with values of 60,000 octets, in at most `size` octets.
 fn large(alloc: Global, size: usize) -> io::Result<Vec<u8>> {
     let value = vec![in alloc; 0x00u8; 60_000]?;
     let mut octets = Vec::new(alloc);
@@ -55,7 +55,7 @@ fn large(alloc: Global, size: usize) -> io::Result<Vec<u8>> {
     Ok(octets)
 }
 
-/// Checks a forest, lends its parts, and reads its tree.
+/// Checks a forest, reads its parts, and reads its tree.
 fn judge(rt: &HostRuntime, timed: bool, name: &'static str, octets: &[u8]) -> io::Result<()> {
     let started = Instant::now(rt)?;
     let checked = checked(octets)?;
@@ -68,7 +68,7 @@ fn judge(rt: &HostRuntime, timed: bool, name: &'static str, octets: &[u8]) -> io
     told(name, octets, read, "tops read").tell(rt, started, timed)
 }
 
-/// Work over a forest.
+/// Returns the work on a forest.
 fn told(name: &'static str, octets: &[u8], parts: usize, unit: &'static str) -> Work {
     Work {
         name,
@@ -78,7 +78,7 @@ fn told(name: &'static str, octets: &[u8], parts: usize, unit: &'static str) -> 
     }
 }
 
-/// One check.
+/// Checks a forest once.
 fn checked(octets: &[u8]) -> io::Result<usize> {
     let mut check = ForestCheck::new(LARGEST_FOREST);
     if check.feed(octets).is_err() || check.finish().is_err() {
@@ -87,7 +87,7 @@ fn checked(octets: &[u8]) -> io::Result<usize> {
     Ok(1)
 }
 
-/// How many parts are lent.
+/// Reads a forest's parts, and returns how many there are.
 fn lent(alloc: Global, octets: &[u8]) -> io::Result<usize> {
     match FlatForest::read(alloc, octets, LARGEST_FOREST) {
         Ok(forest) => Ok(forest.parts().len()),
@@ -95,7 +95,7 @@ fn lent(alloc: Global, octets: &[u8]) -> io::Result<usize> {
     }
 }
 
-/// How many objects a tree that is read in pieces has at the top.
+/// Reads a forest's tree in pieces, and returns how many objects it has at the top.
 fn read(alloc: Global, octets: &[u8]) -> io::Result<usize> {
     let mut reader = ForestReader::new(alloc, LARGEST_FOREST)?;
     for piece in octets.chunks(1_000) {

@@ -1,4 +1,4 @@
-//! Blocks of a trace judged.
+//! Judging of the blocks of a trace.
 
 use crate::work::Work;
 use block_core::{Block, Number, encode};
@@ -6,10 +6,10 @@ use judge_core::{Arrival, Monitor, Said, Side, Verdict};
 use std::io::{self, ErrorKind};
 use std::time::Instant;
 
-/// How often a command and its answer go over the line, each with a field of 32 octets.
+/// How often a command and its answer are sent over the line, each with a field of 32 octets.
 const ROUNDS: usize = 100_000;
 
-/// Judges the blocks of exchanges in which nothing deviates.
+/// Judges the blocks of exchanges without a deviation.
 pub(crate) fn judge_exchanges(rt: &HostRuntime, timed: bool) -> io::Result<()> {
     let field = [0xA5u8; 32];
     let (Some(zero), Some(one)) = (

@@ -1,5 +1,5 @@
-//! The same exchanges by the calls that go over a line: a card on the terminal's line, and a terminal on
-//! the card's.
+//! The same exchanges by the calls over a line. A card is at the end of the terminal's line, and a
+//! terminal at the end of the card's.
 
 ghost use Rattle.std.specs.Prelude.{◌≤◌, length};
 
@@ -14,7 +14,7 @@ use t1_core::{Card, EncodedTerminalTurn, Terminal};
 /// More blocks than an end sends in the longest exchange.
 const MOST_BLOCKS: usize = 10_000;
 
-/// Exchanges the longest command and response under the information sizes 254 and 32, by `exchange`.
+/// Exchanges the longest command and response with information field sizes of 254 and 32, by `exchange`.
 pub(crate) fn exchange_each(
     rt: &HostRuntime,
     command: &[u8],
@@ -49,7 +49,7 @@ fn exchange_over(
     told(name, blocks)?.tell(rt, started, timed)
 }
 
-/// How many blocks an exchange takes, none where it isn't answered.
+/// Returns how many blocks an exchange takes, or `None` if it isn't answered.
 fn exchanged(terminal: &mut Terminal, line: &mut CardAtLine<'_>, command: &[u8]) -> Option<usize> {
     match exchange(terminal, line, command, MOST_BLOCKS) {
         Ok(answer) if answer == line.reply => Some(2 * line.blocks as usize),
@@ -57,7 +57,7 @@ fn exchanged(terminal: &mut Terminal, line: &mut CardAtLine<'_>, command: &[u8])
     }
 }
 
-/// The same by `serve`.
+/// Exchanges them by `serve`.
 pub(crate) fn serve_each(
     rt: &HostRuntime,
     command: &[u8],
@@ -94,7 +94,7 @@ fn serve_over(
     told(name, blocks)?.tell(rt, started, timed)
 }
 
-/// How many blocks an exchange takes that a card serves, none where it isn't answered.
+/// Returns how many blocks an exchange takes that a card serves, or `None` if it isn't answered.
 fn serves(card: &mut Card, line: &mut TerminalAtLine<'_>, reply: &[u8]) -> Option<usize> {
     let mut host = Replies(reply);
     let served = serve(card, line, &mut host, MOST_BLOCKS);
@@ -162,7 +162,7 @@ impl CardLine for TerminalAtLine<'_> {
     }
 }
 
-/// A host that gives every command the same reply.
+/// A host with the same reply to every command.
 #[derive(Drop)]
 struct Replies<'a>(&'a [u8]);
 

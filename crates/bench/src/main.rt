@@ -1,7 +1,7 @@
-//! How long the stack takes, over messages and forests of growing size. It judges nothing.
+//! Measures how long the stack takes for messages and forests of growing size. It judges nothing.
 //!
-//! Without words it does each work once and prints its size, so that two runs print the same. After the
-//! word `times` each line also says how many microseconds the work took. After the word `few` it leaves out
+//! Without words it does each piece of work once and prints its size, so two runs print the same. With the
+//! word `times` each line also says how many microseconds the work took. With the word `few` it leaves out
 //! what takes longest: forests in pieces, and whole files of exchanges.
 #![tactic(auto)]
 
@@ -31,7 +31,7 @@ fn main(rt: HostRuntime) -> io::Result<()> {
     Ok(())
 }
 
-/// Does the works that are always done.
+/// Does the work that is always done.
 fn do_each(rt: &HostRuntime, timed: bool) -> io::Result<()> {
     answers::decode_each(rt, timed)?;
     blocks::decode_each(rt, timed)?;
@@ -49,7 +49,7 @@ fn exchange_longest(rt: &HostRuntime, timed: bool) -> io::Result<()> {
     exchange_each(rt, command.as_slice(), reply.as_slice(), timed)
 }
 
-/// Exchanges these in each way.
+/// Exchanges this command and this reply in each way.
 fn exchange_each(rt: &HostRuntime, command: &[u8], reply: &[u8], timed: bool) -> io::Result<()> {
     session::exchange_each(rt, command, reply, timed)?;
     buffers::exchange_each(rt, command, reply, timed)?;

@@ -1,4 +1,4 @@
-//! Forests of growing size, checked in pieces of one length.
+//! Checks of forests of growing size, in pieces of one length.
 
 ghost use Rattle.std.specs.Prelude.{◌<◌};
 
@@ -36,7 +36,7 @@ fn check_growing(rt: &HostRuntime, timed: bool, name: &'static str, len: usize) 
     Ok(())
 }
 
-/// How many pieces a check took.
+/// Returns how many pieces a check took.
 fn check(octets: &[u8], len: usize) -> io::Result<usize>
     requires { 0 < len }
 {

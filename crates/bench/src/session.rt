@@ -1,4 +1,5 @@
-//! Exchanges between both ends of T=1 in memory: the bare ends, and both ends under a recorder.
+//! Exchanges between both ends of T=1 in memory: with the bare ends, and with both ends under a
+//! recorder.
 
 use crate::work::Work;
 use atr_core::T1Params;
@@ -9,13 +10,14 @@ use std::io::{self, ErrorKind};
 use std::time::Instant;
 use t1_core::{Card, CardTurn, Terminal, TerminalTurn};
 
-/// The octets of the longest command.
+/// The length of the longest command, in octets.
 pub(crate) const COMMAND: usize = 65_544;
 
-/// The octets of the longest response.
+/// The length of the longest response, in octets.
 pub(crate) const RESPONSE: usize = 65_538;
 
-/// The work of an exchange in so many blocks, none where it isn't answered.
+/// Returns the work of an exchange in this many blocks. The error is an exchange that wasn't
+/// answered.
 pub(crate) fn told(name: &'static str, blocks: Option<usize>) -> io::Result<Work> {
     match blocks {
         Some(parts) => Ok(Work {
@@ -28,7 +30,7 @@ pub(crate) fn told(name: &'static str, blocks: Option<usize>) -> io::Result<Work
     }
 }
 
-/// Exchanges the longest command and response under the information sizes 254 and 32.
+/// Exchanges the longest command and response with information field sizes of 254 and 32.
 pub(crate) fn exchange_each(
     rt: &HostRuntime,
     command: &[u8],
@@ -52,7 +54,7 @@ const ATR_254: [u8; 7] = [0x3B, 0x80, 0x81, 0x31, 0xFE, 0x45, 0x8B];
 
 const ATR_32: [u8; 7] = [0x3B, 0x80, 0x81, 0x31, 0x20, 0x45, 0x55];
 
-/// The same exchanges, each recorded.
+/// Exchanges them under a recorder.
 pub(crate) fn record_each(
     rt: &HostRuntime,
     command: &[u8],
@@ -71,7 +73,7 @@ pub(crate) fn record_each(
     Ok(())
 }
 
-/// One of them.
+/// Exchanges them once under this recorder.
 fn record(
     rt: &HostRuntime,
     recorder: &mut Recorder,
@@ -85,7 +87,7 @@ fn record(
     told(name, blocks)?.tell(rt, started, timed)
 }
 
-/// A recorder of both ends, of which each takes information fields of this size.
+/// Makes a recorder of both ends, each of which takes information fields of this size.
 fn recorder(alloc: Global, atr: &[u8], size: u8) -> Option<Recorder> {
     let mut recorder = Recorder::new(alloc, atr).ok()?;
     is_size_set(&mut recorder, size).then_some(recorder)
@@ -99,7 +101,7 @@ fn is_size_set(recorder: &mut Recorder, size: u8) -> bool {
         && *recorder.last() == LastTurn::Terminal(TerminalTurn::IfsSet)
 }
 
-/// How many blocks an exchange under a recorder takes, none where it isn't answered.
+/// Returns how many blocks an exchange under a recorder takes, or `None` if it isn't answered.
 fn carried(recorder: &mut Recorder, command: &[u8], reply: &[u8]) -> Option<usize> {
     recorder.happens(Event::Transmit(command)).ok()?;
     for blocks in 0..140_000usize {
@@ -114,7 +116,7 @@ fn carried(recorder: &mut Recorder, command: &[u8], reply: &[u8]) -> Option<usiz
     None
 }
 
-/// Both ends, of which each takes information fields of this size.
+/// Makes both ends, each of which takes information fields of this size.
 pub(crate) fn ends(alloc: Global, size: u8) -> io::Result<(Terminal, Card)> {
     let Some(params) = T1Params::new(size, 4, 5) else {
         return Err(ErrorKind::InvalidInput.into());
@@ -141,7 +143,8 @@ fn is_granted(terminal: &mut Terminal, card: &mut Card, size: u8) -> bool {
     }
 }
 
-/// How many blocks an exchange over a line without faults takes, none where it isn't answered.
+/// Returns how many blocks an exchange over a line without faults takes, or `None` if it isn't
+/// answered.
 fn exchange(
     terminal: &mut Terminal,
     card: &mut Card,
@@ -164,7 +167,7 @@ fn exchange(
     None
 }
 
-/// What the card sends for a block, where its host replies at once.
+/// Returns what the card sends for a block, with a host that replies at once.
 fn served(card: &mut Card, block: &Block, command: &[u8], reply: &[u8]) -> Option<Block> {
     let turn = match card.received(encode(block).as_slice()) {
         Ok(CardTurn::Asked) if card.command() == Some(command) => card.reply(reply),

@@ -1,20 +1,20 @@
-//! What was done, and how long it took.
+//! The work that was done, and how long it took.
 
 use std::io;
 use std::time::Instant;
 
-/// Work that was done over so many octets, in so many parts.
+/// Work on this many octets, in this many parts.
 #[derive(Drop)]
 pub(crate) struct Work {
     pub(crate) name: &'static str,
     pub(crate) octets: usize,
     pub(crate) parts: usize,
-    /// What the parts are.
+    /// The name of a part.
     pub(crate) unit: &'static str,
 }
 
 impl Work {
-    /// Prints the work, and where it is asked for the time since it was started.
+    /// Prints the work, and the time since it was started if `timed` is true.
     pub(crate) fn tell(&self, rt: &HostRuntime, started: Instant, timed: bool) -> io::Result<()> {
         let Work {
             name,

@@ -1,5 +1,5 @@
--- Blocks, and the octets that spell them: ISO/IEC 7816-3, clause 11.3. A block is NAD, PCB, LEN, an information field of
--- LEN octets, and a check octet. The numbers of clauses below are of that standard.
+-- Blocks, and their encoding: ISO/IEC 7816-3, clause 11.3. A block is NAD, PCB, LEN, an information field of LEN
+-- octets, and a check octet. The numbers of clauses below are those of that standard.
 use Rattle.std.specs.Prelude.{◌≡◌, ℕ, ◌+◌, ◌<◌, ◌≤◌, List, [], ◌∷◌, ◌++◌, length, drop, Bool, true, false, slice_index, ◌≢◌, ◌⊎◌}
 use Rattle.octet_core.specs.Octets.{AreOctets, xor_of}
 use Rattle.octet_core.specs.Grammar.{IsFirst}
@@ -15,7 +15,7 @@ use Rattle.block_core.specs.declared.pcb.Pcb.TheVariants.{Info, Ready, Request, 
 use Rattle.block_core.specs.declared.reason.BlockReason.{BlockReason}
 use Rattle.block_core.specs.declared.reason.BlockReason.TheVariants.{BadPcb, BadLen, OverIfs, BadIfs, BadLrc}
 
--- what a block carries
+-- the parts of a block
 pub record Parts : Type 0 where
   pub nad : ℕ
   pub pcb : Pcb
@@ -31,7 +31,7 @@ abbrev pub number_bit : Number → ℕ → ℕ
 number_bit Zero weight = 0
 number_bit One weight = weight
 
--- bit M of an I-block, by which it says that another one of its chain follows: 11.3.2.2
+-- bit M of an I-block, which says that another block of its chain follows: 11.3.2.2
 abbrev pub more_bit : Bool → ℕ
 more_bit false = 0
 more_bit true = 32
@@ -64,55 +64,55 @@ pcb_octet (Ready number fault) = 128 + number_bit number 16 + fault_code fault
 pcb_octet (Request s) = 192 + supervisory_code s
 pcb_octet (Response s) = 224 + supervisory_code s
 
--- the octet that a block about IFS carries: a size of 1 to 254, since 00 and FF are reserved: 11.4.2
+-- the octet in a block about IFS is a size of 1 to 254, since 00 and FF are reserved: 11.4.2
 abbrev pub IsSize : S → List ℕ → Type 0
 IsSize Resynch inf = Unit {0}
 IsSize Ifs inf = IsFieldSize (slice_index inf 0)
 IsSize Abort inf = Unit {0}
 IsSize Wtx inf = Unit {0}
 
--- the length of the information field of a block: an I-block has at most ifs octets, an R-block none, and an S-block what
--- it is about: 11.3.2.3 and 11.4.2
+-- The length of the information field suits the block: at most ifs octets in an I-block, none in an R-block, and in an
+-- S-block those that its subject needs: 11.3.2.3 and 11.4.2.
 abbrev pub FitsLen : ℕ → Pcb → ℕ → Type 0
 FitsLen ifs (Info number more) len = len ≤ ifs
 FitsLen ifs (Ready number fault) len = len ≡ 0
 FitsLen ifs (Request s) len = len ≡ supervisory_len s
 FitsLen ifs (Response s) len = len ≡ supervisory_len s
 
--- the information field that a block carries: its length fits, and the size in a block about IFS is one
+-- the information field suits the block: its length fits, and the size in a block about IFS isn't reserved
 abbrev pub Suits : ℕ → Pcb → List ℕ → Type 0
 Suits ifs (Info number more) inf = FitsLen ifs (Info number more) (length inf)
 Suits ifs (Ready number fault) inf = FitsLen ifs (Ready number fault) (length inf)
 Suits ifs (Request s) inf = FitsLen ifs (Request s) (length inf) × IsSize s inf
 Suits ifs (Response s) inf = FitsLen ifs (Response s) (length inf) × IsSize s inf
 
--- what has a spelling
+-- the block has an encoding
 pub record IsProper (ifs : ℕ) (v : Parts) : Type 0 where
   pub nad : v.nad < 256
   pub octets : AreOctets v.inf
   pub suits : Suits ifs v.pcb v.inf
 
--- all but the check octet
+-- all octets but the check octet
 abbrev pub front_of : Parts → List ℕ
 front_of v = v.nad ∷ pcb_octet v.pcb ∷ length v.inf ∷ v.inf
 
--- with the LRC, by which the exclusive-or of all octets of the block is 00: 11.4.4
+-- with the LRC, which makes the exclusive-or of all octets of the block 00: 11.4.4
 abbrev pub spelling : Parts → List ℕ
 spelling v = front_of v ++ xor_of (front_of v) ∷ []
 
--- the octets b spell the block v
+-- the octets b encode the block v
 pub record IsBlock (ifs : ℕ) (v : Parts) (b : List ℕ) : Type 0 where
   pub proper : IsProper ifs v
   pub is : b ≡ spelling v
 
--- the octets of the block v are put to the front of a buffer, so many of them, and the rest of it stays
+-- the block v is encoded in the first `count` octets of a buffer, and the rest of it stays as it was
 pub record IsPut (v : Parts) (old new : List ℕ) (count : ℕ) : Type 0 where
   pub octets : List ℕ
   pub spells : IsBlock 254 v octets
   pub counted : count ≡ length octets
   pub buffer : new ≡ octets ++ drop count old
 
--- a length that no field of such a block has at any size: FF is reserved, and 254 is the largest size: 11.3.2.3
+-- a length that no field of such a block has for any size: FF is reserved, and 254 is the largest size: 11.3.2.3
 abbrev pub IsBadLen : Pcb → ℕ → Type 0
 IsBadLen (Info number more) len = len ≡ 255
 IsBadLen (Ready number fault) len = FitsLen 254 (Ready number fault) len → ⊥
@@ -136,9 +136,9 @@ IsLenFault ifs p len BadLrc = ⊥
 abbrev pub IsAboutIfs : Pcb → Type 0
 IsAboutIfs p = (p ≡ Request Ifs) ⊎ (p ≡ Response Ifs)
 
--- the first octets b meet this line of the table of reasons: PCB is none of the 18 octets (11.3.2.2); LEN is none that
--- its kind has (11.3.2.3); LEN is over the information size (11.4.2); a size is 00 or FF (11.4.2); the exclusive-or of
--- all octets isn't 00 (11.4.4)
+-- The first octets b meet this line of the table of reasons: PCB isn't one of the 18 octets (11.3.2.2); LEN isn't a
+-- length for its kind (11.3.2.3); LEN is over the information field size (11.4.2); a size is 00 or FF (11.4.2); the
+-- exclusive-or of all octets isn't 00 (11.4.4).
 abbrev pub Meets : ℕ → List ℕ → BlockReason → Type 0
 Meets ifs b BadPcb = (length b ≡ 2) × ((p : Pcb) → pcb_octet p ≡ slice_index b 1 → ⊥)
 Meets ifs b BadLen = (length b ≡ 3) × (p : Pcb) × (pcb_octet p ≡ slice_index b 1) × IsBadLen p (slice_index b 2)
@@ -147,6 +147,6 @@ Meets ifs b BadIfs = (length b ≡ 4) × ((pcb_octet (Request Ifs) ≡ slice_ind
     ⊎ (pcb_octet (Response Ifs) ≡ slice_index b 1)) × IsReserved (slice_index b 3)
 Meets ifs b BadLrc = (length b ≡ slice_index b 2 + 4) × (xor_of b ≢ 0)
 
--- the reason is the first line of the table that the octets up to and with the refused one meet
+-- the octets up to and including the refused one meet this line of the table, and no line before it
 abbrev pub IsReason : ℕ → BlockReason → List ℕ → Type 0
 IsReason ifs r b = IsFirst (BadPcb ∷ BadLen ∷ OverIfs ∷ BadIfs ∷ BadLrc ∷ []) (Meets ifs b) r

@@ -1,4 +1,4 @@
--- What is known of PCB and of a field by computing.
+-- Properties of PCB and of a field, computed.
 use Rattle.std.specs.Prelude.{ℕ, List, [], ◌∷◌, length, Bool, true, false, ◌&&◌, ◌==◌, nat_le, if◌then◌else◌, Option, Some, None}
 use Rattle.block_core.specs.Block.{pcb_octet}
 use Rattle.block_core.specs.declared.pcb.Number.TheVariants.{Zero, One}
@@ -17,7 +17,7 @@ all_pcbs =
     ∷ Request Resynch ∷ Request Ifs ∷ Request Abort ∷ Request Wtx
     ∷ Response Resynch ∷ Response Ifs ∷ Response Abort ∷ Response Wtx ∷ []
 
--- the first of them with this octet
+-- the first kind of a list that has this octet
 abbrev pub pcb_among : List Pcb → ℕ → Option Pcb
 pcb_among [] octet = None
 pcb_among (pcb ∷ pcbs) octet = if pcb_octet pcb == octet then Some pcb else pcb_among pcbs octet

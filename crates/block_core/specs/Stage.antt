@@ -1,4 +1,4 @@
--- How far the block has come whose first octets a reader holds.
+-- The stage of a block whose first octets a reader holds.
 use Rattle.std.specs.Prelude.{Bool, true, false, Result, Ok, Err, ◌≡◌, ℕ, ◌+◌, ◌-◌, ◌<◌, ◌≤◌, List, length, slice_index, Option, None, Some}
 use Rattle.octet_core.specs.Grammar.{self_ended, RefusesAt}
 use Rattle.octet_core.specs.Sizes.{IsFieldSize}
@@ -11,7 +11,8 @@ use Rattle.block_core.specs.declared.reason.BlockReason.{BlockReason}
 use Rattle.block_core.specs.declared.stage.Stage.{Stage}
 use Rattle.block_core.specs.declared.stage.Stage.TheVariants.{Front, Len, Size, Rest, Done, Refused}
 
--- the octets up to and with the one that is tested next, 0 where none is
+-- how many octets there are up to and including the one that is tested next, 0 if no octet is
+-- tested
 abbrev pub tested_len : Stage → ℕ
 tested_len Front = 2
 tested_len (Len pcb) = 3
@@ -37,11 +38,11 @@ answer_of (Rest pcb end) = Ok false
 answer_of (Done block) = Ok true
 answer_of (Refused refusal) = Err (At refusal.place refusal.reason)
 
--- an octet that says a size says neither 0 nor 255
+-- the size in a block about IFS isn't 0 or 255
 abbrev pub IsSized : Pcb → ℕ → Type 0
 IsSized pcb size = IsAboutIfs pcb → IsFieldSize size
 
--- the octets held have a kind and a length that fit each other
+-- the octets held have a kind, and a length that fits it
 pub record IsHeaded (ifs : ℕ) (pcb : Pcb) (held : List ℕ) : Type 0 where
   pub kind : pcb_octet pcb ≡ slice_index held 1
   pub fits : FitsLen ifs pcb (slice_index held 2)
@@ -67,6 +68,6 @@ IsTested ifs (Rest pcb end) held = (length held ≡ end + 1) × (end ≡ 3 + sli
 IsTested ifs (Done block) held = ⊥
 IsTested ifs (Refused refusal) held = ⊥
 
--- no block goes on after the last of the octets held, for this reason
+-- no block can continue after the last of the octets held, for this reason
 abbrev pub IsRefused : ℕ → List ℕ → BlockReason → Type 0
 IsRefused ifs held reason = RefusesAt self_ended (IsBlock ifs) (IsReason ifs) held (At (length held - 1) reason)

@@ -1,4 +1,4 @@
-//! Blocks and their octets.
+//! Blocks that own their information field.
 
 ghost use Rattle.std.specs.Prelude.{◌≡◌, ◌+◌, ◌≤◌, length, [], SomeIff};
 ghost use Rattle.block_core.specs.Block.{Suits, IsBlock};
@@ -10,22 +10,23 @@ use octet_core::lrc;
 use std::fmt::{self, Debug, Formatter, Write};
 use std::marker::Model;
 
-/// The octets of the longest information field.
+/// The greatest length of an information field, in octets.
 pub const LONGEST_INF: usize = 254;
 
-/// The octets of the longest block: NAD, PCB, LEN, the field and the LRC.
+/// The greatest length of a block, in octets: NAD, PCB, LEN, the field and the LRC.
 pub const LONGEST_BLOCK: usize = 258;
 
-/// How many octets a block has whose LEN is this: NAD, PCB, LEN, the field and the LRC (ISO/IEC 7816-3, clause 11.3).
+/// Returns how many octets a block with this LEN has: NAD, PCB, LEN, the field and the LRC (ISO/IEC 7816-3, clause
+/// 11.3).
 pub fn block_len(len: u8) -> usize
     ensures { result ≡ len + 4 }
 {
     len as usize + 4
 }
 
-/// A block (ISO/IEC 7816-3, clause 11.3): its node address (NAD), what it is (PCB) and its
-/// information field, which suits the kind: at most 254 octets in an I-block, none in an R-block, in an
-/// S-block those that it calls for.
+/// A block (ISO/IEC 7816-3, clause 11.3): its node address (NAD), its kind (PCB) and its information field. The field
+/// suits the kind: at most 254 octets in an I-block, none in an R-block, and in an S-block those that its subject
+/// needs.
 #[derive(Clone, PartialEq, Eq, Drop)]
 pub struct Block {
     nad: u8,
@@ -47,21 +48,21 @@ impl Model for Block {
 }
 
 impl Block {
-    /// The node address.
+    /// Returns the node address.
     pub fn nad(&self) -> u8
         ensures { result ≡ self.now.nad }
     {
         self.nad
     }
 
-    /// What the block is.
+    /// Returns the kind of the block.
     pub fn pcb(&self) -> Pcb
         ensures { result ≡ self.now.pcb }
     {
         self.pcb
     }
 
-    /// The information field, at most 254 octets.
+    /// Borrows the information field, at most 254 octets.
     pub fn inf(&self) -> &[u8]
         ensures octets { result.now ≡ self.now.inf }
         ensures suits { Suits 254 self.now.pcb self.now.inf }
@@ -69,7 +70,7 @@ impl Block {
         self.inf.as_slice()
     }
 
-    /// An I-block, `None` where the field has more than 254 octets.
+    /// Makes an I-block. The result is `None` if the field has more than 254 octets.
     pub fn info(nad: u8, number: Number, more: bool, inf: &[u8]) -> Option<Block>
         ensures { SomeIff result (length inf.now ≤ 254)
             (record { nad = nad; pcb = Info number more; inf = inf.now }) }
@@ -77,7 +78,7 @@ impl Block {
         Block::made(nad, Pcb::Info { number, more }, inf)
     }
 
-    /// An R-block. It has no information field.
+    /// Makes an R-block, which has no information field.
     pub fn ready(nad: u8, number: Number, fault: Fault) -> Block
         ensures { result ≡ record { nad = nad; pcb = Ready number fault; inf = [] } }
     {
@@ -88,8 +89,8 @@ impl Block {
         }
     }
 
-    /// An S-block that asks, `None` where the field isn't the one that it calls for: none for RESYNCH
-    /// and ABORT, one octet from 01 to FE for IFS, any one octet for WTX.
+    /// Makes an S-block that is a request. The result is `None` if the field doesn't suit its subject. The field is
+    /// empty for RESYNCH and ABORT, one octet from 01 to FE for IFS, and any one octet for WTX.
     pub fn request(nad: u8, about: S, inf: &[u8]) -> Option<Block>
         ensures { SomeIff result (Suits 254 (Request about) inf.now)
             (record { nad = nad; pcb = Request about; inf = inf.now }) }
@@ -97,7 +98,8 @@ impl Block {
         Block::made(nad, Pcb::Request(about), inf)
     }
 
-    /// An S-block that answers, `None` where the field isn't the one that the request calls for.
+    /// Makes an S-block that is a response. The result is `None` if the field doesn't suit its subject. The field is
+    /// as in a request.
     pub fn response(nad: u8, about: S, inf: &[u8]) -> Option<Block>
         ensures { SomeIff result (Suits 254 (Response about) inf.now)
             (record { nad = nad; pcb = Response about; inf = inf.now }) }
@@ -105,7 +107,7 @@ impl Block {
         Block::made(nad, Pcb::Response(about), inf)
     }
 
-    /// The block of these parts, `None` where the field doesn't suit the kind.
+    /// Makes a block of its parts. The result is `None` if the field doesn't suit the kind.
     pub(crate) fn made(nad: u8, pcb: Pcb, inf: &[u8]) -> Option<Block>
         ensures { SomeIff result (Suits 254 pcb inf.now)
             (record { nad = nad; pcb = pcb; inf = inf.now }) }
@@ -117,7 +119,7 @@ impl Block {
         }
     }
 
-    /// The block of these parts, of which the field suits the kind.
+    /// Makes a block of its parts. The field must suit the kind.
     pub(crate) fn of_parts(nad: u8, pcb: Pcb, inf: &[u8]) -> Block
         requires { Suits 254 pcb inf.now }
         ensures { result ≡ record { nad = nad; pcb = pcb; inf = inf.now } }
@@ -130,8 +132,8 @@ impl Block {
     }
 }
 
-/// Its node address, what it is, and how many octets its field has. The field may be of a command, which may
-/// carry a PIN, so no octet of it is shown.
+/// Shows the node address, the kind, and how many octets the field has. The field may belong to a command, which may
+/// carry a PIN, so none of its octets is shown.
 impl Debug for Block {
     fn fmt<W: Write>(&self, f: &mut Formatter<W>) -> fmt::Result {
         f.debug_struct("Block")
@@ -151,7 +153,7 @@ fn field(octets: &[u8]) -> ArrayVec<u8, LONGEST_INF>
     field
 }
 
-/// The octets of a block: NAD, PCB, LEN, the information field and the LRC.
+/// Encodes a block: NAD, PCB, LEN, the information field and the LRC.
 pub fn encode(block: &Block) -> ArrayVec<u8, LONGEST_BLOCK>
     ensures { IsBlock 254 block.now result.items }
 {

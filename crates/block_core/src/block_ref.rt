@@ -1,4 +1,4 @@
-//! Blocks read where their octets stand.
+//! Blocks that borrow their information field.
 
 ghost use Rattle.std.specs.Prelude.{◌≡◌, ◌+◌, ◌<◌, ◌≤◌, ◌++◌, length, take, drop, slice_index, IfOk, IfErr, SomeIff};
 ghost use Rattle.octet_core.specs.Grammar.{self_ended, Accepts, Refuses};
@@ -14,8 +14,8 @@ use octet_core::{Stop, lrc};
 use std::fmt::{self, Debug, Formatter, Write};
 use std::marker::Model;
 
-/// A block whose information field lies in the octets from which it was read (ISO/IEC 7816-3, clause
-/// 11.3). Contracts see the same parts as of a `Block`.
+/// A block that borrows its information field from the octets that were decoded (ISO/IEC 7816-3, clause 11.3).
+/// Contracts see its parts, like those of a `Block`.
 #[derive(Drop)]
 pub struct BlockRef<'a> {
     nad: u8,
@@ -34,12 +34,11 @@ impl<'a> Model for BlockRef<'a> {
 }
 
 impl<'a> BlockRef<'a> {
-    /// The block that the octets begin with, and how many octets it takes; what follows isn't looked at.
-    /// Nothing is copied, and each octet of the block is read once for the LRC.
+    /// Decodes the block at the front of the octets. Returns the block, and how many octets it takes. What
+    /// follows it isn't read. Nothing is copied, and each octet of the block is read once for the LRC.
     ///
-    /// `ifs` is the information size, 1 to 254. Where no block begins the octets, `At` gives the first
-    /// octet after which none goes on, with its reason, and `Short` the place where the octets ended
-    /// though one could go on.
+    /// `ifs` is the information field size, 1 to 254. The error is `At` the first octet after which no block
+    /// can continue, with the reason. It is `Short` at the end of the octets if a block could continue there.
     #[inline(always)]
     pub fn decode(octets: &'a [u8], ifs: u8) -> Result<(BlockRef<'a>, usize), Stop<BlockReason>>
         requires least { 1 ≤ ifs }
@@ -60,8 +59,8 @@ impl<'a> BlockRef<'a> {
         Ok((block, end + 1))
     }
 
-    /// The block of these parts, `None` where the field doesn't suit the kind: at most 254 octets in an
-    /// I-block, none in an R-block, in an S-block those that it calls for.
+    /// Makes a block of its parts. The result is `None` if the field doesn't suit the kind. The field has at
+    /// most 254 octets in an I-block, none in an R-block, and in an S-block those that its subject needs.
     pub fn new(nad: u8, pcb: Pcb, inf: &'a [u8]) -> Option<BlockRef<'a>>
         ensures { SomeIff result (Suits 254 pcb inf.now)
             (record { nad = nad; pcb = pcb; inf = inf.now }) }
@@ -73,21 +72,21 @@ impl<'a> BlockRef<'a> {
         }
     }
 
-    /// The node address.
+    /// Returns the node address.
     pub fn nad(&self) -> u8
         ensures { result ≡ self.now.nad }
     {
         self.nad
     }
 
-    /// What the block is.
+    /// Returns the kind of the block.
     pub fn pcb(&self) -> Pcb
         ensures { result ≡ self.now.pcb }
     {
         self.pcb
     }
 
-    /// The information field, at most 254 octets, lent from the octets that were read.
+    /// Returns the information field, at most 254 octets, borrowed from the octets that were decoded.
     pub fn inf(&self) -> &'a [u8]
         ensures octets { result.now ≡ self.now.inf }
         ensures suits { Suits 254 self.now.pcb self.now.inf }
@@ -95,15 +94,15 @@ impl<'a> BlockRef<'a> {
         self.inf
     }
 
-    /// The block with a copy of its information field.
+    /// Returns the block with a copy of its information field.
     pub fn to_block(&self) -> Block
         ensures { result ≡ self.now }
     {
         Block::of_parts(self.nad, self.pcb, self.inf)
     }
 
-    /// Writes the octets of the block to the front of the buffer, 4 to 258 of them, and says how many; the
-    /// rest of the buffer stays.
+    /// Encodes the block at the front of the buffer, and returns how many octets it has, 4 to 258. The rest of
+    /// the buffer stays as it was.
     pub fn encode_into(&self, out: &mut [u8]) -> usize
         requires { 258 ≤ length out.old }
         ensures put { IsPut self.now out.old out.new result }
@@ -114,13 +113,13 @@ impl<'a> BlockRef<'a> {
         let head = [self.nad, self.pcb.octet(), len as u8];
         put(out, 0, &head);
         put(out, 3, self.inf);
-        // of the octets where they came from: what was just written takes longer to read
+        // the sum of the original octets: octets that were just written take longer to read
         let sum = lrc(&head) ^ sum_of(self.inf);
         put(out, len + 3, &[sum]);
         len + 4
     }
 
-    /// The block of these parts, of which the field suits the kind.
+    /// Makes a block of its parts. The field must suit the kind.
     fn of_parts(nad: u8, pcb: Pcb, inf: &'a [u8]) -> BlockRef<'a>
         requires { Suits 254 pcb inf.now }
         ensures { result ≡ record { nad = nad; pcb = pcb; inf = inf.now } }
@@ -129,7 +128,7 @@ impl<'a> BlockRef<'a> {
     }
 }
 
-/// What the second octet says.
+/// Returns the kind that the second octet says.
 fn pcb_in(octets: &[u8], ifs: u8) -> Result<Pcb, Stop<BlockReason>>
     ensures long { IfOk result (λ pcb. 2 ≤ length octets.now) }
     ensures kind { IfOk result (λ pcb. pcb_octet pcb ≡ slice_index octets.now 1) }
@@ -144,7 +143,8 @@ fn pcb_in(octets: &[u8], ifs: u8) -> Result<Pcb, Stop<BlockReason>>
     }
 }
 
-/// The place of the LRC, by the third octet; a size that the fourth says is tested too.
+/// Returns the place of the LRC, by the third octet. In a block about IFS, the size in the fourth octet is
+/// checked too.
 fn end_in(octets: &[u8], pcb: Pcb, ifs: u8) -> Result<usize, Stop<BlockReason>>
     requires most { ifs ≤ 254 }
     requires long { 2 ≤ length octets.now }
@@ -173,7 +173,7 @@ fn end_in(octets: &[u8], pcb: Pcb, ifs: u8) -> Result<usize, Stop<BlockReason>>
     Ok(3 + octets[2] as usize)
 }
 
-/// Writes the octets after the first `start` of the buffer.
+/// Writes the octets to the buffer, from place `start` on.
 fn put(out: &mut [u8], start: usize, octets: &[u8])
     requires { start + length octets.now ≤ length out.old }
     ensures { out.new ≡ take start out.old
@@ -182,8 +182,8 @@ fn put(out: &mut [u8], start: usize, octets: &[u8])
     out[start..start + octets.len()].copy_from_slice(octets);
 }
 
-/// The exclusive-or of the octets. It isn't inlined: beside a test of its result the compiler takes octet
-/// by octet, and in a function of its own many at once.
+/// Returns the exclusive-or of the octets. It isn't inlined: next to a test of its result, the compiler takes
+/// one octet at a time. In a separate function it takes many at once.
 #[inline(never)]
 fn sum_of(octets: &[u8]) -> u8
     ensures { result ≡ xor_of octets.now }
@@ -191,7 +191,7 @@ fn sum_of(octets: &[u8]) -> u8
     lrc(octets)
 }
 
-/// A block could still go on where the octets end.
+/// Returns the stop for octets at whose end a block could continue.
 fn short(octets: &[u8]) -> Stop<BlockReason>
     ensures { result ≡ Short (length octets.now) }
 {
@@ -200,14 +200,15 @@ fn short(octets: &[u8]) -> Stop<BlockReason>
     }
 }
 
-/// No block goes on with the octet at this place.
+/// Returns the stop for an octet at this place with which no block can continue.
 fn refused(place: usize, reason: BlockReason) -> Stop<BlockReason>
     ensures { result ≡ At place reason }
 {
     Stop::At { place, reason }
 }
 
-/// Its node address, what it is, and how many octets its field has: as of a [`Block`], no octet of it is shown.
+/// Shows the node address, the kind, and how many octets the field has. No octet of it is shown, as with a
+/// [`Block`].
 impl Debug for BlockRef<'_> {
     fn fmt<W: Write>(&self, f: &mut Formatter<W>) -> fmt::Result {
         f.debug_struct("BlockRef")

@@ -1,4 +1,4 @@
-//! The block that octets begin with.
+//! Decoding of blocks.
 
 ghost use Rattle.std.specs.Prelude.{◌≤◌, IfOk, IfErr};
 ghost use Rattle.octet_core.specs.Grammar.{self_ended, Accepts, Refuses};
@@ -9,11 +9,12 @@ use crate::block_ref::BlockRef;
 use crate::reason::BlockReason;
 use octet_core::Stop;
 
-/// The block that the octets begin with, and how many octets it takes; what follows isn't looked at.
+/// Decodes the block at the front of the octets. Returns the block, and how many octets it takes. What
+/// follows it isn't read.
 ///
-/// `ifs` is the information size, 1 to 254. Where no block begins the octets, `At` gives the first
-/// octet after which none goes on, with its reason, and `Short` the place where the octets ended though
-/// one could go on.
+/// `ifs` is the information field size, 1 to 254. The error is `At` the first octet after which no
+/// block can continue, with the reason. It is `Short` at the end of the octets if a block could
+/// continue there.
 pub fn decode(octets: &[u8], ifs: u8) -> Result<(Block, usize), Stop<BlockReason>>
     requires least { 1 ≤ ifs }
     requires most { ifs ≤ 254 }

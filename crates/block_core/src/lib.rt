@@ -1,10 +1,12 @@
-//! Blocks of the T=1 protocol (ISO/IEC 7816-3, clause 11.3), as values and as octets.
+//! Blocks of the T=1 protocol (ISO/IEC 7816-3, clause 11.3): decoding and encoding.
 //!
-//! A block is NAD, PCB, LEN, an information field of LEN octets and the LRC, one octet that makes the
-//! exclusive-or of all octets of the block 00. The grammar, `IsBlock` in `specs/Block.antt`, relates
-//! a block to its octets under an information size. `BlockReader` gives its whole verdict on octets
-//! that come in pieces, `BlockRef` on a list of them in which the field stays, and `decode` with a copy of
-//! the field; `encode` gives the octets of a block, and `laws` says what holds of the grammar alone.
+//! A block is NAD, PCB, LEN, an information field of LEN octets and the LRC. The LRC is an octet that
+//! makes the exclusive-or of all octets of the block 00. The grammar, `IsBlock` in `specs/Block.antt`,
+//! relates a block to its octets for an information field size.
+//!
+//! `BlockReader` decodes octets that come in pieces. `BlockRef` decodes a list of octets and borrows the
+//! field, and `decode` copies the field. `encode` encodes a block. `laws` states what holds of the grammar
+//! alone.
 #![tactic(auto)]
 
 pub mod block;

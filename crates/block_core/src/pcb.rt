@@ -1,4 +1,4 @@
-//! What a protocol control octet (PCB) says of a block (ISO/IEC 7816-3, clause 11.3).
+//! The meaning of the protocol control octet (PCB) of a block (ISO/IEC 7816-3, clause 11.3).
 
 ghost use Rattle.std.specs.Prelude.{◌≡◌, ◌↔◌, IfSome, IfNone, IsTrue, length};
 ghost use Rattle.block_core.specs.declared.pcb.Pcb.{Pcb as AnyPcb};
@@ -17,43 +17,43 @@ pub enum Number {
 /// What an R-block says of the block that it answers.
 #[derive(Clone, Copy, Debug, PartialEq, Eq)]
 pub enum Fault {
-    /// It was free of errors.
+    /// The block was free of errors.
     Free,
-    /// Its redundancy check or a parity was wrong.
+    /// The redundancy check or a parity of the block was wrong.
     Redundancy,
-    /// Another error.
+    /// The block had another error.
     Other,
 }
 
-/// What an S-block asks for, or answers.
+/// The subject of an S-block's request or response.
 #[derive(Clone, Copy, Debug, PartialEq, Eq)]
 pub enum S {
-    /// Both ends begin again.
+    /// Resynchronization: both ends start again.
     Resynch,
-    /// The information size that the sender can take: one octet, 01 to FE.
+    /// The information field size that the sender accepts: one octet, 01 to FE.
     Ifs,
-    /// An end of the chain under way.
+    /// The end of the unfinished chain.
     Abort,
-    /// More waiting time: one octet, of any value.
+    /// More waiting time: one octet of any value.
     Wtx,
 }
 
-/// What a block is: one of 18 kinds. Every other control octet is refused.
+/// The kind of a block, one of 18. Every other control octet is refused.
 #[derive(Clone, Copy, Debug, PartialEq, Eq)]
 pub enum Pcb {
-    /// An I-block; with `more` the chain goes on after it.
+    /// An I-block. With `more`, the chain continues after it.
     Info { number: Number, more: bool },
-    /// An R-block: the number that its sender expects, and a fault.
+    /// An R-block, with the number that its sender expects, and a fault.
     Ready { number: Number, fault: Fault },
-    /// An S-block that asks.
+    /// An S-block that is a request.
     Request(S),
-    /// An S-block that answers.
+    /// An S-block that is a response.
     Response(S),
 }
 
 impl Number {
-    /// The other number: the numbers of the I-blocks that an end sends alternate (ISO/IEC 7816-3, clause
-    /// 11.6).
+    /// Returns the other number. The numbers of the I-blocks that an end sends alternate (ISO/IEC
+    /// 7816-3, clause 11.6).
     pub fn other(self) -> Number
         ensures { result ≡ other self }
     {
@@ -74,7 +74,7 @@ impl Number {
 }
 
 impl Pcb {
-    /// The control octet.
+    /// Returns the control octet.
     pub fn octet(self) -> u8
         ensures { result ≡ pcb_octet self }
     {
@@ -86,7 +86,8 @@ impl Pcb {
         }
     }
 
-    /// Whether a block of this kind can carry this information field under an information size of 254.
+    /// Whether a block of this kind can carry this information field, for an information field size of
+    /// 254.
     pub(crate) fn suits(self, inf: &[u8]) -> bool
         ensures { IsTrue result ↔ Suits 254 self inf.now }
     {
@@ -98,7 +99,7 @@ impl Pcb {
         }
     }
 
-    /// The kind that a control octet says, `None` where it says none of the 18.
+    /// Returns the kind that a control octet says, or `None` if it isn't one of the 18.
     pub fn of(octet: u8) -> Option<Pcb>
         ensures found { IfSome result (λ p. pcb_octet p ≡ octet) }
         ensures none { IfNone result ((p : AnyPcb) → pcb_octet p ≡ octet → ⊥) }
@@ -164,7 +165,7 @@ impl S {
         }
     }
 
-    /// The length of the information field of an S-block.
+    /// Returns the length of the information field of an S-block.
     pub(crate) fn len(self) -> u8
         ensures { result ≡ supervisory_len self }
     {

@@ -1,4 +1,4 @@
-//! A block that comes in pieces.
+//! Reading of a block that comes in pieces.
 
 ghost use Rattle.std.specs.Prelude.{◌≡◌, ◌+◌, ◌<◌, ◌≤◌, ◌++◌, length, take, Option, IfSome, IfNone, MatchBool};
 ghost use Rattle.octet_core.specs.Reader.{IsFed, IsFinished};
@@ -13,8 +13,8 @@ use octet_core::{Stop, lrc};
 use std::fmt::{self, Debug, Formatter, Write};
 use std::marker::Model;
 
-/// A reader of one block (ISO/IEC 7816-3, clause 11.3) whose octets come in pieces. It keeps them in a
-/// fixed buffer of 258 octets and takes no memory.
+/// A reader of one block (ISO/IEC 7816-3, clause 11.3) whose octets come in pieces. It keeps them in a fixed
+/// buffer of 258 octets, and allocates nothing.
 #[derive(Drop)]
 pub struct BlockReader {
     ifs: u8,
@@ -42,7 +42,7 @@ impl Model for BlockReader {
 }
 
 impl BlockReader {
-    /// A reader that has taken nothing. `ifs` is the information size, 1 to 254.
+    /// Makes a reader that has taken nothing. `ifs` is the information field size, 1 to 254.
     pub fn new(ifs: u8) -> Self
         requires least { 1 ≤ ifs }
         requires most { ifs ≤ 254 }
@@ -56,11 +56,11 @@ impl BlockReader {
         }
     }
 
-    /// Takes the next octets: how many of this piece, and whether the block is whole. It takes the whole
-    /// piece unless the block ends in it; once the block is whole it takes none.
+    /// Takes the next octets. Returns how many of this piece were taken, and whether the block is whole. The
+    /// whole piece is taken unless the block ends in it. Once the block is whole, no octet is taken.
     ///
-    /// `At` gives the first octet after which no block goes on, counted from the first that was ever fed,
-    /// and its reason. From then on it is answered again, and nothing is taken, until `reset`.
+    /// The error is `At` the first octet after which no block can continue, counted from the first octet
+    /// ever fed, with a reason. From then on each call returns it again, and takes nothing, until `reset`.
     pub fn feed(&mut self, piece: &[u8]) -> Result<(usize, bool), Stop<BlockReason>>
         ensures fed { IsFed (IsBlock self.old.ifs) (IsReason self.old.ifs) HasTaken refusal_of
             self.old self.new piece.now result }
@@ -74,7 +74,7 @@ impl BlockReader {
         Ok((taken, done))
     }
 
-    /// The block, once it is whole.
+    /// Returns the block, once it is whole.
     pub fn value(&self) -> Option<&Block>
         ensures found { IfSome result (λ block. HasTaken self.now self.now.taken
             × IsBlock self.now.ifs block.now self.now.taken) }
@@ -87,8 +87,8 @@ impl BlockReader {
         }
     }
 
-    /// What there is to say when no more octets come: `Short` with the octets taken where the block isn't
-    /// whole, or the refusal that is kept.
+    /// Ends the octets. The error is `Short` with the number of octets taken if the block isn't whole, or
+    /// the refusal that was kept.
     pub fn finish(&self) -> Result<(), Stop<BlockReason>>
         ensures { IsFinished (IsBlock self.now.ifs) (IsReason self.now.ifs) HasTaken refusal_of
             self.now result }
@@ -101,8 +101,8 @@ impl BlockReader {
         })
     }
 
-    /// How many octets of the block were taken, at most 258; with a refusal, up to and with the one that was
-    /// refused.
+    /// Returns how many octets of the block were taken, at most 258. After a refusal, the refused octet is
+    /// counted too.
     pub fn taken(&self) -> usize
         ensures octets { result ≡ length self.now.taken }
         ensures most { result ≤ 258 }
@@ -110,7 +110,7 @@ impl BlockReader {
         self.held.len()
     }
 
-    /// Begins again, as a new reader of the same information size.
+    /// Starts again, like a new reader with the same information field size.
     pub fn reset(&mut self)
         ensures { self.new ≡ nothing_taken self.old.ifs }
     {
@@ -125,7 +125,7 @@ impl BlockReader {
         !matches!(self.stage, Stage::Done(_) | Stage::Refused(_))
     }
 
-    /// Takes octets up to the next that is tested, or all.
+    /// Takes octets up to the next one that is tested, or the whole piece.
     fn take_run(&mut self, piece: &[u8]) -> usize
         requires some { 0 < length piece.now }
         requires open { IsOpen self.old }
@@ -147,7 +147,7 @@ impl BlockReader {
     }
 }
 
-/// The information size, how many octets were taken, and what comes next: no octet is shown.
+/// Shows the information field size, how many octets were taken, and what comes next, but no octet.
 impl Debug for BlockReader {
     fn fmt<W: Write>(&self, f: &mut Formatter<W>) -> fmt::Result {
         f.debug_struct("BlockReader")

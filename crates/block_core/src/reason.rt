@@ -1,4 +1,4 @@
-//! Why octets are no block.
+//! Why octets aren't a block.
 
 ghost use Rattle.std.specs.Prelude.{◌≡◌, ◌↔◌, IfSome, IfNone, IsTrue};
 ghost use Rattle.block_core.specs.Block.{FitsLen, IsLenFault, IsAboutIfs};
@@ -9,14 +9,14 @@ use octet_core::{Named, is_reserved};
 use std::error::Error;
 use std::fmt::{self, Display, Formatter, Write};
 
-/// Why octets are no block, in the order in which they are tried at a place.
+/// Why octets aren't a block, in the order in which the reasons are tried at a place.
 #[derive(Clone, Copy, Debug, PartialEq, Eq)]
 pub enum BlockReason {
-    /// PCB, at place 1, is none of the 18.
+    /// PCB, at place 1, isn't one of the 18.
     BadPcb,
-    /// LEN, at place 2, is FF, or not the length that an R-block or this S-block has.
+    /// LEN, at place 2, is FF, or isn't the length of an R-block or of this S-block.
     BadLen,
-    /// LEN, at place 2, of an I-block is above the information size.
+    /// LEN, at place 2, of an I-block is over the information field size.
     OverIfs,
     /// The octet of an IFS request or response, at place 3, is 00 or FF.
     BadIfs,
@@ -40,7 +40,7 @@ impl Named for BlockReason {
     }
 }
 
-/// The reason's name.
+/// Writes the reason's name.
 impl Display for BlockReason {
     ghost use Rattle.std.specs.Prelude.{Some};
     ghost use Rattle.block_core.specs.Names.{reason_name};
@@ -55,8 +55,8 @@ impl Display for BlockReason {
 impl Error for BlockReason {}
 
 impl Pcb {
-    /// Why no block of this kind has an information field of this length, under this information size: `BadLen` or
-    /// `OverIfs`.
+    /// Returns why no block of this kind has an information field of this length, for this information field size:
+    /// `BadLen` or `OverIfs`. The result is `None` if one has.
     pub fn fault_of_len(self, len: u8, ifs: u8) -> Option<BlockReason>
         ensures none { IfNone result (FitsLen ifs self len) }
         ensures some { IfSome result (IsLenFault ifs self len) }

@@ -14,7 +14,7 @@ pub enum Side {
 }
 
 impl Side {
-    /// The other end.
+    /// Returns the other end.
     pub fn other(self) -> Side
         ensures { result ≡ spec.other self }
     {

@@ -1,4 +1,4 @@
-//! How far a block has come whose octets come in pieces, by the octet that is tested next.
+//! The stage of a block that comes in pieces.
 
 ghost use Rattle.std.specs.Prelude.{◌≡◌, ◌+◌, ◌≤◌, ◌↔◌, length, slice_index, IfOk, IfErr, IsTrue};
 ghost use Rattle.octet_core.specs.Octets.{xor_of};
@@ -10,7 +10,7 @@ use crate::pcb::{Pcb, S};
 use crate::reason::BlockReason;
 use octet_core::{Refusal, Stop};
 
-/// How far a block has come, by the octet that is tested next.
+/// The stage of a block, by the octet that is tested next.
 #[derive(Debug, Drop)]
 pub(crate) enum Stage {
     /// PCB, after NAD.
@@ -21,14 +21,15 @@ pub(crate) enum Stage {
     Size(Pcb),
     /// The LRC, at place `end`.
     Rest { pcb: Pcb, end: usize },
-    /// None: the block is whole.
+    /// No octet is tested: the block is whole.
     Done(Block),
-    /// None: no block goes on.
+    /// No octet is tested: no block can continue.
     Refused(Refusal<BlockReason>),
 }
 
 impl Stage {
-    /// The octets up to and with the one that is tested next, 0 where none is.
+    /// Returns how many octets there are up to and including the one that is tested next, 0 if no
+    /// octet is tested.
     pub(crate) fn tested_len(&self) -> usize
         requires { tested_len self.now ≤ 300 }
         ensures { result ≡ tested_len self.now }
@@ -42,7 +43,7 @@ impl Stage {
         }
     }
 
-    /// Whether the block is whole, or the refusal.
+    /// Returns whether the block is whole, or the refusal.
     pub(crate) fn answer(&self) -> Result<bool, Stop<BlockReason>>
         ensures { result ≡ answer_of self.now }
     {
@@ -56,7 +57,8 @@ impl Stage {
         }
     }
 
-    /// The stage after the octet that is tested, the last of those held. `sum` is their exclusive-or.
+    /// Returns the stage after the tested octet, which is the last of those held. `sum` is their
+    /// exclusive-or.
     pub(crate) fn advanced(&self, held: &[u8], sum: u8, ifs: u8) -> Stage
         requires most { ifs ≤ 254 }
         requires tested { IsTested ifs self.now held.now }
@@ -153,7 +155,7 @@ fn whole(pcb: Pcb, held: &[u8], end: usize, sum: u8, ifs: u8) -> Result<Stage, B
 }
 
 impl Pcb {
-    /// Whether the block says an information size.
+    /// Whether the block is a request or a response about IFS, which carries a size.
     pub(crate) fn is_about_ifs(self) -> bool
         ensures { IsTrue result ↔ IsAboutIfs self }
     {

@@ -1,4 +1,4 @@
--- Commands and responses as C sees them.
+-- Commands and responses as C has them.
 use Rattle.std.specs.Prelude.{Bool, ◌≡◌, ℕ, ◌==◌, ◌&&◌, List, [], ◌∷◌, length, slice_index, Option, None, Some, is_some, unwrap_or, if◌then◌else◌}
 use Rattle.octet_core.specs.Grammar.{whole, Accepts}
 use Rattle.apdu_core.specs.declared.command.Shape.{Shape}
@@ -31,7 +31,7 @@ shape_number LongLe = 5
 shape_number LongPart = 6
 shape_number LongBoth = 7
 
--- the place of the data field in the octets of a command; of one without, after the header
+-- the offset of the data field in the octets of a command; without a data field, the end of the header
 abbrev pub data_place : Shape → ℕ
 data_place Empty = 4
 data_place ShortLe = 4
@@ -41,11 +41,11 @@ data_place LongLe = 4
 data_place LongPart = 7
 data_place LongBoth = 7
 
--- 1 for what is there
+-- 1 for what is present, else 0
 abbrev pub mark_of : Bool → ℕ
 mark_of is = if is then 1 else 0
 
--- a command, with its data field where it is in the octets
+-- the struct is this command, with its data field at its place in the octets
 pub record IsSeen (c : CommandParts) (out : CCommand) : Type 0 where
   pub cla : out.cla ≡ slice_index c.header 0
   pub ins : out.ins ≡ slice_index c.header 1
@@ -57,15 +57,15 @@ pub record IsSeen (c : CommandParts) (out : CCommand) : Type 0 where
   pub place : out.data_place ≡ data_place (shape_of c.body)
   pub len : out.data_len ≡ length (part_of c.body)
 
--- all the octets are the command that is seen
+-- all the octets are the command in the struct
 abbrev pub IsDecoded : List ℕ → CCommand → Type 0
 IsDecoded octets out = (c : CommandParts) × Accepts whole IsCommand octets c (length octets) × IsSeen c out
 
--- a response, whose data field is the front of the octets
+-- the struct of a response: its data field is the front of the octets
 abbrev pub response_seen : ResponseParts → CResponse
 response_seen r = record { sw1 = r.sw1; sw2 = r.sw2; data_len = length r.part }
 
--- all the octets are the response that is seen
+-- all the octets are the response in the struct
 abbrev pub IsDecodedResponse : List ℕ → CResponse → Type 0
 IsDecodedResponse octets out = (r : ResponseParts) × Accepts whole IsResponse octets r (length octets)
     × (out ≡ response_seen r)
@@ -78,7 +78,7 @@ class_number Checking = 4
 class_number Proprietary = 5
 class_number Invalid = 6
 
--- the body of this shape with this data field and Le, where it has no data field or Le that its shape hasn't
+-- the body with this shape, data field and Le: none if the shape excludes that data field or Le
 abbrev pub body_with : ℕ → ℕ → List ℕ → Option Body
 body_with shape le field =
     if (shape == 1) && ((le == 0) && (length field == 0)) then Some body.Empty
@@ -90,11 +90,11 @@ body_with shape le field =
     else if shape == 7 then Some (body.LongBoth field le)
     else None
 
--- the command of a struct's header with this body
+-- the command with the header of a struct and this body
 abbrev pub command_with : CCommand → Body → CommandParts
 command_with c body = record { header = c.cla ∷ c.ins ∷ c.p1 ∷ c.p2 ∷ []; body = body }
 
--- the body that a caller gives is one that the length fields can tell
+-- there is a body from the caller's struct, and it fits its length fields
 abbrev pub HasBody : Option Body → Type 0
 HasBody None = ⊥
 HasBody (Some body) = FitsFields body

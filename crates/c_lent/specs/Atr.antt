@@ -1,4 +1,4 @@
--- Answers to reset as C sees them.
+-- Answers to reset as C has them.
 use Rattle.std.specs.Prelude.{◌≡◌, ◌≤◌, ℕ, ◌-◌, ◌==◌, List, ◌++◌, length, map, replicate, take, if◌then◌else◌, Option, None, Some, unwrap_or, Result, Ok, Err}
 use Rattle.octet_core.specs.Grammar.{self_ended, Accepts}
 use Rattle.atr_core.specs.declared.atr.Convention.{Convention}
@@ -23,7 +23,7 @@ atr_reason BadTs = 1
 atr_reason TooLong = 2
 atr_reason BadTck = 3
 
--- a byte that is there where its mark isn't 0
+-- a byte, which is present if its mark isn't 0
 abbrev pub byte_of : ℕ → ℕ → Option ℕ
 byte_of mark byte = if mark == 0 then None else Some byte
 
@@ -36,7 +36,7 @@ indicated_of c = record { protocol = c.protocol; bytes = interface_of c.bytes }
 abbrev pub convention_of : ℕ → Convention
 convention_of n = if n == 0 then Direct else Inverse
 
--- the answer that the struct says
+-- the answer to reset that the struct describes
 abbrev pub atr_of : CAtr → AtrParts
 atr_of c = record {
   convention = convention_of c.convention;
@@ -47,7 +47,7 @@ atr_of c = record {
 
 -- ---- the struct that the library writes
 
--- a mark that is 0 or 1, and a byte that is 0 where there is none
+-- the mark is 1 if there is a byte, else 0; the byte is 0 if there is none
 abbrev pub mark_told : Option ℕ → ℕ
 mark_told None = 0
 mark_told (Some byte) = 1
@@ -73,11 +73,11 @@ abbrev pub convention_told : Convention → ℕ
 convention_told Direct = 0
 convention_told Inverse = 1
 
--- what is after the last TD
+-- an unused entry after the last TD
 abbrev pub no_indicated : CIndicated
 no_indicated = indicated_told (record { protocol = 0; bytes = record { ta = None; tb = None; tc = None } })
 
--- The struct says this answer: each mark is 0 or 1, the counts are those of the answer, and what isn't there is 0.
+-- The struct describes this answer: each mark is 0 or 1, the counts are those of the answer, and what is absent is 0.
 pub record IsTold (a : AtrParts) (c : CAtr) : Type 0 where
   pub convention : c.convention ≡ convention_told a.convention
   pub first : c.first ≡ interface_told a.first
@@ -90,24 +90,24 @@ pub record IsTold (a : AtrParts) (c : CAtr) : Type 0 where
 
 -- ---- verdicts
 
--- the struct says an answer: the counts fit into its arrays, and the answer has a spelling
+-- the struct describes an answer: the counts fit its arrays, and the answer has a spelling
 pub record SaysAtr (c : CAtr) : Type 0 where
   pub indicated : c.indicated_count ≤ 31
   pub historical : c.historical_count ≤ 15
   pub proper : IsProper (atr_of c)
 
--- the octets begin with the answer that the struct says, whose counts fit into its arrays
+-- the octets begin with the answer that the struct describes, and the counts fit its arrays
 pub record IsDecoded (octets : List ℕ) (v : Verdict) (out : CAtr) : Type 0 where
   pub accepts : Accepts self_ended IsAtr octets (atr_of out) v.place
   pub indicated : out.indicated_count ≤ 31
   pub historical : out.historical_count ≤ 15
   pub tck_is : byte_of out.has_tck out.tck ≡ tck_of (atr_of out)
 
--- the parameters of T=1 that the struct says
+-- the parameters of T=1 in the struct
 abbrev pub t1_values : CT1 → T1Values
 t1_values c = record { ifsc = c.ifsc; bwi = c.bwi; cwi = c.cwi }
 
--- what C is told of the parameters of T=1
+-- the status and the struct of C for the parameters of T=1
 abbrev pub IsT1 : Result T1Values ParamFault → CT1 → CT1 → ℕ → Type 0
 IsT1 (Ok values) old new status = (status ≡ 0)
     × (new ≡ record { ifsc = values.ifsc; bwi = values.bwi; cwi = values.cwi })
@@ -115,6 +115,6 @@ IsT1 (Err NoT1) old new status = (status ≡ 1) × (new ≡ old)
 IsT1 (Err ReservedIfsc) old new status = (status ≡ 2) × (new ≡ old)
 IsT1 (Err Crc) old new status = (status ≡ 3) × (new ≡ old)
 
--- Fi and Di, 0 for one that is reserved
+-- Fi and Di: 0 for a reserved one
 abbrev pub rates_seen : Option ℕ × Option ℕ → CRates
 rates_seen rates = record { fi = unwrap_or rates.0 0; di = unwrap_or rates.1 0 }

@@ -19,21 +19,21 @@ use Rattle.c_lent.specs.declared.call.CardCall.TheVariants as card_call
 use Rattle.c_lent.specs.declared.turn.CTurn.{CTurn}
 use Rattle.c_lent.specs.Turns.{turned}
 
--- what a call of a terminal gives it, in this state
+-- the input of a terminal from a call of C, in this state
 abbrev pub terminal_input : TerminalCall → TerminalState → TerminalInput
 terminal_input (terminal_call.Transmit command) t = transmit command.now
 terminal_input (terminal_call.Received octets) t = takes (class_of t.ifsd octets.now)
 terminal_input terminal_call.Quiet t = takes quiet
 terminal_input (terminal_call.AskIfs size) t = ask_ifs size
 
--- what a call of a card gives it, in this state
+-- the input of a card from a call of C, in this state
 abbrev pub card_input : CardCall → CardState → CardInput
 card_input (card_call.Received octets) c = card.takes (class_of c.ifsc octets.now)
 card_input (card_call.Reply octets) c = replies octets.now
 card_input (card_call.MoreTime multiple) c = more_time multiple
 card_input (card_call.AskIfs size) c = card.ask_ifs size
 
--- what C is told of what a call of a terminal answered, with the octets of its block in the buffer
+-- C's turn for the result of a call of a terminal, with the octets of its block in the buffer
 abbrev pub told_terminal : Result EncodedTerminalTurn TerminalFault → CTurn
 told_terminal (Ok (Send count waiting)) = record { kind = 0; wait = waiting; count = count }
 told_terminal (Ok Answered) = turned 1
@@ -46,7 +46,7 @@ told_terminal (Err fault.TooLong) = turned 18
 told_terminal (Err fault.Reserved) = turned 19
 told_terminal (Err fault.Idle) = turned 20
 
--- what C is told of what a call of a card answered, with the octets of its block in the buffer
+-- C's turn for the result of a call of a card, with the octets of its block in the buffer
 abbrev pub told_card : Result EncodedCardTurn CardFault → CTurn
 told_card (Ok (card_put.Send count)) = record { kind = 0; wait = 0; count = count }
 told_card (Ok card_put.Asked) = turned 1

@@ -1,4 +1,4 @@
--- Chains as C sees them.
+-- Chains as C has them.
 use Rattle.std.specs.Prelude.{ℕ}
 use Rattle.chain_core.specs.declared.reason.ChainReason.{ChainReason}
 use Rattle.chain_core.specs.declared.reason.ChainReason.TheVariants.{BadNad, BadPcb, NotInfo, BadSequence, TooManyBlocks, BadLen, OverIfs, TooLong, BadLrc}

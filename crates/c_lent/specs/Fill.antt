@@ -1,4 +1,4 @@
--- Data object lists that are filled, as C sees them.
+-- Data object lists that are filled, as C has them.
 use Rattle.std.specs.Prelude.{◌≡◌, ℕ, ◌≤◌, ◌^◌, ◌==◌, ◌++◌, List, length, drop, All, if◌then◌else◌}
 use Rattle.octet_core.specs.declared.format.Format.{Format}
 use Rattle.octet_core.specs.declared.format.Format.TheVariants.{Numeric, CompressedNumeric, Other}
@@ -14,7 +14,7 @@ use Rattle.c_lent.specs.declared.parts.CKnown.{CKnown}
 abbrev pub format_of : ℕ → Format
 format_of n = if n == 0 then Numeric else (if n == 1 then CompressedNumeric else Other)
 
--- the struct says a known value: its tag is one, and its format is 0 to 2
+-- the struct is a known value: its tag is a tag, and its format is 0 to 2
 pub record IsKnown (c : CKnown) : Type 0 where
   pub tag : IsTag (tag_of c.tag)
   pub format : c.format ≤ 2
@@ -29,7 +29,7 @@ known_seen c = record { tag = tag_of c.tag; format = format_of c.format; value =
 abbrev pub longest_list : ℕ
 longest_list = 2 ^ 48
 
--- the octets that the list asks for are put into the buffer
+-- the octets that the list requests are put into the buffer
 pub record Fills (list : List ℕ) (known : List Known) (old new : List ℕ) (v : Verdict) : Type 0 where
   pub entries : List (List ℕ × ℕ)
   pub spells : IsDol entries list
@@ -37,7 +37,7 @@ pub record Fills (list : List ℕ) (known : List Known) (old new : List ℕ) (v 
   pub verdict : v ≡ put_verdict (filled known entries) old
   pub buffer : new ≡ put_into (filled known entries) old
 
--- the octets that the list asks for, so many, are put into the buffer where it has room for them
+-- the list requests this many octets, and as many of them as fit are put into the buffer
 pub record AreFilled (list : List ℕ) (known : List Known) (old new : List ℕ) (count : ℕ) : Type 0 where
   pub entries : List (List ℕ × ℕ)
   pub spells : IsDol entries list

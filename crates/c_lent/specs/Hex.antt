@@ -1,4 +1,4 @@
--- Hexadecimal text as C sees it.
+-- Hexadecimal text as C has it.
 use Rattle.std.specs.Prelude.{◌≡◌, ℕ, List, length, Ok}
 use Rattle.hex.specs.Hex.{decode_of}
 use Rattle.octet_core.specs.declared.stop.Stop.{Stop}
@@ -14,13 +14,13 @@ abbrev pub hex_reason : HexReason → ℕ
 hex_reason Digit = 1
 hex_reason Odd = 2
 
--- why a text is no octets: the first that is no digit, or an odd length
+-- why a text isn't octets: its first octet that isn't a digit, or an odd length
 abbrev pub RefusesText : List ℕ → Stop HexReason → Type 0
 RefusesText text (Short place) = ⊥
 RefusesText text (At place Digit) = IsHexFault text (fault.Digit place)
 RefusesText text (At place Odd) = IsHexFault text fault.Odd × (place ≡ length text)
 
--- the octets of the text are put into the buffer
+-- the octets that the text encodes are put into the buffer
 pub record PutsText (text old new : List ℕ) (v : Verdict) : Type 0 where
   pub octets : List ℕ
   pub decoded : decode_of text ≡ Ok octets

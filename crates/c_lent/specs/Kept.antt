@@ -17,14 +17,14 @@ use Rattle.c_lent.specs.Number.{number_of}
 use Rattle.c_lent.specs.declared.kept.CTerminal.{CTerminal}
 use Rattle.c_lent.specs.declared.kept.CCard.{CCard}
 
--- a mark that is 0 or 1
+-- a mark, which is 0 or 1
 abbrev pub mark_of : ℕ → Option Bool
 mark_of n = if n == 0 then Some false else (if n == 1 then Some true else None)
 
 abbrev pub cut_at : ℕ → ℕ → Cut
 cut_at place size = record { place = place; size = size }
 
--- what a terminal waits in, by its number, a size or a count, and a place
+-- what a terminal waits for, by its number, a size or a count, and a place
 abbrev pub terminal_wait_of : ℕ → ℕ → ℕ → Option TerminalWait
 terminal_wait_of kind size place =
     if kind == 0 then Some terminal_wait.Idle
@@ -35,7 +35,7 @@ terminal_wait_of kind size place =
     else (if kind == 5 then Some (terminal_wait.Resynch size)
     else (if kind == 6 then Some terminal_wait.Dead else None))))))
 
--- and these numbers of what it waits in, 0 where they say nothing
+-- the number of what a terminal waits for, with a size or a count, and a place: 0 if unused
 abbrev pub terminal_wait_told : TerminalWait → ℕ × ℕ × ℕ
 terminal_wait_told terminal_wait.Idle = (0, 0, 0)
 terminal_wait_told (terminal_wait.Ack cut) = (1, cut.size, cut.place)
@@ -68,7 +68,7 @@ abbrev pub terminal_of : CTerminal → Option LentTerminal
 terminal_of c = terminal_from c (number_of c.number) (number_of c.expected) (terminal_wait_of c.wait c.size c.place)
     (mark_of c.is_answered)
 
--- what a card waits in, by its number, a size or a multiple, and a place
+-- what a card waits for, by its number, a size or a multiple, and a place
 abbrev pub card_wait_of : ℕ → ℕ → ℕ → Option CardWait
 card_wait_of kind size place =
     if kind == 0 then Some card_wait.Command
@@ -86,12 +86,12 @@ card_wait_told (card_wait.Reply cut) = (3, cut.size, cut.place)
 card_wait_told (card_wait.Asking (Size size)) = (4, size, 0)
 card_wait_told (card_wait.Asking (Time multiple)) = (5, multiple, 0)
 
--- the block that is saved, where there is one
+-- the saved block, if there is one
 abbrev pub saved_from : Bool → Cut → Option Cut
 saved_from false cut = None
 saved_from true cut = Some cut
 
--- whether one is saved, and its place and size, 0 where none is
+-- whether a block is saved, and its place and size, both 0 if none is
 abbrev pub saved_told : Option Cut → Bool × ℕ × ℕ
 saved_told None = (false, 0, 0)
 saved_told (Some cut) = (true, cut.place, cut.size)
@@ -117,7 +117,7 @@ abbrev pub card_of : CCard → Option LentCard
 card_of c = card_from c (number_of c.number) (number_of c.expected) (card_wait_of c.wait c.size c.place)
     (mark_of c.has_saved)
 
--- A state and both buffers are this terminal. Where they are none, no terminal is it.
+-- A state and both buffers are this terminal. If they aren't a terminal, this holds for no terminal.
 pub record IsTerminal (c : CTerminal) (command answer : List ℕ) (t : TerminalState) : Type 0 where
   pub end : LentTerminal
   pub spelled : terminal_of c ≡ Some end

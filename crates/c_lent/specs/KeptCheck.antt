@@ -12,7 +12,7 @@ use Rattle.tlv_core.specs.Lent.{IsLentCheck, checked_at}
 use Rattle.c_lent.specs.declared.kept_check.CHeader.{CHeader}
 use Rattle.c_lent.specs.declared.kept_check.CCheck.{CCheck}
 
--- why an octet was refused, by its number, or 0 where none was
+-- why an octet was refused, by its number, 0 if none was
 abbrev pub refused_of : ℕ → Option (Option TlvReason)
 refused_of n =
     if n == 0 then Some None
@@ -32,7 +32,7 @@ form_of n =
     else (if n == 4 then Some Four
     else (if n == 5 then Some Five else None))))
 
--- the octets of a tag, none where there would be more than three
+-- the octets of a tag: empty if the count is above three
 abbrev pub tag_of : CHeader → List ℕ
 tag_of h = if nat_lt 3 h.tag_count then [] else take h.tag_count h.tag
 
@@ -40,7 +40,7 @@ abbrev pub sized_from : CHeader → Option Form → Option Header
 sized_from h None = None
 sized_from h (Some form) = Some (header.Sized (tag_of h) form h.read h.number)
 
--- the header under way that is kept, if any is spelled
+-- the header that is being read, if the state spells one
 abbrev pub header_of : CHeader → Option Header
 header_of h =
     if h.kind == 0 then Some header.Nothing
@@ -49,7 +49,7 @@ header_of h =
     else (if h.kind == 3 then Some (header.Tagged (tag_of h))
     else (if h.kind == 4 then sized_from h (form_of h.form) else None))))
 
--- the numbers of a length field are 0 where none is under way
+-- the numbers of a length field are 0 unless one is being read
 abbrev pub IsUnused : Header → CHeader → Type 0
 IsUnused (header.Sized tag form read number) h = Unit {0}
 IsUnused _ h = (h.form ≡ 0) × (h.read ≡ 0) × (h.number ≡ 0)
@@ -70,7 +70,7 @@ check_from c header refused = None
 abbrev pub check_of : CCheck → Option LentCheck
 check_of c = check_from c (header_of c.header) (refused_of c.refused)
 
--- A state is this check. Where it is none, no check is it.
+-- A state is this check. If it isn't a check, this holds for no check.
 pub record IsCheck (c : CCheck) (k : Checked) : Type 0 where
   pub check : LentCheck
   pub spelled : check_of c ≡ Some check

@@ -29,7 +29,7 @@ use Rattle.c_lent.specs.declared.kept_judge.CHeard.{CHeard}
 use Rattle.c_lent.specs.declared.kept_judge.CWatched.{CWatched}
 use Rattle.c_lent.specs.declared.kept_judge.CJudge.{CJudge}
 
--- Each octet spells a value: where there is none with its number, the last one of the list.
+-- Each octet spells a value. An octet that isn't the number of one spells the last value of its list.
 
 abbrev pub mark_in : ℕ → Bool
 mark_in n = unwrap_or (mark_of n) true
@@ -53,7 +53,7 @@ side_in n = unwrap_or (side_of n) Card
 abbrev pub pending_in : ℕ → Pending
 pending_in n = if n == 0 then Settled else (if n == 1 then Chain else Last)
 
--- a request, and the octet that it carries
+-- a request by its number, with the octet that it carries
 abbrev pub asked_in : ℕ → ℕ → Option Asked
 asked_in kind octet =
     if kind == 0 then None
@@ -69,7 +69,7 @@ asked_told (Some (Time octet)) = (2, octet)
 asked_told (Some Stop) = (3, 0)
 asked_told (Some Anew) = (4, 0)
 
--- what is due, and the octet that a response carries; 0 is no number of these
+-- what is due by its number, with the octet that a response carries; no value has the number 0
 abbrev pub owed_in : ℕ → ℕ → Owed
 owed_in kind octet =
     if kind == 1 then NewMessage
@@ -107,7 +107,7 @@ owed_told MessageOrCorrection = (14, 0)
 owed_told MessageOrRefusal = (15, 0)
 owed_told AcknowledgmentOrRefusal = (16, 0)
 
--- what a block is: its kind, its number or its subject, and whether more follow or the fault
+-- a control octet by its kind, its number or subject, and whether more blocks follow or its fault
 abbrev pub pcb_in : ℕ → ℕ → ℕ → Pcb
 pcb_in kind about detail =
     if kind == 0 then Info (number_in about) (mark_in detail)
@@ -152,7 +152,7 @@ abbrev pub nad_in : Bool → ℕ → Option ℕ
 nad_in false nad = None
 nad_in true nad = Some nad
 
--- The monitor that a state is. Any state is one.
+-- The monitor with this state. Any state is one.
 abbrev pub monitor_of : CJudge → Monitor
 monitor_of c = record {
   terminal = watched_of c.terminal;

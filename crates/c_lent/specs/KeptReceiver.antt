@@ -13,7 +13,7 @@ use Rattle.c_lent.specs.Number.{number_of}
 use Rattle.c_lent.specs.Kept.{mark_of}
 use Rattle.c_lent.specs.declared.kept_receiver.CReceiver.{CReceiver}
 
--- what comes next of the block under way, by its number
+-- the next part of the unfinished block, by its number
 abbrev pub stage_of : ℕ → Bool → ℕ → Option BlockStage
 stage_of kind more len =
     if kind == 0 then Some Nad
@@ -21,7 +21,7 @@ stage_of kind more len =
     else (if kind == 2 then Some (Len more)
     else (if kind == 3 then Some (Rest more len) else None)))
 
--- and these numbers, 0 or no where they say nothing
+-- the number of the next part, whether more blocks follow, and the length: no and 0 if unused
 abbrev pub stage_told : BlockStage → ℕ × Bool × ℕ
 stage_told Nad = (0, false, 0)
 stage_told Pcb = (1, false, 0)
@@ -32,7 +32,7 @@ stage_told (Rest more len) = (3, more, len)
 abbrev pub refused_at : ChainReason → ℕ → Option (Option (Refusal ChainReason))
 refused_at reason place = Some (Some (record { place = place; reason = reason }))
 
--- the refusal that is kept, by the number of its reason, or 0 where there is none
+-- the refusal that is kept, by the number of its reason, 0 if there is none
 abbrev pub refusal_from : ℕ → ℕ → Option (Option (Refusal ChainReason))
 refusal_from n place =
     if n == 0 then Some None
@@ -71,7 +71,7 @@ abbrev pub receiver_of : CReceiver → Option LentReceiver
 receiver_of c = receiver_from c (number_of c.number) (stage_from c (mark_of c.more)) (mark_of c.done)
     (refusal_from c.refused c.refused_at)
 
--- A state and a buffer are this receiver. Where they are none, no receiver is it.
+-- A state and a buffer are this receiver. If they aren't a receiver, this holds for no receiver.
 pub record IsReceiver (c : CReceiver) (message : List ℕ) (r : Taking) : Type 0 where
   pub receiver : LentReceiver
   pub spelled : receiver_of c ≡ Some receiver

@@ -2,9 +2,9 @@
 use Rattle.std.specs.Prelude.{ℕ, ◌==◌, if◌then◌else◌}
 
 -- in octets, by the number of the struct: verdict, interface, indicated, ATR, T=1 parameters, rates, block, command,
--- response, turn, tag, part, known value, handle, state of a terminal, of a card, of a header under way, of a check,
--- of a receiver, text, entry of a list, note, framer, reader of a block, and of an answer to reset; what decides what an
--- end may send, what it has heard, an end that is watched, state of a judge, what was due, and judgment; 0 for no struct
+-- response, turn, tag, part, known value, handle, state of a terminal, of a card, of a header that is being read, of a
+-- check, of a receiver, text, entry of a list, note, framer, reader of a block, and of an answer to reset; what decides
+-- what an end may send, what it received, an end of the line, state of a judge, what was due, and judgment; else 0
 abbrev pub size_of_struct : ℕ → ℕ
 size_of_struct number =
     if number == 1 then 16

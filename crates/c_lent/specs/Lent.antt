@@ -1,4 +1,4 @@
--- What the calls of both ends do whose state and buffers the caller lends.
+-- What the calls of both ends do if the caller owns the state and the buffers.
 use Rattle.std.specs.Prelude.{◌≡◌, ◌≤◌, ◌<◌, ℕ, List, length, take, Option, Some, None}
 use Rattle.t1_core.specs.Terminal.{TerminalState, TerminalInput, terminal_turn, turn_of, state_after}
 use Rattle.t1_core.specs.Card as card
@@ -11,7 +11,7 @@ use Rattle.c_lent.specs.declared.turn.CTurn.{CTurn}
 use Rattle.c_lent.specs.declared.kept.CTerminal.{CTerminal}
 use Rattle.c_lent.specs.declared.kept.CCard.{CCard}
 
--- a state, and its two buffers
+-- a state and its two buffers
 pub record Lent (C : Type 0) : Type 0 where
   pub state : C
   pub command : List ℕ
@@ -26,13 +26,13 @@ pub record IsLeft {C : Type 0} (told : CTurn) (old new : Lent C) (out out_after 
   pub stays : new ≡ old
   pub buffer : out_after ≡ out
 
--- a call of a terminal: its turn, and the terminal after it, which `terminal_turn` gives
+-- a call of a terminal: its turn and the terminal after it, as `terminal_turn` gives them
 pub record TurnsTerminal (t : TerminalState) (input : TerminalInput) (new : Lent CTerminal) (out out_after : List ℕ)
     (turn : CTurn) : Type 0 where
   pub state : IsTerminal new.state new.command new.answer (state_after t (terminal_turn t input))
   pub turn_is : IsTerminalTurn (turn_of (terminal_turn t input)) out out_after turn
 
--- A call of a terminal, by the room for a block and by what the state and the buffers are.
+-- A call of a terminal, by the size of the buffer for a block, and by whether the state and its buffers are a terminal.
 pub record TerminalCalled (input : TerminalState → TerminalInput) (old new : Lent CTerminal) (out out_after : List ℕ)
     (turn : CTurn) : Type 0 where
   pub room : length out < 258 → IsLeft no_room old new out out_after turn
@@ -41,13 +41,13 @@ pub record TerminalCalled (input : TerminalState → TerminalInput) (old new : L
   pub called : 258 ≤ length out → (t : TerminalState) → IsTerminal old.state old.command old.answer t
       → TurnsTerminal t (input t) new out out_after turn
 
--- a call of a card: its turn, and the card after it, which `card_turn` gives
+-- a call of a card: its turn and the card after it, as `card_turn` gives them
 pub record TurnsCard (c : CardState) (input : CardInput) (new : Lent CCard) (out out_after : List ℕ) (turn : CTurn) :
     Type 0 where
   pub state : IsCard new.state new.command new.answer (card.state_after c (card.card_turn c input))
   pub turn_is : IsCardTurn (card.turn_of (card.card_turn c input)) out out_after turn
 
--- A call of a card, by the room for a block and by what the state and the buffers are.
+-- A call of a card, by the size of the buffer for a block, and by whether the state and its buffers are a card.
 pub record CardCalled (input : CardState → CardInput) (old new : Lent CCard) (out out_after : List ℕ) (turn : CTurn) :
     Type 0 where
   pub room : length out < 258 → IsLeft no_room old new out out_after turn
@@ -56,7 +56,7 @@ pub record CardCalled (input : CardState → CardInput) (old new : Lent CCard) (
   pub called : 258 ≤ length out → (c : CardState) → IsCard old.state old.command old.answer c
       → TurnsCard c (input c) new out out_after turn
 
--- the first octets of a buffer are the message, where there is one
+-- the message, if there is one, is at the front of a buffer
 abbrev pub IsAtFront : Option (List ℕ) → List ℕ → Verdict → Type 0
 IsAtFront None buffer v = v ≡ wrong_argument 0
 IsAtFront (Some message) buffer v = (v ≡ ok_at (length message)) × (take (length message) buffer ≡ message)

@@ -1,4 +1,4 @@
--- What the calls of a judge of a line do whose state the caller keeps.
+-- What the calls of a judge of a line do if the caller keeps the state.
 use Rattle.std.specs.Prelude.{◌≡◌, ℕ, ◌==◌, if◌then◌else◌, List, [], ◌∷◌, Option, Some, None}
 use Rattle.std.specs.Borrow.{Bor}
 use Rattle.block_core.specs.Block.{number_bit}
@@ -23,7 +23,7 @@ use Rattle.c_lent.specs.declared.kept_judge.CJudge.{CJudge}
 use Rattle.c_lent.specs.declared.lent_judge.CDue.{CDue}
 use Rattle.c_lent.specs.declared.lent_judge.CJudgment.{CJudgment}
 
--- what is known of how octets reached the other end, by its number, with the octets that came
+-- what is known about how octets reached the other end, by its number, with the octets that arrived
 abbrev pub arrival_of : ℕ → Bor (List ℕ) → Option Arrival
 arrival_of n octets =
     if n == 0 then Some Unsaid
@@ -61,14 +61,14 @@ all_rules = rule.NodeAddress ∷ rule.ControlOctet ∷ rule.Length ∷ rule.Rese
     ∷ rule.RepeatDue ∷ rule.RepeatedOctets ∷ rule.CorrectionDue ∷ rule.RequestDue ∷ rule.ResponseDue
     ∷ rule.ResponseOctet ∷ rule.Unasked ∷ rule.NoChain ∷ rule.EarlyResynch ∷ rule.TooManyRepeats ∷ rule.Silence ∷ []
 
--- what breaks a rule, in a few words, and its clause, by its number
+-- by the number of a rule: what breaks it, in a few words, and its clause
 abbrev pub rule_words : ℕ → List ℕ
 rule_words = named rule_number rule_name all_rules
 
 abbrev pub clause_words : ℕ → List ℕ
 clause_words = named rule_number rule_clause all_rules
 
--- what was due from an end
+-- the struct of what was due from an end
 abbrev pub due_of : After → CDue
 due_of a = record {
   owed = (owed_told a.owed).0;
@@ -87,7 +87,7 @@ verdict_number Damage = 1
 verdict_number (Block Unseen) = 2
 verdict_number (Block (Deviates broken due)) = 3
 
--- the rule that is broken, or 0
+-- the number of the broken rule, or 0
 abbrev pub rule_told : Said → ℕ
 rule_told (Block Permitted) = 0
 rule_told Damage = 0
@@ -111,7 +111,7 @@ unanswered_by No = 0
 unanswered_by (Possible number) = number
 unanswered_by (Certain number) = number
 
--- what C is told of the block with this number
+-- the judgment on the block with this number
 abbrev pub judgment_of : ℕ → Report → CJudgment
 judgment_of number report = record {
   number = number;
@@ -123,7 +123,7 @@ judgment_of number report = record {
   due = due_told report.said;
 }
 
--- what C is told of a card's silence alone
+-- the judgment on a card's silence alone
 abbrev pub silence_told : Silence → CJudgment
 silence_told silence = record {
   number = 0;
@@ -139,7 +139,7 @@ silence_told silence = record {
 abbrev pub owes_block : Monitor → Silence
 owes_block m = silence_of m.card.heard m.terminal.number
 
--- octets of an end were judged: its number is that of the blocks so far
+-- octets of an end were judged as a block: its number is the count of blocks so far
 pub record JudgesBlock (old : CJudge) (from : Side) (octets : List ℕ) (arrival : Arrival) (new : CJudge)
     (out : CJudgment) : Type 0 where
   pub report : Report

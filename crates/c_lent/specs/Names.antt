@@ -1,4 +1,4 @@
--- The names of statuses, turns and reasons, as C sees them.
+-- The names of statuses, turns and reasons, as C has them.
 use Rattle.std.specs.Prelude.{ℕ, ◌==◌, List, [], ◌∷◌, ◌++◌, if◌then◌else◌, codes}
 use Rattle.atr_core.specs.declared.reason.AtrReason.TheVariants as atr
 use Rattle.atr_core.specs.Names as atr_names
@@ -21,7 +21,7 @@ use Rattle.c_lent.specs.Hex.{hex_reason}
 use Rattle.c_lent.specs.declared.hexadecimal.HexReason.{HexReason}
 use Rattle.c_lent.specs.declared.hexadecimal.HexReason.TheVariants as hex
 
--- a text as C has it: a 0 is after it
+-- a text of C: a 0 comes after it
 abbrev pub ended : List ℕ → List ℕ
 ended text = text ++ 0 ∷ []
 
@@ -55,7 +55,7 @@ turn_name kind =
     else if kind == 33 then codes "NO_ROOM"
     else []
 
--- the name of that of the reasons whose number it is, if it is the number of one
+-- the name of the reason with this number, empty if there is none
 abbrev pub named : {R : Type 0} → (R → ℕ) → (R → List ℕ) → List R → ℕ → List ℕ
 named number name [] n = []
 named number name (reason ∷ rest) n = if n == number reason then name reason else named number name rest n
@@ -91,7 +91,7 @@ hex_reason_name hex.Odd = codes "Odd"
 abbrev pub hex_name : ℕ → List ℕ
 hex_name = named hex_reason hex_reason_name (hex.Digit ∷ hex.Odd ∷ [])
 
--- the name of a reason of a codec
+-- the name of a reason by the numbers of its codec and its own
 abbrev pub reason_name : ℕ → ℕ → List ℕ
 reason_name codec reason =
     if codec == 1 then atr_name reason

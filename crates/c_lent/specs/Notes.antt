@@ -1,4 +1,4 @@
--- What octets say in words, as C asks for it.
+-- Notes on octets for people, as C requests them.
 use Rattle.std.specs.Prelude.{ℕ, ◌==◌, [], Option, Some, None, if◌then◌else◌}
 use Rattle.notes.specs.Says.{NoteText, words, status_says, instruction_says, class_says, pcb_says, nad_says, td_says, mode_says, tag_says}
 use Rattle.c_lent.specs.declared.note.About.{About}
@@ -17,7 +17,7 @@ about_of number =
     else if number == 8 then Some Tag
     else None
 
--- what they say
+-- the note on these octets
 abbrev pub about_says : Option About → ℕ → ℕ → NoteText
 about_says (Some Status) first second = status_says first second
 about_says (Some Instruction) first second = words (instruction_says first second)
@@ -29,7 +29,7 @@ about_says (Some Ta2) first second = mode_says first
 about_says (Some Tag) first second = words (tag_says first)
 about_says None first second = words []
 
--- the same by the number
+-- the note on these octets, by the number of what they are
 abbrev pub note_text : ℕ → ℕ → ℕ → NoteText
 note_text number first second = about_says (about_of number) first second
 

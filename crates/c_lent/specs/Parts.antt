@@ -1,4 +1,4 @@
--- The parts of a forest as C sees them.
+-- The parts of a forest as C has them.
 use Rattle.std.specs.Prelude.{◌≡◌, ℕ, ◌+◌, ◌-◌, ◌≤◌, ◌==◌, ◌&&◌, min, Bool, false, List, [], ◌∷◌, length, take, map, cond, if◌then◌else◌, bytes_eq, slice_get, Option, Some, None}
 use Rattle.tlv_core.specs.Tag.{constructed_bit}
 use Rattle.tlv_core.specs.TagView.{padded}
@@ -16,11 +16,11 @@ use Rattle.c_lent.specs.declared.verdict.Verdict.{Verdict}
 use Rattle.c_lent.specs.declared.parts.CTag.{CTag}
 use Rattle.c_lent.specs.declared.parts.CPart.{CPart}
 
--- a tag: its octets, with 0 after them up to three, and how many it has
+-- the struct of a tag: its octets, padded with 00 to three, and how many it has
 abbrev pub tag_shown : List ℕ → CTag
 tag_shown tag = record { octets = padded tag; count = length tag }
 
--- an object, with the number of octets of its length field
+-- the struct of an object, with the number of octets of its length field
 abbrev pub part_shown : Placed → CPart
 part_shown p = record {
   depth = p.depth;
@@ -38,26 +38,25 @@ parts_shown t = map part_shown (preorder 1 0 t)
 
 -- ---- one part after another
 
--- a part as it is put into the array
+-- the struct of a part from a walk
 abbrev pub part_put : PlacedPart → CPart
 part_put part = part_shown (placed_of part)
 
--- the parts of the forest that all the octets are, are put into the array as far
--- as it has room
+-- all the octets are a forest, and as many of its parts as fit are put into the array
 pub record PutsParts (max : ℕ) (octets : List ℕ) (old new : List CPart) (v : Verdict) : Type 0 where
   pub tree : Tree
   pub forest : IsForest max tree octets
   pub verdict : v ≡ put_verdict (parts_shown tree) old
   pub array : new ≡ filled (parts_shown tree) old
 
--- the parts of the forest that all the octets are, so many, are put into the array as far as it has room
+-- all the octets are a forest with this many parts, and as many of them as fit are put into the array
 pub record ArePut (max : ℕ) (octets : List ℕ) (old new : List CPart) (count : ℕ) : Type 0 where
   pub tree : Tree
   pub forest : IsForest max tree octets
   pub number : count ≡ length (parts_shown tree)
   pub array : new ≡ filled (parts_shown tree) old
 
--- A walk has given these objects, so many, and they are put into an array that was this, as far as it has room.
+-- A walk has returned these objects, this many. As many of them as fit were put into an array with this content.
 pub record ArePutSoFar (max : ℕ) (octets : List ℕ) (old : List CPart) (walk : Kept) (out : List CPart) (count : ℕ)
     : Type 0 where
   pub given : List Placed
@@ -69,20 +68,20 @@ pub record ArePutSoFar (max : ℕ) (octets : List ℕ) (old : List CPart) (walk 
 
 -- ---- the first object on a path of tags
 
--- the octets of a tag that C gives
+-- the octets of a tag from C
 abbrev pub tag_of : CTag → List ℕ
 tag_of t = take t.count t.octets
 
--- whether this is the tag of the path after so many
+-- whether this is the tag of the path at this index
 abbrev pub tag_is : Option CTag → List ℕ → Bool
 tag_is None tag = false
 tag_is (Some t) tag = bytes_eq (tag_of t) tag
 
--- whether a part is the next of the path, where the outermost objects around it are its first tags, so many
+-- whether a part is the next object of the path, if this many outer objects around it have the first tags
 abbrev pub is_on : List CTag → ℕ → CPart → Bool
 is_on path met p = (p.depth == met + 1) && tag_is (slice_get path met) (tag_of p.tag)
 
--- the parts from the first one on that ends the path; so many tags were met by the objects that are open before them
+-- the parts from the first one that ends the path; the objects around them match this many tags of the path
 abbrev pub found : List CTag → ℕ → List CPart → List CPart
 found path met [] = []
 found path met (p ∷ parts) =
@@ -90,13 +89,13 @@ found path met (p ∷ parts) =
     then (if min met (p.depth - 1) + 1 == length path then p ∷ parts else found path (min met (p.depth - 1) + 1) parts)
     else found path (min met (p.depth - 1)) parts
 
--- the first that there is
+-- the first of the two that there is
 abbrev pub or_placed : Option Placed → Option Placed → Option Placed
 or_placed None other = other
 or_placed (Some p) other = Some p
 
--- The first object with the tag of a path of one. On a longer path, the first that the rest of the path finds in the nodes
--- of an object with the first tag, these tried in order. The list is at depth d, and its octets begin at this place.
+-- The first object with the tag of a path of one. On a longer path, the first object that the rest of the path finds
+-- inside an object with the first tag, such objects tried in order. The list is at depth d, its octets at this place.
 abbrev pub first_placed : List (List ℕ) → ℕ → ℕ → Tree → Option Placed
 first_placed [] d at t = None
 first_placed (tag ∷ path) d at End = None
@@ -127,7 +126,7 @@ abbrev pub first_shown : Option Placed → Option CPart
 first_shown None = None
 first_shown (Some p) = Some (part_shown p)
 
--- a node as tlv_core's own search gives it, and the object with its place
+-- the node that tlv_core's own search returns, and this object, are the same
 abbrev pub IsSameObject : Option Node → Option Placed → Type 0
 IsSameObject None None = Unit {0}
 IsSameObject None (Some p) = ⊥
@@ -137,7 +136,7 @@ IsSameObject (Some (node.Primitive tag form value)) (Some p) = (p.tag ≡ tag) �
 IsSameObject (Some (node.Constructed tag form nodes)) (Some p) =
     (p.tag ≡ tag) × (p.form ≡ form) × (p.len ≡ length (spelling nodes))
 
--- what is found in the parts of a forest on this path: nothing, or the part of the object that tlv_core's `first` finds
+-- on this path the parts of a forest have nothing, or the part of the object that tlv_core's `first` finds
 pub record FindsFirst (path : List (List ℕ)) (t : Tree) (found : Option CPart) : Type 0 where
   pub is : found ≡ first_shown (first_placed path 1 0 t)
   pub same : IsSameObject (first_on path t) (first_placed path 1 0 t)

@@ -1,4 +1,4 @@
--- What a piece does with a receiver of a chain and with a check of a forest, as C sees it.
+-- How a piece changes a receiver of a chain and a check of a forest, as C has it.
 use Rattle.std.specs.Prelude.{◌≡◌, ℕ, ◌++◌, List, length, Bool, Result, Ok, Err, OnOk, IfErr, OnSome, MatchResult}
 use Rattle.octet_core.specs.Grammar.{whole, Refuses, RefusesAt}
 use Rattle.octet_core.specs.Reader.{IsFed}

@@ -1,4 +1,4 @@
--- Data objects as C sees them.
+-- Data objects as C has them.
 use Rattle.std.specs.Prelude.{ℕ, List}
 use Rattle.tlv_core.specs.Tree.{Tree}
 use Rattle.tlv_core.specs.Forest.{IsForest, largest}
@@ -27,6 +27,6 @@ dol_reason dol.TagLong = 3
 abbrev pub IsSomeForest : ℕ → List ℕ → Type 0
 IsSomeForest max octets = (t : Tree) × IsForest max t octets
 
--- the tidy form of the forest that all the octets are is put into the buffer
+-- all the octets are a forest, and its tidy form is put into the buffer
 abbrev pub IsTidied : ℕ → List ℕ → List ℕ → List ℕ → Verdict → Type 0
 IsTidied max octets old new v = (t : Tree) × IsForest max t octets × Puts (IsForest largest (tidy t)) old new v

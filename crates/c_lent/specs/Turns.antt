@@ -1,4 +1,4 @@
--- The turns of both ends of T=1 as C sees them.
+-- The turns of both ends of T=1 as C has them.
 use Rattle.std.specs.Prelude.{◌≡◌, ℕ, ◌++◌, ◌&&◌, List, length, drop, Option, None, Some, is_none, if◌then◌else◌, Result, Ok, Err}
 use Rattle.block_core.specs.Block.{Parts, IsBlock}
 use Rattle.t1_core.specs.declared.turns.TerminalTurn.{TerminalTurn}
@@ -25,7 +25,7 @@ no_end = turned 32
 abbrev pub no_room : CTurn
 no_room = record { kind = 33; wait = 0; count = 258 }
 
--- the octets of a block are put into the buffer, to be sent; so many block waiting times are to be waited after it
+-- the octets of a block are put into the buffer, to be sent; the end then waits this many block waiting times
 pub record Sends (wait : ℕ) (block : Parts) (old new : List ℕ) (turn : CTurn) : Type 0 where
   pub octets : List ℕ
   pub spells : IsBlock 254 block octets
@@ -36,7 +36,7 @@ pub record Sends (wait : ℕ) (block : Parts) (old new : List ℕ) (turn : CTurn
 abbrev pub IsTurned : ℕ → List ℕ → List ℕ → CTurn → Type 0
 IsTurned kind old new turn = (turn ≡ turned kind) × (new ≡ old)
 
--- what C is told of what a call of a terminal answered
+-- C's turn for the result of a call of a terminal
 abbrev pub IsTerminalTurn : Result TerminalTurn TerminalFault → List ℕ → List ℕ → CTurn → Type 0
 IsTerminalTurn (Ok (Send block)) old new turn = Sends (waiting_times (Send block)) block old new turn
 IsTerminalTurn (Ok Answered) old new turn = IsTurned 1 old new turn
@@ -49,7 +49,7 @@ IsTerminalTurn (Err fault.TooLong) old new turn = IsTurned 18 old new turn
 IsTerminalTurn (Err fault.Reserved) old new turn = IsTurned 19 old new turn
 IsTerminalTurn (Err fault.Idle) old new turn = IsTurned 20 old new turn
 
--- what C is told of what a call of a card answered; a card waits for its terminal without end
+-- C's turn for the result of a call of a card; a card waits for its terminal without end
 abbrev pub IsCardTurn : Result CardTurn CardFault → List ℕ → List ℕ → CTurn → Type 0
 IsCardTurn (Ok (card_turns.Send block)) old new turn = Sends 0 block old new turn
 IsCardTurn (Ok card_turns.Asked) old new turn = IsTurned 1 old new turn
@@ -57,6 +57,6 @@ IsCardTurn (Err card_fault.Order) old new turn = IsTurned 21 old new turn
 IsCardTurn (Err card_fault.TooLong) old new turn = IsTurned 18 old new turn
 IsCardTurn (Err card_fault.Reserved) old new turn = IsTurned 19 old new turn
 
--- the message of a chain, once it is whole
+-- the message of a chain, once it is complete
 abbrev pub joined_of : Taking → Option (List ℕ)
 joined_of r = if is_none r.refusal && r.done then Some r.joined else None

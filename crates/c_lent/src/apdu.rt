@@ -15,7 +15,7 @@ use apdu_core::{
     BodyRef, CommandReason, CommandRef, ResponseReason, ResponseRef, Shape, StatusClass,
 };
 
-/// A command as it was decoded. Its data field is `data_len` octets from place `data_place` on of the octets.
+/// A decoded command. Its data field is the `data_len` octets at offset `data_place` of the octets.
 #[repr(C)]
 #[derive(Clone, Copy)]
 pub struct CCommand {
@@ -23,18 +23,18 @@ pub struct CCommand {
     pub ins: u8,
     pub p1: u8,
     pub p2: u8,
-    /// Which of its seven shapes the body has: 1 none, 2 short Le, 3 short data, 4 short both, 5 to 7 the
-    /// same extended.
+    /// The shape of the body: 1 empty, 2 short Le, 3 short data field, 4 short data field and Le. 5 to 7 are 2 to 4
+    /// with extended length fields.
     pub shape: u8,
-    /// 1 where there is an Le field, else 0.
+    /// 1 if there is an Le field, else 0.
     pub has_le: u8,
-    /// The most octets that are expected back, 1 to 65,536; 0 where there is no Le field.
+    /// The most octets that the response's data field may have, 1 to 65,536. 0 if there is no Le field.
     pub le: u32,
     pub data_place: usize,
     pub data_len: usize,
 }
 
-/// A response as it was decoded. Its data field is the first `data_len` octets.
+/// A decoded response. Its data field is the first `data_len` octets.
 #[repr(C)]
 #[derive(Clone, Copy)]
 pub struct CResponse {
@@ -43,7 +43,7 @@ pub struct CResponse {
     pub data_len: usize,
 }
 
-/// The command that all the octets are.
+/// Decodes a command, which must be all of the octets.
 pub fn command_decode(octets: &[u8], out: &mut CCommand) -> Verdict
     ensures ok { result.status ≡ 0 → IsDecoded octets.now out.new }
     ensures place { result.status ≡ 0 → result ≡ ok_at (length octets.now) }
@@ -60,7 +60,7 @@ pub fn command_decode(octets: &[u8], out: &mut CCommand) -> Verdict
     }
 }
 
-/// The response that all the octets are.
+/// Decodes a response, which must be all of the octets.
 pub fn response_decode(octets: &[u8], out: &mut CResponse) -> Verdict
     ensures ok { result.status ≡ 0 → IsDecodedResponse octets.now out.new }
     ensures place { result.status ≡ 0 → result ≡ ok_at (length octets.now) }
@@ -77,7 +77,7 @@ pub fn response_decode(octets: &[u8], out: &mut CResponse) -> Verdict
     }
 }
 
-/// Writes a command with the header, the shape and Le of a struct and this data field.
+/// Encodes a command with the header, the shape and the Le of a struct, and with this data field.
 pub fn command_encode(command: &CCommand, field: &[u8], out: &mut [u8]) -> Verdict
     ensures written { IfSome (body_with command.now.shape command.now.le field.now)
         (λ body. HasBody (Some body) →
@@ -96,7 +96,7 @@ pub fn command_encode(command: &CCommand, field: &[u8], out: &mut [u8]) -> Verdi
     }
 }
 
-/// Writes a response with this data field and these status bytes.
+/// Encodes a response with this data field and these status bytes.
 pub fn response_encode(field: &[u8], sw1: u8, sw2: u8, out: &mut [u8]) -> Verdict
     ensures written { length field.now ≤ 65536 →
         Puts (IsResponse (record { part = field.now; sw1 = sw1; sw2 = sw2 })) out.old out.new result }
@@ -109,8 +109,8 @@ pub fn response_encode(field: &[u8], sw1: u8, sw2: u8, out: &mut [u8]) -> Verdic
     }
 }
 
-/// The class of two status bytes: 1 normal, 2 warning, 3 execution error, 4 checking error, 5
-/// proprietary, 6 invalid.
+/// Returns the class of two status bytes: 1 normal, 2 warning, 3 execution error, 4 checking error, 5 proprietary, 6
+/// invalid.
 pub fn status_class(sw1: u8, sw2: u8) -> u8
     ensures { (class : AnyClass) × IsOfClass class sw1 sw2 × (result ≡ class_number class) }
 {
@@ -153,7 +153,7 @@ fn response_seen(response: &ResponseRef<'_>) -> CResponse
     }
 }
 
-/// The body of this shape with this data field and Le, if there is one.
+/// Returns the body with this shape, data field and Le, if there is one.
 fn body_with(shape: u8, le: u32, field: &[u8]) -> Option<BodyRef<'_>>
     ensures found { IfSome result (λ body. body_with shape le field.now ≡ Some (body_of body)) }
     ensures none { IfNone result (body_with shape le field.now ≡ None) }
@@ -170,7 +170,7 @@ fn body_with(shape: u8, le: u32, field: &[u8]) -> Option<BodyRef<'_>>
     }
 }
 
-/// Puts a command into a buffer.
+/// Writes a command to the front of a buffer.
 fn put_command(command: &CommandRef<'_>, out: &mut [u8]) -> Verdict
     requires { HasSpelling command.now }
     ensures written { Puts (IsCommand command.now) out.old out.new result }
@@ -183,7 +183,7 @@ fn put_command(command: &CommandRef<'_>, out: &mut [u8]) -> Verdict
     Verdict::ok(command.encode_into(out))
 }
 
-/// Puts a response into a buffer.
+/// Writes a response to the front of a buffer.
 fn put_response(response: &ResponseRef<'_>, out: &mut [u8]) -> Verdict
     requires { IsSpelled response.now }
     ensures written { Puts (IsResponse response.now) out.old out.new result }
@@ -210,7 +210,7 @@ fn shape_number(shape: Shape) -> u8
     }
 }
 
-/// Where the data field of a command is; where there is none, the end of the header.
+/// Returns the offset of a command's data field. Without one, this is the end of the header.
 fn data_place(shape: Shape) -> usize
     ensures { result ≡ data_place shape }
 {

@@ -16,7 +16,7 @@ use atr_core::{
     t1_params,
 };
 
-/// The interface bytes TA, TB and TC that T0 or one TD announces. A byte is there where its mark isn't 0.
+/// The interface bytes TA, TB and TC that T0 or a TD announces. A byte is present if its mark isn't 0.
 #[repr(C)]
 #[derive(Clone, Copy, Default)]
 pub struct CInterface {
@@ -28,7 +28,7 @@ pub struct CInterface {
     pub tc: u8,
 }
 
-/// One TD: the protocol that it indicates, and the bytes after it.
+/// One TD: the protocol that it indicates, and the interface bytes that it announces.
 #[repr(C)]
 #[derive(Clone, Copy, Default)]
 pub struct CIndicated {
@@ -40,17 +40,17 @@ pub struct CIndicated {
 #[repr(C)]
 #[derive(Clone, Copy)]
 pub struct CAtr {
-    /// 0 direct, where TS is 3B; any other inverse, where it is 3F.
+    /// 0 is direct, with TS 3B. Any other value is inverse, with TS 3F.
     pub convention: u8,
     /// TA1, TB1 and TC1.
     pub first: CInterface,
-    /// How many TDs there are, at most 31.
+    /// The number of TDs, at most 31.
     pub indicated_count: u8,
     pub indicated: [CIndicated; 31],
-    /// How many historical bytes there are, at most 15.
+    /// The number of historical bytes, at most 15.
     pub historical_count: u8,
     pub historical: [u8; 15],
-    /// Whether TCK is there. Only read back: `encode` computes it.
+    /// Whether TCK is present. Decoding sets it. Encoding ignores it, and computes TCK.
     pub has_tck: u8,
     pub tck: u8,
 }
@@ -64,7 +64,7 @@ pub struct CT1 {
     pub cwi: u8,
 }
 
-/// The integers Fi and Di, 0 for one that is reserved.
+/// The integers Fi and Di. A reserved one is 0.
 #[repr(C)]
 #[derive(Clone, Copy)]
 pub struct CRates {
@@ -72,7 +72,7 @@ pub struct CRates {
     pub di: u16,
 }
 
-/// The verdict on octets as an answer to reset.
+/// Checks whether octets begin with an answer to reset.
 pub fn atr_check(octets: &[u8]) -> Verdict
     ensures ok { result.status ≡ 0 →
         (atr : AtrParts) × Accepts self_ended IsAtr octets.now atr result.place }
@@ -86,7 +86,7 @@ pub fn atr_check(octets: &[u8]) -> Verdict
     }
 }
 
-/// The answer to reset with which the octets begin.
+/// Decodes the answer to reset at the front of the octets.
 pub fn atr_decode(octets: &[u8], out: &mut CAtr) -> Verdict
     ensures ok { result.status ≡ 0 → IsDecoded octets.now result out.new }
     ensures told { result.status ≡ 0 → IsTold (atr_of out.new) out.new }
@@ -104,7 +104,7 @@ pub fn atr_decode(octets: &[u8], out: &mut CAtr) -> Verdict
     }
 }
 
-/// Writes the octets of an answer, at most 33.
+/// Encodes an answer to reset, which has at most 33 octets.
 pub fn atr_encode(atr: &CAtr, out: &mut [u8]) -> Verdict
     ensures written { SaysAtr atr.now → Puts (IsAtr (atr_of atr.now)) out.old out.new result }
     ensures unfit { (SaysAtr atr.now → ⊥) → (result ≡ wrong_argument 0) × (out.new ≡ out.old) }
@@ -115,8 +115,8 @@ pub fn atr_encode(atr: &CAtr, out: &mut [u8]) -> Verdict
     }
 }
 
-/// The parameters of T=1: 0 where the answer offers usable ones, 1 where it doesn't offer T=1, 2 where
-/// IFSC is reserved, 3 where it asks for the CRC, and `ARGUMENT` where the struct says no answer.
+/// Reads the parameters of T=1. Returns 0 if the answer offers usable ones, 1 if it doesn't offer T=1, 2 if IFSC is
+/// reserved, and 3 if the answer requires the CRC. Returns `ARGUMENT` if the struct isn't an answer to reset.
 pub fn atr_t1_params(atr: &CAtr, out: &mut CT1) -> u8
     ensures params { SaysAtr atr.now → IsT1 (t1_params_of (atr_of atr.now)) out.old out.new result }
     ensures unfit { (SaysAtr atr.now → ⊥) → (result ≡ 4) × (out.new ≡ out.old) }
@@ -139,7 +139,7 @@ pub fn atr_t1_params(atr: &CAtr, out: &mut CT1) -> u8
     }
 }
 
-/// The integers Fi and Di that TA1 gives.
+/// Reads the integers Fi and Di that TA1 gives.
 pub fn atr_rates(atr: &CAtr, out: &mut CRates) -> u8
     ensures rates { SaysAtr atr.now →
         (result ≡ 0) × (out.new ≡ rates_seen (rates_of (atr_of atr.now))) }
@@ -156,7 +156,7 @@ pub fn atr_rates(atr: &CAtr, out: &mut CRates) -> u8
     0
 }
 
-/// The answer that a struct says, if it says one.
+/// Returns the answer to reset that a struct describes, if it describes one.
 fn made(atr: &CAtr) -> Option<Atr>
     ensures { SomeIff result (SaysAtr atr.now) (atr_of atr.now) }
 {
@@ -219,7 +219,7 @@ fn listed(given: &[CIndicated]) -> ArrayVec<Indicated, 31>
     listed
 }
 
-/// An answer as C sees it.
+/// Returns an answer to reset as a struct of C.
 pub fn seen(atr: &Atr) -> CAtr
     ensures atr { atr_of result ≡ atr.now }
     ensures told { IsTold atr.now result }
@@ -242,7 +242,7 @@ pub fn seen(atr: &Atr) -> CAtr
     }
 }
 
-/// The TDs, and then others that say nothing.
+/// Returns the TDs as an array: unused entries come after them.
 fn indicated_array(listed: &[CIndicated]) -> [CIndicated; 31]
     requires { length listed.now ≤ 31 }
     ensures front { take (length listed.now) result ≡ listed.now }
@@ -261,7 +261,7 @@ fn indicated_array(listed: &[CIndicated]) -> [CIndicated; 31]
     array
 }
 
-/// The historical bytes, and then 0.
+/// Returns the historical bytes as an array: zeros come after them.
 fn historical_array(octets: &[u8]) -> [u8; 15]
     requires { length octets.now ≤ 15 }
     ensures front { take (length octets.now) result ≡ octets.now }

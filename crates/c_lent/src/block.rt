@@ -15,8 +15,7 @@ use crate::verdict::{Numbered, Verdict};
 use block_core::{BlockReason, BlockRef, LONGEST_BLOCK, Pcb};
 use octet_core::is_reserved;
 
-/// A block as it was decoded. Its information field is `inf_len` octets from place `inf_place` on of the
-/// octets.
+/// A decoded block. Its information field is the `inf_len` octets at offset `inf_place` of the octets.
 #[repr(C)]
 #[derive(Clone, Copy)]
 pub struct CBlock {
@@ -26,7 +25,7 @@ pub struct CBlock {
     pub inf_len: u8,
 }
 
-/// The block with which the octets begin, under an information size of 1 to 254.
+/// Decodes the block at the front of the octets, with an information size of 1 to 254.
 pub fn block_decode(octets: &[u8], ifs: u8, out: &mut CBlock) -> Verdict
     ensures ok { result.status ≡ 0 → IsDecoded ifs octets.now result out.new }
     ensures place { result.status ≡ 0 → result ≡ ok_at result.place }
@@ -47,7 +46,7 @@ pub fn block_decode(octets: &[u8], ifs: u8, out: &mut CBlock) -> Verdict
     }
 }
 
-/// Writes an I-block.
+/// Encodes an I-block.
 pub fn block_i(nad: u8, ns: u8, more: bool, inf: &[u8], out: &mut [u8]) -> Verdict
     ensures written { IfSome (number_of ns) (λ number. length inf.now ≤ 254 →
         Puts (IsBlock 254 (record { nad = nad; pcb = Info number more; inf = inf.now })) out.old out.new result) }
@@ -61,7 +60,7 @@ pub fn block_i(nad: u8, ns: u8, more: bool, inf: &[u8], out: &mut [u8]) -> Verdi
     put_block(BlockRef::new(nad, Pcb::Info { number, more }, inf), out)
 }
 
-/// Writes an R-block.
+/// Encodes an R-block.
 pub fn block_r(nad: u8, nr: u8, fault: u8, out: &mut [u8]) -> Verdict
     ensures written { IfSome (number_of nr) (λ number. IfSome (fault_of fault) (λ fault.
         Puts (IsBlock 254 (record { nad = nad; pcb = Ready number fault; inf = [] })) out.old out.new result)) }
@@ -75,7 +74,7 @@ pub fn block_r(nad: u8, nr: u8, fault: u8, out: &mut [u8]) -> Verdict
     put_block(BlockRef::new(nad, Pcb::Ready { number, fault }, &[]), out)
 }
 
-/// Writes an S-block that asks.
+/// Encodes an S-block that is a request.
 pub fn block_s_request(nad: u8, about: u8, inf: &[u8], out: &mut [u8]) -> Verdict
     ensures written { IfSome (subject_of about) (λ s. Suits 254 (Request s) inf.now →
         Puts (IsBlock 254 (record { nad = nad; pcb = Request s; inf = inf.now })) out.old out.new result) }
@@ -90,7 +89,7 @@ pub fn block_s_request(nad: u8, about: u8, inf: &[u8], out: &mut [u8]) -> Verdic
     put_block(BlockRef::new(nad, Pcb::Request(about), inf), out)
 }
 
-/// Writes an S-block that answers.
+/// Encodes an S-block that is a response.
 pub fn block_s_response(nad: u8, about: u8, inf: &[u8], out: &mut [u8]) -> Verdict
     ensures written { IfSome (subject_of about) (λ s. Suits 254 (Response s) inf.now →
         Puts (IsBlock 254 (record { nad = nad; pcb = Response s; inf = inf.now })) out.old out.new result) }
@@ -105,7 +104,7 @@ pub fn block_s_response(nad: u8, about: u8, inf: &[u8], out: &mut [u8]) -> Verdi
     put_block(BlockRef::new(nad, Pcb::Response(about), inf), out)
 }
 
-/// Writes the block with this control octet and field.
+/// Encodes the block with this control octet and information field.
 pub fn block_encode(nad: u8, pcb: u8, inf: &[u8], out: &mut [u8]) -> Verdict
     ensures { ((v : Parts) × IsOf nad pcb inf.now v × Puts (IsBlock 254 v) out.old out.new result)
         ⊎ (IsUnfit pcb inf.now × (result ≡ wrong_argument 0) × (out.new ≡ out.old)) }
@@ -113,7 +112,7 @@ pub fn block_encode(nad: u8, pcb: u8, inf: &[u8], out: &mut [u8]) -> Verdict
     put_block(block_of(nad, pcb, inf), out)
 }
 
-/// The block with this control octet and field, if there is one.
+/// Returns the block with this control octet and information field, if there is one.
 fn block_of(nad: u8, pcb: u8, inf: &[u8]) -> Option<BlockRef<'_>>
     ensures found { IfSome result (λ block. IsOf nad pcb inf.now block) }
     ensures none { IfNone result (IsUnfit pcb inf.now) }
@@ -121,7 +120,8 @@ fn block_of(nad: u8, pcb: u8, inf: &[u8]) -> Option<BlockRef<'_>>
     BlockRef::new(nad, Pcb::of(pcb)?, inf)
 }
 
-/// Puts a block into a buffer, where there is one: straight into one with room for every block.
+/// Writes a block, if there is one, to the front of a buffer. If the buffer has room for every block, it is encoded
+/// there without a copy.
 pub fn put_block(block: Option<BlockRef<'_>>, out: &mut [u8]) -> Verdict
     ensures written { IfSome block.entry
         (λ block. Puts (IsBlock 254 block) out.old out.new result) }
@@ -135,7 +135,7 @@ pub fn put_block(block: Option<BlockRef<'_>>, out: &mut [u8]) -> Verdict
     }
 }
 
-/// Puts a block into a buffer that has no room for every block.
+/// Writes a block to a buffer that is too small for the longest block.
 fn put_shorter(block: &BlockRef<'_>, out: &mut [u8]) -> Verdict
     ensures written { Puts (IsBlock 254 block.now) out.old out.new result }
     ensures stays { result.status ≢ 0 → out.new ≡ out.old }
@@ -145,7 +145,7 @@ fn put_shorter(block: &BlockRef<'_>, out: &mut [u8]) -> Verdict
     put(&octets[..count], out)
 }
 
-/// A block of these parts.
+/// Returns a struct of C for the block with these fields.
 pub fn seen(nad: u8, pcb: Pcb, inf: &[u8]) -> CBlock
     requires { Suits 254 pcb inf.now }
     ensures { result ≡ block_seen (record { nad = nad; pcb = pcb; inf = inf.now }) }

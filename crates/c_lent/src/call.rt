@@ -15,31 +15,31 @@ use t1_core::{
 /// A call of a terminal.
 #[derive(Clone, Copy)]
 pub enum TerminalCall<'a> {
-    /// A command.
+    /// A command of the application.
     Transmit(&'a [u8]),
-    /// The octets of a block that came.
+    /// The octets of a block that arrived.
     Received(&'a [u8]),
-    /// No block came.
+    /// No block arrived.
     Quiet,
-    /// A size to ask for.
+    /// The size to request.
     AskIfs(u8),
 }
 
 /// A call of a card.
 #[derive(Clone, Copy)]
 pub enum CardCall<'a> {
-    /// The octets of a block that came.
+    /// The octets of a block that arrived.
     Received(&'a [u8]),
-    /// The reply of its host.
+    /// The reply of the card's host.
     Reply(&'a [u8]),
-    /// A multiple of the waiting time to ask for.
+    /// The multiple of the waiting time to request.
     MoreTime(u8),
-    /// A size to ask for.
+    /// The size to request.
     AskIfs(u8),
 }
 
 impl<'a> TerminalCall<'a> {
-    /// The same of a terminal over lent buffers.
+    /// Makes the call of a terminal over borrowed buffers.
     pub fn lend(
         self,
         end: &mut LentTerminal,
@@ -68,7 +68,7 @@ impl<'a> TerminalCall<'a> {
 }
 
 impl<'a> CardCall<'a> {
-    /// The same of a card over lent buffers.
+    /// Makes the call of a card over borrowed buffers.
     pub fn lend(
         self,
         end: &mut LentCard,

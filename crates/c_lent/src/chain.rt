@@ -16,7 +16,7 @@ use block_core::{BlockRef, Number, encode};
 use chain_core::{ChainReason, LONGEST_MESSAGE, block_at, cut};
 use octet_core::is_reserved;
 
-/// Writes the first block of the chain into which the message from place `start` on is cut.
+/// Encodes the first block of the chain that carries the message from offset `start` on.
 pub fn chain_block(message: &[u8], start: usize, ifs: u8, ns: u8, out: &mut [u8]) -> Verdict
     ensures written { (IsReserved ifs → ⊥) → start ≤ length message.now →
         IfSome (number_of ns) (λ number.
@@ -36,8 +36,8 @@ pub fn chain_block(message: &[u8], start: usize, ifs: u8, ns: u8, out: &mut [u8]
     put_block(BlockRef::new(block.nad(), block.pcb(), block.inf()), out)
 }
 
-/// Writes all blocks of the chain into which a message of at most 131,072 octets is cut: fields of
-/// `ifs` octets but for the last, and the first block with the number `ns`.
+/// Encodes all blocks of the chain that carries a message of at most 131,072 octets. Each field except the last has
+/// `ifs` octets. The first block has the number `ns`.
 pub fn chain_cut(message: &[u8], ifs: u8, ns: u8, out: &mut [u8]) -> Verdict
     ensures written { (IsReserved ifs → ⊥) → length message.now ≤ longest_message →
         IfSome (number_of ns) (λ number.
@@ -62,7 +62,7 @@ pub fn chain_cut(message: &[u8], ifs: u8, ns: u8, out: &mut [u8]) -> Verdict
     Verdict::ok(room)
 }
 
-/// How many octets the chain has.
+/// Returns how many octets the chain has.
 fn chain_len(message: &[u8], ifs: u8, number: Number) -> usize
     requires least { 1 ≤ ifs }
     requires most { ifs ≤ 254 }
@@ -77,7 +77,7 @@ fn chain_len(message: &[u8], ifs: u8, number: Number) -> usize
     count
 }
 
-/// Puts the chain at the front of a buffer that has room for it.
+/// Writes the chain to the front of a buffer that has room for it.
 fn put_chain(message: &[u8], ifs: u8, number: Number, out: &mut [u8])
     requires least { 1 ≤ ifs }
     requires most { ifs ≤ 254 }
@@ -94,7 +94,7 @@ fn put_chain(message: &[u8], ifs: u8, number: Number, out: &mut [u8])
     }
 }
 
-/// Puts octets at a place of a buffer.
+/// Copies octets to an offset of a buffer.
 fn put_at(octets: &[u8], place: usize, out: &mut [u8])
     requires { place + length octets.now ≤ length out.old }
     ensures { out.new ≡ take place out.old

@@ -12,7 +12,7 @@ use crate::verdict::Verdict;
 use octet_core::Stop;
 use tlv_core::{DolReason, EntryWalk, Tag};
 
-/// An entry of a data object list: a tag, and how many octets its value is to have.
+/// An entry of a data object list: a tag, and how many octets the list requests for its value.
 #[repr(C)]
 #[derive(Clone, Copy)]
 pub struct CEntry {
@@ -20,7 +20,7 @@ pub struct CEntry {
     pub len: u8,
 }
 
-/// The verdict on octets as a data object list.
+/// Checks whether octets are a data object list.
 pub fn dol_check(octets: &[u8]) -> Verdict
     ensures ok { result.status ≡ 0 → IsSomeDol octets.now }
     ensures place { result.status ≡ 0 → result ≡ ok_at (length octets.now) }
@@ -33,10 +33,10 @@ pub fn dol_check(octets: &[u8]) -> Verdict
     }
 }
 
-/// Puts the entries of a data object list into an array, in their order.
+/// Writes the entries of a data object list to an array, in their order.
 ///
-/// It goes over the octets once, and writes as it goes: where they are refused, what the array holds is open; where the
-/// room is too small, it has the first of the entries.
+/// It reads the octets once, and writes as it reads. If the octets are refused, the content of the array is
+/// unspecified. If the array is too small, it has the first entries.
 pub fn dol_entries(octets: &[u8], out: &mut [CEntry]) -> Verdict
     ensures entries { (IsRefusal result → ⊥) → PutsEntries octets.now out.old out.new result }
     ensures refused { IsRefusal result →
@@ -48,7 +48,7 @@ pub fn dol_entries(octets: &[u8], out: &mut [CEntry]) -> Verdict
     }
 }
 
-/// Puts the entries of a list into an array as far as it has room, and says how many there are.
+/// Writes as many entries of a list to an array as it has room for, and returns how many entries the list has.
 fn put_entries(octets: &[u8], out: &mut [CEntry]) -> Result<usize, Stop<DolReason>>
     ensures ok { IfOk result (ArePut octets.now out.old out.new) }
     ensures refused { IfErr result (Refuses whole IsDol IsDolReason octets.now) }
@@ -64,7 +64,7 @@ fn put_entries(octets: &[u8], out: &mut [CEntry]) -> Result<usize, Stop<DolReaso
     Ok(count)
 }
 
-/// An entry as C sees it.
+/// Returns an entry as a struct of C.
 fn entry_shown(entry: &(Tag, u8)) -> CEntry
     ensures { result ≡ entry_shown entry.now }
 {

@@ -1,4 +1,4 @@
-//! Data object lists that are filled with known values (EMV 4.3 Book 3, clause 5.4).
+//! Fills data object lists with known values (EMV 4.3 Book 3, clause 5.4).
 
 ghost use Rattle.std.specs.Prelude.{◌≡◌, ◌≢◌, ◌↔◌, ◌≤◌, ◌<◌, ◌+◌, ◌++◌, IsTrue, IfOk, IfErr, IfSome, IfNone, Some, None, length, map, take, drop};
 ghost use Rattle.octet_core.specs.Grammar.{whole, Refuses};
@@ -17,11 +17,11 @@ use tlv_core::{DolReason, EntryWalk, Tag, put_copies, put_fitted};
 /// The longest list that is filled, in octets. No machine has so many.
 const LONGEST_LIST: usize = 1 << 48;
 
-/// Writes the octets that a data object list asks for: for each entry a part of its length, which is
-/// the known value of its tag, cut and padded by its format; or zeros, where the tag is that of a
-/// constructed object or has no known value.
+/// Writes the octets that a data object list requests: for each entry a part of its length. This part is the known
+/// value of its tag, cut and padded by its format. It is zeros if the tag is that of a constructed object or has no
+/// known value.
 ///
-/// It goes over the list twice, and looks at the known values one by one for each entry.
+/// It reads the list twice, and searches the known values one by one for each entry.
 pub fn dol_fill(list: &[u8], known: &[CKnown<'_>], out: &mut [u8]) -> Verdict
     ensures filled { length list.now ≤ longest_list → AreKnown known.now → (IsRefusal result → ⊥)
         → result.status ≢ 5 →
@@ -48,7 +48,7 @@ pub fn dol_fill(list: &[u8], known: &[CKnown<'_>], out: &mut [u8]) -> Verdict
     }
 }
 
-/// Puts the parts of a list into a buffer as far as it has room, and says how many octets they are.
+/// Writes as many octets of the parts of a list to a buffer as it has room for, and returns how many octets they are.
 fn put_parts(list: &[u8], known: &[CKnown<'_>], out: &mut [u8]) -> Result<usize, Stop<DolReason>>
     requires few { length list.now ≤ longest_list }
     requires known { AreKnown known.now }
@@ -67,7 +67,7 @@ fn put_parts(list: &[u8], known: &[CKnown<'_>], out: &mut [u8]) -> Result<usize,
     Ok(count)
 }
 
-/// Puts the part of an entry at a place of a buffer.
+/// Writes the part of an entry to an offset of a buffer.
 fn put_at(known: &[CKnown<'_>], entry: &(Tag, u8), place: usize, out: &mut [u8])
     requires { place + entry.now.1 ≤ length out.old }
     ensures { out.new ≡ take place out.old
@@ -77,7 +77,7 @@ fn put_at(known: &[CKnown<'_>], entry: &(Tag, u8), place: usize, out: &mut [u8])
     put_part(known, tag, &mut out[place..place + *len as usize]);
 }
 
-/// Puts the part of an entry into just its octets.
+/// Writes the part of an entry to a slice of exactly its length.
 fn put_part(known: &[CKnown<'_>], tag: &Tag, part: &mut [u8])
     ensures { part.new ≡ entry_part (map known_seen known.now) (tag.now, length part.old) }
 {
@@ -91,7 +91,7 @@ fn put_part(known: &[CKnown<'_>], tag: &Tag, part: &mut [u8])
     }
 }
 
-/// The first known value with this tag.
+/// Returns the first known value with this tag.
 fn find<'a>(known: &'a [CKnown<'a>], tag: &[u8]) -> Option<&'a CKnown<'a>>
     ensures found { IfSome result
         (λ one. known_for tag.now (map known_seen known.now) ≡ Some (known_seen one.now)) }
@@ -105,7 +105,7 @@ fn find<'a>(known: &'a [CKnown<'a>], tag: &[u8]) -> Option<&'a CKnown<'a>>
     None
 }
 
-/// Whether two known values have one tag.
+/// Whether two known values have the same tag.
 fn has_duplicate(known: &[CKnown<'_>]) -> bool
     ensures { IsTrue result ↔ HasDuplicate (map known_seen known.now) }
 {
@@ -117,7 +117,7 @@ fn has_duplicate(known: &[CKnown<'_>]) -> bool
     false
 }
 
-/// Whether each struct says a known value.
+/// Whether each struct is a known value.
 fn are_known(known: &[CKnown<'_>]) -> bool
     ensures { IsTrue result ↔ AreKnown known.now }
 {

@@ -10,19 +10,19 @@ ghost use Rattle.c_lent.specs.Hex.{hex_reason, RefusesText, PutsText};
 use crate::verdict::{Numbered, Verdict};
 use octet_core::Stop;
 
-/// The sixteen digits, letters in upper case.
+/// The sixteen digits, with letters in upper case.
 const DIGITS: &[u8; 16] = b"0123456789ABCDEF";
 
-/// Why a text is no octets in hexadecimal.
+/// Why a text isn't octets in hexadecimal.
 #[derive(Clone, Copy)]
 pub enum HexReason {
-    /// The octet of the text is no digit.
+    /// An octet of the text isn't a digit.
     Digit,
     /// The text has an odd number of octets.
     Odd,
 }
 
-/// Writes the octets that a text gives with two digits each, in either case.
+/// Decodes a text with two digits for each octet, in either case.
 pub fn hex_decode(text: &[u8], out: &mut [u8]) -> Verdict
     ensures written { (IsRefusal result → ⊥) → PutsText text.now out.old out.new result }
     ensures refused { IsRefusal result → Tells hex_reason (RefusesText text.now) result }
@@ -42,7 +42,7 @@ pub fn hex_decode(text: &[u8], out: &mut [u8]) -> Verdict
     Verdict::ok(count)
 }
 
-/// Writes octets as text with two digits each, letters in upper case; no 0 follows it.
+/// Encodes octets as text with two digits for each, letters in upper case, without a 0 at the end.
 pub fn hex_encode(octets: &[u8], out: &mut [u8]) -> Verdict
     ensures verdict { result ≡ put_verdict (encode_upper octets.now) out.old }
     ensures text { out.new ≡ put_into (encode_upper octets.now) out.old }
@@ -55,14 +55,14 @@ pub fn hex_encode(octets: &[u8], out: &mut [u8]) -> Verdict
     Verdict::ok(count)
 }
 
-/// The text is refused at this place.
+/// Returns the verdict that refuses the text at this place.
 fn refused(place: usize, reason: HexReason) -> Verdict
     ensures { result ≡ told hex_reason (At place reason) }
 {
     Verdict::stopped(Stop::At { place, reason })
 }
 
-/// The place of the first octet of a text that is no digit.
+/// Returns the place of the first octet of a text that isn't a digit.
 fn no_digit(text: &[u8]) -> Option<usize>
     ensures found { IfSome result (λ place. (place < length text.now)
         × (is_hex_digit (slice_index text.now place) ≡ false)
@@ -83,7 +83,7 @@ fn is_digit(octet: u8) -> bool
     matches!(octet, b'0'..=b'9' | b'A'..=b'F' | b'a'..=b'f')
 }
 
-/// Puts the octets of a text of digits into a buffer that has just room for them.
+/// Decodes a text of digits into a buffer of exactly its length.
 fn put_octets(text: &[u8], out: &mut [u8])
     requires digits { AllPass is_hex_digit text.now }
     requires room { length text.now ≡ 2 * length out.old }
@@ -92,7 +92,7 @@ fn put_octets(text: &[u8], out: &mut [u8])
     let _written = hex::decode_to_slice(text, out);
 }
 
-/// Puts the text of octets into a buffer that has just room for it.
+/// Encodes octets as text into a buffer of exactly its length.
 fn put_digits(octets: &[u8], out: &mut [u8])
     requires { length out.old ≡ 2 * length octets.now }
     ensures { out.new ≡ encode_upper octets.now }

@@ -1,4 +1,4 @@
-//! What the judge of a line keeps, as numbers of C.
+//! The state of the judge of a line as the numbers that C has.
 
 ghost use Rattle.std.specs.Prelude.{◌≡◌};
 ghost use Rattle.block_core.specs.Block.{number_bit};
@@ -11,10 +11,11 @@ use crate::number::{fault_of, number_of, subject_of};
 use block_core::{Fault, Number, Pcb, S};
 use judge_core::{Asked, Heard, Owed, Pending, Side};
 
-/// What a block is, by its kind, its number or subject, and whether more follow or its fault.
+/// A control octet as three numbers: the kind of block; its number or subject; whether more blocks follow, or its
+/// fault.
 pub(crate) type Spelled = (u8, u8, u8);
 
-/// What a mark says: 0 no, any other yes.
+/// Returns what a mark means: 0 no, any other value yes.
 pub(crate) fn mark_in(mark: u8) -> bool
     ensures { result ≡ mark_in mark }
 {
@@ -70,7 +71,7 @@ fn subject(about: S) -> u8
     }
 }
 
-/// An end: 0 the terminal, 1 the card.
+/// Returns an end by its number: 0 the terminal, 1 the card.
 pub(crate) fn side_of(side: u8) -> Option<Side>
     ensures { result ≡ side_of side }
 {
@@ -128,7 +129,7 @@ pub(crate) fn asked_in(kind: u8, octet: u8) -> Option<Asked>
     }
 }
 
-/// The number of a request, 0 for none, and the octet that it carries.
+/// Returns the number of a request, 0 for none, and the octet that it carries.
 pub(crate) fn asked(asked: Option<Asked>) -> (u8, u8)
     ensures told { result ≡ asked_told asked }
     ensures kept { asked_in result.0 result.1 ≡ asked }
@@ -165,7 +166,7 @@ pub(crate) fn owed_in(kind: u8, octet: u8) -> Owed
     }
 }
 
-/// The number of what is due, and the octet that a response carries.
+/// Returns the number of what is due, and the octet that a response carries.
 pub(crate) fn owed(owed: Owed) -> (u8, u8)
     ensures told { result ≡ owed_told owed }
     ensures kept { owed_in result.0 result.1 ≡ owed }
@@ -239,7 +240,7 @@ pub(crate) fn nad_in(has_nad: bool, nad: u8) -> Option<u8>
     if has_nad { Some(nad) } else { None }
 }
 
-/// Whether there is a node address, and which.
+/// Returns whether there is a node address, and the address.
 pub(crate) fn nad_kept(nad: Option<u8>) -> (bool, u8)
     ensures { nad_in result.0 result.1 ≡ nad }
 {

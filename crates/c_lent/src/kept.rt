@@ -1,4 +1,4 @@
-//! The states of both ends, where the caller keeps them and has no allocator.
+//! The states of both ends, which the caller keeps. Nothing is allocated.
 
 ghost use Rattle.std.specs.Prelude.{◌≡◌, IfSome, IfNone, None, Some};
 ghost use Rattle.t1_core.specs.declared.lent.LentTerminal.{LentTerminal};
@@ -12,8 +12,8 @@ use crate::number::number_of;
 use block_core::Number;
 use t1_core::{CardAsked, CardWait, Cut, LentCard, LentTerminal, TerminalWait};
 
-/// The state of a terminal. Its fields are the library's own: no other value than those that a call left is
-/// of use, and each call tests them.
+/// The state of a terminal. Its fields are private to the library. Only a value that a call left is usable, and each
+/// call checks the fields.
 #[repr(C)]
 #[derive(Clone, Copy)]
 pub struct CTerminal {
@@ -33,7 +33,7 @@ pub struct CTerminal {
     pub answer_len: usize,
 }
 
-/// The state of a card, as that of a terminal.
+/// The state of a card. Its fields are private to the library, as those of a terminal.
 #[repr(C)]
 #[derive(Clone, Copy)]
 pub struct CCard {
@@ -54,7 +54,7 @@ pub struct CCard {
     pub reply_len: usize,
 }
 
-/// What a mark says: 0 no, 1 yes.
+/// Returns what a mark means: 0 no, 1 yes.
 pub fn mark_of(mark: u8) -> Option<bool>
     ensures { result ≡ mark_of mark }
 {
@@ -65,14 +65,14 @@ pub fn mark_of(mark: u8) -> Option<bool>
     }
 }
 
-/// The mark of an answer.
+/// Returns the mark for a bool.
 pub fn mark(is_so: bool) -> u8
     ensures { mark_of result ≡ Some is_so }
 {
     if is_so { 1 } else { 0 }
 }
 
-/// The octet of a number.
+/// Returns the octet for a number.
 pub fn octet(number: Number) -> u8
     ensures { number_of result ≡ Some number }
 {
@@ -82,7 +82,7 @@ pub fn octet(number: Number) -> u8
     }
 }
 
-/// What a terminal waits in.
+/// Returns what a terminal waits for, by its number, a size or a count, and a place.
 fn terminal_wait_of(kind: u8, size: u8, place: usize) -> Option<TerminalWait>
     ensures { result ≡ terminal_wait_of kind size place }
 {
@@ -98,7 +98,7 @@ fn terminal_wait_of(kind: u8, size: u8, place: usize) -> Option<TerminalWait>
     }
 }
 
-/// Its number, a size or a count, and a place.
+/// Returns the number of what a terminal waits for, with a size or a count, and a place.
 fn terminal_waiting(wait: TerminalWait) -> (u8, u8, usize)
     ensures told { result ≡ terminal_wait_told wait }
     ensures kept { terminal_wait_of result.0 result.1 result.2 ≡ Some wait }
@@ -114,7 +114,7 @@ fn terminal_waiting(wait: TerminalWait) -> (u8, u8, usize)
     }
 }
 
-/// What a card waits in.
+/// Returns what a card waits for, by its number, a size or a multiple, and a place.
 fn card_wait_of(kind: u8, size: u8, place: usize) -> Option<CardWait>
     ensures { result ≡ card_wait_of kind size place }
 {
@@ -129,7 +129,7 @@ fn card_wait_of(kind: u8, size: u8, place: usize) -> Option<CardWait>
     }
 }
 
-/// Its number, a size or a multiple, and a place.
+/// Returns the number of what a card waits for, with a size or a multiple, and a place.
 fn card_waiting(wait: CardWait) -> (u8, u8, usize)
     ensures told { result ≡ card_wait_told wait }
     ensures kept { card_wait_of result.0 result.1 result.2 ≡ Some wait }
@@ -144,7 +144,7 @@ fn card_waiting(wait: CardWait) -> (u8, u8, usize)
     }
 }
 
-/// The block that is saved, where the mark says that one is.
+/// Returns the saved block, if the mark says that there is one.
 fn saved_from(has_saved: bool, place: usize, size: u8) -> Option<Cut>
     ensures { result ≡ saved_from has_saved (cut_at place size) }
 {
@@ -155,7 +155,7 @@ fn saved_from(has_saved: bool, place: usize, size: u8) -> Option<Cut>
     }
 }
 
-/// Whether a block is saved, and its place and size.
+/// Returns whether a block is saved, and its place and size.
 fn saving(saved: Option<Cut>) -> (bool, usize, u8)
     ensures told { result ≡ saved_told saved }
     ensures kept { saved_from result.0 (cut_at result.1 result.2) ≡ saved }
@@ -167,7 +167,7 @@ fn saving(saved: Option<Cut>) -> (bool, usize, u8)
 }
 
 impl CTerminal {
-    /// The state of a terminal.
+    /// Returns the state of a terminal as a struct of C.
     pub fn of(end: &LentTerminal) -> CTerminal
         ensures kept { terminal_of result ≡ Some end.now }
         ensures unused { (result.wait, result.size, result.place)
@@ -192,7 +192,7 @@ impl CTerminal {
         }
     }
 
-    /// The terminal that it spells, if any.
+    /// Returns the terminal that the fields spell, if any.
     fn spelled(&self) -> Option<LentTerminal>
         ensures { result ≡ terminal_of self.now }
     {
@@ -212,7 +212,7 @@ impl CTerminal {
         })
     }
 
-    /// The terminal that it spells, where it fits buffers of these sizes.
+    /// Returns the terminal that the fields spell, if it fits buffers of these sizes.
     pub fn fitting(&self, command: usize, answer: usize) -> Option<LentTerminal>
         ensures some { IfSome result (λ end.
             (terminal_of self.now ≡ Some end) × IsLentTerminal end command answer) }
@@ -230,7 +230,7 @@ impl CTerminal {
 }
 
 impl CCard {
-    /// The state of a card.
+    /// Returns the state of a card as a struct of C.
     pub fn of(end: &LentCard) -> CCard
         ensures kept { card_of result ≡ Some end.now }
         ensures unused { (result.wait, result.size, result.place) ≡ card_wait_told end.now.wait }
@@ -258,7 +258,7 @@ impl CCard {
         }
     }
 
-    /// The card that it spells, if any.
+    /// Returns the card that the fields spell, if any.
     fn spelled(&self) -> Option<LentCard>
         ensures { result ≡ card_of self.now }
     {
@@ -281,7 +281,7 @@ impl CCard {
         })
     }
 
-    /// The card that it spells, where it fits buffers of these sizes.
+    /// Returns the card that the fields spell, if it fits buffers of these sizes.
     pub fn fitting(&self, command: usize, reply: usize) -> Option<LentCard>
         ensures some { IfSome result (λ end.
             (card_of self.now ≡ Some end) × IsLentCard end command reply) }

@@ -1,4 +1,4 @@
-//! The state of a check of a forest, where the caller keeps it and has no allocator.
+//! The state of a check of a forest, which the caller keeps. Nothing is allocated.
 
 ghost use Rattle.std.specs.Prelude.{◌≡◌, ◌≤◌, ◌-◌, ◌++◌, length, replicate, IfSome, IfNone, MatchOption, Some};
 ghost use Rattle.tlv_core.specs.declared.header.Header.{Header};
@@ -11,7 +11,7 @@ ghost use Rattle.c_lent.specs.KeptCheck.{refused_of, form_of, tag_of, header_of,
 use crate::verdict::Numbered;
 use tlv_core::{Form, Header, LentCheck, Tag, TlvReason};
 
-/// The header under way: what is kept of it, by `kind`, and its octets.
+/// The header that is being read: by its `kind`, the octets and numbers that are kept.
 #[repr(C)]
 #[derive(Clone, Copy)]
 pub struct CHeader {
@@ -23,8 +23,8 @@ pub struct CHeader {
     pub number: u32,
 }
 
-/// The state of a check. Its fields are the library's own: no other value than those that a call left is
-/// of use, and each call tests them.
+/// The state of a check. Its fields are private to the library. Only a value that a call left is usable, and each call
+/// checks the fields.
 #[repr(C)]
 #[derive(Clone, Copy)]
 pub struct CCheck {
@@ -37,7 +37,7 @@ pub struct CCheck {
     pub refused: u8,
 }
 
-/// Why an octet was refused, by its number.
+/// Returns why an octet was refused, by its number.
 fn refused_of(number: u8) -> Option<Option<TlvReason>>
     ensures { result ≡ refused_of number }
 {
@@ -53,7 +53,7 @@ fn refused_of(number: u8) -> Option<Option<TlvReason>>
     }
 }
 
-/// Its number, 0 where none was refused.
+/// Returns the number of a reason, 0 if no octet was refused.
 fn refused_number(refused: Option<TlvReason>) -> u8
     ensures { refused_of result ≡ Some refused }
 {
@@ -63,7 +63,7 @@ fn refused_number(refused: Option<TlvReason>) -> u8
     }
 }
 
-/// The form of a length field of so many octets.
+/// Returns the form of a length field with this many octets.
 fn form_of(octets: u8) -> Option<Form>
     ensures { result ≡ form_of octets }
 {
@@ -77,7 +77,7 @@ fn form_of(octets: u8) -> Option<Form>
     }
 }
 
-/// How many octets a length field of this form has.
+/// Returns how many octets a length field of this form has.
 fn octets_of(form: Form) -> u8
     ensures { form_of result ≡ Some form }
 {
@@ -91,7 +91,7 @@ fn octets_of(form: Form) -> u8
 }
 
 impl CHeader {
-    /// The state of this header.
+    /// Returns the state of this header as a struct of C.
     fn of(header: Header) -> CHeader
         ensures kept { header_of result ≡ Some header }
         ensures unused { IsUnused header result }
@@ -115,7 +115,7 @@ impl CHeader {
         }
     }
 
-    /// The state of a header of this kind, whose first octets are these.
+    /// Returns the state of a header of this kind that begins with these octets.
     fn tagged(kind: u8, octets: &[u8]) -> CHeader
         requires { length octets.now ≤ 3 }
         ensures kind { result.kind ≡ kind }
@@ -135,7 +135,7 @@ impl CHeader {
         }
     }
 
-    /// The tag that it has, if it is one.
+    /// Returns the tag that is kept, if its octets are a tag.
     fn tag(&self) -> Option<Tag>
         ensures { MatchOption result (IsTag (tag_of self.now) → ⊥) (λ tag. tag ≡ tag_of self.now) }
     {
@@ -145,7 +145,7 @@ impl CHeader {
         Tag::new(&self.tag[..self.tag_count as usize])
     }
 
-    /// The header that it spells, if any.
+    /// Returns the header that the fields spell, if any.
     fn spelled(&self) -> Option<Header>
         ensures some { IfSome result (λ header. header_of self.now ≡ Some header) }
         ensures none { IfNone result
@@ -168,7 +168,7 @@ impl CHeader {
 }
 
 impl CCheck {
-    /// The state of a check.
+    /// Returns the state of a check as a struct of C.
     pub fn of(check: &LentCheck) -> CCheck
         ensures kept { check_of result ≡ Some check.now }
         ensures unused { IsUnused check.now.header result.header }
@@ -184,7 +184,7 @@ impl CCheck {
         }
     }
 
-    /// The check that it spells, where it is one.
+    /// Returns the check that the fields spell, if any.
     pub fn fitting(&self) -> Option<LentCheck>
         ensures some { IfSome result
             (λ check. (check_of self.now ≡ Some check) × IsLentCheck check) }

@@ -1,4 +1,4 @@
-//! The state of a judge of a line, where the caller keeps it and has no allocator.
+//! The state of a judge of a line, which the caller keeps. Nothing is allocated.
 
 ghost use Rattle.std.specs.Prelude.{◌≡◌};
 ghost use Rattle.c_lent.specs.KeptJudge.{end_of, heard_as, heard_of, monitor_of, pcb_in, watched_of};
@@ -12,7 +12,7 @@ use arrayvec::ArrayVec;
 use block_core::LONGEST_INF;
 use judge_core::{End, Heard, Monitor, Row, Watched};
 
-/// What decides what an end may send.
+/// The state of an end: it decides what the end may send.
 #[repr(C)]
 #[derive(Clone, Copy)]
 pub struct CEnd {
@@ -33,7 +33,7 @@ pub struct CEnd {
     pub aborted: u8,
 }
 
-/// What an end has heard.
+/// What an end may have received since its last block.
 #[repr(C)]
 #[derive(Clone, Copy)]
 pub struct CHeard {
@@ -44,7 +44,7 @@ pub struct CHeard {
     pub octet: u8,
 }
 
-/// An end of the line, with the field of its last I-block.
+/// An end of the line, with the information field of its last I-block.
 #[repr(C)]
 #[derive(Clone, Copy)]
 pub struct CWatched {
@@ -55,7 +55,7 @@ pub struct CWatched {
     pub last: [u8; 254],
 }
 
-/// The state of a judge. Its fields are the library's own: whatever they are, they are the state of a judge.
+/// The state of a judge. Its fields are private to the library. With any values, they are the state of a judge.
 #[repr(C)]
 #[derive(Clone, Copy)]
 pub struct CJudge {
@@ -175,7 +175,7 @@ impl CWatched {
         }
     }
 
-    /// The field of the last I-block.
+    /// Returns the information field of the last I-block.
     fn field(&self) -> ArrayVec<u8, LONGEST_INF>
         ensures { result ≡ (watched_of self.now).last }
     {
@@ -187,7 +187,7 @@ impl CWatched {
 }
 
 impl CJudge {
-    /// The state of a judge.
+    /// Returns the state of a judge as a struct of C.
     pub fn of(monitor: &Monitor) -> CJudge
         ensures { monitor_of result ≡ monitor.now }
     {
@@ -201,7 +201,7 @@ impl CJudge {
         }
     }
 
-    /// The judge that it is.
+    /// Returns the judge with this state.
     pub fn monitor(&self) -> Monitor
         ensures { result ≡ monitor_of self.now }
     {

@@ -1,4 +1,4 @@
-//! The state of a receiver of a chain, where the caller keeps it and has no allocator.
+//! The state of a receiver of a chain, which the caller keeps. Nothing is allocated.
 
 ghost use Rattle.std.specs.Prelude.{◌≡◌, IfSome, IfNone, None, Some};
 ghost use Rattle.octet_core.specs.declared.stop.Refusal.{Refusal};
@@ -14,8 +14,8 @@ use crate::verdict::Numbered;
 use chain_core::{BlockStage, ChainReason, LentReceiver};
 use octet_core::Refusal;
 
-/// The state of a receiver. Its fields are the library's own: no other value than those that a call left is of use,
-/// and each call tests them.
+/// The state of a receiver. Its fields are private to the library. Only a value that a call left is usable, and each
+/// call checks the fields.
 #[repr(C)]
 #[derive(Clone, Copy)]
 pub struct CReceiver {
@@ -33,7 +33,7 @@ pub struct CReceiver {
     pub refused: u8,
 }
 
-/// What comes next of the block under way, by its number.
+/// Returns which part of the unfinished block comes next, by its number.
 fn stage_of(kind: u8, more: bool, len: u8) -> Option<BlockStage>
     ensures { result ≡ stage_of kind more len }
 {
@@ -46,7 +46,7 @@ fn stage_of(kind: u8, more: bool, len: u8) -> Option<BlockStage>
     }
 }
 
-/// Its number, whether more blocks follow, and the length of the field.
+/// Returns the number of the part that comes next, whether more blocks follow, and the length of the field.
 fn stage_number(stage: BlockStage) -> (u8, bool, u8)
     ensures told { result ≡ stage_told stage }
     ensures kept { stage_of result.0 result.1 result.2 ≡ Some stage }
@@ -59,7 +59,7 @@ fn stage_number(stage: BlockStage) -> (u8, bool, u8)
     }
 }
 
-/// Why an octet was refused, by its number, 0 where none was.
+/// Returns why an octet was refused, by its number, which is 0 if none was.
 fn refusal_from(number: u8, place: usize) -> Option<Option<Refusal<ChainReason>>>
     ensures { result ≡ refusal_from number place }
 {
@@ -79,7 +79,7 @@ fn refusal_from(number: u8, place: usize) -> Option<Option<Refusal<ChainReason>>
     Some(Some(Refusal { place, reason }))
 }
 
-/// The number and the place of a refusal, both 0 where there is none.
+/// Returns the number and the place of a refusal, both 0 if there is none.
 fn refusal_number(refusal: Option<Refusal<ChainReason>>) -> (u8, usize)
     ensures none { refusal ≡ None → result ≡ (0, 0) }
     ensures kept { refusal_from result.0 result.1 ≡ Some refusal }
@@ -91,7 +91,7 @@ fn refusal_number(refusal: Option<Refusal<ChainReason>>) -> (u8, usize)
 }
 
 impl CReceiver {
-    /// The state of a receiver.
+    /// Returns the state of a receiver as a struct of C.
     pub fn of(receiver: &LentReceiver) -> CReceiver
         ensures kept { receiver_of result ≡ Some receiver.now }
         ensures unused { (result.part ≡ (stage_told receiver.now.stage).0)
@@ -117,7 +117,7 @@ impl CReceiver {
         }
     }
 
-    /// The receiver that it spells, if any.
+    /// Returns the receiver that the fields spell, if any.
     fn spelled(&self) -> Option<LentReceiver>
         ensures { result ≡ receiver_of self.now }
     {
@@ -139,7 +139,7 @@ impl CReceiver {
         })
     }
 
-    /// The receiver that it spells, where it fits a buffer of so many octets.
+    /// Returns the receiver that the fields spell, if it fits a buffer of this many octets.
     pub fn fitting(&self, room: usize) -> Option<LentReceiver>
         ensures some { IfSome result
             (λ receiver. (receiver_of self.now ≡ Some receiver) × IsLentReceiver receiver room) }

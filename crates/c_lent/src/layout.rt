@@ -21,14 +21,14 @@ use crate::verdict::Verdict;
 use line_core::Framer;
 use std::mem::size_of;
 
-/// A handle as C sees it, a pointer and a mark. What it holds is only seen where there is memory.
+/// A handle as C has it: a pointer and a mark. Only the library with memory knows what the handle holds.
 #[repr(C)]
 pub struct CHandle {
     pub at: *mut u8,
     pub is_full: bool,
 }
 
-/// How many octets a struct has in the library, by its number in the header; 0 for any other number.
+/// Returns the size of a struct of the library in octets, by the struct's number in the header. 0 for any other number.
 pub fn struct_size(number: u8) -> usize
     ensures { result ≡ size_of_struct number }
 {

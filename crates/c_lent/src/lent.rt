@@ -1,5 +1,5 @@
-//! Both ends of T=1 without an allocator (ISO/IEC 7816-3, clause 11.6): the caller keeps the state, and lends
-//! it and both buffers to each call.
+//! Both ends of T=1 without an allocator (ISO/IEC 7816-3, clause 11.6). The caller keeps the state, and passes it and
+//! both buffers to each call.
 
 ghost use Rattle.std.specs.Prelude.{◌≡◌, length, replicate, IfSome, IfNone};
 ghost use Rattle.atr_core.specs.T1.{IsUsable};
@@ -20,8 +20,8 @@ use atr_core::T1Params;
 use block_core::LONGEST_BLOCK;
 use t1_core::{LentCard, LentTerminal};
 
-/// Begins a terminal for a card with these parameters of T=1, over two buffers that are set to 0:
-/// messages have at most as many octets as the buffers, and no more than 65,544 and 65,538.
+/// Begins a terminal for a card with these parameters of T=1, and sets both buffers to 0. A command has at most as many
+/// octets as its buffer, and at most 65,544. An answer has at most as many as its buffer, and at most 65,538.
 pub fn lent_terminal_begin(
     state: &mut CTerminal,
     command: &mut [u8],
@@ -46,7 +46,7 @@ pub fn lent_terminal_begin(
     Verdict::ok(0)
 }
 
-/// The terminal's application hands over a command, which has room in its buffer.
+/// Takes a command from the terminal's application. The command must fit its buffer.
 pub fn lent_terminal_transmit(
     state: &mut CTerminal,
     command: &mut [u8],
@@ -61,7 +61,7 @@ pub fn lent_terminal_transmit(
     terminal_turn(state, command, answer, call, out)
 }
 
-/// The line delivered these octets to the terminal as one block.
+/// Takes the octets that the line delivered to the terminal as one block.
 pub fn lent_terminal_received(
     state: &mut CTerminal,
     command: &mut [u8],
@@ -77,7 +77,7 @@ pub fn lent_terminal_received(
     terminal_turn(state, command, answer, call, out)
 }
 
-/// Nothing came to the terminal within the waiting time.
+/// Reports that nothing came to the terminal within the waiting time.
 pub fn lent_terminal_quiet(
     state: &mut CTerminal,
     command: &mut [u8],
@@ -90,7 +90,7 @@ pub fn lent_terminal_quiet(
     terminal_turn(state, command, answer, TerminalCall::Quiet, out)
 }
 
-/// The terminal asks the card to send information fields of up to `size` octets, 1 to 254.
+/// Requests that the card send information fields of up to `size` octets, 1 to 254.
 pub fn lent_terminal_ask_ifs(
     state: &mut CTerminal,
     command: &mut [u8],
@@ -105,7 +105,7 @@ pub fn lent_terminal_ask_ifs(
     terminal_turn(state, command, answer, call, out)
 }
 
-/// The turn that a call of a terminal gives.
+/// Makes a call of a terminal, and returns its turn.
 fn terminal_turn(
     state: &mut CTerminal,
     command: &mut [u8],
@@ -127,8 +127,8 @@ fn terminal_turn(
     CTurn::of_terminal(put)
 }
 
-/// How many octets at the front of the answer's buffer are the answer, from the turn that completes it
-/// on until the next command is taken.
+/// Returns how many octets at the front of the answer's buffer are the answer. It is there from the turn that completes
+/// it until the next command is taken.
 pub fn lent_terminal_answer(state: &CTerminal, command: &[u8], answer: &[u8]) -> Verdict
     ensures answer { (t : TerminalState) → IsTerminal state.now command.now answer.now t →
         IsAtFront t.answered answer.now result }
@@ -141,7 +141,7 @@ pub fn lent_terminal_answer(state: &CTerminal, command: &[u8], answer: &[u8]) ->
     }
 }
 
-/// Begins a card with these parameters of T=1, as `lent_terminal_begin` a terminal.
+/// Begins a card with these parameters of T=1, as `lent_terminal_begin` begins a terminal.
 pub fn lent_card_begin(
     state: &mut CCard,
     command: &mut [u8],
@@ -166,7 +166,7 @@ pub fn lent_card_begin(
     Verdict::ok(0)
 }
 
-/// The line delivered these octets to the card as one block.
+/// Takes the octets that the line delivered to the card as one block.
 pub fn lent_card_received(
     state: &mut CCard,
     command: &mut [u8],
@@ -182,7 +182,7 @@ pub fn lent_card_received(
     card_turn(state, command, reply, call, out)
 }
 
-/// The card's host hands over its reply, which has room in its buffer.
+/// Takes a reply from the card's host. The reply must fit its buffer.
 pub fn lent_card_reply(
     state: &mut CCard,
     command: &mut [u8],
@@ -197,7 +197,7 @@ pub fn lent_card_reply(
     card_turn(state, command, reply, call, out)
 }
 
-/// The card's host asks for more waiting time, by any multiple of it.
+/// Requests more waiting time for the card's host, any multiple of it.
 pub fn lent_card_more_time(
     state: &mut CCard,
     command: &mut [u8],
@@ -212,7 +212,7 @@ pub fn lent_card_more_time(
     card_turn(state, command, reply, call, out)
 }
 
-/// The card asks the terminal to send information fields of up to `size` octets, 1 to 254.
+/// Requests that the terminal send information fields of up to `size` octets, 1 to 254.
 pub fn lent_card_ask_ifs(
     state: &mut CCard,
     command: &mut [u8],
@@ -227,7 +227,7 @@ pub fn lent_card_ask_ifs(
     card_turn(state, command, reply, call, out)
 }
 
-/// The turn that a call of a card gives.
+/// Makes a call of a card, and returns its turn.
 fn card_turn(
     state: &mut CCard,
     command: &mut [u8],
@@ -249,8 +249,8 @@ fn card_turn(
     CTurn::of_card(put)
 }
 
-/// How many octets at the front of the command's buffer are the command, while the host owes the reply
-/// to it.
+/// Returns how many octets at the front of the command's buffer are the command. It is there while the host owes the
+/// reply to it.
 pub fn lent_card_command(state: &CCard, command: &[u8], reply: &[u8]) -> Verdict
     ensures command { (c : CardState) → IsCard state.now command.now reply.now c →
         IsAtFront (owed c c.waits) command.now result }
@@ -263,7 +263,7 @@ pub fn lent_card_command(state: &CCard, command: &[u8], reply: &[u8]) -> Verdict
     }
 }
 
-/// So many octets are at the front of a buffer, or none are.
+/// Returns the verdict for a message at the front of a buffer, or for none.
 fn at_front(message: Option<&[u8]>) -> Verdict
     ensures some { IfSome message.entry (λ octets. result ≡ ok_at (length octets.now)) }
     ensures none { IfNone message.entry (result ≡ wrong_argument 0) }

@@ -1,4 +1,4 @@
-//! A check of a forest that comes in pieces, without an allocator: the caller keeps the state.
+//! A check of a forest that comes in pieces. The caller keeps the state, and nothing is allocated.
 
 ghost use Rattle.std.specs.Prelude.{◌≡◌, ◌≤◌, ◌<◌, Some};
 ghost use Rattle.tlv_core.specs.Forest.{largest};
@@ -11,7 +11,7 @@ use crate::verdict::Verdict;
 use octet_core::Stop;
 use tlv_core::{LARGEST_FOREST, LentCheck, TlvReason};
 
-/// Begins a check of a forest of at most `max` octets, whatever the state was.
+/// Begins a check of a forest of at most `max` octets. The state may have any value before.
 pub fn lent_check_begin(state: &mut CCheck, max: usize) -> Verdict
     ensures ok { max ≤ largest → IsBegunCheck max state.new result }
     ensures argument { largest < max → (result ≡ wrong_argument 0) × (state.new ≡ state.old) }
@@ -23,7 +23,7 @@ pub fn lent_check_begin(state: &mut CCheck, max: usize) -> Verdict
     Verdict::ok(0)
 }
 
-/// Gives the next octets to a check.
+/// Feeds the next octets to a check.
 pub fn lent_check_feed(state: &mut CCheck, piece: &[u8]) -> Verdict
     ensures { CheckFed state.old state.new piece.now result }
 {
@@ -35,8 +35,8 @@ pub fn lent_check_feed(state: &mut CCheck, piece: &[u8]) -> Verdict
     checked(answer, piece.len())
 }
 
-/// What there is to say of all octets that a check was given: `OK` with place 0 where they are a
-/// forest, `SHORT` at their end where one goes on, or the refusal.
+/// Ends a check, and returns the verdict on all octets that it was fed: `OK` with place 0 if they are a forest, `SHORT`
+/// at their end if a forest could continue, or the refusal.
 pub fn lent_check_finish(state: &CCheck) -> Verdict
     ensures { CheckEnded state.now result }
 {
@@ -46,7 +46,7 @@ pub fn lent_check_finish(state: &CCheck) -> Verdict
     }
 }
 
-/// What a check of a forest answered to a piece of this length.
+/// Returns the verdict for the result of a check on a piece of this length.
 pub fn checked(answer: Result<(), Stop<TlvReason>>, count: usize) -> Verdict
     ensures { result ≡ told_checked count answer }
 {

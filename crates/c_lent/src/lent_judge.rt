@@ -1,4 +1,4 @@
-//! A judge of the blocks on a line (ISO/IEC 7816-3, clause 11.6), without an allocator: the caller keeps the state.
+//! A judge of the blocks on a line (ISO/IEC 7816-3, clause 11.6). The caller keeps the state, and nothing is allocated.
 
 ghost use Rattle.std.specs.Prelude.{◌≡◌, ◌≢◌, IfSome, IfNone};
 ghost use Rattle.octet_core.specs.Sizes.{IsReserved};
@@ -15,8 +15,8 @@ use crate::verdict::{Numbered, Verdict as Told};
 use judge_core::{After, Arrival, Monitor, Report, Rule, Said, Side, Silence, Verdict};
 use octet_core::is_reserved;
 
-/// What was due from an end: its number, the octet that a response carries, the numbers of the next I-block that the end
-/// sends and of the one that it expects, and its request that waits for a response.
+/// What was due from an end: its number, and the octet that a response carries. Then come the number of the end's next
+/// I-block, the number of the I-block that it expects, and its request that waits for a response.
 #[repr(C)]
 #[derive(Clone, Copy)]
 pub struct CDue {
@@ -27,7 +27,7 @@ pub struct CDue {
     pub asked: u8,
 }
 
-/// What is said of a block, and of a card that sent none before it.
+/// The judgment on a block, and on a card that sent none before it.
 #[repr(C)]
 #[derive(Clone, Copy)]
 pub struct CJudgment {
@@ -35,16 +35,17 @@ pub struct CJudgment {
     pub number: u64,
     /// The number of the other end's last block, or 0.
     pub before: u64,
-    /// The number of the block that the card didn't answer, or 0.
+    /// The number of the block that the card left unanswered, or 0.
     pub unanswered: u64,
     pub verdict: u8,
-    /// The rule that it breaks, or 0.
+    /// The rule that the block breaks, or 0.
     pub rule: u8,
     pub silence: u8,
     pub due: CDue,
 }
 
-/// Begins a judge at a reset of a card that takes fields of up to `ifsc` octets, 1 to 254, whatever the state was.
+/// Begins a judge at a reset of a card that takes information fields of up to `ifsc` octets, 1 to 254. The state may
+/// have any value before.
 pub fn lent_judge_begin(state: &mut CJudge, ifsc: u8) -> Told
     ensures ok { (IsReserved ifsc → ⊥) →
         (result ≡ ok_at 0) × (monitor_of state.new ≡ new_monitor ifsc) }
@@ -57,7 +58,7 @@ pub fn lent_judge_begin(state: &mut CJudge, ifsc: u8) -> Told
     Told::ok(0)
 }
 
-/// Judges the octets that were on the line as one block of an end.
+/// Judges the octets that an end put on the line as one block.
 pub fn lent_judge_block(
     state: &mut CJudge,
     from: u8,
@@ -85,7 +86,7 @@ pub fn lent_judge_block(
     Told::ok(0)
 }
 
-/// The terminal's waiting time ended: says whether the card sent no block that it owed.
+/// Ends the terminal's waiting time, and says whether the card owed a block that it didn't send.
 pub fn lent_judge_quiet(state: &mut CJudge, out: &mut CJudgment)
     ensures after { monitor_of state.new ≡ quiet_after (monitor_of state.old) }
     ensures told { out.new ≡ silence_told (owes_block (monitor_of state.old)) }
@@ -102,7 +103,7 @@ pub fn lent_judge_finish(state: &CJudge, out: &mut CJudgment)
     *out = CJudgment::silent(state.monitor().silence());
 }
 
-/// What breaks a rule, in a few words; "" for any other number.
+/// Returns in a few words what breaks a rule; "" for any other number.
 pub fn judge_rule_text(rule: u8, out: &mut CText)
     ensures { out.new.octets.now ≡ ended (rule_words rule) }
 {
@@ -134,7 +135,7 @@ pub fn judge_rule_text(rule: u8, out: &mut CText)
     *out = CText { octets };
 }
 
-/// The clause of a rule in ISO/IEC 7816-3:2006; "" for any other number.
+/// Returns the clause of a rule in ISO/IEC 7816-3:2006; "" for any other number.
 pub fn judge_clause_text(rule: u8, out: &mut CText)
     ensures { out.new.octets.now ≡ ended (clause_words rule) }
 {
@@ -299,7 +300,7 @@ fn silence_number(silence: Silence) -> u8
     }
 }
 
-/// The number of the block that has no answer, or 0.
+/// Returns the number of the block that has no answer, or 0.
 fn unanswered_by(silence: Silence) -> u64
     ensures { result ≡ unanswered_by silence }
 {

@@ -1,5 +1,5 @@
-//! Readers of one block and of one answer to reset that come in pieces, without an allocator: the caller keeps the
-//! state, which is the octets that were taken.
+//! Readers of a block and of an answer to reset that come in pieces. The caller keeps the state, which is the octets
+//! that were taken. Nothing is allocated.
 
 ghost use Rattle.std.specs.Prelude.{◌≡◌, ◌≢◌, ◌≤◌, ◌++◌, [], length, take, min};
 ghost use Rattle.octet_core.specs.Grammar.{self_ended, Refuses};
@@ -18,40 +18,40 @@ use atr_core::check;
 use block_core::{BlockRef, LONGEST_BLOCK};
 use octet_core::{Stop, is_reserved};
 
-/// The octets of the longest answer to reset: TS and 32 more (ISO/IEC 7816-3, clause 8.2.1).
+/// The length of the longest answer to reset: TS and 32 octets more (ISO/IEC 7816-3, clause 8.2.1).
 pub const LONGEST_ATR: usize = 33;
 
-/// A reader of one block. Any value of the fields is one, where `ifs` is neither 0 nor 255.
+/// A reader of one block. Any values of the fields are valid, except an `ifs` of 0 or 255.
 #[repr(C)]
 #[derive(Clone, Copy)]
 pub struct CBlockReader {
-    /// How many octets were taken, with a refusal those up to and with the refused one.
+    /// How many octets were taken. After a refusal they end with the refused octet.
     pub count: u32,
     /// The information size.
     pub ifs: u8,
-    /// These octets, and then others that are of no use.
+    /// The octets that were taken. Those after them are unused.
     pub octets: [u8; LONGEST_BLOCK],
 }
 
-/// A reader of one answer to reset. Any value of the fields is one.
+/// A reader of one answer to reset. Any values of the fields are valid.
 #[repr(C)]
 #[derive(Clone, Copy)]
 pub struct CAtrReader {
-    /// How many octets were taken, with a refusal those up to and with the refused one.
+    /// How many octets were taken. After a refusal they end with the refused octet.
     pub count: u32,
-    /// These octets, and then others that are of no use.
+    /// The octets that were taken. Those after them are unused.
     pub octets: [u8; LONGEST_ATR],
 }
 
 impl CBlockReader {
-    /// How many octets it holds.
+    /// Returns how many octets the reader holds.
     fn held(&self) -> usize
         ensures { result ≡ min self.now.count 258 }
     {
         (self.count as usize).min(LONGEST_BLOCK)
     }
 
-    /// The octets that it holds.
+    /// Returns the octets that the reader holds.
     fn octets(&self) -> &[u8]
         ensures { result.now ≡ block_held self.now }
     {
@@ -60,14 +60,14 @@ impl CBlockReader {
 }
 
 impl CAtrReader {
-    /// How many octets it holds.
+    /// Returns how many octets the reader holds.
     fn held(&self) -> usize
         ensures { result ≡ min self.now.count 33 }
     {
         (self.count as usize).min(LONGEST_ATR)
     }
 
-    /// The octets that it holds.
+    /// Returns the octets that the reader holds.
     fn octets(&self) -> &[u8]
         ensures { result.now ≡ atr_held self.now }
     {
@@ -75,7 +75,7 @@ impl CAtrReader {
     }
 }
 
-/// Puts as much of a piece as there is room for after the first octets of a buffer: how many these are together.
+/// Copies as much of a piece as fits after the first octets of a buffer. Returns how many octets these are together.
 fn put_after(octets: &mut [u8], held: usize, piece: &[u8]) -> usize
     requires { held ≤ length octets.old }
     ensures most { result ≤ length octets.old }
@@ -88,7 +88,7 @@ fn put_after(octets: &mut [u8], held: usize, piece: &[u8]) -> usize
     held + more
 }
 
-/// What octets are as a block, of which a reader held so many: how many it keeps, and what it answers.
+/// Decodes octets as a block when the reader held this many of them. Returns how many it keeps, and its verdict.
 fn read_block(octets: &[u8], ifs: u8, held: usize) -> (usize, Verdict)
     requires size { IsReserved ifs → ⊥ }
     ensures { Reads (IsBlock ifs) (IsBlockReason ifs) block_reason octets.now held result.0
@@ -103,7 +103,8 @@ fn read_block(octets: &[u8], ifs: u8, held: usize) -> (usize, Verdict)
     }
 }
 
-/// What octets are as an answer to reset, of which a reader held so many: how many it keeps, and what it answers.
+/// Checks octets as an answer to reset when the reader held this many of them. Returns how many it keeps, and its
+/// verdict.
 fn read_atr(octets: &[u8], held: usize) -> (usize, Verdict)
     ensures { Reads IsAtr IsAtrReason atr_reason octets.now held result.0 result.1 }
 {
@@ -116,7 +117,7 @@ fn read_atr(octets: &[u8], held: usize) -> (usize, Verdict)
     }
 }
 
-/// A value where there is one.
+/// Returns the verdict if there is a value, else that of a wrong argument.
 fn told_whole(verdict: Verdict) -> Verdict
     ensures whole { verdict.status ≡ 0 → result ≡ verdict }
     ensures none { verdict.status ≢ 0 → result ≡ wrong_argument 0 }
@@ -128,7 +129,7 @@ fn told_whole(verdict: Verdict) -> Verdict
     }
 }
 
-/// Begins a reader of one block under an information size of 1 to 254, whatever the state was.
+/// Begins a reader of one block with an information size of 1 to 254. The state may have any value before.
 pub fn lent_block_reader_begin(state: &mut CBlockReader, ifs: u8) -> Verdict
     ensures ok { (IsReserved ifs → ⊥)
         → (result ≡ ok_at 0) × (state.new.ifs ≡ ifs) × (block_held state.new ≡ []) }
@@ -143,7 +144,7 @@ pub fn lent_block_reader_begin(state: &mut CBlockReader, ifs: u8) -> Verdict
     Verdict::ok(0)
 }
 
-/// Gives the next octets to a reader of a block.
+/// Feeds the next octets to a reader of a block.
 pub fn lent_block_reader_feed(state: &mut CBlockReader, piece: &[u8]) -> Verdict
     ensures { BlockFed state.old piece.now state.new result }
 {
@@ -157,7 +158,7 @@ pub fn lent_block_reader_feed(state: &mut CBlockReader, piece: &[u8]) -> Verdict
     verdict
 }
 
-/// What there is to say of all octets that a reader of a block was given.
+/// Ends a reader of a block, and returns the verdict on all octets that it was fed.
 pub fn lent_block_reader_finish(state: &CBlockReader) -> Verdict
     ensures { BlockEnded state.now result }
 {
@@ -170,21 +171,22 @@ pub fn lent_block_reader_finish(state: &CBlockReader) -> Verdict
     }
 }
 
-/// The block of a reader, once it is whole: how many octets it has, which are at the front of those that are kept.
+/// Returns the block of a reader, once it is complete. The verdict says how many of the kept octets are the block: they
+/// are at the front.
 pub fn lent_block_reader_value(state: &CBlockReader, out: &mut CBlock) -> Verdict
     ensures { BlockGiven state.now out.old out.new result }
 {
     told_whole(block_decode(state.octets(), state.ifs, out))
 }
 
-/// Begins a reader of one answer to reset, whatever the state was.
+/// Begins a reader of one answer to reset. The state may have any value before.
 pub fn lent_atr_reader_begin(state: &mut CAtrReader)
     ensures { atr_held state.new ≡ [] }
 {
     state.count = 0;
 }
 
-/// Gives the next octets to a reader of an answer to reset.
+/// Feeds the next octets to a reader of an answer to reset.
 pub fn lent_atr_reader_feed(state: &mut CAtrReader, piece: &[u8]) -> Verdict
     ensures { AtrFed state.old piece.now state.new result }
 {
@@ -195,7 +197,7 @@ pub fn lent_atr_reader_feed(state: &mut CAtrReader, piece: &[u8]) -> Verdict
     verdict
 }
 
-/// What there is to say of all octets that a reader of an answer to reset was given.
+/// Ends a reader of an answer to reset, and returns the verdict on all octets that it was fed.
 pub fn lent_atr_reader_finish(state: &CAtrReader) -> Verdict
     ensures { AtrEnded state.now result }
 {
@@ -205,15 +207,15 @@ pub fn lent_atr_reader_finish(state: &CAtrReader) -> Verdict
     }
 }
 
-/// The answer to reset of a reader, once it is whole: how many octets it has, which are at the front of those that
-/// are kept.
+/// Returns the answer to reset of a reader, once it is complete. The verdict says how many of the kept octets are the
+/// answer: they are at the front.
 pub fn lent_atr_reader_value(state: &CAtrReader, out: &mut CAtr) -> Verdict
     ensures { AtrGiven state.now out.old out.new result }
 {
     told_whole(decoded(state.octets(), out))
 }
 
-/// The answer to reset with which octets begin.
+/// Decodes the answer to reset at the front of the octets.
 fn decoded(octets: &[u8], out: &mut CAtr) -> Verdict
     ensures ok { result.status ≡ 0 → IsDecoded octets.now result out.new }
     ensures place { result.status ≡ 0 → result ≡ ok_at result.place }

@@ -1,5 +1,5 @@
-//! A receiver of a chain without an allocator (ISO/IEC 7816-3, clause 11.6): the caller keeps the state, and lends it
-//! and the buffer of the message to each call.
+//! A receiver of a chain without an allocator (ISO/IEC 7816-3, clause 11.6). The caller keeps the state, and passes it
+//! and the message's buffer to each call.
 
 ghost use Rattle.std.specs.Prelude.{◌≡◌, ◌≢◌, ◌≤◌, ◌<◌, ℕ, List, length, IfSome, IfNone};
 ghost use Rattle.chain_core.specs.Chain.{longest_message};
@@ -18,9 +18,8 @@ use crate::verdict::Verdict;
 use chain_core::{LONGEST_MESSAGE, LentReceiver};
 use octet_core::is_reserved;
 
-/// Begins a receiver of one chain under an information size of 1 to 254, whose first block has the
-/// number `ns` and whose message has at most `max` octets, itself at most 131,072, whatever the state
-/// was.
+/// Begins a receiver of one chain with an information size of 1 to 254. The first block has the number `ns`. The
+/// message has at most `max` octets, and `max` is at most 131,072. The state may have any value before.
 pub fn lent_receiver_begin(state: &mut CReceiver, ifs: u8, ns: u8, max: usize) -> Verdict
     ensures ok { (IsReserved ifs → ⊥)
         → IfSome (number_of ns) (λ number. max ≤ longest_message → (result ≡ ok_at 0) ×
@@ -40,7 +39,7 @@ pub fn lent_receiver_begin(state: &mut CReceiver, ifs: u8, ns: u8, max: usize) -
     Verdict::ok(0)
 }
 
-/// Gives the next octets to a receiver, which puts those of the message to the front of the buffer.
+/// Feeds the next octets to a receiver, which copies those of the message to the front of the buffer.
 pub fn lent_receiver_feed(state: &mut CReceiver, message: &mut [u8], piece: &[u8]) -> Verdict
     ensures { ReceiverFed state.old message.old piece.now state.new message.new result }
 {
@@ -52,8 +51,8 @@ pub fn lent_receiver_feed(state: &mut CReceiver, message: &mut [u8], piece: &[u8
     Verdict::fed(answer)
 }
 
-/// What there is to say of all octets that a receiver was given: `OK` with place 0 where they are a
-/// chain, `SHORT` at their end where one goes on, or the refusal.
+/// Ends a receiver, and returns the verdict on all octets that it was fed: `OK` with place 0 if they are a chain,
+/// `SHORT` at their end if a chain could continue, or the refusal.
 pub fn lent_receiver_finish(state: &CReceiver, message: &[u8]) -> Verdict
     ensures { ReceiverEnded state.now message.now result }
 {
@@ -63,7 +62,7 @@ pub fn lent_receiver_finish(state: &CReceiver, message: &[u8]) -> Verdict
     }
 }
 
-/// How many octets at the front of the buffer are the message, once the chain is whole.
+/// Returns how many octets at the front of the buffer are the message, once the chain is complete.
 pub fn lent_receiver_message(state: &CReceiver, message: &[u8]) -> Verdict
     ensures message { (r : Taking) → IsReceiver state.now message.now r
         → IsAtFront (joined_of r) message.now result }

@@ -1,8 +1,11 @@
-//! What the library for C does without memory: the codecs, the objects of a forest and the entries of a list, both ends
-//! of T=1, a check of a forest, a receiver of a chain and readers of a block and of an answer to reset over what the
-//! caller lends, and the names of all that it tells.
+//! The calls of the library for C that need no memory:
 //!
-//! scard_lent exports each call that C makes, under its name after `scard_`, and says of it what a caller has to know.
+//! - the codecs, the objects of a forest and the entries of a list
+//! - both ends of T=1, a check of a forest, a receiver of a chain, and readers of a block and of an answer to reset,
+//!   over a state and buffers of the caller
+//! - the names of all numbers in results
+//!
+//! scard_lent exports each call to C with `scard_` before its name, and documents it for callers.
 #![tactic(auto)]
 
 pub mod apdu;

@@ -3,14 +3,14 @@
 ghost use Rattle.std.specs.Prelude.{◌≡◌};
 ghost use Rattle.c_lent.specs.Names.{ended, status_name, turn_name, reason_name, atr_name, block_name, chain_name, command_name, response_name, tlv_name, dol_name, hex_name};
 
-/// A text that never changes: its octets, with the 0 after them.
+/// A static text: its octets, with a 0 after them.
 #[repr(C)]
 #[derive(Clone, Copy)]
 pub struct CText {
     pub octets: &'static [u8],
 }
 
-/// The name of a status; "" for any other number.
+/// Returns the name of a status; "" for any other number.
 pub fn status_text(status: u8, out: &mut CText)
     ensures { out.new.octets.now ≡ ended (status_name status) }
 {
@@ -27,7 +27,7 @@ pub fn status_text(status: u8, out: &mut CText)
     *out = CText { octets };
 }
 
-/// The name of the kind of a turn; "" for any other number.
+/// Returns the name of the kind of a turn; "" for any other number.
 pub fn turn_text(kind: u8, out: &mut CText)
     ensures { out.new.octets.now ≡ ended (turn_name kind) }
 {
@@ -50,7 +50,7 @@ pub fn turn_text(kind: u8, out: &mut CText)
     *out = CText { octets };
 }
 
-/// The name of a reason of a codec; "" where the codec has none with this number.
+/// Returns the name of a reason of a codec; "" if the codec has no reason with this number.
 pub fn reason_text(codec: u8, reason: u8, out: &mut CText)
     ensures { out.new.octets.now ≡ ended (reason_name codec reason) }
 {

@@ -1,4 +1,4 @@
-//! What octets say in words, as C sees it.
+//! Notes on octets for people, as C has them.
 
 ghost use Rattle.std.specs.Prelude.{◌≡◌};
 ghost use Rattle.notes.specs.Says.{said};
@@ -9,7 +9,7 @@ use notes::{
     td_note,
 };
 
-/// What one or two octets are that say something.
+/// What the one or two octets of a note are.
 #[derive(Clone, Copy)]
 pub enum About {
     /// The status bytes of a response.
@@ -30,8 +30,8 @@ pub enum About {
     Tag,
 }
 
-/// Words with a number among them, which never change: no 0 is after them. `has_number` is 1 where there is a number,
-/// else both are 0.
+/// A note that is static text, with a number between its two parts. No 0 comes after either part. `has_number` is 1 if
+/// there is a number. If there is none, both are 0.
 #[repr(C)]
 #[derive(Clone, Copy)]
 pub struct CNote {
@@ -41,8 +41,8 @@ pub struct CNote {
     pub has_number: u8,
 }
 
-/// What one or two octets say in words, by the number in the header of what they are; nothing where they say nothing,
-/// or for any other number.
+/// Returns the note on one or two octets, by the number in the header of what they are. Without a note, and for any
+/// other number, both parts are empty.
 pub fn note_of(about: u8, first: u8, second: u8, out: &mut CNote)
     ensures before { out.new.before.now ≡ (note_text about first second).before }
     ensures number { (out.new.has_number, out.new.number)
@@ -58,7 +58,7 @@ pub fn note_of(about: u8, first: u8, second: u8, out: &mut CNote)
     };
 }
 
-/// What octets are, by its number in the header.
+/// Returns what octets are, by its number in the header.
 fn about_of(number: u8) -> Option<About>
     ensures { result ≡ about_of number }
 {
@@ -75,7 +75,7 @@ fn about_of(number: u8) -> Option<About>
     }
 }
 
-/// What they say.
+/// Returns the note on these octets.
 fn said_of(about: Option<About>, first: u8, second: u8) -> Note
     ensures { said result.before.now result.number result.after.now
         ≡ about_says about first second }

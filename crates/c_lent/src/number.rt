@@ -1,11 +1,11 @@
-//! The values of enums by the numbers that C has for them.
+//! The values of enums by their numbers in C.
 
 ghost use Rattle.std.specs.Prelude.{◌≡◌};
 ghost use Rattle.c_lent.specs.Number.{number_of, fault_of, subject_of};
 
 use block_core::{Fault, Number, S};
 
-/// The number of an I-block: 0 or 1.
+/// Returns the number of an I-block: 0 or 1.
 pub fn number_of(number: u8) -> Option<Number>
     ensures { result ≡ number_of number }
 {
@@ -16,7 +16,7 @@ pub fn number_of(number: u8) -> Option<Number>
     }
 }
 
-/// What an R-block says: 0 no fault, 1 the redundancy check, 2 another fault.
+/// Returns what an R-block says: 0 no fault, 1 a fault of the redundancy check, 2 another fault.
 pub fn fault_of(fault: u8) -> Option<Fault>
     ensures { result ≡ fault_of fault }
 {
@@ -28,7 +28,7 @@ pub fn fault_of(fault: u8) -> Option<Fault>
     }
 }
 
-/// What an S-block is about: 0 RESYNCH, 1 IFS, 2 ABORT, 3 WTX.
+/// Returns the subject of an S-block: 0 RESYNCH, 1 IFS, 2 ABORT, 3 WTX.
 pub fn subject_of(about: u8) -> Option<S>
     ensures { result ≡ subject_of about }
 {

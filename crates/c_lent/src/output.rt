@@ -1,11 +1,11 @@
-//! Octets that are put into a buffer of the caller's.
+//! Writes octets to a buffer of the caller.
 
 ghost use Rattle.std.specs.Prelude.{◌≡◌, ◌≢◌};
 ghost use Rattle.c_lent.specs.Verdict.{put_verdict, put_into};
 
 use crate::verdict::Verdict;
 
-/// Puts octets at the front of a buffer. Where it has too little room it stays as it was.
+/// Copies octets to the front of a buffer. If it is too small, it stays as it was.
 pub fn put(octets: &[u8], out: &mut [u8]) -> Verdict
     ensures verdict { result ≡ put_verdict octets.now out.old }
     ensures buffer { out.new ≡ put_into octets.now out.old }

@@ -21,14 +21,14 @@ pub struct CTag {
     pub count: u8,
 }
 
-/// An object of a forest. Its value is `len` octets from place `place` on of the octets; that of a
-/// constructed one has its nodes.
+/// An object of a forest. Its value is the `len` octets from offset `place` on; the value of a constructed object holds
+/// the objects inside it.
 #[repr(C)]
 #[derive(Clone, Copy)]
 pub struct CPart {
     /// The depth at which it is, 1 to 16.
     pub depth: u8,
-    /// 1 where it is constructed, else 0.
+    /// 1 if it is constructed, otherwise 0.
     pub is_constructed: u8,
     /// How many octets its length field has, 1 to 5.
     pub len_octets: u8,
@@ -46,10 +46,10 @@ pub struct CKnown<'a> {
     pub value: &'a [u8],
 }
 
-/// The place among the parts of a forest of the first object on a path of tags, or their number where
-/// there is none: for a path of one tag, of the first outermost object that has it; for a longer one,
-/// of the first that the rest of the path finds inside an object with the first tag, such objects tried
-/// in order.
+/// Returns the index of the first part on a path of tags, or the number of parts if there is none.
+///
+/// A path of one tag leads to the first outermost object that has it. A longer path leads to the first object that the
+/// rest of the path finds inside an outermost object with the first tag; these objects are tried in order.
 pub fn tlv_first(parts: &[CPart], path: &[CTag]) -> usize
     ensures inside { result ≤ length parts.now }
     ensures found { drop result parts.now ≡ found path.now 0 parts.now }
@@ -59,7 +59,7 @@ pub fn tlv_first(parts: &[CPart], path: &[CTag]) -> usize
     first_of(parts, path)
 }
 
-/// The place of the first part that ends the path, or the number of parts.
+/// Returns the index of the first part that ends the path, or the number of parts.
 fn first_of(parts: &[CPart], path: &[CTag]) -> usize
     ensures inside { result ≤ length parts.now }
     ensures found { drop result parts.now ≡ found path.now 0 parts.now }
@@ -77,7 +77,7 @@ fn first_of(parts: &[CPart], path: &[CTag]) -> usize
     parts.len()
 }
 
-/// Whether a part is the next of the path after so many tags.
+/// Whether a part has the next tag of the path, after so many tags, at its depth.
 fn is_on(path: &[CTag], met: usize, part: &CPart) -> bool
     requires { met < 256 }
     ensures { result ≡ is_on path.now met part.now }
@@ -94,7 +94,7 @@ fn is_tag_after(path: &[CTag], met: usize, tag: &CTag) -> bool
     }
 }
 
-/// The octets of a tag: a count above 3 is taken as 3.
+/// Returns the octets of a tag. A count above 3 is taken as 3.
 pub fn octets_of(tag: &CTag) -> &[u8]
     ensures { result.now ≡ tag_of tag.now }
 {
@@ -104,8 +104,8 @@ pub fn octets_of(tag: &CTag) -> &[u8]
 /// Puts the parts of a forest of at most `max` octets into an array: its objects in the order of their
 /// headers, each before those inside it, without the fillers.
 ///
-/// It goes over the octets once, and writes as it goes: where they are refused, what the array holds is open; where the
-/// room is too small, it has the first of the parts.
+/// It reads the octets once, and writes as it reads. If they are refused, the content of the array is unspecified. If the
+/// array is too small, it has the first of the parts.
 pub fn tlv_parts(octets: &[u8], max: usize, out: &mut [CPart]) -> Verdict
     ensures parts { max ≤ largest → (IsRefusal result → ⊥) →
         PutsParts max octets.now out.old out.new result }
@@ -123,9 +123,9 @@ pub fn tlv_parts(octets: &[u8], max: usize, out: &mut [CPart]) -> Verdict
     }
 }
 
-/// Puts the parts of a forest into an array as far as it has room, and says how many there are.
+/// Puts the parts of a forest into an array as far as it has room, and returns how many there are.
 ///
-/// Parts with short headers have a loop of their own, since most are such ones: a third of the time is saved.
+/// Parts with short headers, which are most, have a loop of their own. It saves a third of the time.
 fn put_parts(octets: &[u8], max: usize, out: &mut [CPart]) -> Result<usize, Stop<TlvReason>>
     requires { max ≤ largest }
     ensures ok { IfOk result (ArePut max octets.now out.old out.new) }
@@ -146,7 +146,7 @@ fn put_parts(octets: &[u8], max: usize, out: &mut [CPart]) -> Result<usize, Stop
     }
 }
 
-/// Puts a part at a place of the array, where the array has that place.
+/// Puts a part at an index of the array, if the array has that index.
 #[inline(always)]
 fn put_at(part: &PlacedPart, out: &mut [CPart], place: usize)
     ensures { (all : List CPart) → (old : List CPart) → place ≡ length all
@@ -158,7 +158,7 @@ fn put_at(part: &PlacedPart, out: &mut [CPart], place: usize)
     }
 }
 
-/// Puts a part into its place, field by field: as a whole, the octets between fields would be written too.
+/// Writes a part field by field. Written as a whole, the padding between fields would be written too.
 #[inline(always)]
 fn put_part(part: &PlacedPart, place: &mut CPart)
     ensures { place.new ≡ part_put part.now }
@@ -171,7 +171,7 @@ fn put_part(part: &PlacedPart, place: &mut CPart)
     place.len = part.len as usize;
 }
 
-/// A tag as C sees it.
+/// Returns a tag as C sees it.
 pub(crate) fn tag_shown(tag: &Tag) -> CTag
     ensures { result ≡ tag_shown tag.now }
 {

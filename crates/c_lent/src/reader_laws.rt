@@ -1,4 +1,4 @@
-//! What holds of readers whose state the caller keeps, however the octets were cut into pieces, as contracts.
+//! What holds of readers whose state the caller keeps, whatever pieces the octets come in. The contracts state it.
 
 ghost use Rattle.std.specs.Prelude.{◌≤◌, ◌++◌, ℕ, List, [], length};
 ghost use Rattle.octet_core.specs.Octets.{AreOctets};
@@ -9,9 +9,9 @@ ghost use Rattle.c_lent.specs.Block.{block_reason};
 ghost use Rattle.c_lent.specs.LentReaders.{Answers, Feeds, Holds};
 ghost use Rattle.c_lent.specs.declared.verdict.Verdict.{Verdict};
 
-/// A reader of a block that was begun holds what it has to of no octet. Where it holds what it has to of all octets
-/// `t` that it was ever given, and is given a piece, it does so of these and the piece, and its answer is the verdict
-/// on them.
+/// A reader of a block that was begun holds what it must hold after no octets. If it holds what it must after all
+/// octets `t` that it was ever fed, then it does so after the next piece too. Its answer is the verdict on `t` and the
+/// piece.
 pub fn blocks_in_any_pieces()
     ensures begun { (ifs : ℕ) → Holds (IsBlock ifs) (IsBlockReason ifs) [] [] }
     ensures fed { (ifs : ℕ) (t held piece new : List ℕ) (v : Verdict) → ifs ≤ 254
@@ -21,7 +21,7 @@ pub fn blocks_in_any_pieces()
         × Answers (IsBlock ifs) (IsBlockReason ifs) block_reason (t ++ piece) (length held) v }
 {}
 
-/// The same of a reader of an answer to reset.
+/// The law of `blocks_in_any_pieces`, for a reader of an answer to reset.
 pub fn atrs_in_any_pieces()
     ensures begun { Holds IsAtr IsAtrReason [] [] }
     ensures fed { (t held piece new : List ℕ) (v : Verdict) → AreOctets (t ++ piece)

@@ -8,8 +8,8 @@ ghost use Rattle.c_lent.specs.Atr.{t1_values};
 use crate::atr::CT1;
 use atr_core::T1Params;
 
-/// The character waiting time CWT in elementary time units, 12 to 32,779: 11 + 2^CWI. 0 where the
-/// struct says no parameters: IFSC is 0 or 255, or an index is above 15.
+/// Returns the character waiting time CWT in elementary time units, 12 to 32,779: 11 + 2^CWI. Returns 0 if the struct
+/// has no valid parameters: IFSC is 0 or 255, or an index is above 15.
 pub fn t1_cwt(params: &CT1) -> u32
     ensures cwt { IsUsable (t1_values params.now) →
         result ≡ character_waiting (t1_values params.now) }
@@ -21,8 +21,8 @@ pub fn t1_cwt(params: &CT1) -> u32
     }
 }
 
-/// The block waiting time BWT in parts of an elementary time unit, `fi` of which are one unit: 11 x
-/// `fi` + 2^BWI x 960 x 372 x `di`. 0 where the struct says no parameters.
+/// Returns the block waiting time BWT: 11 x `fi` + 2^BWI x 960 x 372 x `di`. Its unit is a part of an elementary time
+/// unit, which has `fi` such parts. Returns 0 if the struct has no valid parameters.
 pub fn t1_bwt(params: &CT1, fi: u16, di: u16) -> u64
     ensures bwt { IsUsable (t1_values params.now) →
         result ≡ block_waiting (t1_values params.now) fi di }

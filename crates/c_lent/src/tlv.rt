@@ -10,7 +10,7 @@ ghost use Rattle.c_lent.specs.Tlv.{tlv_reason, dol_reason, IsSomeForest, IsTidie
 use crate::verdict::{Numbered, Verdict};
 use tlv_core::{DolReason, ForestCheck, LARGEST_FOREST, TlvReason, put_tidy};
 
-/// The verdict on octets as a forest of data objects, at most `max` octets.
+/// Checks whether octets are a forest of data objects, at most `max` octets.
 pub fn tlv_check(octets: &[u8], max: usize) -> Verdict
     ensures ok { result.status ≡ 0 → IsSomeForest max octets.now }
     ensures place { result.status ≡ 0 → result ≡ ok_at (length octets.now) }
@@ -31,10 +31,10 @@ pub fn tlv_check(octets: &[u8], max: usize) -> Verdict
     }
 }
 
-/// Writes the tidy form of a forest of at most `max` octets: the same objects without fillers, each
-/// length in its shortest form.
+/// Writes the tidy form of a forest of at most `max` octets: the same objects without fillers, each length in its
+/// shortest form.
 ///
-/// It goes over the octets twice, and moves those of an object once for each object that it is in.
+/// It reads the octets twice, and moves those of an object once for each object that contains it.
 pub fn tlv_tidy(octets: &[u8], max: usize, out: &mut [u8]) -> Verdict
     ensures tidied { max ≤ largest → (IsRefusal result → ⊥) →
         IsTidied max octets.now out.old out.new result }

@@ -1,4 +1,4 @@
-//! What an end of a session does next, as C sees it.
+//! The turns of an end of a session, as C has them.
 
 ghost use Rattle.std.specs.Prelude.{◌≡◌};
 ghost use Rattle.c_lent.specs.Turns.{turned, no_room};
@@ -7,7 +7,7 @@ ghost use Rattle.c_lent.specs.Calls.{told_terminal, told_card};
 use block_core::LONGEST_BLOCK;
 use t1_core::{CardFault, EncodedCardTurn, EncodedTerminalTurn, TerminalFault};
 
-/// Send a block.
+/// The end sends a block.
 const SEND: u8 = 0;
 
 /// The answer is complete, or the host owes a reply.
@@ -25,7 +25,7 @@ const DEAD: u8 = 4;
 /// Refused: the card is dead.
 const REFUSED_DEAD: u8 = 16;
 
-/// Refused: an exchange is under way.
+/// Refused: an exchange is unfinished.
 const REFUSED_BUSY: u8 = 17;
 
 /// Refused: too long.
@@ -34,7 +34,7 @@ const REFUSED_TOO_LONG: u8 = 18;
 /// Refused: a reserved size.
 const REFUSED_RESERVED: u8 = 19;
 
-/// Refused: nothing is awaited.
+/// Refused: the end waits for nothing.
 const REFUSED_IDLE: u8 = 20;
 
 /// Refused: not the host's turn.
@@ -48,15 +48,25 @@ const NO_ROOM: u8 = 33;
 
 /// What an end does next.
 ///
-/// `kind` 0: send the first `count` octets of the buffer. 1: the answer is complete, or the host owes a
-/// reply. 2: the size is set. 3: the exchange is given up. 4: the card is dead. Refused, with nothing
-/// changed: 16 the card is dead, 17 an exchange is under way, 18 too long, 19 a reserved size, 20 nothing
-/// is awaited, 21 not the host's turn. 32: the handle holds no such end. 33: the buffer has less than
-/// `count` octets.
+/// `kind` is one of these numbers. From 16 to 21 the call is refused, and nothing changes.
 ///
-/// `wait` is how many block waiting times a terminal waits for the block after the one that it sends, 1 to
-/// 255: what [`EncodedTerminalTurn::Send`] says. It is 0 where no time is set: at a card, which waits for its
-/// terminal without end, and where nothing is sent.
+/// - 0: send the first `count` octets of the buffer
+/// - 1: the answer is complete, or the host owes a reply
+/// - 2: the size is set
+/// - 3: the exchange is given up
+/// - 4: the card is dead
+/// - 16: the card is dead
+/// - 17: an exchange is unfinished
+/// - 18: too long
+/// - 19: a reserved size
+/// - 20: the end waits for nothing
+/// - 21: not the host's turn
+/// - 32: the handle holds no such end
+/// - 33: the buffer has less than `count` octets
+///
+/// `wait` is how many block waiting times a terminal waits for the next block after the one that it sends, 1 to 255:
+/// see [`EncodedTerminalTurn::Send`]. It is 0 if no time is set: at a card, which waits for its terminal without end,
+/// and if nothing is sent.
 #[repr(C)]
 #[derive(Clone, Copy)]
 pub struct CTurn {
@@ -66,7 +76,7 @@ pub struct CTurn {
 }
 
 impl CTurn {
-    /// A turn that sends nothing.
+    /// Returns a turn that sends nothing.
     pub fn of(kind: u8) -> CTurn
         ensures { result ≡ turned kind }
     {
@@ -77,7 +87,7 @@ impl CTurn {
         }
     }
 
-    /// The buffer is too small for the longest block.
+    /// Returns the turn of a buffer that is too small for the longest block.
     pub fn no_room() -> CTurn
         ensures { result ≡ no_room }
     {
@@ -88,7 +98,7 @@ impl CTurn {
         }
     }
 
-    /// What a call of a terminal answered.
+    /// Returns the turn for the result of a call of a terminal.
     pub fn of_terminal(answer: Result<EncodedTerminalTurn, TerminalFault>) -> CTurn
         ensures { result ≡ told_terminal answer }
     {
@@ -110,7 +120,7 @@ impl CTurn {
         }
     }
 
-    /// What a call of a card answered.
+    /// Returns the turn for the result of a call of a card.
     pub fn of_card(answer: Result<EncodedCardTurn, CardFault>) -> CTurn
         ensures { result ≡ told_card answer }
     {

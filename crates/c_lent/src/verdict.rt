@@ -1,34 +1,32 @@
-//! Verdicts as C sees them.
+//! Verdicts as C has them.
 
 ghost use Rattle.std.specs.Prelude.{◌≡◌, ℕ, if◌then◌else◌, nat_le};
 ghost use Rattle.c_lent.specs.Verdict.{ok_at, no_memory, wrong_argument, twice_known, told, more_at, told_fed, told_end};
 
 use octet_core::Stop;
 
-/// The octets are a spelling of `place` octets, or so many were written.
+/// The octets are a spelling of `place` octets, or this many octets were written.
 pub const OK: u8 = 0;
 
-/// The octets ended at `place`, where a spelling could go on.
+/// The octets ended at `place`, where a spelling could continue.
 pub const SHORT: u8 = 1;
 
-/// The octet at `place` is the first after which no spelling goes on; `reason` says why.
+/// No spelling continues after the octet at `place`, which is the first such octet. `reason` says why.
 pub const AT: u8 = 2;
 
 /// Out of memory.
 pub const MEMORY: u8 = 3;
 
-/// An argument is out of its range and `place` is 0, or a buffer is too small and `place` is the room that
-/// is needed.
+/// An argument is out of its range, with `place` 0; or a buffer is too small, and `place` is the size that it needs.
 pub const ARGUMENT: u8 = 4;
 
-/// Two known values have one tag.
+/// Two known values have the same tag.
 pub const DUPLICATE: u8 = 5;
 
-/// A reader took the whole piece, `place` octets, and more must come.
+/// A reader took the whole piece of `place` octets, and needs more.
 pub const MORE: u8 = 6;
 
-/// A verdict: the status, the number of the reason by the codec, 0 where there is none, and a place or a
-/// count of octets.
+/// A verdict: the status; the codec's number of the reason, 0 if there is none; and a place or a count of octets.
 #[repr(C)]
 #[derive(Clone, Copy)]
 pub struct Verdict {
@@ -37,18 +35,18 @@ pub struct Verdict {
     pub place: usize,
 }
 
-/// A reason for a refusal, which has a number in C.
+/// A reason for a refusal that has a number in C.
 pub trait Numbered {
-    /// Its number.
+    /// The number of the reason.
     ghost number: { Self → ℕ };
 
-    /// Its number, 1 for the first.
+    /// Returns the number of the reason, 1 for the first.
     fn number(self) -> u8
         ensures { result ≡ number self };
 }
 
 impl Verdict {
-    /// Accepted or written: so many octets.
+    /// Returns the verdict that this many octets were accepted or written.
     pub fn ok(place: usize) -> Verdict
         ensures { result ≡ ok_at place }
     {
@@ -59,7 +57,7 @@ impl Verdict {
         }
     }
 
-    /// Out of memory.
+    /// Returns the verdict that memory ran out.
     pub fn memory() -> Verdict
         ensures { result ≡ no_memory }
     {
@@ -70,14 +68,14 @@ impl Verdict {
         }
     }
 
-    /// An argument is out of its range.
+    /// Returns the verdict that an argument is out of its range.
     pub fn argument() -> Verdict
         ensures { result ≡ wrong_argument 0 }
     {
         Verdict::lacking(0)
     }
 
-    /// What a reader answered to a piece.
+    /// Returns the verdict for the result of a reader on a piece.
     pub fn fed<R: Numbered + Drop>(answer: Result<(usize, bool), Stop<R>>) -> Verdict
         ensures { result ≡ told_fed R.number answer }
     {
@@ -88,7 +86,7 @@ impl Verdict {
         }
     }
 
-    /// What a reader answered where no more octets come.
+    /// Returns the verdict for the result of a reader after its last octet.
     pub fn ended<R: Numbered + Drop>(answer: Result<(), Stop<R>>) -> Verdict
         ensures { result ≡ told_end R.number answer }
     {
@@ -98,7 +96,7 @@ impl Verdict {
         }
     }
 
-    /// A reader took so many octets, and more must come.
+    /// Returns the verdict that a reader took this many octets and needs more.
     pub fn more(count: usize) -> Verdict
         ensures { result ≡ more_at count }
     {
@@ -109,7 +107,7 @@ impl Verdict {
         }
     }
 
-    /// Two known values have one tag.
+    /// Returns the verdict that two known values have the same tag.
     pub fn duplicate() -> Verdict
         ensures { result ≡ twice_known }
     {
@@ -120,7 +118,7 @@ impl Verdict {
         }
     }
 
-    /// A buffer has less than this room.
+    /// Returns the verdict that a buffer has less than this room.
     pub fn lacking(room: usize) -> Verdict
         ensures { result ≡ wrong_argument room }
     {
@@ -131,7 +129,7 @@ impl Verdict {
         }
     }
 
-    /// So many are to be put where there is this room: whether they fit.
+    /// Returns the verdict on whether this many items fit this room.
     pub fn put(count: usize, room: usize) -> Verdict
         ensures { result ≡ (if nat_le count room then ok_at count else wrong_argument count) }
     {
@@ -142,7 +140,7 @@ impl Verdict {
         }
     }
 
-    /// A refusal.
+    /// Returns the verdict for a refusal.
     pub fn stopped<R: Numbered + Drop>(stop: Stop<R>) -> Verdict
         ensures { result ≡ told R.number stop }
     {

@@ -3,8 +3,8 @@
 ghost use Rattle.std.specs.Prelude.{◌≡◌};
 ghost use Rattle.c_lent.specs.Version.{version};
 
-/// The version of the library: 1,000,000 times the first number of its text, 1,000 times the second,
-/// and the third.
+/// Returns the version of the library: 1,000,000 times the first number of its text, plus 1,000 times the second, plus
+/// the third.
 pub fn version() -> u32
     ensures { result ≡ version }
 {

@@ -1,4 +1,4 @@
--- Both ends of T=1 in handles, as C sees them.
+-- Both ends of T=1 in handles, as C has them.
 use Rattle.std.specs.Prelude.{◌≡◌, ℕ, List, Option, None, Some}
 use Rattle.t1_core.specs.Terminal.{TerminalState, TerminalInput, terminal_turn, turn_of, state_after}
 use Rattle.t1_core.specs.Card as card
@@ -13,7 +13,7 @@ use Rattle.c_owned.specs.declared.engine.Engine.TheVariants.{Terminal, Card, InP
 use Rattle.c_owned.specs.declared.reader.Reader.TheVariants.{Atr, Block, Chain, Forest}
 use Rattle.c_lent.specs.Turns.{IsCardTurn, IsTerminalTurn, joined_of, no_end}
 
--- a handle holds a terminal, or a card, that takes the longest messages, as each call that opens one makes it
+-- a handle holds a terminal, or a card, that takes the longest messages, as each call that opens one creates it
 abbrev pub HoldsTerminal : Option Engine → Type 0
 HoldsTerminal (Some (Terminal t)) = (t.limits.command ≡ longest_command) × (t.limits.answer ≡ longest_response)
 HoldsTerminal _ = ⊥
@@ -28,19 +28,19 @@ pub record IsNoEnd (engine now : Option Engine) (old new : List ℕ) (turn : CTu
   pub turn_is : turn ≡ no_end
   pub buffer : new ≡ old
 
--- a call of a terminal: its turn, and its state after it, which `terminal_turn` gives
+-- a call of a terminal: its turn and the terminal after it, as `terminal_turn` gives them
 pub record TakesTurn (t : TerminalState) (input : TerminalInput) (now : Option Engine) (old new : List ℕ) (turn : CTurn)
     : Type 0 where
   pub state : now ≡ Some (Terminal (state_after t (terminal_turn t input)))
   pub turn_is : IsTerminalTurn (turn_of (terminal_turn t input)) old new turn
 
--- a call of a card: its turn, and its state after it, which `card_turn` gives
+-- a call of a card: its turn and the card after it, as `card_turn` gives them
 pub record TakesCardTurn (c : CardState) (input : CardInput) (now : Option Engine) (old new : List ℕ) (turn : CTurn) :
     Type 0 where
   pub state : now ≡ Some (Card (card.state_after c (card.card_turn c input)))
   pub turn_is : IsCardTurn (card.turn_of (card.card_turn c input)) old new turn
 
--- what a call of a terminal does with what a handle holds
+-- how a call of a terminal changes the engine in a handle
 abbrev pub TerminalTakes : (TerminalState → TerminalInput) → Option Engine → Option Engine → List ℕ → List ℕ → CTurn
     → Type 0
 TerminalTakes input None now old new turn = IsNoEnd None now old new turn
@@ -48,14 +48,14 @@ TerminalTakes input (Some (Card c)) now old new turn = IsNoEnd (Some (Card c)) n
 TerminalTakes input (Some (InPieces r)) now old new turn = IsNoEnd (Some (InPieces r)) now old new turn
 TerminalTakes input (Some (Terminal t)) now old new turn = TakesTurn t (input t) now old new turn
 
--- what a call of a card does with what a handle holds
+-- how a call of a card changes the engine in a handle
 abbrev pub CardTakes : (CardState → CardInput) → Option Engine → Option Engine → List ℕ → List ℕ → CTurn → Type 0
 CardTakes input None now old new turn = IsNoEnd None now old new turn
 CardTakes input (Some (Terminal t)) now old new turn = IsNoEnd (Some (Terminal t)) now old new turn
 CardTakes input (Some (InPieces r)) now old new turn = IsNoEnd (Some (InPieces r)) now old new turn
 CardTakes input (Some (Card c)) now old new turn = TakesCardTurn c (input c) now old new turn
 
--- the answer of a terminal, the command for which a card's host owes the reply, or the message of a whole chain
+-- the answer of a terminal, the command for which a card's host owes the reply, or the message of a complete chain
 abbrev pub message_of : Option Engine → Option (List ℕ)
 message_of None = None
 message_of (Some (InPieces (Atr s))) = None

@@ -1,4 +1,4 @@
--- Readers of octets that come in pieces, in handles, as C sees them.
+-- Readers of octets that come in pieces, in handles, as C has them.
 use Rattle.std.specs.Prelude.{◌≡◌, ◌≢◌, ◌⊎◌, ◌↔◌, ℕ, List, [], Bool, Option, None, Some, Result, IsSome}
 use Rattle.octet_core.specs.Reader.{IsFed, IsFinished}
 use Rattle.octet_core.specs.declared.stop.Stop.{Stop}
@@ -28,7 +28,7 @@ use Rattle.c_owned.specs.declared.reader.Reader.{Reader}
 use Rattle.c_owned.specs.declared.reader.Reader.TheVariants.{Atr, Block, Chain, Forest}
 use Rattle.c_lent.specs.Pieces.{EndsCheck, FeedsChain, FeedsForest}
 
--- ---- what a reader does with a piece
+-- ---- how a piece changes a reader
 
 pub record FeedsAtr (old new : AtrTaking) (piece : List ℕ) (v : Verdict) : Type 0 where
   pub answer : Result (ℕ × Bool) (Stop AtrReason)
@@ -58,7 +58,7 @@ Feeds (Some (Terminal t)) piece now v = IsNone (Some (Terminal t)) now v
 Feeds (Some (Card c)) piece now v = IsNone (Some (Card c)) now v
 Feeds (Some (InPieces r)) piece now v = (s : Reader) × (now ≡ Some (InPieces s)) × ReaderFeeds r piece s v
 
--- ---- what it says where no more octets come
+-- ---- its verdict after the last octet
 
 pub record EndsAtr (s : AtrTaking) (v : Verdict) : Type 0 where
   pub answer : Result (Unit {0}) (Stop AtrReason)
@@ -94,7 +94,7 @@ Ends (Some (InPieces r)) v = ReaderEnds r v
 
 -- ---- what it has read
 
--- the answer to reset that it has, once it is whole
+-- the answer to reset that it has, once it is complete
 pub record GivesAtr (s : AtrTaking) (old new : CAtr) (v : Verdict) : Type 0 where
   pub answer : (v ≡ ok_at 0) ⊎ (v ≡ wrong_argument 0)
   pub value : v.status ≡ 0 → (t : List ℕ) → atr_reader.HasTaken s t → IsAtr (atr_of new) t
@@ -114,7 +114,7 @@ AtrOf (Some (InPieces (Block s))) old new v = HasNone old new v
 AtrOf (Some (InPieces (Chain s))) old new v = HasNone old new v
 AtrOf (Some (InPieces (Forest s))) old new v = HasNone old new v
 
--- the block that it has, once it is whole, and its octets
+-- the block that it has, once it is complete, with its octets
 pub record WholeBlock (s : BlockTaking) (old new : CBlock) (room out : List ℕ) (v : Verdict) : Type 0 where
   pub block : Parts
   pub kept : block_reader.HasTaken s s.taken
@@ -141,7 +141,7 @@ BlockOf (Some (InPieces (Block s))) old new room out v = WholeBlock s old new ro
 BlockOf (Some (InPieces (Chain s))) old new room out v = HasNeither old new room out v
 BlockOf (Some (InPieces (Forest s))) old new room out v = HasNeither old new room out v
 
--- a check of a forest of at most so many octets, which has taken nothing
+-- a check of a forest of at most this many octets, with no octets taken
 abbrev pub IsNewCheck : ℕ → Option Engine → Type 0
 IsNewCheck max engine = (s : Checked) × (engine ≡ Some (InPieces (Forest s))) × (s.kept.max ≡ max)
     × ((b : List ℕ) → HasChecked b s ↔ (b ≡ []))

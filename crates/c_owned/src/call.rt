@@ -1,4 +1,4 @@
-//! The calls of either end in a handle, as C makes them.
+//! The calls of both ends in handles, as C makes them.
 
 ghost use Rattle.std.specs.Prelude.{◌≡◌, ◌≤◌, length};
 ghost use Rattle.t1_core.specs.Terminal.{terminal_turn, turn_of, state_after};
@@ -9,14 +9,14 @@ ghost use Rattle.c_lent.specs.Calls.{terminal_input, card_input};
 use c_lent::call::{CardCall, TerminalCall};
 use t1_core::{Card, CardFault, EncodedCardTurn, EncodedTerminalTurn, Terminal, TerminalFault};
 
-/// A call of either end.
+/// A call of a terminal or of a card.
 #[derive(Clone, Copy)]
 pub(crate) enum Call<'a> {
     Terminal(TerminalCall<'a>),
     Card(CardCall<'a>),
 }
 
-/// Makes a call of a terminal, with the octets of the block that is sent in the buffer.
+/// Makes a call of a terminal. Writes the octets of a block to send to the buffer.
 #[inline(always)]
 pub(crate) fn call_terminal(
     call: TerminalCall<'_>,
@@ -38,7 +38,7 @@ pub(crate) fn call_terminal(
     }
 }
 
-/// Makes a call of a card, with the octets of the block that is sent in the buffer.
+/// Makes a call of a card. Writes the octets of a block to send to the buffer.
 #[inline(always)]
 pub(crate) fn call_card(
     call: CardCall<'_>,

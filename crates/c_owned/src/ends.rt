@@ -23,8 +23,8 @@ use c_lent::verdict::Verdict;
 use std::alloc::Global;
 use t1_core::{Card, Terminal};
 
-/// Opens a terminal for a card with these parameters of T=1. A terminal that the handle holds is made a new one, in the
-/// memory that it has, where what it held is overwritten: that never fails. Anything else is freed.
+/// Opens a terminal for a card with these parameters of T=1. If the handle already holds a terminal, it begins anew in
+/// the memory that it has, and its old content is overwritten: that never fails. Anything else in the handle is freed.
 pub fn terminal_open(alloc: Global, handle: &mut Handle, ifsc: u8, bwi: u8, cwi: u8) -> Verdict
     ensures ok { result.status ≡ 0 →
         (result ≡ ok_at 0) × (handle.new.engine ≡ Some (TerminalEnd (new_terminal ifsc))) }
@@ -48,8 +48,8 @@ pub fn terminal_open(alloc: Global, handle: &mut Handle, ifsc: u8, bwi: u8, cwi:
     }
 }
 
-/// Opens a card with these parameters of T=1. A card that the handle holds is made a new one, in the memory that it
-/// has, where what it held is overwritten: that never fails. Anything else is freed.
+/// Opens a card with these parameters of T=1. If the handle already holds a card, it begins anew in the memory that it
+/// has, and its old content is overwritten: that never fails. Anything else in the handle is freed.
 pub fn card_open(alloc: Global, handle: &mut Handle, ifsc: u8, bwi: u8, cwi: u8) -> Verdict
     ensures ok { result.status ≡ 0 →
         (result ≡ ok_at 0) × (handle.new.engine ≡ Some (CardEnd (new_card ifsc))) }
@@ -73,7 +73,7 @@ pub fn card_open(alloc: Global, handle: &mut Handle, ifsc: u8, bwi: u8, cwi: u8)
     }
 }
 
-/// Makes the terminal that a handle holds a new one; whether there is one for the longest messages.
+/// Begins the terminal in a handle anew. Returns whether the handle holds one for the longest messages.
 fn begins_terminal(alloc: Global, handle: &mut Handle, params: T1Params) -> bool
     ensures longest { HoldsTerminal handle.old.engine → result ≡ true }
     ensures begun { result ≡ true → handle.new.engine ≡ Some
@@ -88,7 +88,7 @@ fn begins_terminal(alloc: Global, handle: &mut Handle, params: T1Params) -> bool
     has_begun
 }
 
-/// Makes the card that a handle holds a new one; whether there is one for the longest messages.
+/// Begins the card in a handle anew. Returns whether the handle holds one for the longest messages.
 fn begins_card(alloc: Global, handle: &mut Handle, params: T1Params) -> bool
     ensures longest { HoldsCard handle.old.engine → result ≡ true }
     ensures begun { result ≡ true → handle.new.engine ≡ Some (CardEnd (new_card params.ifsc)) }
@@ -123,7 +123,7 @@ pub fn close(alloc: Global, handle: &mut Handle)
     drop(handle.take(alloc));
 }
 
-/// The terminal's application hands over a command of at most 65,544 octets.
+/// Takes a command of at most 65,544 octets from the terminal's application.
 pub fn terminal_transmit(
     alloc: Global,
     handle: &mut Handle,
@@ -145,7 +145,7 @@ pub fn terminal_transmit(
     )
 }
 
-/// The line delivered these octets to the terminal as one block.
+/// Takes the octets that the line delivered to the terminal as one block.
 pub fn terminal_received(alloc: Global, handle: &mut Handle, octets: &[u8], out: &mut [u8]) -> CTurn
     ensures room { length out.old < 258 → result ≡ no_room }
     ensures stays { length out.old < 258 →
@@ -162,7 +162,7 @@ pub fn terminal_received(alloc: Global, handle: &mut Handle, octets: &[u8], out:
     )
 }
 
-/// Nothing came to the terminal within the waiting time.
+/// Reports that nothing came to the terminal within the waiting time.
 pub fn terminal_quiet(alloc: Global, handle: &mut Handle, out: &mut [u8]) -> CTurn
     ensures room { length out.old < 258 → result ≡ no_room }
     ensures stays { length out.old < 258 →
@@ -174,7 +174,7 @@ pub fn terminal_quiet(alloc: Global, handle: &mut Handle, out: &mut [u8]) -> CTu
     turn(alloc, handle, Call::Terminal(TerminalCall::Quiet), out)
 }
 
-/// The terminal asks the card to send information fields of up to `size` octets, 1 to 254.
+/// Requests that the card send information fields of up to `size` octets, 1 to 254.
 pub fn terminal_ask_ifs(alloc: Global, handle: &mut Handle, size: u8, out: &mut [u8]) -> CTurn
     ensures room { length out.old < 258 → result ≡ no_room }
     ensures stays { length out.old < 258 →
@@ -191,7 +191,7 @@ pub fn terminal_ask_ifs(alloc: Global, handle: &mut Handle, size: u8, out: &mut 
     )
 }
 
-/// The line delivered these octets to the card as one block.
+/// Takes the octets that the line delivered to the card as one block.
 pub fn card_received(alloc: Global, handle: &mut Handle, octets: &[u8], out: &mut [u8]) -> CTurn
     ensures room { length out.old < 258 → result ≡ no_room }
     ensures stays { length out.old < 258 →
@@ -203,7 +203,7 @@ pub fn card_received(alloc: Global, handle: &mut Handle, octets: &[u8], out: &mu
     turn(alloc, handle, Call::Card(CardCall::Received(octets)), out)
 }
 
-/// The card's host hands over its reply of at most 65,538 octets.
+/// Takes a reply of at most 65,538 octets from the card's host.
 pub fn card_reply(alloc: Global, handle: &mut Handle, octets: &[u8], out: &mut [u8]) -> CTurn
     ensures room { length out.old < 258 → result ≡ no_room }
     ensures stays { length out.old < 258 →
@@ -215,7 +215,7 @@ pub fn card_reply(alloc: Global, handle: &mut Handle, octets: &[u8], out: &mut [
     turn(alloc, handle, Call::Card(CardCall::Reply(octets)), out)
 }
 
-/// The card's host asks for more waiting time, by any multiple of it.
+/// Requests more waiting time for the card's host, any multiple of it.
 pub fn card_more_time(alloc: Global, handle: &mut Handle, multiple: u8, out: &mut [u8]) -> CTurn
     ensures room { length out.old < 258 → result ≡ no_room }
     ensures stays { length out.old < 258 →
@@ -227,7 +227,7 @@ pub fn card_more_time(alloc: Global, handle: &mut Handle, multiple: u8, out: &mu
     turn(alloc, handle, Call::Card(CardCall::MoreTime(multiple)), out)
 }
 
-/// The card asks the terminal to send information fields of up to `size` octets, 1 to 254.
+/// Requests that the terminal send information fields of up to `size` octets, 1 to 254.
 pub fn card_ask_ifs(alloc: Global, handle: &mut Handle, size: u8, out: &mut [u8]) -> CTurn
     ensures room { length out.old < 258 → result ≡ no_room }
     ensures stays { length out.old < 258 →
@@ -239,7 +239,7 @@ pub fn card_ask_ifs(alloc: Global, handle: &mut Handle, size: u8, out: &mut [u8]
     turn(alloc, handle, Call::Card(CardCall::AskIfs(size)), out)
 }
 
-/// The turn of the end in a handle that a call gives.
+/// Makes a call of the end in a handle, and returns its turn.
 #[inline(always)]
 fn turn(alloc: Global, handle: &mut Handle, call: Call<'_>, out: &mut [u8]) -> CTurn
     ensures room { length out.old < 258 → result ≡ no_room }
@@ -259,9 +259,9 @@ fn turn(alloc: Global, handle: &mut Handle, call: Call<'_>, out: &mut [u8]) -> C
     turn
 }
 
-/// Puts the answer of a terminal into a buffer, from the turn that completes it on until the next
-/// command is taken; or the command of a card, while its host owes the reply; or the message of a
-/// receiver of chains, once the chain is whole.
+/// Copies the message of a handle to a buffer. A terminal has its answer, from the turn that completes it until the
+/// next command is taken. A card has its command, while its host owes the reply. A receiver of chains has its message,
+/// once the chain is complete.
 pub fn message(alloc: Global, handle: &mut Handle, out: &mut [u8]) -> Verdict
     ensures message { PutsMessage (message_of handle.old.engine) out.old out.new result }
     ensures stays { handle.new.engine ≡ handle.old.engine }

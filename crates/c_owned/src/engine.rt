@@ -1,4 +1,4 @@
-//! What a handle holds.
+//! The content of a handle.
 
 ghost use Rattle.std.specs.Prelude.{◌≡◌, true};
 ghost use Rattle.chain_core.specs.Longest.{longest_command, longest_response};
@@ -31,7 +31,7 @@ impl Engine {
     ghost use Rattle.c_owned.specs.Ends.{TerminalTakes, CardTakes, HoldsTerminal, HoldsCard, message_of};
     ghost use Rattle.c_owned.specs.Readers.{Feeds, Ends};
 
-    /// A call of an end; nothing where this isn't the end that is called.
+    /// Makes a call of an end. Does nothing if the engine isn't the end that is called.
     #[inline(always)]
     pub(crate) fn called(&mut self, call: Call<'_>, out: &mut [u8]) -> CTurn
         requires { 258 ≤ length out.old }
@@ -67,7 +67,7 @@ impl Engine {
         }
     }
 
-    /// Makes a terminal a new one, in the memory that it has; whether this is one for the longest messages.
+    /// Begins a terminal anew in the memory that it has. Returns whether it is one for the longest messages.
     pub(crate) fn begins_terminal(&mut self, params: T1Params) -> bool
         ensures longest { HoldsTerminal (Some self.old) → result ≡ true }
         ensures begun { result ≡ true → self.new ≡ TerminalEnd (new_terminal params.ifsc) }
@@ -82,7 +82,7 @@ impl Engine {
         }
     }
 
-    /// Makes a card a new one, in the memory that it has; whether this is one for the longest messages.
+    /// Begins a card anew in the memory that it has. Returns whether it is one for the longest messages.
     pub(crate) fn begins_card(&mut self, params: T1Params) -> bool
         ensures longest { HoldsCard (Some self.old) → result ≡ true }
         ensures begun { result ≡ true → self.new ≡ CardEnd (new_card params.ifsc) }
@@ -97,8 +97,8 @@ impl Engine {
         }
     }
 
-    /// The answer of a terminal, the command for which the card's host owes the reply, or the message of a
-    /// whole chain.
+    /// Returns the answer of a terminal, the command for which the card's host owes the reply, or the message of a
+    /// complete chain.
     pub(crate) fn message(&self) -> Option<&[u8]>
         ensures { IsSlice result (message_of (Some self.now)) }
     {
@@ -109,7 +109,7 @@ impl Engine {
         }
     }
 
-    /// The next octets for a reader.
+    /// Feeds the next octets to a reader.
     pub(crate) fn feed(&mut self, piece: &[u8]) -> Verdict
         ensures { Feeds (Some self.old) piece.now (Some self.new) result }
     {
@@ -119,7 +119,7 @@ impl Engine {
         }
     }
 
-    /// No more octets come for a reader.
+    /// Ends the octets of a reader.
     pub(crate) fn finish(&self) -> Verdict
         ensures { Ends (Some self.now) result }
     {
@@ -130,7 +130,7 @@ impl Engine {
     }
 }
 
-/// Whether an end with room for so many octets takes the longest messages.
+/// Whether an end with room for messages of these sizes takes the longest messages.
 fn is_longest(command: usize, answer: usize) -> bool
     ensures longest { result ≡ true → (command ≡ longest_command) × (answer ≡ longest_response) }
     ensures found { command ≡ longest_command → answer ≡ longest_response → result ≡ true }

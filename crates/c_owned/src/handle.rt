@@ -11,7 +11,7 @@ use std::alloc::Global;
 use std::marker::Model;
 use std::mem;
 
-/// An engine, or none. C sees a pointer and a mark, and makes one whose mark is false.
+/// An engine, or none. C sees a pointer and a mark, and creates a handle with a mark of false.
 #[repr(C)]
 pub struct Handle {
     at: *mut u8,
@@ -63,7 +63,7 @@ impl Handle {
         }
     }
 
-    /// Puts an engine in; the one that was there is dropped.
+    /// Puts an engine into the handle, and drops the one that was there.
     pub(crate) fn put(&mut self, engine: Box<Engine>)
         ensures { self.new.engine ≡ Some engine.value }
     {
@@ -73,7 +73,7 @@ impl Handle {
         }
     }
 
-    /// Takes the engine out.
+    /// Takes the engine out of the handle.
     pub(crate) fn take(&mut self, alloc: Global) -> Option<Box<Engine>>
         ensures found { MatchOption result (self.old.engine ≡ None)
             (λ engine. self.old.engine ≡ Some engine.value) }

@@ -1,6 +1,6 @@
-//! What the library for C does with memory of the program: the ends and readers that handles hold.
+//! The calls of the library for C that need memory: the ends and the readers that handles hold.
 //!
-//! scard_owned exports each call that C makes, under its name after `scard_`, and says of it what a caller has to know.
+//! scard_owned exports each call to C with `scard_` before its name, and documents it for callers.
 #![tactic(auto)]
 
 mod call;

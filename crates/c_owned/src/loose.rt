@@ -1,4 +1,4 @@
-//! A box as its pointer, after the toolchain's crate `once_cell`.
+//! A box as its pointer, as in the toolchain's crate `once_cell`.
 
 ghost use Rattle.std.specs.Prelude.{◌≡◌};
 ghost use Rattle.std.specs.Box.Ownership.{box_owns};
@@ -6,7 +6,7 @@ ghost use Rattle.std.specs.Box.Ownership.{box_owns};
 use std::alloc::Allocator;
 use std::marker::Model;
 
-/// What a box owns, beside its pointer.
+/// The parts of a box: its pointer, its allocator and its value.
 pub(crate) struct Loose<T, A: Allocator> {
     pub(crate) at: *mut T,
     pub(crate) alloc: A,
@@ -18,7 +18,7 @@ impl<T, A: Allocator> Model for Loose<T, A> {
 }
 
 impl<T: Drop, A: Allocator> Loose<T, A> {
-    /// A box taken apart.
+    /// Takes a box apart.
     pub(crate) fn of(value: Box<T, A>) -> Loose<T, A>
         ensures { result.value ≡ value.value }
     {
@@ -26,7 +26,7 @@ impl<T: Drop, A: Allocator> Loose<T, A> {
         Loose { at, alloc }
     }
 
-    /// The box again.
+    /// Puts the box together again.
     pub(crate) fn into_box(self) -> Box<T, A>
         ensures { result.value ≡ self.value }
     {

@@ -23,7 +23,7 @@ pub enum Reader {
 }
 
 impl Reader {
-    /// The next octets.
+    /// Feeds the next octets to the reader.
     pub(crate) fn feed(&mut self, piece: &[u8]) -> Verdict
         ensures { ReaderFeeds self.old piece.now self.new result }
     {
@@ -35,7 +35,7 @@ impl Reader {
         }
     }
 
-    /// No more octets come.
+    /// Ends the octets of the reader.
     pub(crate) fn finish(&self) -> Verdict
         ensures { ReaderEnds self.now result }
     {
@@ -47,7 +47,7 @@ impl Reader {
         }
     }
 
-    /// The message of a whole chain.
+    /// Returns the message of a complete chain.
     pub(crate) fn message(&self) -> Option<&[u8]>
         ensures { IsSlice result (message_of (Some (InPieces self.now))) }
     {

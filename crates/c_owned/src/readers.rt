@@ -29,7 +29,7 @@ use octet_core::is_reserved;
 use std::alloc::Global;
 use tlv_core::{ForestCheck, LARGEST_FOREST};
 
-/// Opens a reader of one answer to reset; what the handle held is freed.
+/// Opens a reader of one answer to reset, and frees what the handle held.
 pub fn atr_reader_open(alloc: Global, handle: &mut Handle) -> Verdict
     ensures ok { result.status ≡ 0 →
         (result ≡ ok_at 0) × (handle.new.engine ≡ Some (InPieces (AtrIn no_atr))) }
@@ -40,8 +40,8 @@ pub fn atr_reader_open(alloc: Global, handle: &mut Handle) -> Verdict
     opened(alloc, handle, Engine::InPieces(reader))
 }
 
-/// Opens a reader of one block under an information size of 1 to 254, `ARGUMENT` for 0 and 255; what
-/// the handle held is freed.
+/// Opens a reader of one block with an information size of 1 to 254, and frees what the handle held. `ARGUMENT` for 0
+/// and 255.
 pub fn block_reader_open(alloc: Global, handle: &mut Handle, ifs: u8) -> Verdict
     ensures ok { result.status ≡ 0 →
         (result ≡ ok_at 0) × (handle.new.engine ≡ Some (InPieces (BlockIn (no_block ifs)))) }
@@ -56,9 +56,8 @@ pub fn block_reader_open(alloc: Global, handle: &mut Handle, ifs: u8) -> Verdict
     opened(alloc, handle, Engine::InPieces(reader))
 }
 
-/// Opens a receiver of one chain under an information size of 1 to 254, whose first block has the
-/// number `ns` and whose message has at most `max` octets, itself at most 131,072; what the handle held
-/// is freed.
+/// Opens a receiver of one chain with an information size of 1 to 254, and frees what the handle held. The first block
+/// has the number `ns`. The message has at most `max` octets, and `max` is at most 131,072.
 pub fn receiver_open(alloc: Global, handle: &mut Handle, ifs: u8, ns: u8, max: usize) -> Verdict
     ensures ok { result.status ≡ 0 → IfSome (number_of ns) (λ number.
         (result ≡ ok_at 0) × (handle.new.engine ≡ Some (InPieces (ChainIn (no_chain ifs number max))))) }
@@ -81,8 +80,8 @@ pub fn receiver_open(alloc: Global, handle: &mut Handle, ifs: u8, ns: u8, max: u
     }
 }
 
-/// Opens a check of a forest of at most `max` octets, `ARGUMENT` above 1,048,576; what the handle held
-/// is freed.
+/// Opens a check of a forest of at most `max` octets, and frees what the handle held. `ARGUMENT` if `max` is above
+/// 1,048,576.
 pub fn tlv_check_open(alloc: Global, handle: &mut Handle, max: usize) -> Verdict
     ensures ok { result.status ≡ 0 →
         (result ≡ ok_at 0) × IsNewCheck max handle.new.engine }
@@ -97,7 +96,7 @@ pub fn tlv_check_open(alloc: Global, handle: &mut Handle, max: usize) -> Verdict
     opened(alloc, handle, Engine::InPieces(check))
 }
 
-/// Gives the next octets to a reader.
+/// Feeds the next octets to a reader.
 pub fn reader_feed(alloc: Global, handle: &mut Handle, piece: &[u8]) -> Verdict
     ensures { Feeds handle.old.engine piece.now handle.new.engine result }
 {
@@ -109,8 +108,8 @@ pub fn reader_feed(alloc: Global, handle: &mut Handle, piece: &[u8]) -> Verdict
     verdict
 }
 
-/// What there is to say of all octets that a reader was given: `OK` with place 0 where they are whole,
-/// `SHORT` at their end where they could go on, or the refusal.
+/// Ends a reader, and returns the verdict on all octets that it was fed: `OK` with place 0 if they are complete,
+/// `SHORT` at their end if they could continue, or the refusal.
 pub fn reader_finish(alloc: Global, handle: &mut Handle) -> Verdict
     ensures answer { Ends handle.old.engine result }
     ensures stays { handle.new.engine ≡ handle.old.engine }
@@ -123,7 +122,7 @@ pub fn reader_finish(alloc: Global, handle: &mut Handle) -> Verdict
     verdict
 }
 
-/// The answer to reset of a reader, once it is whole.
+/// Returns the answer to reset of a reader, once it is complete.
 pub fn atr_reader_value(alloc: Global, handle: &mut Handle, out: &mut CAtr) -> Verdict
     ensures answer { AtrOf handle.old.engine out.old out.new result }
     ensures stays { handle.new.engine ≡ handle.old.engine }
@@ -157,7 +156,7 @@ fn answer_of(reader: &AtrReader, out: &mut CAtr) -> Verdict
     }
 }
 
-/// The block of a reader, once it is whole, with its octets in a buffer.
+/// Returns the block of a reader, once it is complete, and copies its octets to a buffer.
 pub fn block_reader_value(
     alloc: Global,
     handle: &mut Handle,

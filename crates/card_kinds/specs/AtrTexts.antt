@@ -1,4 +1,4 @@
--- What the program says of an answer to reset.
+-- What the program prints about an answer to reset.
 use Rattle.std.specs.Prelude.{ℕ, ◌+◌, ◌%◌, List, [], ◌∷◌, ◌++◌, codes, decimal, Bool, Option, Some, None, Result, Ok, Err}
 use Rattle.hex.specs.Hex.{encode_upper}
 use Rattle.atr_core.specs.Atr.{AtrParts, IsAtr, IsReason, announcing, goes_on, tck_of}
@@ -28,12 +28,12 @@ abbrev pub value_text : List ℕ → ℕ → ℕ → List ℕ → List ℕ
 value_text name number byte note =
     name ++ (decimal number ++ (codes " " ++ (encode_upper (byte ∷ []) ++ (note ++ codes "\n"))))
 
--- the line of one that has no note, where it stands
+-- the line of an interface byte without a note, if it is present
 abbrev pub byte_text : List ℕ → ℕ → Option ℕ → List ℕ
 byte_text name number None = []
 byte_text name number (Some byte) = value_text name number byte []
 
--- the line of a TA, where it stands
+-- the line of a TA, if it is present
 abbrev pub ta_text : Bool → ℕ → Option ℕ → List ℕ
 ta_text noted number None = []
 ta_text noted number (Some ta) = value_text (codes "TA") number ta (where_noted noted (note_of (ta_says number ta)))
@@ -57,7 +57,7 @@ abbrev pub tck_text : Option ℕ → List ℕ
 tck_text None = codes "absent"
 tck_text (Some tck) = encode_upper (tck ∷ [])
 
--- F or D as a number, or a word where the index is reserved
+-- F or D as a number, or a word if the index is reserved
 abbrev pub rate_or : List ℕ → Option ℕ → List ℕ
 rate_or reserved None = reserved
 rate_or reserved (Some rate) = decimal rate
@@ -67,7 +67,7 @@ t1_text (Ok values) = codes "ifsc " ++ (decimal values.ifsc
     ++ (codes " bwi " ++ (decimal values.bwi ++ (codes " cwi " ++ decimal values.cwi))))
 t1_text (Err fault) = param_fault_name fault
 
--- each interface byte that stands, in its order
+-- each interface byte that is present, in its order
 abbrev pub interface_text : Bool → AtrParts → List ℕ
 interface_text noted a = bytes_text noted 1 a.first ++ tds_text noted 1 a.indicated
 
@@ -76,22 +76,22 @@ abbrev pub t1_line : Bool → AtrParts → List ℕ
 t1_line noted a = codes "\nt1 " ++ (t1_text (t1_params_of a)
     ++ (where_noted noted (note_of (t1_says (t1_params_of a) a.indicated)) ++ codes "\n"))
 
--- the rates, and these
+-- the rates, and the parameters of T=1
 abbrev pub meaning_text : Bool → AtrParts → List ℕ
 meaning_text noted a = codes "\nF " ++ (rate_or (codes "reserved") (rates_of a).0
     ++ (codes "\nD " ++ (rate_or (codes "reserved") (rates_of a).1 ++ t1_line noted a)))
 
--- TCK, and what comes after it
+-- TCK, and the lines after it
 abbrev pub tck_lines : Bool → AtrParts → List ℕ
 tck_lines noted a = codes "\ntck " ++ (tck_text (tck_of a)
     ++ (where_noted noted (note_of (tck_says (tck_of a))) ++ meaning_text noted a))
 
--- what comes after the interface bytes
+-- the lines after those of the interface bytes
 abbrev pub tail_text : Bool → AtrParts → List ℕ
 tail_text noted a = codes "historical " ++ (octets_text a.historical
     ++ (where_noted noted (text_note a.historical) ++ tck_lines noted a))
 
--- an answer to reset, line by line, with notes where it is noted
+-- an answer to reset, line by line, with notes if it is noted
 abbrev pub atr_text : Bool → AtrParts → List ℕ
 atr_text noted a = codes "convention " ++ (convention_text a.convention
     ++ (codes "\n" ++ (interface_text noted a ++ tail_text noted a)))
@@ -103,7 +103,7 @@ abbrev pub byte_object : List ℕ → ℕ → ℕ → List ℕ
 byte_object name number byte = codes "{\"name\":\"" ++ (name ++ (decimal number
     ++ (codes "\",\"value\":\"" ++ (encode_upper (byte ∷ []) ++ codes "\"}"))))
 
--- the same after other items, where it stands
+-- an interface byte after other items, if it is present
 abbrev pub with_byte : List ℕ → List ℕ → ℕ → Option ℕ → List ℕ
 with_byte items name number None = items
 with_byte items name number (Some byte) = with_item items (byte_object name number byte)
@@ -121,7 +121,7 @@ with_tds items number [] = items
 with_tds items number (x ∷ xs) = with_tds (with_td items number x.bytes (announcing x.bytes (goes_on xs) x.protocol))
     (number + 1) xs
 
--- each interface byte that stands, in its order
+-- each interface byte that is present, in its order
 abbrev pub interface_items : AtrParts → List ℕ
 interface_items a = with_tds (with_bytes [] 1 a.first) 1 a.indicated
 
@@ -140,12 +140,12 @@ abbrev pub meaning_members : AtrParts → List ℕ
 meaning_members a = codes ",\"F\":" ++ (rate_or (codes "null") (rates_of a).0
     ++ (codes ",\"D\":" ++ (rate_or (codes "null") (rates_of a).1 ++ (codes ",\"t1\":" ++ t1_object (t1_params_of a)))))
 
--- what comes after the interface bytes
+-- the end of the array of the interface bytes, and the members after it
 abbrev pub tail_members : AtrParts → List ℕ
 tail_members a = codes "],\"historical\":\"" ++ (encode_upper a.historical
     ++ (codes "\",\"tck\":" ++ (tck_value (tck_of a) ++ meaning_members a)))
 
--- an answer to reset
+-- an answer to reset as members of an object
 abbrev pub atr_members : AtrParts → List ℕ
 atr_members a = codes ",\"convention\":\"" ++ (convention_text a.convention
     ++ (codes "\",\"interface\":[" ++ (interface_items a ++ tail_members a)))

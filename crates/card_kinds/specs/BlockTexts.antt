@@ -1,4 +1,4 @@
--- What the program says of a block.
+-- What the program prints about a block.
 use Rattle.std.specs.Prelude.{ℕ, List, [], ◌∷◌, ◌++◌, length, slice_index, Bool, true, false, codes, decimal}
 use Rattle.hex.specs.Hex.{encode_upper}
 use Rattle.octet_core.specs.Octets.{xor_of}
@@ -33,12 +33,12 @@ pcb_text (Ready number fault) = codes "R number "
 pcb_text (Request about) = codes "S request " ++ supervisory_text about
 pcb_text (Response about) = codes "S response " ++ supervisory_text about
 
--- the lines of this field and of this LRC, with notes where they are noted
+-- the lines of this field and of this LRC, with notes if they are noted
 abbrev pub rest_lines : Bool → List ℕ → ℕ → List ℕ
 rest_lines noted inf lrc = codes "\ninf " ++ (octets_text inf ++ (where_noted noted (count_note (length inf))
     ++ (codes "\nlrc " ++ (encode_upper (lrc ∷ []) ++ (where_noted noted (note_of lrc_says) ++ codes "\n")))))
 
--- the line of what a block is before these
+-- the line of a block's kind, and then those of its field and of its LRC
 abbrev pub field_lines : Bool → Parts → ℕ → List ℕ
 field_lines noted v lrc = codes "\npcb " ++ (pcb_text v.pcb
     ++ (where_noted noted (note_of (pcb_says (pcb_octet v.pcb) (slice_index v.inf 0))) ++ rest_lines noted v.inf lrc))
@@ -52,7 +52,7 @@ block_lines noted v lrc = codes "nad " ++ (encode_upper (v.nad ∷ [])
 abbrev pub block_text : Bool → Parts → List ℕ
 block_text noted v = block_lines noted v (xor_of (front_of v))
 
--- what a PCB says, as an object
+-- a control octet as an object
 abbrev pub pcb_object : Pcb → List ℕ
 pcb_object (Info number more) = codes "{\"kind\":\"I\",\"number\":"
     ++ (decimal (number_bit number 1) ++ (codes ",\"more\":" ++ (decimal (more_number more) ++ codes "}")))
@@ -72,7 +72,7 @@ lrc_members v lrc = codes ",\"nad\":\"" ++ (encode_upper (v.nad ∷ [])
 abbrev pub block_members : Parts → List ℕ
 block_members v = lrc_members v (xor_of (front_of v))
 
--- of an information size
+-- the codec for an information size
 abbrev pub block_codec : ℕ → Codec Parts BlockReason
 block_codec ifs = record {
   ending = self_ended;

@@ -1,4 +1,4 @@
--- What the program says of a chain.
+-- What the program prints about a chain.
 use Rattle.std.specs.Prelude.{◌≡◌, ℕ, List, [], ◌∷◌, ◌++◌, length, codes, decimal, Bool, true, None}
 use Rattle.hex.specs.Hex.{encode_upper}
 use Rattle.octet_core.specs.Grammar.{Accepts, self_ended}
@@ -14,12 +14,12 @@ use Rattle.card_kinds.specs.Texts.{octets_text}
 use Rattle.chain_core.specs.declared.reason.ChainReason.{ChainReason}
 use Rattle.card_kinds.specs.Codec.{Codec}
 
--- the octets of each block, a line a block
+-- the octets of each block, one in a line
 abbrev pub blocks_text : List Parts → List ℕ
 blocks_text [] = []
 blocks_text (b ∷ blocks) = encode_upper (spelling b) ++ (codes "\n" ++ blocks_text blocks)
 
--- so many blocks and their message, line by line, with notes where it is noted
+-- this many blocks and their message, line by line, with notes if it is noted
 abbrev pub joined_text : Bool → ℕ → List ℕ → List ℕ
 joined_text noted blocks message = codes "blocks " ++ (decimal blocks ++ (codes "\nmessage "
     ++ (octets_text message ++ (where_noted noted (count_note (length message)) ++ codes "\n"))))
@@ -28,16 +28,16 @@ joined_text noted blocks message = codes "blocks " ++ (decimal blocks ++ (codes 
 abbrev pub chain_text : Bool → List (List ℕ) → List ℕ
 chain_text noted fields = joined_text noted (length fields) (message_of fields)
 
--- so many blocks and their message as members of an object
+-- this many blocks and their message as members of an object
 abbrev pub joined_members : ℕ → List ℕ → List ℕ
 joined_members blocks message = codes ",\"blocks\":" ++ (decimal blocks
     ++ (codes ",\"message\":\"" ++ (encode_upper message ++ codes "\"")))
 
--- the same as members of an object
+-- a chain with these fields as members of an object
 abbrev pub chain_members : List (List ℕ) → List ℕ
 chain_members fields = joined_members (length fields) (message_of fields)
 
--- the receiver r has taken the chain with which the octets b begin, which takes n of them
+-- the receiver r has taken the chain at the front of the octets b, which has n octets
 pub record IsReceived (ifs : ℕ) (number : Number) (b : List ℕ) (r : Taking) (n : ℕ) : Type 0 where
   pub fields : List (List ℕ)
   pub accepted : Accepts self_ended (IsChain ifs number longest_message) b fields n
@@ -46,7 +46,7 @@ pub record IsReceived (ifs : ℕ) (number : Number) (b : List ℕ) (r : Taking) 
   pub done : r.done ≡ true
   pub none : r.refusal ≡ None
 
--- of an information size and the number of the first block
+-- the codec for an information size and the number of the first block
 abbrev pub chain_codec : ℕ → Number → Codec (List (List ℕ)) ChainReason
 chain_codec ifs number = record {
   ending = self_ended;

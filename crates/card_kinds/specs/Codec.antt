@@ -1,4 +1,4 @@
--- What the octets of a kind are to the program.
+-- The codecs of the kinds, as the program uses them.
 use Rattle.std.specs.Prelude.{ℕ, List, ◌++◌, Bool, true, false, Result, Ok, Err}
 use Rattle.octet_core.specs.Grammar.{Ending, Accepts, Refuses, RefusesUnlessMemory}
 use Rattle.octet_core.specs.declared.stop.Refused.{Refused}
@@ -7,8 +7,8 @@ use Rattle.card_words.specs.declared.request.Layout.{Layout}
 use Rattle.card_words.specs.declared.request.Layout.TheVariants.{Lines, Json}
 use Rattle.card_kinds.specs.Json.{notes_member}
 
--- where a value V ends, which octets spell it, why octets are refused, the names of these reasons R, the lines that a
--- value is shown by, with notes or without, and the members of an object of JSON that say it, each after a comma
+-- where a value V ends, which octets spell it, why octets are refused, the names of these reasons R, the lines of a
+-- value, with notes or without, and its members of a JSON object, each after a comma
 pub record Codec (V R : Type 0) : Type 1 where
   pub ending : Ending
   pub Spells : V → List ℕ → Type 0
@@ -17,7 +17,7 @@ pub record Codec (V R : Type 0) : Type 1 where
   pub lines : Bool → V → List ℕ
   pub members : V → List ℕ
 
--- members of an object, with one for the notes on these lines where they are noted
+-- members of an object; if it is noted, also the member for the notes on these lines
 abbrev pub members_by : Bool → List ℕ → List ℕ → List ℕ
 members_by true lines members = members ++ notes_member lines
 members_by false lines members = members
@@ -27,7 +27,7 @@ abbrev pub said_by : Layout → Bool → List ℕ → List ℕ → List ℕ
 said_by Lines noted lines members = lines
 said_by Json noted lines members = members_by noted lines members
 
--- a value as lines or as members of an object, with notes where it is noted
+-- a value as lines or as members of an object, with notes if it is noted
 abbrev pub said_in : {V R : Type 0} → Bool → Layout → Codec V R → V → List ℕ
 said_in noted layout c v = said_by layout noted (c.lines noted v) (c.members v)
 
@@ -41,7 +41,7 @@ Stops c b stop = Refuses c.ending c.Spells c.IsReason b stop
 abbrev pub StopsUnlessMemory : {V R : Type 0} → Codec V R → List ℕ → Refused R → Type 0
 StopsUnlessMemory c b refused = RefusesUnlessMemory c.ending c.Spells c.IsReason b refused
 
--- the verdict on octets: how many of them the value takes that they spell, or the refusal
+-- the verdict on octets: how many of them the value takes, or the refusal
 abbrev pub IsVerdict : {V R : Type 0} → Codec V R → List ℕ → Result ℕ (Stop R) → Type 0
 IsVerdict {V} {R} c b (Ok n) = (v : V) × Takes c b v n
 IsVerdict {V} {R} c b (Err stop) = Stops c b stop

@@ -1,4 +1,4 @@
--- What the program says of a command.
+-- What the program prints about a command.
 use Rattle.std.specs.Prelude.{ℕ, List, ◌++◌, Bool, Option, Some, None, codes, decimal, length, slice_index}
 use Rattle.hex.specs.Hex.{encode_upper}
 use Rattle.apdu_core.specs.Command.{CommandParts, IsCommand, IsReason, le_of, part_of, shape_of}
@@ -12,7 +12,7 @@ use Rattle.octet_core.specs.Grammar.{whole}
 use Rattle.apdu_core.specs.declared.reason.CommandReason.{CommandReason}
 use Rattle.card_kinds.specs.Codec.{Codec}
 
--- the case that a shape is of
+-- the case of a shape
 abbrev pub shape_text : Shape → List ℕ
 shape_text Empty = codes "case 1"
 shape_text ShortLe = codes "case 2 short"
@@ -22,12 +22,12 @@ shape_text LongLe = codes "case 2 extended"
 shape_text LongPart = codes "case 3 extended"
 shape_text LongBoth = codes "case 4 extended"
 
--- Le as a number, or a word where it is absent
+-- Le as a number, or a word if it is absent
 abbrev pub le_or : List ℕ → Option ℕ → List ℕ
 le_or absent None = absent
 le_or absent (Some le) = decimal le
 
--- the lines of the data field and of Le, with notes where they are noted
+-- the lines of the data field and of Le, with notes if they are noted
 abbrev pub body_text : Bool → CommandParts → List ℕ
 body_text noted c = codes "\npart " ++ (octets_text (part_of c.body)
     ++ (where_noted noted (part_note (length (part_of c.body)))
@@ -39,7 +39,7 @@ abbrev pub command_text : Bool → CommandParts → List ℕ
 command_text noted c = shape_text (shape_of c.body) ++ (codes "\nheader " ++ (encode_upper c.header
     ++ (where_noted noted (header_note (slice_index c.header 0) (slice_index c.header 1)) ++ body_text noted c)))
 
--- the case that a shape is of, and its kind of length fields
+-- the case of a shape and the kind of its length fields
 abbrev pub shape_members : Shape → List ℕ
 shape_members Empty = codes ",\"case\":1"
 shape_members ShortLe = codes ",\"case\":2,\"length\":\"short\""

@@ -1,4 +1,4 @@
--- What the program says of a forest of data objects.
+-- What the program prints about a forest of data objects.
 use Rattle.std.specs.Prelude.{ℕ, List, [], ◌∷◌, ◌++◌, ◌-◌, ◌==◌, length, Bool, codes, decimal, if◌then◌else◌}
 use Rattle.std.specs.List.{repeat}
 use Rattle.hex.specs.Hex.{encode_upper}
@@ -25,7 +25,7 @@ tidied_text t = octets_text (spelling (tidy t)) ++ codes "\n"
 abbrev pub value_text : PartValue → List ℕ
 value_text p = if constructed_bit p.tag == 1 then codes "constructed" else octets_text p.value
 
--- an object, behind two spaces for each depth above 1, with its note where it is noted
+-- an object, after two spaces for each depth above 1, with its note if it is noted
 abbrev pub part_text : Bool → PartValue → List ℕ
 part_text noted p = repeat (p.depth - 1) (codes "  ")
     ++ (encode_upper p.tag ++ (codes " " ++ (encode_upper (length_field p.form (length p.value)) ++ (codes " "
@@ -35,7 +35,7 @@ abbrev pub lines_text : Bool → List PartValue → List ℕ
 lines_text noted [] = []
 lines_text noted (p ∷ parts) = part_text noted p ++ lines_text noted parts
 
--- the count of objects, and each of them
+-- the number of objects, and each of them
 abbrev pub parts_text : Bool → List PartValue → List ℕ
 parts_text noted parts = codes "objects " ++ (decimal (length parts) ++ (codes "\n" ++ lines_text noted parts))
 
@@ -54,7 +54,7 @@ abbrev pub header_members : PartValue → List ℕ
 header_members p = codes ",\"tag\":\"" ++ (encode_upper p.tag
     ++ (codes "\",\"length\":\"" ++ (encode_upper (length_field p.form (length p.value)) ++ codes "\"")))
 
--- an object as one of JSON: these, and its value
+-- a data object as a JSON object: these members, and its value
 abbrev pub part_object : PartValue → List ℕ
 part_object p = codes "{" ++ (place_members p ++ (header_members p ++ (value_member p ++ codes "}")))
 
@@ -63,11 +63,11 @@ abbrev pub with_objects : List ℕ → List PartValue → List ℕ
 with_objects items [] = items
 with_objects items (p ∷ parts) = with_objects (with_item items (part_object p)) parts
 
--- the count of objects, and where their array begins
+-- the number of objects, and the beginning of their array
 abbrev pub objects_head : ℕ → List ℕ
 objects_head count = codes ",\"count\":" ++ (decimal count ++ codes ",\"objects\":[")
 
--- the count of objects, and each of them, as members of an object
+-- the number of objects, and each of them, as members of an object
 abbrev pub parts_members : List PartValue → List ℕ
 parts_members parts = objects_head (length parts) ++ (with_objects [] parts ++ codes "]")
 

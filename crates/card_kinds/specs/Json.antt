@@ -1,20 +1,20 @@
--- What the program says of octets as an object of JSON: its members, in their order, with a comma between two.
+-- What the program prints about octets as a JSON object: its members, in their order, with a comma between two.
 use Rattle.std.specs.Prelude.{ℕ, ◌-◌, List, [], ◌∷◌, ◌++◌, codes, decimal, length, take}
 use Rattle.answer_json.specs.Notes.{note_items}
 use Rattle.notes.specs.Noted.{mark}
 use Rattle.octet_core.specs.declared.stop.Stop.{Stop}
 use Rattle.octet_core.specs.declared.stop.Stop.TheVariants.{Short, At}
 
--- what comes between the items of an array and one more
+-- what separates the items of an array from the next item
 abbrev pub separator : List ℕ → List ℕ
 separator [] = []
 separator (x ∷ items) = codes ","
 
--- the items of an array, and one more
+-- the items of an array, with one item appended
 abbrev pub with_item : List ℕ → List ℕ → List ℕ
 with_item items item = items ++ (separator items ++ item)
 
--- n octets are a value
+-- the octets are a value of n octets
 abbrev pub accepted_members : ℕ → List ℕ
 accepted_members n = codes "\"verdict\":\"ok\",\"octets\":" ++ decimal n
 
@@ -31,26 +31,26 @@ abbrev pub refused_members : {R : Type 0} → (R → List ℕ) → Stop R → Li
 refused_members name (Short place) = short_members place
 refused_members name (At place reason) = refused_at_members place (name reason)
 
--- what was given can't be read, by this name
+-- the input can't be read: a fault by its name
 abbrev pub fault_members : List ℕ → List ℕ
 fault_members name = codes "\"verdict\":\"fault\",\"fault\":\"" ++ (name ++ codes "\"")
 
--- what every object begins with: the version of these forms, and what it is about
+-- the beginning of every object: the version of its form, and its subject
 abbrev pub object_head : List ℕ → List ℕ
 object_head kind = codes "{\"version\":1,\"kind\":\"" ++ (kind ++ codes "\",")
 
--- the line of the object with these members
+-- the object with these members, in one line
 abbrev pub object_line : List ℕ → List ℕ → List ℕ
 object_line kind members = object_head kind ++ (members ++ codes "}\n")
 
--- the member with the notes on the lines of a text: of each line that has one the line and the note
+-- the member with the notes on the lines of a text: each line that has a note, and the note
 abbrev pub notes_member : List ℕ → List ℕ
 notes_member noted = codes ",\"notes\":[" ++ (note_items mark noted ++ codes "]")
 
--- the line of an object with one more member at its end
+-- an object with one more member at its end
 abbrev pub with_member : List ℕ → List ℕ → List ℕ
 with_member object member = take (length object - 2) object ++ (member ++ codes "}\n")
 
--- the line of an object with the notes on the lines of a text
+-- an object with the notes on the lines of a text
 abbrev pub with_notes : List ℕ → List ℕ → List ℕ
 with_notes object noted = with_member object (notes_member noted)

@@ -1,4 +1,4 @@
--- What the program says of a data object list.
+-- What the program prints about a data object list.
 use Rattle.std.specs.Prelude.{ℕ, List, [], ◌∷◌, ◌++◌, length, Bool, codes, decimal}
 use Rattle.hex.specs.Hex.{encode_upper}
 pub use Rattle.tlv_core.specs.Names.{dol_reason_name as reason_text}
@@ -19,7 +19,7 @@ abbrev pub entries_text : List (List ℕ × ℕ) → List ℕ
 entries_text [] = []
 entries_text (e ∷ entries) = entry_text e ++ entries_text entries
 
--- a list, line by line, with a note where it is noted
+-- a list, line by line, with a note if it is noted
 abbrev pub dol_text : Bool → List (List ℕ × ℕ) → List ℕ
 dol_text noted entries = codes "entries " ++ (decimal (length entries)
     ++ (where_noted noted (list_note entries) ++ (codes "\n" ++ entries_text entries)))

@@ -1,4 +1,4 @@
--- What the program says of a response.
+-- What the program prints about a response.
 use Rattle.std.specs.Prelude.{ℕ, List, [], ◌∷◌, ◌++◌, Bool, codes}
 use Rattle.hex.specs.Hex.{encode_upper}
 use Rattle.apdu_core.specs.Response.{ResponseParts, IsResponse, IsReason}
@@ -24,7 +24,7 @@ name_of Invalid = codes "invalid"
 abbrev pub class_text : ℕ → ℕ → List ℕ
 class_text sw1 sw2 = name_of (class_of sw1 sw2)
 
--- a response, line by line, with notes where it is noted
+-- a response, line by line, with notes if it is noted
 abbrev pub response_text : Bool → ResponseParts → List ℕ
 response_text noted r = codes "part " ++ (octets_text r.part ++ (codes "\nstatus "
     ++ (encode_upper (r.sw1 ∷ r.sw2 ∷ []) ++ (codes " " ++ (class_text r.sw1 r.sw2

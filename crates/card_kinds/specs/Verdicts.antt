@@ -1,4 +1,4 @@
--- What the program says of octets: the verdict on them as a text and a status.
+-- What the program prints about octets: the verdict on them as a text and a status.
 use Rattle.std.specs.Prelude.{◌≡◌, ◌++◌, ℕ, List, Bool, true, false, Result, Ok, Err, codes}
 use Rattle.octet_core.specs.declared.stop.Stop.{Stop}
 use Rattle.octet_core.specs.Grammar.{whole, Refuses}
@@ -28,7 +28,7 @@ use Rattle.card_words.specs.declared.request.Expected.{Expected}
 use Rattle.card_words.specs.declared.request.Layout.{Layout}
 use Rattle.card_words.specs.declared.request.Layout.TheVariants.{Lines, Json}
 
--- the text and the status that the verdict on octets has, where a value and a refusal are told so
+-- the text and the status for the verdict on octets, with these texts of a value and of a refusal
 pub data TellsBy {V R : Type 0} (c : Codec V R) (told : V → ℕ → List ℕ) (untold : Stop R → List ℕ) (b text : List ℕ)
     (ended : Status) : Type 0 where
   accepted : (v : V) (n : ℕ) → Takes c b v n → text ≡ told v n → ended ≡ status.Accepted
@@ -36,11 +36,11 @@ pub data TellsBy {V R : Type 0} (c : Codec V R) (told : V → ℕ → List ℕ) 
   refused : (stop : Stop R) → Stops c b stop → text ≡ untold stop → ended ≡ status.Refused
       → TellsBy c told untold b text ended
 
--- the same, where a refusal is told by its line
+-- the text and the status for the verdict on octets, with this text of a value and the line of a refusal
 abbrev pub Tells : {V R : Type 0} → Codec V R → (V → ℕ → List ℕ) → List ℕ → List ℕ → Status → Type 0
 Tells c told b text ended = TellsBy c told (refused_text c.name) b text ended
 
--- a codec of some values and reasons
+-- a codec with its types of values and reasons
 pub record Row : Type 1 where
   pub Value : Type 0
   pub Reason : Type 0
@@ -61,7 +61,7 @@ codec_of Dol expected = row list_codec
 
 -- ---- in each layout
 
--- a kind by its name
+-- the name of a kind
 abbrev pub kind_name : Kind → List ℕ
 kind_name Atr = codes "atr"
 kind_name Block = codes "block"
@@ -71,12 +71,12 @@ kind_name Response = codes "response"
 kind_name Tlv = codes "tlv"
 kind_name Dol = codes "dol"
 
--- a value takes n octets
+-- the octets are a value of n octets, in each layout
 abbrev pub accepted_in : Layout → Kind → ℕ → List ℕ
 accepted_in Lines kind n = accepted_text n
 accepted_in Json kind n = object_line (kind_name kind) (accepted_members n)
 
--- a value that takes n octets, where it is said so
+-- a value of n octets with this text, in each layout
 abbrev pub laid_out : Layout → Kind → List ℕ → ℕ → List ℕ
 laid_out Lines kind said n = said
 laid_out Json kind said n = object_line (kind_name kind) (accepted_members n ++ said)
@@ -84,21 +84,21 @@ laid_out Json kind said n = object_line (kind_name kind) (accepted_members n ++ 
 abbrev pub shown_in : {V R : Type 0} → Bool → Layout → Kind → Codec V R → V → ℕ → List ℕ
 shown_in noted layout kind c v n = laid_out layout kind (said_in noted layout c v) n
 
--- a refusal
+-- a refusal, in each layout
 abbrev pub refused_in : {R : Type 0} → Layout → Kind → (R → List ℕ) → Stop R → List ℕ
 refused_in Lines kind name stop = refused_text name stop
 refused_in Json kind name stop = object_line (kind_name kind) (refused_members name stop)
 
--- what is said of octets by a codec: how many of them the value takes
+-- what is printed about octets by a codec: how many of them the value takes
 abbrev pub ChecksBy : {V R : Type 0} → Layout → Kind → Codec V R → List ℕ → List ℕ → Status → Type 0
 ChecksBy layout kind c b = TellsBy c (λ v n. accepted_in layout kind n) (refused_in layout kind c.name) b
 
--- how the program ends by a verdict
+-- the status for a verdict
 abbrev pub status_of : {R : Type 0} → Result ℕ (Stop R) → Status
 status_of (Ok n) = status.Accepted
 status_of (Err stop) = status.Refused
 
--- the value itself, with the notes on its lines where it is noted
+-- the value itself, with the notes on its lines if it is noted
 abbrev pub ShowsBy : {V R : Type 0} → Bool → Layout → Kind → Codec V R → List ℕ → List ℕ → Status → Type 0
 ShowsBy noted layout kind c b = TellsBy c (shown_in noted layout kind c) (refused_in layout kind c.name) b
 
@@ -106,7 +106,7 @@ ShowsBy noted layout kind c b = TellsBy c (shown_in noted layout kind c) (refuse
 abbrev pub NotesBy : {V R : Type 0} → Codec V R → List ℕ → List ℕ → List ℕ → Status → Type 0
 NotesBy c words b = TellsBy c (λ v n. c.lines true v) (λ stop. noted_line (refused_text c.name stop) words) b
 
--- and both by a kind
+-- how many octets the value takes, and the value itself, by a kind
 abbrev pub Checks : Layout → Kind → Expected → List ℕ → List ℕ → Status → Type 0
 Checks layout kind expected b = ChecksBy layout kind (codec_of kind expected).codec b
 
@@ -116,11 +116,11 @@ ShowsWhere noted layout kind expected b = ShowsBy noted layout kind (codec_of ki
 abbrev pub Shows : Layout → Kind → Expected → List ℕ → List ℕ → Status → Type 0
 Shows layout kind expected b = ShowsWhere false layout kind expected b
 
--- the forest in the fewest octets that say the same
+-- the shortest encoding of a forest's objects
 abbrev pub Tidies : List ℕ → List ℕ → Status → Type 0
 Tidies b = Tells forest_codec (λ v n. tidied_text v) b
 
--- what a list asks for: a fault of what is known, then two known values with one tag, else the octets that fill it
+-- the answer for a list: a fault of the known values, then two of them with the same tag, else the octets that fill it
 pub data IsFilledBy (known : Result (List Known) Fault) (entries : List (List ℕ × ℕ)) (text : List ℕ) (ended : Status) :
     Type 0 where
   unknown : (fault : Fault) → known ≡ Err fault → text ≡ fault_text fault → ended ≡ status.Fault
@@ -130,7 +130,7 @@ pub data IsFilledBy (known : Result (List Known) Fault) (entries : List (List �
   full : (values : List Known) → known ≡ Ok values → (HasDuplicate values → ⊥)
       → text ≡ filled_text (filled values entries) → ended ≡ status.Accepted → IsFilledBy known entries text ended
 
--- the same of its octets, which may be refused
+-- the answer for the octets of a list, which may be refused
 pub data IsFilled (b : List ℕ) (known : Result (List Known) Fault) (text : List ℕ) (ended : Status) : Type 0 where
   listed : (entries : List (List ℕ × ℕ)) → IsDol entries b → IsFilledBy known entries text ended
       → IsFilled b known text ended

@@ -1,4 +1,4 @@
-//! A text that the program writes, and how it then ends.
+//! A text that the program writes, with its status.
 
 ghost use Rattle.std.specs.Prelude.{◌≡◌, ◌++◌, IfOk, string_bytes, codes, decimal};
 ghost use Rattle.card_words.specs.Texts.{fault_text};
@@ -12,7 +12,7 @@ use card_words::{Fault, Kind, Layout};
 use octet_core::{Named, Octets, Stop};
 use std::alloc::{AllocError, Global};
 
-/// A text to be written, and how the program then ends.
+/// A text to write, and the status with which the program then ends.
 #[derive(Debug, Drop)]
 pub struct Answer {
     /// The text's octets in UTF-8.
@@ -21,7 +21,7 @@ pub struct Answer {
 }
 
 impl Answer {
-    /// This text, and how the program then ends.
+    /// Returns an answer with this text and this status.
     pub fn of(text: String, status: Status) -> Answer
         ensures text { result.text ≡ string_bytes text }
         ensures status { result.status ≡ status }
@@ -32,7 +32,7 @@ impl Answer {
         }
     }
 
-    /// The octets are a value of a kind, which takes `taken` of them.
+    /// Returns the answer for octets that are a value of a kind and take `taken` octets.
     pub fn accepted(
         alloc: Global,
         layout: Layout,
@@ -49,7 +49,7 @@ impl Answer {
         Ok(Answer::of(text, Status::Accepted))
     }
 
-    /// The octets are refused as a value of a kind.
+    /// Returns the answer for octets that are refused as a value of a kind.
     pub(crate) fn refused_in<R: Named>(
         alloc: Global,
         layout: Layout,
@@ -68,7 +68,7 @@ impl Answer {
         }
     }
 
-    /// The octets ended at `place`.
+    /// Returns the answer for octets that ended at `place`.
     fn short(alloc: Global, place: usize) -> Result<Answer, AllocError>
         ensures text { IfOk result (λ answer. answer.text ≡ short_text place) }
         ensures status { IfOk result (λ answer. answer.status ≡ ended.Refused) }
@@ -77,7 +77,7 @@ impl Answer {
         Ok(Answer::of(text, Status::Refused))
     }
 
-    /// The octet at `place` is refused.
+    /// Returns the answer for a refusal of the octet at `place`.
     fn refused_at(alloc: Global, place: usize, reason: &str) -> Result<Answer, AllocError>
         ensures text { IfOk result (λ answer. answer.text ≡ refused_at_text place reason.now) }
         ensures status { IfOk result (λ answer. answer.status ≡ ended.Refused) }
@@ -86,7 +86,7 @@ impl Answer {
         Ok(Answer::of(text, Status::Refused))
     }
 
-    /// The octets are refused.
+    /// Returns the answer for octets that are refused.
     pub fn refused<R: Named>(alloc: Global, stop: Stop<R>) -> Result<Answer, AllocError>
         ensures text { IfOk result (λ answer. answer.text ≡ refused_text R.text stop) }
         ensures status { IfOk result (λ answer. answer.status ≡ ended.Refused) }
@@ -97,7 +97,7 @@ impl Answer {
         }
     }
 
-    /// The whole is refused, by this name.
+    /// Returns the answer for a refusal of the whole value, by this name.
     pub fn refused_as(alloc: Global, name: &str) -> Result<Answer, AllocError>
         ensures text { IfOk result (λ answer. answer.text ≡ refused_as_text name.now) }
         ensures status { IfOk result (λ answer. answer.status ≡ ended.Refused) }
@@ -106,7 +106,7 @@ impl Answer {
         Ok(Answer::of(text, Status::Refused))
     }
 
-    /// Two known values have one tag.
+    /// Returns the answer for two known values with the same tag.
     pub fn duplicate(alloc: Global) -> Result<Answer, AllocError>
         ensures text { IfOk result (λ answer. answer.text ≡ duplicate_text) }
         ensures status { IfOk result (λ answer. answer.status ≡ ended.Refused) }
@@ -115,7 +115,7 @@ impl Answer {
         Ok(Answer::of(text, Status::Refused))
     }
 
-    /// The line of a fault.
+    /// Returns the line of a fault.
     pub fn faulted(alloc: Global, fault: Fault) -> Result<Answer, AllocError>
         ensures text { IfOk result (λ answer. answer.text ≡ fault_text fault) }
         ensures status { IfOk result (λ answer. answer.status ≡ ended.Fault) }
@@ -124,7 +124,7 @@ impl Answer {
         Ok(Answer::of(text, Status::Fault))
     }
 
-    /// A value, told by a text.
+    /// Returns a value's text as an answer.
     pub fn told(text: String) -> Answer
         ensures text { result.text ≡ string_bytes text }
         ensures status { result.status ≡ ended.Accepted }

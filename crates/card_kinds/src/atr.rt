@@ -1,4 +1,4 @@
-//! What the program says of an answer to reset.
+//! What the program prints about an answer to reset.
 
 ghost use Rattle.std.specs.Prelude.{◌≡◌, IfOk, refl};
 ghost use Rattle.atr_core.specs.Atr.{AtrParts};
@@ -62,7 +62,7 @@ impl Showable for Atr {
     }
 }
 
-/// The name of a convention.
+/// Returns the name of a convention.
 pub(crate) fn convention_name(convention: Convention) -> &'static str
     ensures { result.now ≡ convention_text convention }
 {

@@ -14,8 +14,8 @@ use notes::{Note, push_note, push_text_note, t1_note, ta_note, tck_note, td_note
 use octet_core::Named;
 use std::alloc::AllocError;
 
-/// Adds an answer to reset, line by line: its convention, each interface byte that is there, the historical
-/// bytes, TCK, the rates, and the parameters of T=1 or why there are none, with notes where it is `noted`.
+/// Appends the lines of an answer to reset: its convention, each interface byte that is present, the historical bytes,
+/// TCK, the rates, and the parameters of T=1 or why there are none. They have notes if it is `noted`.
 pub(crate) fn push_lines(text: &mut String, atr: &Atr, noted: bool) -> Result<(), AllocError>
     ensures { OnOk result (string_bytes text.new
         ≡ string_bytes text.old ++ atr_text noted atr.now) }
@@ -28,7 +28,7 @@ pub(crate) fn push_lines(text: &mut String, atr: &Atr, noted: bool) -> Result<()
     push_tail(text, atr, noted)
 }
 
-/// Adds the lines after those of the interface bytes.
+/// Appends the lines after those of the interface bytes.
 fn push_tail(text: &mut String, atr: &Atr, noted: bool) -> Result<(), AllocError>
     ensures { OnOk result (string_bytes text.new
         ≡ string_bytes text.old ++ tail_text noted atr.now) }
@@ -40,7 +40,7 @@ fn push_tail(text: &mut String, atr: &Atr, noted: bool) -> Result<(), AllocError
     push_tck_lines(text, atr, noted)
 }
 
-/// Adds the line of TCK, and those after it.
+/// Appends the line of TCK, and the lines after it.
 fn push_tck_lines(text: &mut String, atr: &Atr, noted: bool) -> Result<(), AllocError>
     ensures { OnOk result (string_bytes text.new
         ≡ string_bytes text.old ++ tck_lines noted atr.now) }
@@ -52,7 +52,7 @@ fn push_tck_lines(text: &mut String, atr: &Atr, noted: bool) -> Result<(), Alloc
     push_meaning(text, atr, noted)
 }
 
-/// Adds the lines of the TDs and of the interface bytes that they announce.
+/// Appends the lines of the TDs and of the interface bytes that they announce.
 fn push_tds(text: &mut String, indicated: &[Indicated], noted: bool) -> Result<(), AllocError>
     requires few { length indicated.now ≤ 31 }
     requires protocols { AllByRecursion (λ x. x.protocol < 16) indicated.now }
@@ -70,7 +70,7 @@ fn push_tds(text: &mut String, indicated: &[Indicated], noted: bool) -> Result<(
     Ok(())
 }
 
-/// Adds the line of a TD and those of the interface bytes that it announces.
+/// Appends the line of a TD and those of the interface bytes that it announces.
 fn push_td(
     text: &mut String,
     number: usize,
@@ -86,7 +86,7 @@ fn push_td(
     push_bytes(text, number + 1, bytes, noted)
 }
 
-/// Adds the lines of the TA, TB and TC that stand.
+/// Appends the lines of the TA, TB and TC that are present.
 fn push_bytes(
     text: &mut String,
     number: usize,
@@ -101,7 +101,7 @@ fn push_bytes(
     push_byte(text, "TC", number, bytes.tc)
 }
 
-/// Adds the line of a TA, where it stands.
+/// Appends the line of a TA, if it is present.
 fn push_ta(text: &mut String, number: usize, ta: Option<u8>, noted: bool) -> Result<(), AllocError>
     ensures { OnOk result (string_bytes text.new ≡ string_bytes text.old
         ++ ta_text noted number ta) }
@@ -112,7 +112,7 @@ fn push_ta(text: &mut String, number: usize, ta: Option<u8>, noted: bool) -> Res
     }
 }
 
-/// Adds the line of an interface byte with a note.
+/// Appends the line of an interface byte with a note.
 fn push_value(
     text: &mut String,
     name: &str,
@@ -131,7 +131,7 @@ fn push_value(
     text.push_str("\n")
 }
 
-/// Adds the line of an interface byte that has no note, where it stands.
+/// Appends the line of an interface byte that has no note, if it is present.
 fn push_byte(
     text: &mut String,
     name: &str,
@@ -149,7 +149,7 @@ fn push_byte(
     text.push_str("\n")
 }
 
-/// Adds TCK, or a word where it is absent.
+/// Appends TCK, or a word if it is absent.
 fn push_tck(text: &mut String, tck: Option<u8>) -> Result<(), AllocError>
     ensures { OnOk result (string_bytes text.new ≡ string_bytes text.old ++ tck_text tck) }
 {
@@ -159,7 +159,7 @@ fn push_tck(text: &mut String, tck: Option<u8>) -> Result<(), AllocError>
     }
 }
 
-/// Adds the rates, and the parameters of T=1 or why there are none.
+/// Appends the rates, and the parameters of T=1 or why there are none.
 fn push_meaning(text: &mut String, atr: &Atr, noted: bool) -> Result<(), AllocError>
     ensures { OnOk result (string_bytes text.new
         ≡ string_bytes text.old ++ meaning_text noted atr.now) }
@@ -172,7 +172,7 @@ fn push_meaning(text: &mut String, atr: &Atr, noted: bool) -> Result<(), AllocEr
     push_t1_line(text, atr, noted)
 }
 
-/// Adds the line of the parameters of T=1 or why there are none.
+/// Appends the line of the parameters of T=1 or why there are none.
 fn push_t1_line(text: &mut String, atr: &Atr, noted: bool) -> Result<(), AllocError>
     ensures { OnOk result (string_bytes text.new ≡ string_bytes text.old ++ t1_line noted atr.now) }
 {
@@ -182,7 +182,7 @@ fn push_t1_line(text: &mut String, atr: &Atr, noted: bool) -> Result<(), AllocEr
     text.push_str("\n")
 }
 
-/// Adds the note on the parameters of T=1, where it is `noted`.
+/// Appends the note on the parameters of T=1, if it is `noted`.
 fn push_t1_note(text: &mut String, atr: &Atr, noted: bool) -> Result<(), AllocError>
     ensures { OnOk result (string_bytes text.new ≡ string_bytes text.old
         ++ where_noted noted (note_of (t1_says (t1_params_of atr.now) atr.now.indicated))) }
@@ -193,7 +193,7 @@ fn push_t1_note(text: &mut String, atr: &Atr, noted: bool) -> Result<(), AllocEr
     push_note(text, noted, t1_note(t1_params(atr), atr.indicated()))
 }
 
-/// Adds F or D as a number, or a word where the index is reserved.
+/// Appends F or D as a number, or a word if the index is reserved.
 pub(crate) fn push_rate(
     text: &mut String,
     rate: Option<u16>,
@@ -208,7 +208,7 @@ pub(crate) fn push_rate(
     }
 }
 
-/// Adds the parameters of T=1 in words, or the name of their fault.
+/// Appends the parameters of T=1 in words, or the name of their fault.
 fn push_t1(text: &mut String, params: Result<T1Params, ParamFault>) -> Result<(), AllocError>
     ensures { OnOk result (string_bytes text.new ≡ string_bytes text.old ++ t1_text params) }
 {

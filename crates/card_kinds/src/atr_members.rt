@@ -1,4 +1,4 @@
-//! An answer to reset as members of an object of JSON.
+//! An answer to reset as members of a JSON object.
 
 ghost use Rattle.std.specs.Prelude.{◌≡◌, ◌≤◌, ◌<◌, ◌++◌, IfOk, OnOk, length, string_bytes};
 ghost use Rattle.std.specs.List.{AllByRecursion};
@@ -12,10 +12,10 @@ use atr_core::{Atr, Indicated, Interface, ParamFault, T1Params, rates, t1_params
 use octet_core::Named;
 use std::alloc::{AllocError, Global};
 
-/// For how many octets an array has room when it is begun.
+/// The initial capacity of an array's text in octets.
 const ROOM: usize = 256;
 
-/// Adds an answer to reset as members of an object.
+/// Appends an answer to reset as members of an object.
 pub(crate) fn push_members(alloc: Global, text: &mut String, atr: &Atr) -> Result<(), AllocError>
     ensures { OnOk result (string_bytes text.new ≡ string_bytes text.old ++ atr_members atr.now) }
 {
@@ -27,7 +27,7 @@ pub(crate) fn push_members(alloc: Global, text: &mut String, atr: &Atr) -> Resul
     push_tail(text, atr)
 }
 
-/// Adds the members after the array of the interface bytes, and what closes it.
+/// Appends the end of the array of the interface bytes, and the members after it.
 fn push_tail(text: &mut String, atr: &Atr) -> Result<(), AllocError>
     ensures { OnOk result (string_bytes text.new ≡ string_bytes text.old ++ tail_members atr.now) }
 {
@@ -38,7 +38,7 @@ fn push_tail(text: &mut String, atr: &Atr) -> Result<(), AllocError>
     push_meaning(text, atr)
 }
 
-/// Each interface byte that is there as an object, in its order.
+/// Returns an object for each interface byte that is present, in their order.
 fn interface_items(alloc: Global, atr: &Atr) -> Result<String, AllocError>
     ensures { IfOk result (λ text. string_bytes text ≡ interface_items atr.now) }
 {
@@ -48,7 +48,7 @@ fn interface_items(alloc: Global, atr: &Atr) -> Result<String, AllocError>
     Ok(items)
 }
 
-/// Adds the TDs and the interface bytes that they announce.
+/// Appends the TDs and the interface bytes that they announce.
 fn push_tds(items: &mut String, indicated: &[Indicated]) -> Result<(), AllocError>
     requires few { length indicated.now ≤ 31 }
     requires protocols { AllByRecursion (λ x. x.protocol < 16) indicated.now }
@@ -66,7 +66,7 @@ fn push_tds(items: &mut String, indicated: &[Indicated]) -> Result<(), AllocErro
     Ok(())
 }
 
-/// Adds a TD and the interface bytes that it announces.
+/// Appends a TD and the interface bytes that it announces.
 fn push_td(items: &mut String, number: usize, bytes: Interface, octet: u8) -> Result<(), AllocError>
     requires { number < 100 }
     ensures { OnOk result (string_bytes items.new
@@ -76,7 +76,7 @@ fn push_td(items: &mut String, number: usize, bytes: Interface, octet: u8) -> Re
     push_bytes(items, number + 1, bytes)
 }
 
-/// Adds the TA, TB and TC that stand.
+/// Appends the TA, TB and TC that are present.
 fn push_bytes(items: &mut String, number: usize, bytes: Interface) -> Result<(), AllocError>
     ensures { OnOk result (string_bytes items.new
         ≡ with_bytes (string_bytes items.old) number bytes) }
@@ -86,7 +86,7 @@ fn push_bytes(items: &mut String, number: usize, bytes: Interface) -> Result<(),
     push_byte(items, "TC", number, bytes.tc)
 }
 
-/// Adds an interface byte, where it stands.
+/// Appends an interface byte, if it is present.
 fn push_byte(
     items: &mut String,
     name: &str,
@@ -105,7 +105,7 @@ fn push_byte(
     }
 }
 
-/// Adds an interface byte as an object.
+/// Appends an interface byte as an object.
 fn push_object(text: &mut String, name: &str, number: usize, byte: u8) -> Result<(), AllocError>
     ensures { OnOk result (string_bytes text.new
         ≡ string_bytes text.old ++ byte_object name.now number byte) }
@@ -115,7 +115,7 @@ fn push_object(text: &mut String, name: &str, number: usize, byte: u8) -> Result
     text.push_str("\"}")
 }
 
-/// Adds TCK as a value of JSON: null where it is absent.
+/// Appends TCK as a JSON value: null if it is absent.
 fn push_tck(text: &mut String, tck: Option<u8>) -> Result<(), AllocError>
     ensures { OnOk result (string_bytes text.new ≡ string_bytes text.old ++ tck_value tck) }
 {
@@ -127,7 +127,7 @@ fn push_tck(text: &mut String, tck: Option<u8>) -> Result<(), AllocError>
     text.push_str("\"")
 }
 
-/// Adds the rates, and the parameters of T=1 or why there are none, as members of an object.
+/// Appends the rates, and the parameters of T=1 or why there are none, as members of an object.
 fn push_meaning(text: &mut String, atr: &Atr) -> Result<(), AllocError>
     ensures { OnOk result (string_bytes text.new
         ≡ string_bytes text.old ++ meaning_members atr.now) }
@@ -141,7 +141,7 @@ fn push_meaning(text: &mut String, atr: &Atr) -> Result<(), AllocError>
     push_t1(text, t1_params(atr))
 }
 
-/// Adds the parameters of T=1 as an object, or the name of their fault in one.
+/// Appends the parameters of T=1 as an object, or an object with the name of their fault.
 fn push_t1(text: &mut String, params: Result<T1Params, ParamFault>) -> Result<(), AllocError>
     ensures { OnOk result (string_bytes text.new ≡ string_bytes text.old ++ t1_object params) }
 {

@@ -1,4 +1,4 @@
-//! What the program says of a block.
+//! What the program prints about a block.
 
 ghost use Rattle.std.specs.Prelude.{◌≡◌, ◌++◌, OnOk, refl, slice_index, string_bytes};
 ghost use Rattle.block_core.specs.Block.{fault_code, front_of, number_bit, pcb_octet, spelling, Parts};
@@ -74,7 +74,7 @@ impl Showable for Checked<'_> {
     }
 }
 
-/// The LRC of a block, the last of its octets.
+/// Returns the LRC of a block, the last of its octets.
 fn last(block: &BlockRef<'_>, octets: &[u8]) -> u8
     requires { octets.now ≡ spelling block.now }
     ensures { result ≡ xor_of (front_of block.now) }
@@ -82,8 +82,8 @@ fn last(block: &BlockRef<'_>, octets: &[u8]) -> u8
     octets[octets.len() - 1]
 }
 
-/// Adds a block, line by line: its node address, what it is, its information field and its LRC, with notes where it is
-/// `noted`.
+/// Appends the lines of a block: its node address, its kind, its information field and its LRC. They have notes if it
+/// is `noted`.
 fn push_lines(
     text: &mut String,
     block: &BlockRef<'_>,
@@ -99,7 +99,7 @@ fn push_lines(
     push_field(text, block, lrc, noted)
 }
 
-/// Adds the lines of what a block is, of its information field and of its LRC.
+/// Appends the lines of a block's kind, of its information field and of its LRC.
 fn push_field(
     text: &mut String,
     block: &BlockRef<'_>,
@@ -116,7 +116,7 @@ fn push_field(
     push_rest(text, inf, lrc, noted)
 }
 
-/// Adds the note on what a block is, where it is `noted`.
+/// Appends the note on a block's kind, if it is `noted`.
 fn push_pcb_note(text: &mut String, block: &BlockRef<'_>, noted: bool) -> Result<(), AllocError>
     ensures { OnOk result (string_bytes text.new ≡ string_bytes text.old ++ where_noted noted
         (note_of (pcb_says (pcb_octet block.now.pcb) (slice_index block.now.inf 0)))) }
@@ -131,7 +131,7 @@ fn push_pcb_note(text: &mut String, block: &BlockRef<'_>, noted: bool) -> Result
     )
 }
 
-/// Adds the lines of an information field and of an LRC.
+/// Appends the lines of an information field and of an LRC.
 fn push_rest(text: &mut String, inf: &[u8], lrc: u8, noted: bool) -> Result<(), AllocError>
     ensures { OnOk result (string_bytes text.new
         ≡ string_bytes text.old ++ rest_lines noted inf.now lrc) }
@@ -145,7 +145,7 @@ fn push_rest(text: &mut String, inf: &[u8], lrc: u8, noted: bool) -> Result<(), 
     text.push_str("\n")
 }
 
-/// The first of some octets, or 0.
+/// Returns the first octet, or 0 if there are none.
 fn first(octets: &[u8]) -> u8
     ensures { result ≡ slice_index octets.now 0 }
 {
@@ -155,7 +155,7 @@ fn first(octets: &[u8]) -> u8
     }
 }
 
-/// Adds a block as members of an object.
+/// Appends a block as members of an object.
 fn push_members(text: &mut String, block: &BlockRef<'_>, lrc: u8) -> Result<(), AllocError>
     ensures { OnOk result (string_bytes text.new
         ≡ string_bytes text.old ++ lrc_members block.now lrc) }
@@ -171,7 +171,7 @@ fn push_members(text: &mut String, block: &BlockRef<'_>, lrc: u8) -> Result<(), 
     text.push_str("\"")
 }
 
-/// Adds what a block is, as an object.
+/// Appends a block's kind as an object.
 fn push_object(text: &mut String, pcb: Pcb) -> Result<(), AllocError>
     ensures { OnOk result (string_bytes text.new ≡ string_bytes text.old ++ pcb_object pcb) }
 {
@@ -203,7 +203,7 @@ fn push_object(text: &mut String, pcb: Pcb) -> Result<(), AllocError>
     }
 }
 
-/// Adds what a block is, in words.
+/// Appends a block's kind in words.
 fn push_pcb(text: &mut String, pcb: Pcb) -> Result<(), AllocError>
     ensures { OnOk result (string_bytes text.new ≡ string_bytes text.old ++ pcb_text pcb) }
 {

@@ -1,4 +1,4 @@
-//! What the program says of a chain.
+//! What the program prints about a chain.
 
 ghost use Rattle.std.specs.Prelude.{◌≡◌, ◌++◌, ℕ, List, length, true, None, refl, IfOk, IfErr, OnOk, string_bytes};
 ghost use Rattle.octet_core.specs.Grammar.{self_ended, RefusesUnlessMemory};
@@ -54,7 +54,7 @@ impl Codec for Receiver {
     }
 }
 
-/// The count of the blocks of a chain, and its message.
+/// The number of blocks of a chain, and its message.
 #[derive(Clone, Copy)]
 struct Joined<'a> {
     blocks: u32,
@@ -81,7 +81,7 @@ impl Showable for Joined<'_> {
 }
 
 impl<'a> Joined<'a> {
-    /// What a receiver that has taken a chain has of it.
+    /// Returns the blocks and the message of a receiver that has taken a chain.
     fn of(receiver: &'a Receiver) -> Joined<'a>
         ensures { (fields : List (List ℕ)) → receiver.now.blocks ≡ length fields
             → receiver.now.joined ≡ message_of fields → receiver.now.done ≡ true
@@ -95,7 +95,7 @@ impl<'a> Joined<'a> {
     }
 }
 
-/// A receiver that has taken the chain that begins the octets, and how many octets that is.
+/// Returns a receiver that has taken the chain at the front of the octets, and the chain's length.
 fn received(
     alloc: Global,
     octets: &[u8],
@@ -119,7 +119,7 @@ fn received(
     }
 }
 
-/// The blocks of the chain into which a message is cut, a line a block.
+/// Returns the blocks of the chain that carries a message, one in a line.
 pub fn blocks(
     alloc: Global,
     message: &[u8],
@@ -137,7 +137,7 @@ pub fn blocks(
     Ok(lines)
 }
 
-/// Adds the octets of a block.
+/// Appends the octets of a block.
 fn push_block(lines: &mut String, block: &Block) -> Result<(), AllocError>
     ensures { OnOk result (string_bytes lines.new
         ≡ string_bytes lines.old ++ encode_upper (spelling block.now)) }

@@ -1,4 +1,4 @@
-//! The codecs of the kinds, and what the program says of octets by each.
+//! The codecs of the kinds, and what the program prints about octets by each.
 
 ghost use Rattle.std.specs.Prelude.{◌≡◌, ℕ, false, IfOk, IfErr, string_bytes};
 ghost use Rattle.card_words.specs.declared.request.Expected.{Expected as AnyExpected};
@@ -11,18 +11,18 @@ use card_words::{Expected, FieldSize, Layout};
 use octet_core::{Named, Refused, Stop};
 use std::alloc::{AllocError, Global};
 
-/// What a codec makes of octets, or why it makes nothing.
+/// The result of a codec on octets, or why there is none.
 pub type Outcome<T, R> = Result<T, Refused<R>>;
 
-/// What octets come to: how many the value takes that they spell, or why they are refused.
+/// The verdict on octets: how many the value takes, or why they are refused.
 pub type Verdict<R> = Result<usize, Stop<R>>;
 
-/// What the program says of octets, and the verdict on them by which it does.
+/// What the program prints about octets, and the verdict that it comes from.
 #[derive(Debug, Drop)]
 pub struct Judged<R> {
     pub answer: Answer,
     pub verdict: Verdict<R>,
-    /// The words of a note on the line of a refusal, where one is asked for and there are some.
+    /// The words of a note on the line of a refusal. Empty unless one is asked for.
     pub note: String,
 }
 
@@ -34,15 +34,15 @@ pub trait Codec {
     /// The values that octets spell.
     ghost Value: { Type 0 };
 
-    /// The codec by what is expected.
+    /// The codec for what octets are read as.
     ghost codec: { AnyExpected → AnyCodec Value Self.Reason };
 
-    /// How many octets the value takes that they spell.
+    /// Returns how many octets the value takes.
     fn taken(alloc: Global, octets: &[u8], expected: Expected) -> Outcome<usize, Self::Reason>
         ensures found { IfOk result (λ n. (v : Value) × Takes (codec expected) octets.now v n) }
         ensures refused { IfErr result (StopsUnlessMemory (codec expected) octets.now) };
 
-    /// The value as lines, or as the line of an object of JSON, with notes where it is `noted`.
+    /// Returns the value as lines, or as a JSON object in one line, with notes if it is `noted`.
     fn shown(
         alloc: Global,
         octets: &[u8],
@@ -56,7 +56,7 @@ pub trait Codec {
             x.taken)) }
         ensures refused { IfErr result (StopsUnlessMemory (codec expected) octets.now) };
 
-    /// The words of a note on the line of a refusal, if there are some.
+    /// Returns the words of a note on the line of a refusal, if there are any.
     fn refusal_note(
         alloc: Global,
         octets: &[u8],
@@ -64,11 +64,11 @@ pub trait Codec {
         ifs: FieldSize,
     ) -> Result<String, AllocError>;
 
-    /// A reason is called by its name.
+    /// The name of a reason is its text.
     ghost named: { (expected : AnyExpected) → (codec expected).name ≡ Self.Reason.text };
 }
 
-/// What `check` says of octets, and the verdict on them.
+/// Returns what `check` prints about octets, and the verdict on them.
 pub fn check_with_verdict<C: Codec>(
     alloc: Global,
     layout: Layout,
@@ -102,8 +102,8 @@ pub fn check_with_verdict<C: Codec>(
     }
 }
 
-/// What `show` says of octets, and the verdict on them, where it is `noted` with the notes on the lines of a value and
-/// the words of a note on that of a refusal, which its text doesn't have. The octets are decoded once.
+/// Returns what `show` prints about octets, and the verdict on them. If it is `noted`, the lines of a value have notes.
+/// The words of a note on a refusal are returned beside its text. The octets are decoded once.
 pub fn show_with_verdict<C: Codec>(
     alloc: Global,
     layout: Layout,
@@ -137,7 +137,7 @@ pub fn show_with_verdict<C: Codec>(
     }
 }
 
-/// The words of a note on the line of a refusal, where it is asked for.
+/// Returns the words of a note on the line of a refusal, if one is asked for.
 fn refusal_note<C: Codec>(
     alloc: Global,
     noted: bool,
@@ -152,7 +152,7 @@ fn refusal_note<C: Codec>(
     }
 }
 
-/// How many octets the value takes.
+/// Returns the answer with how many octets the value takes.
 pub(crate) fn check<C: Codec>(
     alloc: Global,
     layout: Layout,
@@ -166,7 +166,7 @@ pub(crate) fn check<C: Codec>(
     Ok(judged.answer)
 }
 
-/// The value itself.
+/// Returns the answer with the value itself.
 pub(crate) fn show<C: Codec>(
     alloc: Global,
     layout: Layout,

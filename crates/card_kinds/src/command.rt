@@ -1,4 +1,4 @@
-//! What the program says of a command.
+//! What the program prints about a command.
 
 ghost use Rattle.std.specs.Prelude.{◌≡◌, ◌++◌, OnOk, refl, string_bytes};
 ghost use Rattle.apdu_core.specs.Command.{CommandParts};
@@ -62,7 +62,7 @@ impl Showable for CommandRef<'_> {
     }
 }
 
-/// Adds a command, line by line: its case, its header, its data field and Le, with notes where it is `noted`.
+/// Appends the lines of a command: its case, its header, its data field and Le, with notes if it is `noted`.
 fn push_lines(text: &mut String, command: &CommandRef<'_>, noted: bool) -> Result<(), AllocError>
     ensures { OnOk result (string_bytes text.new
         ≡ string_bytes text.old ++ command_text noted command.now) }
@@ -75,7 +75,7 @@ fn push_lines(text: &mut String, command: &CommandRef<'_>, noted: bool) -> Resul
     push_body(text, command, noted)
 }
 
-/// Adds the lines of the data field and of Le.
+/// Appends the lines of the data field and of Le.
 fn push_body(text: &mut String, command: &CommandRef<'_>, noted: bool) -> Result<(), AllocError>
     ensures { OnOk result (string_bytes text.new
         ≡ string_bytes text.old ++ body_text noted command.now) }
@@ -90,7 +90,7 @@ fn push_body(text: &mut String, command: &CommandRef<'_>, noted: bool) -> Result
     text.push_str("\n")
 }
 
-/// Adds a command as members of an object.
+/// Appends a command as members of an object.
 fn push_members(text: &mut String, command: &CommandRef<'_>) -> Result<(), AllocError>
     ensures { OnOk result (string_bytes text.new
         ≡ string_bytes text.old ++ command_members command.now) }
@@ -104,7 +104,7 @@ fn push_members(text: &mut String, command: &CommandRef<'_>) -> Result<(), Alloc
     push_le(text, command.le(), "null")
 }
 
-/// The case that a shape is of, and its kind of length fields, as members.
+/// Returns the case of a shape and the kind of its length fields as members.
 fn shape_members(shape: Shape) -> &'static str
     ensures { result.now ≡ shape_members shape }
 {
@@ -119,7 +119,7 @@ fn shape_members(shape: Shape) -> &'static str
     }
 }
 
-/// The case that a shape is of (ISO/IEC 7816-3, clause 12).
+/// Returns the case of a shape (ISO/IEC 7816-3, clause 12).
 fn shape_name(shape: Shape) -> &'static str
     ensures { result.now ≡ shape_text shape }
 {
@@ -134,7 +134,7 @@ fn shape_name(shape: Shape) -> &'static str
     }
 }
 
-/// Adds Le as a number, or a word where it is absent.
+/// Appends Le as a number, or a word if it is absent.
 fn push_le(text: &mut String, le: Option<u32>, absent: &str) -> Result<(), AllocError>
     ensures { OnOk result (string_bytes text.new ≡ string_bytes text.old ++ le_or absent.now le) }
 {

@@ -1,4 +1,4 @@
-//! What the program says of a forest of data objects.
+//! What the program prints about a forest of data objects.
 
 ghost use Rattle.std.specs.Prelude.{◌≡◌, ◌++◌, [], List, ℕ, IfOk, MatchResult, OnOk, map, refl, string_bytes};
 ghost use Rattle.octet_core.specs.Grammar.{whole, Refuses};
@@ -72,7 +72,7 @@ impl Showable for FlatForest<'_> {
     }
 }
 
-/// The forest that the octets spell, in the shortest octets that say the same.
+/// Returns the shortest encoding of the octets' objects.
 pub fn tidy(alloc: Global, octets: &[u8]) -> Result<Answer, AllocError>
     ensures { IfOk result (λ answer.
         Tells forest_codec (λ v n. tidied_text v) octets.now answer.text answer.status) }
@@ -81,7 +81,7 @@ pub fn tidy(alloc: Global, octets: &[u8]) -> Result<Answer, AllocError>
     Ok(judged.answer)
 }
 
-/// What `tidy` says of octets, and the verdict on them.
+/// Returns what `tidy` prints about octets, and the verdict on them.
 pub fn tidy_with_verdict(alloc: Global, octets: &[u8]) -> Result<Judged<TlvReason>, AllocError>
     ensures told { IfOk result (λ judged.
         Tells forest_codec (λ v n. tidied_text v) octets.now judged.answer.text judged.answer.status) }
@@ -114,7 +114,7 @@ fn verdict(octets: &[u8]) -> Result<(), Stop<TlvReason>>
     check.finish()
 }
 
-/// The octets of the tidied forest, a line.
+/// Returns a line with the octets of the tidied forest.
 fn tidied(alloc: Global, forest: &Forest) -> Result<String, AllocError>
     ensures { IfOk result (λ text. string_bytes text ≡ tidied_text forest.now) }
 {
@@ -124,7 +124,7 @@ fn tidied(alloc: Global, forest: &Forest) -> Result<String, AllocError>
     format!(in alloc; "{word}\n")
 }
 
-/// Adds the count of objects, and each of them, as members of an object.
+/// Appends the number of objects, and each object, as members of an object.
 fn push_members(alloc: Global, text: &mut String, parts: &[Part<'_>]) -> Result<(), AllocError>
     ensures { OnOk result (string_bytes text.new
         ≡ string_bytes text.old ++ parts_members (map part_seen parts.now)) }
@@ -135,14 +135,14 @@ fn push_members(alloc: Global, text: &mut String, parts: &[Part<'_>]) -> Result<
     text.push_str("]")
 }
 
-/// Adds the count of objects, and where their array begins.
+/// Appends the number of objects, and the beginning of their array.
 fn push_head(text: &mut String, count: usize) -> Result<(), AllocError>
     ensures { OnOk result (string_bytes text.new ≡ string_bytes text.old ++ objects_head count) }
 {
     write!(text, ",\"count\":{count},\"objects\":[")
 }
 
-/// Objects as the items of an array.
+/// Returns objects as the items of an array.
 fn part_items(alloc: Global, parts: &[Part<'_>]) -> Result<String, AllocError>
     ensures { IfOk result (λ text.
         string_bytes text ≡ with_objects [] (map part_seen parts.now)) }
@@ -154,7 +154,7 @@ fn part_items(alloc: Global, parts: &[Part<'_>]) -> Result<String, AllocError>
     Ok(items)
 }
 
-/// Adds an object to the items of an array.
+/// Appends an object to the items of an array.
 fn push_part_item(items: &mut String, part: &Part<'_>) -> Result<(), AllocError>
     ensures { OnOk result (string_bytes items.new
         ≡ with_item (string_bytes items.old) (part_object (part_seen part.now))) }
@@ -163,8 +163,8 @@ fn push_part_item(items: &mut String, part: &Part<'_>) -> Result<(), AllocError>
     push_object(items, part)
 }
 
-/// Adds an object as one of JSON: its depth, the places of its header and of its value, its tag, its length field and
-/// its value.
+/// Appends a data object as a JSON object: its depth, the places of its header and of its value, its tag, its length
+/// field and its value.
 fn push_object(text: &mut String, part: &Part<'_>) -> Result<(), AllocError>
     ensures { OnOk result (string_bytes text.new
         ≡ string_bytes text.old ++ part_object (part_seen part.now)) }
@@ -176,7 +176,7 @@ fn push_object(text: &mut String, part: &Part<'_>) -> Result<(), AllocError>
     text.push_str("}")
 }
 
-/// Adds the tag and the length field of an object.
+/// Appends the tag and the length field of an object.
 fn push_header(text: &mut String, part: &Part<'_>) -> Result<(), AllocError>
     ensures { OnOk result (string_bytes text.new
         ≡ string_bytes text.old ++ header_members (part_seen part.now)) }
@@ -188,7 +188,7 @@ fn push_header(text: &mut String, part: &Part<'_>) -> Result<(), AllocError>
     text.push_str("\"")
 }
 
-/// Adds the depth of an object, and the places of its header and of its value.
+/// Appends the depth of an object, and the places of its header and of its value.
 fn push_places(text: &mut String, part: &Part<'_>) -> Result<(), AllocError>
     ensures { OnOk result (string_bytes text.new
         ≡ string_bytes text.old ++ place_members (part_seen part.now)) }
@@ -199,7 +199,7 @@ fn push_places(text: &mut String, part: &Part<'_>) -> Result<(), AllocError>
     write!(text, "\"depth\":{depth},\"at\":{at},\"value_at\":{place}")
 }
 
-/// The place of the header of an object.
+/// Returns the place of the header of an object.
 fn header_place(part: &Part<'_>) -> usize
     ensures { result ≡ header_place (part_seen part.now) }
 {
@@ -207,7 +207,7 @@ fn header_place(part: &Part<'_>) -> usize
     part.place.saturating_sub(header)
 }
 
-/// Adds that an object is constructed, or the octets of its value.
+/// Appends that an object is constructed, or the octets of its value.
 fn push_value_member(text: &mut String, part: &Part<'_>) -> Result<(), AllocError>
     ensures { OnOk result (string_bytes text.new
         ≡ string_bytes text.old ++ value_member (part_seen part.now)) }
@@ -221,7 +221,7 @@ fn push_value_member(text: &mut String, part: &Part<'_>) -> Result<(), AllocErro
     }
 }
 
-/// Adds the count of objects, and each of them, with notes where they are `noted`.
+/// Appends the number of objects, and each object, with notes if they are `noted`.
 fn push_lines(
     alloc: Global,
     text: &mut String,
@@ -250,7 +250,7 @@ fn push_parts(
     Ok(())
 }
 
-/// Adds an object, after two spaces for each depth above 1: its tag, its length field and its value.
+/// Appends an object, after two spaces for each depth above 1: its tag, its length field and its value.
 fn push_part(
     alloc: Global,
     text: &mut String,
@@ -271,7 +271,7 @@ fn push_part(
     text.push_str("\n")
 }
 
-/// Adds the octets of a value, or that it is constructed.
+/// Appends the octets of a value, or that it is constructed.
 fn push_value(text: &mut String, part: &Part<'_>) -> Result<(), AllocError>
     ensures { OnOk result (string_bytes text.new
         ≡ string_bytes text.old ++ value_text (part_seen part.now)) }

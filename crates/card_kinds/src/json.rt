@@ -1,4 +1,4 @@
-//! Objects of JSON that say what the program says of octets.
+//! JSON objects with what the program prints about octets.
 
 ghost use Rattle.std.specs.Prelude.{◌≡◌, ◌++◌, IfOk, OnOk, string_bytes};
 ghost use Rattle.card_kinds.specs.Json.{accepted_members, notes_member, object_head, object_line, refused_at_members, refused_members, separator, short_members};
@@ -10,7 +10,7 @@ use notes::MARK;
 use octet_core::{Named, Stop};
 use std::alloc::{AllocError, Global};
 
-/// The name of a kind, as the words of a command line have it.
+/// Returns the name of a kind, as the words of a command line have it.
 pub fn kind_name(kind: Kind) -> &'static str
     ensures { result.now ≡ kind_name kind }
 {
@@ -25,7 +25,7 @@ pub fn kind_name(kind: Kind) -> &'static str
     }
 }
 
-/// What every object begins with: the version of its form, and what it is about.
+/// Returns the beginning of every object: the version of its form, and its subject.
 pub fn object_head(alloc: Global, about: &str) -> Result<String, AllocError>
     ensures { IfOk result (λ text. string_bytes text ≡ object_head about.now) }
 {
@@ -34,14 +34,14 @@ pub fn object_head(alloc: Global, about: &str) -> Result<String, AllocError>
     Ok(text)
 }
 
-/// Adds what every object begins with.
+/// Appends the beginning of every object.
 pub(crate) fn push_head(text: &mut String, about: &str) -> Result<(), AllocError>
     ensures { OnOk result (string_bytes text.new ≡ string_bytes text.old ++ object_head about.now) }
 {
     write!(text, "{{\"version\":1,\"kind\":\"{about}\",")
 }
 
-/// Adds the members that say how many octets a value takes.
+/// Appends the members for how many octets a value takes.
 pub(crate) fn push_accepted(text: &mut String, taken: usize) -> Result<(), AllocError>
     ensures { OnOk result (string_bytes text.new ≡ string_bytes text.old
         ++ accepted_members taken) }
@@ -49,7 +49,8 @@ pub(crate) fn push_accepted(text: &mut String, taken: usize) -> Result<(), Alloc
     write!(text, "\"verdict\":\"ok\",\"octets\":{taken}")
 }
 
-/// The member with the notes on the lines of a text, after a comma: of each line that has one the line and the note.
+/// Returns the member with the notes on the lines of a text, which begins with a comma. It has each line that has a
+/// note, and the note.
 pub fn notes_member(alloc: Global, noted: &[u8]) -> Result<String, AllocError>
     ensures { IfOk result (λ member. string_bytes member ≡ notes_member noted.now) }
 {
@@ -57,7 +58,7 @@ pub fn notes_member(alloc: Global, noted: &[u8]) -> Result<String, AllocError>
     format!(in alloc; ",\"notes\":[{items}]")
 }
 
-/// The line of an object about octets of a kind that are a value, which takes `taken` octets.
+/// Returns the object about octets of a kind that are a value of `taken` octets, in one line.
 pub(crate) fn accepted_object(alloc: Global, kind: Kind, taken: usize) -> Result<String, AllocError>
     ensures { IfOk result (λ text. string_bytes text
         ≡ object_line (kind_name kind) (accepted_members taken)) }
@@ -68,7 +69,7 @@ pub(crate) fn accepted_object(alloc: Global, kind: Kind, taken: usize) -> Result
     Ok(text)
 }
 
-/// The line of an object about octets of a kind that are refused.
+/// Returns the object about octets of a kind that are refused, in one line.
 pub(crate) fn refused_object<R: Named>(
     alloc: Global,
     kind: Kind,
@@ -84,7 +85,7 @@ pub(crate) fn refused_object<R: Named>(
     Ok(text)
 }
 
-/// The members that say why octets are refused.
+/// Returns the members for why octets are refused.
 fn refused_members<R: Named>(alloc: Global, stop: Stop<R>) -> Result<String, AllocError>
     ensures { IfOk result (λ text. string_bytes text ≡ refused_members R.text stop) }
 {
@@ -106,7 +107,7 @@ fn refused_at_members(alloc: Global, place: usize, reason: &str) -> Result<Strin
     format!(in alloc; "\"verdict\":\"refused\",\"at\":{place},\"reason\":\"{reason}\"")
 }
 
-/// Adds what comes between the items of an array and one more.
+/// Appends what separates the items of an array from the next item.
 pub(crate) fn push_separator(items: &mut String) -> Result<(), AllocError>
     ensures { OnOk result (string_bytes items.new
         ≡ string_bytes items.old ++ separator (string_bytes items.old)) }
@@ -114,7 +115,7 @@ pub(crate) fn push_separator(items: &mut String) -> Result<(), AllocError>
     items.push_str(separator(items.as_str()))
 }
 
-/// What comes between the items of an array and one more.
+/// Returns what separates the items of an array from the next item.
 fn separator(items: &str) -> &'static str
     ensures { result.now ≡ separator items.now }
 {

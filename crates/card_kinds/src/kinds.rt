@@ -1,4 +1,4 @@
-//! What the program says of octets, by their kind.
+//! What the program prints about octets, by their kind.
 
 ghost use Rattle.std.specs.Prelude.{IfOk};
 ghost use Rattle.card_kinds.specs.Verdicts.{Checks, Shows};
@@ -13,7 +13,7 @@ use chain_core::Receiver;
 use std::alloc::{AllocError, Global};
 use tlv_core::{Dol, Forest};
 
-/// How many octets the value takes.
+/// Returns the answer with how many octets the value takes.
 pub fn check(
     alloc: Global,
     layout: Layout,
@@ -34,7 +34,7 @@ pub fn check(
     }
 }
 
-/// The value itself.
+/// Returns the answer with the value itself.
 pub fn show(
     alloc: Global,
     layout: Layout,

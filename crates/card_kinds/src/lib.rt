@@ -1,11 +1,12 @@
-//! What the program `scard` says of octets, by their kind.
+//! What the program `scard` prints about octets, by their kind.
 //!
-//! `check` says how many octets the value takes that they spell, `show` the value line by line, and both the same of
-//! octets that are refused. A kind is a `Codec`: where its values end, its grammar, its reasons and their names, and the
-//! lines that a value is shown by, in a module of its own. `blocks`, `tidy` and `fill` make what `build` prints. An
-//! `Answer` is a text and how the program then ends; what ends in `_with_verdict` gives the verdict too that the answer
-//! was made from. The texts are defined in `specs/`, a file for each kind; `specs/Verdicts.antt` joins them to the
-//! verdict of the grammar.
+//! `check` returns how many octets the value takes, and `show` returns the value line by line. Both return the same
+//! text for octets that are refused. Each kind has a module with its `Codec`: where its values end, its grammar, its
+//! reasons and their names, and the lines of a value. `blocks`, `tidy` and `fill` return what `build` prints.
+//!
+//! An `Answer` is a text and the program's status. Functions whose names end in `_with_verdict` also return the verdict
+//! that the answer was made from. `specs/` defines the texts, in a file for each kind. `specs/Verdicts.antt` joins them
+//! to the verdict of the grammar.
 #![tactic(auto)]
 
 pub mod answer;

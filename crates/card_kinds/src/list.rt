@@ -1,4 +1,4 @@
-//! What the program says of a data object list.
+//! What the program prints about a data object list.
 
 ghost use Rattle.std.specs.Prelude.{◌≡◌, ◌++◌, [], List, ℕ, IfOk, OnOk, refl, string_bytes};
 ghost use Rattle.tlv_core.specs.Fill.{filled, HasDuplicate};
@@ -67,8 +67,8 @@ impl Showable for Dol {
     }
 }
 
-/// What the octets of a list ask for, of what is known. A fault of what is known counts only where they
-/// are a list.
+/// Returns the octets that a list requests from known values. A fault of the known values counts only if the octets are
+/// a list.
 pub fn fill(
     alloc: Global,
     octets: &[u8],
@@ -80,7 +80,7 @@ pub fn fill(
     Ok(judged.answer)
 }
 
-/// What `fill` says of the octets of a list, and the verdict on them.
+/// Returns what `fill` prints about the octets of a list, and the verdict on them.
 pub fn fill_with_verdict(
     alloc: Global,
     octets: &[u8],
@@ -108,7 +108,7 @@ pub fn fill_with_verdict(
     }
 }
 
-/// What a list asks for.
+/// Returns the octets that a list requests.
 fn fill_by(alloc: Global, dol: &Dol, known: &Result<Knowns, Fault>) -> Result<Answer, AllocError>
     ensures { IfOk result (λ answer. IsFilledBy known.now dol.now answer.text answer.status) }
 {
@@ -128,7 +128,7 @@ fn filled(alloc: Global, dol: &Dol, known: &Knowns) -> Result<Answer, AllocError
     }
 }
 
-/// Octets, a line.
+/// Returns a line with octets.
 fn line(alloc: Global, octets: &[u8]) -> Result<String, AllocError>
     ensures { IfOk result (λ text. string_bytes text ≡ filled_text octets.now) }
 {
@@ -136,7 +136,7 @@ fn line(alloc: Global, octets: &[u8]) -> Result<String, AllocError>
     format!(in alloc; "{word}\n")
 }
 
-/// Adds the count of entries, and each of them, as members of an object.
+/// Appends the number of entries, and each entry, as members of an object.
 fn push_members(alloc: Global, text: &mut String, entries: &[(Tag, u8)]) -> Result<(), AllocError>
     ensures { OnOk result (string_bytes text.new ≡ string_bytes text.old
         ++ dol_members entries.now) }
@@ -147,7 +147,7 @@ fn push_members(alloc: Global, text: &mut String, entries: &[(Tag, u8)]) -> Resu
     text.push_str("]")
 }
 
-/// Entries as the items of an array.
+/// Returns entries as the items of an array.
 fn entry_items(alloc: Global, entries: &[(Tag, u8)]) -> Result<String, AllocError>
     ensures { IfOk result (λ text. string_bytes text ≡ with_entries [] entries.now) }
 {
@@ -158,7 +158,7 @@ fn entry_items(alloc: Global, entries: &[(Tag, u8)]) -> Result<String, AllocErro
     Ok(items)
 }
 
-/// Adds an entry to the items of an array.
+/// Appends an entry to the items of an array.
 fn push_entry_item(items: &mut String, tag: &Tag, length: u8) -> Result<(), AllocError>
     ensures { OnOk result (string_bytes items.new
         ≡ with_item (string_bytes items.old) (entry_object (tag.now, length))) }
@@ -167,7 +167,7 @@ fn push_entry_item(items: &mut String, tag: &Tag, length: u8) -> Result<(), Allo
     push_object(items, tag, length)
 }
 
-/// Adds an entry as an object.
+/// Appends an entry as an object.
 fn push_object(text: &mut String, tag: &Tag, length: u8) -> Result<(), AllocError>
     ensures { OnOk result (string_bytes text.new
         ≡ string_bytes text.old ++ entry_object (tag.now, length)) }
@@ -177,8 +177,8 @@ fn push_object(text: &mut String, tag: &Tag, length: u8) -> Result<(), AllocErro
     write!(text, "\",\"length\":{length}}}")
 }
 
-/// Adds a list, line by line: the count of its entries, with a note where it is `noted`, and the tag and the length of
-/// each.
+/// Appends the lines of a list: the number of its entries, with a note if it is `noted`, and the tag and the length of
+/// each entry.
 fn push_lines(text: &mut String, entries: &[(Tag, u8)], noted: bool) -> Result<(), AllocError>
     ensures { OnOk result (string_bytes text.new
         ≡ string_bytes text.old ++ dol_text noted entries.now) }

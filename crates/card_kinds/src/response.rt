@@ -1,4 +1,4 @@
-//! What the program says of a response.
+//! What the program prints about a response.
 
 ghost use Rattle.std.specs.Prelude.{◌≡◌, ◌++◌, OnOk, refl, string_bytes};
 ghost use Rattle.apdu_core.specs.Response.{ResponseParts};
@@ -62,7 +62,7 @@ impl Showable for ResponseRef<'_> {
     }
 }
 
-/// Adds a response, line by line: its data field, its status bytes and their class, with a note where it is `noted`.
+/// Appends the lines of a response: its data field, its status bytes and their class, with a note if it is `noted`.
 fn push_lines(text: &mut String, response: &ResponseRef<'_>, noted: bool) -> Result<(), AllocError>
     ensures { OnOk result (string_bytes text.new
         ≡ string_bytes text.old ++ response_text noted response.now) }
@@ -79,7 +79,7 @@ fn push_lines(text: &mut String, response: &ResponseRef<'_>, noted: bool) -> Res
     text.push_str("\n")
 }
 
-/// Adds a response as members of an object.
+/// Appends a response as members of an object.
 fn push_members(text: &mut String, response: &ResponseRef<'_>) -> Result<(), AllocError>
     ensures { OnOk result (string_bytes text.new
         ≡ string_bytes text.old ++ response_members response.now) }
@@ -90,7 +90,7 @@ fn push_members(text: &mut String, response: &ResponseRef<'_>) -> Result<(), All
     push_status(text, response.sw1(), response.sw2())
 }
 
-/// Adds two status bytes and their class as members of an object.
+/// Appends two status bytes and their class as members of an object.
 fn push_status(text: &mut String, sw1: u8, sw2: u8) -> Result<(), AllocError>
     ensures { OnOk result (string_bytes text.new ≡ string_bytes text.old
         ++ status_members sw1 sw2) }
@@ -102,7 +102,7 @@ fn push_status(text: &mut String, sw1: u8, sw2: u8) -> Result<(), AllocError>
     text.push_str("\"")
 }
 
-/// The name of the class of two status bytes.
+/// Returns the name of the class of two status bytes.
 fn class_name(sw1: u8, sw2: u8) -> &'static str
     ensures { result.now ≡ class_text sw1 sw2 }
 {

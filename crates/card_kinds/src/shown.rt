@@ -1,4 +1,4 @@
-//! Values as they are shown, with the notes on their lines.
+//! The texts of values, with the notes on their lines.
 
 ghost use Rattle.std.specs.Prelude.{◌≡◌, ◌++◌, ℕ, List, Bool, true, IfOk, OnOk, string_bytes};
 ghost use Rattle.card_kinds.specs.Codec.{members_by, said_by};
@@ -9,39 +9,39 @@ use crate::json::{kind_name, notes_member, push_accepted, push_head};
 use card_words::{Kind, Layout};
 use std::alloc::{AllocError, Global};
 
-/// For how many octets a text has room when it is begun.
+/// The initial capacity of a text in octets.
 const ROOM: usize = 512;
 
-/// A value as it is shown.
+/// The text of a value.
 #[derive(Debug, Drop)]
 pub struct Shown {
-    /// Its lines, or the line of its object of JSON, with the notes on its lines where it is noted.
+    /// The value's lines, or its JSON object in one line, with notes if it is noted.
     pub text: String,
-    /// How many octets it takes.
+    /// How many octets the value takes.
     pub taken: usize,
 }
 
-/// A value that is shown: by lines, or by members of an object of JSON.
+/// A value that can be shown as lines, or as members of a JSON object.
 pub(crate) trait Showable {
-    /// Its lines, with notes or without.
+    /// The value's lines, with notes or without.
     ghost lines: { Bool → Self → List ℕ };
 
-    /// Its members of an object of JSON, each after a comma.
+    /// The value's members of a JSON object. Each begins with a comma.
     ghost members: { Self → List ℕ };
 
-    /// Adds its lines to a text, with notes where it is `noted`.
+    /// Appends the value's lines to a text, with notes if it is `noted`.
     fn push_lines(&self, alloc: Global, text: &mut String, noted: bool) -> Result<(), AllocError>
         ensures { OnOk result (string_bytes text.new
             ≡ string_bytes text.old ++ lines noted self.now) };
 
-    /// Adds its members to a text.
+    /// Appends the value's members to a text.
     fn push_members(&self, alloc: Global, text: &mut String) -> Result<(), AllocError>
         ensures { OnOk result (string_bytes text.new
             ≡ string_bytes text.old ++ members self.now) };
 }
 
 impl Shown {
-    /// A value that takes `taken` octets as it is shown, with the notes on its lines where it is `noted`.
+    /// Returns the text of a value that takes `taken` octets, with notes on its lines if it is `noted`.
     pub(crate) fn of<V: Showable>(
         alloc: Global,
         value: &V,
@@ -61,7 +61,7 @@ impl Shown {
     }
 }
 
-/// Adds the lines of a value, or the line of its object.
+/// Appends the lines of a value, or its object in one line.
 fn push_value<V: Showable>(
     alloc: Global,
     text: &mut String,
@@ -80,7 +80,7 @@ fn push_value<V: Showable>(
     }
 }
 
-/// Adds the line of the object of a value.
+/// Appends the object of a value in one line.
 fn push_object<V: Showable>(
     alloc: Global,
     text: &mut String,
@@ -99,7 +99,7 @@ fn push_object<V: Showable>(
     text.push_str("}\n")
 }
 
-/// Adds the members of a value, and where it is `noted` the notes on its lines.
+/// Appends the members of a value and, if it is `noted`, the notes on its lines.
 fn push_said<V: Showable>(
     alloc: Global,
     text: &mut String,
@@ -117,7 +117,7 @@ fn push_said<V: Showable>(
     }
 }
 
-/// Adds the notes on the lines of a value as a member.
+/// Appends the notes on the lines of a value as a member.
 fn push_notes<V: Showable>(alloc: Global, text: &mut String, value: &V) -> Result<(), AllocError>
     ensures { OnOk result (string_bytes text.new ≡ string_bytes text.old
         ++ notes_member (V.lines true value.now)) }

@@ -1,21 +1,21 @@
-//! How the program ends.
+//! The program's status.
 
 ghost use Rattle.std.specs.Prelude.{◌≡◌};
 ghost use Rattle.card_kinds.specs.Statuses.{exit_number};
 
-/// How the program ends.
+/// The status with which the program ends.
 #[derive(Clone, Copy, Debug, PartialEq, Eq)]
 pub enum Status {
-    /// What was asked was done, or what was checked is accepted: exit status 0.
+    /// The request succeeded, or the checked octets are accepted: exit status 0.
     Accepted,
-    /// What was checked is refused: exit status 1.
+    /// The checked octets are refused: exit status 1.
     Refused,
-    /// The words, the memory or a stream failed: exit status 2.
+    /// The words, memory or a stream failed: exit status 2.
     Fault,
 }
 
 impl Status {
-    /// The exit status of the program.
+    /// Returns the exit status of the program.
     pub fn number(self) -> u8
         ensures { result ≡ exit_number self }
     {

@@ -7,7 +7,7 @@ ghost use Rattle.card_kinds.specs.Texts.{octets_text};
 use octet_core::hex_upper;
 use std::alloc::{AllocError, Global};
 
-/// Adds octets to a text, each as two hexadecimal digits in upper case.
+/// Appends octets to a text, each as two hexadecimal digits in upper case.
 #[tactic(auto, unfolding(hex::specs::Hex::encode_with))]
 pub(crate) fn push_hex(text: &mut String, octets: &[u8]) -> Result<(), AllocError>
     ensures { OnOk result (string_bytes text.new
@@ -19,7 +19,7 @@ pub(crate) fn push_hex(text: &mut String, octets: &[u8]) -> Result<(), AllocErro
     Ok(())
 }
 
-/// Adds an octet to a text as two hexadecimal digits in upper case.
+/// Appends an octet to a text as two hexadecimal digits in upper case.
 #[tactic(auto, unfolding(hex::specs::Hex::encode_with))]
 pub(crate) fn push_octet(text: &mut String, octet: u8) -> Result<(), AllocError>
     ensures { OnOk result (string_bytes text.new
@@ -29,7 +29,7 @@ pub(crate) fn push_octet(text: &mut String, octet: u8) -> Result<(), AllocError>
     text.push(digit(octet % 16))
 }
 
-/// The hexadecimal digit of a number below 16, in upper case.
+/// Returns the hexadecimal digit of a number below 16, in upper case.
 fn digit(value: u8) -> char
     requires { value < 16 }
     ensures digit { result ≡ slice_index upper_digits value }
@@ -42,7 +42,7 @@ fn digit(value: u8) -> char
     }
 }
 
-/// Adds octets to a text as a word: hexadecimal digits in upper case, or `none`.
+/// Appends octets to a text as a word: hexadecimal digits in upper case, or `none`.
 pub(crate) fn push_word(text: &mut String, octets: &[u8]) -> Result<(), AllocError>
     ensures { OnOk result (string_bytes text.new
         ≡ string_bytes text.old ++ octets_text octets.now) }
@@ -54,7 +54,7 @@ pub(crate) fn push_word(text: &mut String, octets: &[u8]) -> Result<(), AllocErr
     }
 }
 
-/// Octets as a word: hexadecimal digits in upper case, or `none`.
+/// Returns octets as a word: hexadecimal digits in upper case, or `none`.
 pub(crate) fn octets_word(alloc: Global, octets: &[u8]) -> Result<String, AllocError>
     ensures { IfOk result (λ text. string_bytes text ≡ octets_text octets.now) }
 {

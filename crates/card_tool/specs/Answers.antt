@@ -1,5 +1,5 @@
 -- What the program answers: one text and one status.
-use Rattle.std.specs.Prelude.{◌≡◌, ◌<◌, ◌++◌, ℕ, ◌⊎◌, List, [], ◌∷◌, Option, codes, drop, length, take, Result, Err, MatchResult}
+use Rattle.std.specs.Prelude.{◌≡◌, ◌<◌, ◌++◌, ℕ, ◌⊎◌, List, [], ◌∷◌, codes, drop, length, take, Result, Err, MatchResult}
 use Rattle.std.specs.Io.KnownBytes.{Appends}
 use Rattle.octet_core.specs.Failures.{HasFailed}
 use Rattle.card_kinds.specs.Verdicts.{Checks, NotesBy, Shows, Tidies, IsFilled, codec_of, kind_name}
@@ -38,13 +38,13 @@ use Rattle.card_words.specs.declared.request.Request.{Request}
 use Rattle.card_words.specs.declared.request.Request.TheVariants.{BuildChain, BuildTidy, BuildFill, Tell, File, Record, Judge, Simulate, SimulateLines, Help, Version}
 use Rattle.card_words.specs.declared.request.Task.{Task}
 
--- what octets come to, or the fault for which there are none
+-- the answer about octets, or the line of the fault if there are no octets
 abbrev pub IsToldOf : (List ℕ → List ℕ → Status → Type 0) → Result (List ℕ) Fault → List ℕ → Status → Type 0
 IsToldOf Told octets text ended = MatchResult octets (λ b. Told b text ended)
     (λ fault. (text ≡ fault_text fault) × (ended ≡ status.Fault))
 
--- The value with the notes on its lines, or a refusal with some words as a note. Cut at its notes the text is what `show`
--- says without them, and a fault has none. Which words a refusal has is open.
+-- The value with the notes on its lines, or a refusal with some words as a note. Cut at its notes, the text is that of
+-- `show` without them. A fault has no note. The words on a refusal are open.
 pub record ShowsNoted (kind : Kind) (expected : Expected) (b text : List ℕ) (ended : Status) : Type 0 where
   pub words : List ℕ
   pub has_notes : NotesBy (codec_of kind expected).codec words b text ended
@@ -54,7 +54,7 @@ pub record ShowsNoted (kind : Kind) (expected : Expected) (b text : List ℕ) (e
   pub is_cut : without_notes text ≡ plain
   pub unnoted : ended ≡ status.Fault → text ≡ plain
 
--- The object of the value or of the refusal, with the notes on the lines that are told with notes.
+-- The object of the value or of the refusal, with the notes of the lines that have notes.
 pub record ShowsNotedObject (kind : Kind) (expected : Expected) (b text : List ℕ) (ended : Status) : Type 0 where
   pub object : List ℕ
   pub is_shown : Shows layout.Json kind expected b object ended
@@ -62,7 +62,7 @@ pub record ShowsNotedObject (kind : Kind) (expected : Expected) (b text : List �
   pub has_notes : ShowsNoted kind expected b noted ended
   pub is_text : text ≡ with_notes object noted
 
--- what is told of octets
+-- the answer about octets
 abbrev pub Tells : Aim → Layout → Expected → List ℕ → List ℕ → Status → Type 0
 Tells Check how expected = Checks how expected.kind expected
 Tells Show how expected = Shows how expected.kind expected
@@ -72,35 +72,34 @@ Tells Note layout.Json expected = ShowsNotedObject expected.kind expected
 abbrev pub IsTold : Task → List ℕ → List ℕ → Status → Type 0
 IsTold task = Tells task.aim task.layout task.expected
 
--- lines as an object of JSON about something
+-- lines as a JSON object about a subject
 abbrev pub json_object : List ℕ → List ℕ → List ℕ
 json_object about lines = object_head about ++ drop 1 (json_text lines)
 
--- an object with the notes on these lines, where notes are asked for
+-- an object with the notes on these lines, if notes are asked for
 abbrev pub noted_as : Aim → List ℕ → List ℕ → List ℕ
 noted_as Check object lines = object
 noted_as Show object lines = object
 noted_as Note object lines = with_notes object lines
 
--- an object of JSON about octets of a kind: what is told of them is one, and the line of a fault, which has no note,
--- becomes one
+-- an answer about octets as a JSON object: it is one already, unless it is the line of a fault, which has no note
 abbrev pub object_of : Aim → Kind → Status → List ℕ → List ℕ
 object_of aim kind status.Accepted told = told
 object_of aim kind status.Refused told = told
 object_of aim kind status.Fault told = noted_as aim (json_object (kind_name kind) told) told
 
--- how a line is answered by lines that are told of it: a check by one, and a value by several and an empty one
+-- the lines that answer a line: a check has one, a value several and an empty one
 abbrev pub lines_text : Aim → List ℕ → List ℕ
 lines_text Check told = told
 lines_text Show told = told ++ codes "\n"
 lines_text Note told = told ++ codes "\n"
 
--- and how it is answered by one as an object of JSON too
+-- the text that answers a line, as lines or as a JSON object
 abbrev pub line_text : Aim → Layout → Kind → Status → List ℕ → List ℕ
 line_text aim layout.Lines kind ended told = lines_text aim told
 line_text aim layout.Json kind ended told = object_of aim kind ended told
 
--- the same by a task
+-- the text that answers a line, by the task
 abbrev pub answer_text : Task → Status → List ℕ → List ℕ
 answer_text task ended told = line_text task.aim task.layout task.expected.kind ended told
 
@@ -113,7 +112,7 @@ pub record IsLineTold (task : Task) (line text : List ℕ) (ended : Status) : Ty
 abbrev pub AreLinesTold : Task → List (List ℕ) → List ℕ → Status → Type 0
 AreLinesTold task lines text ended = AreTold (IsLineTold task) lines text ended
 
--- the text and the status that a request has, with what reading standard input gave
+-- the text and the status of a request, with the result of reading standard input
 abbrev pub IsAnswerTo : Request → Result (List ℕ) Fault → List ℕ → Status → Type 0
 IsAnswerTo (Tell task given) file text ended = IsToldOf (IsTold task) (octets_given given file) text ended
 IsAnswerTo (BuildChain ifs number message) file text ended =
@@ -128,14 +127,14 @@ IsAnswerTo (SimulateLines session) file text ended = IsToldOf (SimulatesLines se
 IsAnswerTo (Help help) file text ended = (text ≡ help) × (ended ≡ status.Accepted)
 IsAnswerTo Version file text ended = (text ≡ version_line) × (ended ≡ status.Accepted)
 
--- the same of what is asked for
+-- the text and the status of what is asked for, with the result of reading standard input
 abbrev pub IsAnswerAsked : Asked → Result (List ℕ) Fault → List ℕ → Status → Type 0
 IsAnswerAsked (Once request) file text ended = IsAnswerTo request file text ended
 IsAnswerAsked (Lines task) file text ended = IsToldOf (λ b. AreLinesTold task (all_lines b)) file text ended
 
 -- ---- without notes
 
--- what is told where no notes are asked for
+-- the same aim without notes
 abbrev pub plain_aim : Aim → Aim
 plain_aim Check = Check
 plain_aim Show = Show
@@ -152,7 +151,7 @@ abbrev pub plain_asked : Asked → Asked
 plain_asked (Once request) = Once (plain_request request)
 plain_asked (Lines task) = Lines (plain_task task)
 
--- objects in a row, each with the lines on which its notes are: without the notes, and with them
+-- objects in a row, each with the lines that its notes are on: without the notes, and with them
 abbrev pub objects_plain : List (List ℕ × List ℕ) → List ℕ
 objects_plain [] = []
 objects_plain (one ∷ more) = one.0 ++ objects_plain more
@@ -161,13 +160,13 @@ abbrev pub objects_noted : List (List ℕ × List ℕ) → List ℕ
 objects_noted [] = []
 objects_noted (one ∷ more) = with_notes one.0 one.1 ++ objects_noted more
 
--- a text of objects with notes, and the one without them; the line of a fault may be told, which is no object
+-- a text of objects with notes, and the same text without them; or the line of a fault, which isn't an object
 pub data HaveNotes (text plain : List ℕ) : Type 0 where
   in_objects : (objects : List (List ℕ × List ℕ)) → text ≡ objects_noted objects → plain ≡ objects_plain objects
       → HaveNotes text plain
   no_object : text ≡ plain → HaveNotes text plain
 
--- a text that is told, and the same without notes: with each line cut at its first note, or each object without them
+-- a text, and the same without notes: each line cut at its first note, or each object without the member
 abbrev pub IsWithout : Aim → Layout → List ℕ → List ℕ → Type 0
 IsWithout Check how text plain = plain ≡ text
 IsWithout Show how text plain = plain ≡ text
@@ -182,13 +181,13 @@ abbrev pub IsPlain : Asked → List ℕ → List ℕ → Type 0
 IsPlain (Once request) text plain = IsPlainOf request text plain
 IsPlain (Lines task) text plain = IsWithout task.aim task.layout text plain
 
--- two texts that are one without notes
+-- two texts that are equal without notes
 pub record AreAlike (asked : Asked) (text other : List ℕ) : Type 0 where
   pub plain : List ℕ
   pub first : IsPlain asked text plain
   pub second : IsPlain asked other plain
 
--- notes are put, in this layout
+-- notes are asked for, in this layout
 abbrev pub HasNotes : Layout → Task → Type 0
 HasNotes how task = (task.aim ≡ Note) × (task.layout ≡ how)
 
@@ -201,18 +200,18 @@ abbrev pub AskForNotes : Layout → List (List ℕ) → Type 0
 AskForNotes how words =
     AreTaken words × MatchResult (asked_of (subcommand_of scard words)) (AsksForNotes how) (λ _. ⊥)
 
--- two texts of the same words: they are one, or where notes are asked for they are one without them
+-- two texts of the same words: they are equal, or equal without notes if notes are asked for
 pub data IsSameText (words : List (List ℕ)) (text other : List ℕ) : Type 0 where
   same : text ≡ other → IsSameText words text other
   in_lines : AskForNotes layout.Lines words → without_notes text ≡ without_notes other → IsSameText words text other
   in_objects : AskForNotes layout.Json words → (plain : List ℕ) → HaveNotes text plain → HaveNotes other plain
       → IsSameText words text other
 
--- the request that words are read as, or that memory ran out
+-- the request that words are read as, or memory ran out
 abbrev pub IsReadFrom : List (List ℕ) → Result Request Fault → Type 0
 IsReadFrom words read = (read ≡ Err Memory) ⊎ IsRead words (once_of read)
 
--- the text and the status that the words have: those of what they ask for, or the fault's
+-- the text and the status of words: those of what they ask for, or of the fault
 pub record IsAnswer (words : List (List ℕ)) (file : Result (List ℕ) Fault) (text : List ℕ) (ended : Status) : Type 0
   where
     pub read : Result Asked Fault
@@ -220,25 +219,25 @@ pub record IsAnswer (words : List (List ℕ)) (file : Result (List ℕ) Fault) (
     pub is_answer : MatchResult read (λ asked. IsAnswerAsked asked file text ended)
         (λ fault. (text ≡ fault_text fault) × (ended ≡ status.Fault))
 
--- ---- where a reader has the octets or the file
+-- ---- with the octets or the file from a reader
 
--- the line on memory with a fault, and no call of the reader failed
+-- memory ran out: the line of that fault, and no call of the reader failed
 abbrev pub IsWanting : Calls → List ℕ → Status → Type 0
 IsWanting reads text ended = (text ≡ fault_text Memory) × (ended ≡ status.Fault) × (reads.after ≡ reads.before)
 
--- the text and the status that the words have, with what was read where they ask for it
+-- the text and the status of words, with what was read if they ask for it
 pub record IsAnswerFrom (words : List (List ℕ)) (reads : Calls) (text : List ℕ)
     (ended : Status) : Type 0 where
   pub file : Result (List ℕ) Fault
   pub is_file : AskForFile words → ReadsWhole reads file
   pub is_answer : IsAnswer words file text ended
 
--- that, or memory was wanting
+-- the text and the status of words, or memory ran out
 abbrev pub IsRight : List (List ℕ) → Calls → List ℕ → Status → Type 0
 IsRight words reads text ended =
     IsAnswerFrom words reads text ended ⊎ IsWanting reads text ended
 
--- the same for a request
+-- the text and the status of a request, with what was read if it needs that
 pub record IsAnswerToFrom (request : Request) (reads : Calls) (text : List ℕ)
     (ended : Status) : Type 0 where
   pub file : Result (List ℕ) Fault
@@ -249,13 +248,13 @@ abbrev pub IsRightTo : Request → Calls → List ℕ → Status → Type 0
 IsRightTo request reads text ended =
     IsAnswerToFrom request reads text ended ⊎ IsWanting reads text ended
 
--- how a text came to a writer, and how the program ended
+-- how a text was written, and how the program ended
 pub data IsWritten (text : List ℕ) (right : Status) (writes : Calls) (ended : Status) :
     Type 0 where
-  -- it is written whole with no failure, and the program ends as is right
+  -- the whole text is written without a failure, and the program ends with the right status
   all : Appends writes.from writes.to text → writes.after ≡ writes.before → ended ≡ right
       → IsWritten text right writes ended
-  -- the writer failed, and a part of it is written
+  -- the writer failed, and a part of the text is written
   cut : (count : ℕ) → count < length text → Appends writes.from writes.to (take count text)
       → HasFailed writes.before writes.after
       → ended ≡ status.Fault → IsWritten text right writes ended

@@ -1,4 +1,4 @@
--- What the program says of a file of recorded exchanges.
+-- What the program prints about a file of a recorded exchange.
 use Rattle.std.specs.Prelude.{◌≡◌, ℕ, ◌+◌, List, ◌++◌, codes, decimal, length, Some, None, Result, Ok, Err, MatchResult}
 use Rattle.card_words.specs.declared.request.Ends.{Ends}
 use Rattle.card_words.specs.declared.request.Ends.TheVariants as end
@@ -22,36 +22,36 @@ use Rattle.card_tool.specs.Lines.{worse}
 use Rattle.card_kinds.specs.declared.status.Status.{Status}
 use Rattle.card_kinds.specs.declared.status.Status.TheVariants as status
 
--- the end does what all lines of the file say, the header's and that of the answer to reset too
+-- the end agrees with all lines of the file; the header and the answer to reset count
 abbrev pub agrees_text : ExchangeParts → List ℕ
 agrees_text e = codes "ok " ++ (decimal (length e.lines + 2) ++ codes " lines\n")
 
--- the end gives something else at this line
+-- the end differs: it gives this at this line
 abbrev pub differs_text : ℕ → List ℕ → List ℕ
 differs_text line gives = codes "line " ++ (decimal line ++ (codes ": engine gives " ++ (gives ++ codes "\n")))
 
--- what is said of both ends, each with its name before it
+-- the answers about both ends, each after the name of its end
 abbrev pub both_text : List ℕ → List ℕ → List ℕ
 both_text terminal card = codes "terminal: " ++ (terminal ++ (codes "card: " ++ card))
 
--- the text is none of a file
+-- the text isn't a file of an exchange: the line of its first fault
 abbrev pub file_fault_text : ExchangeFault → List ℕ
 file_fault_text fault = codes "fault: " ++ (exchange_fault_text fault ++ codes "\n")
 
--- what a call of replay says: of being out of memory nothing
+-- the outcome of a call of replay; running out of memory says nothing about the exchange
 abbrev pub IsOutcome : {A : Type 0} → ExchangeParts → Side → Result A ReplayFault → Type 0
 IsOutcome e which (Ok done) = replay.Replays e.atr e.lines which None
 IsOutcome e which (Err fault) =
     replay.IfDiffers fault (λ line gives. replay.Replays e.atr e.lines which (Some (line, gives)))
 
--- what replay comes to
+-- the text and the status of a replay at one end
 pub data IsReplayed (e : ExchangeParts) (which : Side) (text : List ℕ) (ended : Status) : Type 0 where
   agrees : replay.Replays e.atr e.lines which None → text ≡ agrees_text e → ended ≡ status.Accepted
       → IsReplayed e which text ended
   differs : (line : ℕ) (gives : List ℕ) → replay.Replays e.atr e.lines which (Some (line, gives))
       → text ≡ differs_text line gives → ended ≡ status.Refused → IsReplayed e which text ended
 
--- what it comes to at both ends, which end together as the worse of them
+-- those of a replay at both ends: the status is the worse of the two
 pub record AreReplayed (e : ExchangeParts) (text : List ℕ) (ended : Status) : Type 0 where
   pub terminal : List ℕ
   pub one : Status
@@ -67,19 +67,19 @@ IsReplayedAt end.Terminal e = IsReplayed e side.Terminal
 IsReplayedAt end.Card e = IsReplayed e side.Card
 IsReplayedAt end.Both e = AreReplayed e
 
--- an exchange, drawn so
+-- an exchange, drawn as a ladder or as a picture
 abbrev pub drawn : Drawing → ExchangeParts → List ℕ
 drawn Ladder e = ladder_text e
 drawn Picture e = picture_text e
 
--- what is told of an exchange
+-- the answer about an exchange
 abbrev pub IsToldSo : FileTask → ExchangeParts → List ℕ → Status → Type 0
 IsToldSo (Replay which) e = IsReplayedAt which e
 IsToldSo Migrate e = λ text ended. (text ≡ exchange_text (migrated e)) × (ended ≡ status.Accepted)
 IsToldSo Apdus e = λ text ended. (text ≡ apdus_text e.lines) × (ended ≡ status.Accepted)
 IsToldSo (Draw drawing) e = λ text ended. (text ≡ drawn drawing e) × (ended ≡ status.Accepted)
 
--- what a file's octets come to: what is told of their exchange, or their first fault
+-- the answer about the octets of a file: that about their exchange, or the line of their first fault
 abbrev pub TellsFile : FileTask → List ℕ → List ℕ → Status → Type 0
 TellsFile task file text ended = MatchResult (exchange_said file) (λ e. IsToldSo task e text ended)
     (λ fault. (text ≡ file_fault_text fault) × (ended ≡ status.Fault))

@@ -1,5 +1,5 @@
--- What the program says of words: a text, and an explanation of it where they ask for one.
-use Rattle.std.specs.Prelude.{◌≡◌, ◌⊎◌, ◌++◌, ℕ, List, [], length, Option, Some, None, Result, Ok, Err, IfOk, IsOkAnd, MatchResult, String, string_bytes, Bool, false}
+-- What the program prints for words: a text, and its explanation if they ask for one.
+use Rattle.std.specs.Prelude.{◌≡◌, ◌⊎◌, ◌++◌, ℕ, List, [], length, Some, None, Result, Ok, Err, IfOk, IsOkAnd, MatchResult, String, string_bytes, Bool, false}
 use Rattle.std.specs.declared.alloc.AllocError.{AllocError}
 use Rattle.std.specs.declared.alloc.Global.{Global}
 use Rattle.command_line.specs.Asked.{asks_to_explain}
@@ -48,15 +48,14 @@ use Rattle.card_tool.specs.SimulationTexts.{IsLinesNote, IsSimulationNote}
 
 -- ---- notes on files
 
--- the note on an exchange that is replayed: on the first line that the end does otherwise, and where that is in the trace
--- of which the exchange was recorded
+-- the note on a replay: on the first line where the end differs, and where that is in the trace that was recorded
 pub data IsDifferenceNote (file : List ℕ) (e : ExchangeParts) (which : Side) (note : List ℕ) : Type 0 where
   agrees : replay.Replays e.atr e.lines which None → note ≡ [] → IsDifferenceNote file e which note
   differs : (line : ℕ) (gives why : List ℕ) → replay.Replays e.atr e.lines which (Some (line, gives))
       → IsWhy e which line gives why → note ≡ line_text file line (why ++ trace_place e.lines line)
       → IsDifferenceNote file e which note
 
--- the notes on one that is replayed at both ends: the terminal's, and then the card's
+-- the notes on a replay at both ends: the terminal's, and then the card's
 pub record AreDifferenceNotes (file : List ℕ) (e : ExchangeParts) (note : List ℕ) : Type 0 where
   pub terminal : List ℕ
   pub card : List ℕ
@@ -69,36 +68,35 @@ IsNoteAt end.Terminal file e = IsDifferenceNote file e side.Terminal
 IsNoteAt end.Card file e = IsDifferenceNote file e side.Card
 IsNoteAt end.Both file e = AreDifferenceNotes file e
 
--- the note on what is told of an exchange: only one that is replayed has any
+-- the note on the answer about an exchange: only a replay has one
 abbrev pub IsNoteSo : FileTask → List ℕ → ExchangeParts → List ℕ → Type 0
 IsNoteSo (Replay end) file e = IsNoteAt end file e
 IsNoteSo _ file e = λ note. note ≡ []
 
--- the note on a text that is to be a file: that on its exchange, or on the line with its first fault
+-- the note on a file: that on its exchange, or on the line with its first fault
 abbrev pub IsFileNote : FileTask → List ℕ → List ℕ → Type 0
 IsFileNote task text note = MatchResult (exchange_said text) (λ e. IsNoteSo task text e note)
     (λ fault. note ≡ fault_note text fault)
 
 -- ---- notes on what a request is about
 
--- the note on words for known values: on the first that says none, or on the first two of one tag
+-- the note on words for known values: on the first that isn't one, or on the first two with the same tag
 abbrev pub IsKnownNote : List (List ℕ) → Result (List Known) Fault → List ℕ → Type 0
 IsKnownNote words (Ok known) note = IsTwiceNote words known note
 IsKnownNote words (Err fault) note = note ≡ known_note words
 
--- The note on a list that is to be filled: that on its octets, or where nothing is to be said of them, that on the words
--- for known values.
+-- The note on a list to fill: that on its octets; or, if there is none on them, that on the words for known values.
 pub data IsFillNote (words : List (List ℕ)) (list : List ℕ) (known : Result (List Known) Fault) (note : List ℕ) :
     Type 0 where
   on_list : IsListNote list note → (length note ≡ 0 → ⊥) → IsFillNote words list known note
   on_known : IsListNote list [] → IsKnownNote words known note → IsFillNote words list known note
 
--- what is said of a text in this form: of one in hexadecimal, that it is a dump too
+-- the note on a text in this form: for hexadecimal, that it is also a dump
 abbrev pub text_note : Form → List ℕ → List ℕ
 text_note form.Hex text = offsets_note text
 text_note _ text = []
 
--- what is said of the text that octets are taken from, if there is one
+-- the note on the text that octets are taken from, if there is one
 abbrev pub form_note : OctetSource → Result (List ℕ) Fault → List ℕ
 form_note (Read form) (Ok text) = text_note form text
 form_note _ _ = []
@@ -108,13 +106,13 @@ abbrev pub IsFormNote : OctetSource → Result (List ℕ) Fault → List ℕ →
 IsFormNote (Read form) (Ok text) note = note ≡ explained.text_note form text
 IsFormNote _ _ note = ⊥
 
--- a note on octets, and after it that on the text that they were taken from; or that on a text which gives none
+-- the note on octets, and after it the note on their text; or only that on the text, if it gives no octets
 abbrev pub IsNoteOn : OctetSource → Result (List ℕ) Fault → (List ℕ → List ℕ → Type 0) → List ℕ → Type 0
 IsNoteOn given file Note note = MatchResult (octets_given given file)
     (λ b. (first : List ℕ) × Note b first × (note ≡ first ++ form_note given file))
     (λ fault. IsFormNote given file note)
 
--- The note on what a request was given, of these words, with what reading standard input gave.
+-- The note on the input of a request of these words, with the result of reading standard input.
 abbrev pub IsNoteTo : List (List ℕ) → Request → Result (List ℕ) Fault → List ℕ → Type 0
 IsNoteTo words (Tell task given) file note = IsNoteOn given file (IsKindNote task.expected.kind task.expected) note
 IsNoteTo words (BuildTidy given) file note = IsNoteOn given file IsForestNote note
@@ -126,15 +124,14 @@ IsNoteTo words (Simulate session) file note = IsSimulationNote session note
 IsNoteTo words (SimulateLines session) file note = IsOkAnd file (λ text. IsLinesNote session text note)
 IsNoteTo words _ file note = ⊥
 
--- a note that fits a text whatever was given: none, that on words which are no request, or that on octets which are too
--- many
+-- a note that fits a text whatever the input was: none, that on words that aren't a request, or that on too many octets
 pub data Fits (words : List (List ℕ)) (text note : List ℕ) : Type 0 where
   silent : note ≡ [] → Fits words text note
   on_words : (told : Fault) → IsRead words (Err told) → text ≡ fault_text told → IsWordsNote words note
       → Fits words text note
   too_large : text ≡ fault_text fault.TooLarge → note ≡ large_note largest_file → Fits words text note
 
--- an answer to a request of these words and the note on what it was given, which is empty where there is nothing to say
+-- an answer to a request of these words, and the note on its input, which may be empty
 pub record IsNotedFrom (words : List (List ℕ)) (request : Request) (reads : Calls)
     (text note : List ℕ) (ended : Status) : Type 0 where
   pub file : Result (List ℕ) Fault
@@ -142,7 +139,7 @@ pub record IsNotedFrom (words : List (List ℕ)) (request : Request) (reads : Ca
   pub is_answer : IsAnswerTo request file text ended
   pub is_note : IsNoteTo words request file note
 
--- and of words: the note is that on what a request was given, or it fits the text alone
+-- an answer to words: its note is that on the input of a request, or it fits the text alone
 abbrev pub IsNoted : List (List ℕ) → Calls → List ℕ → List ℕ → Status → Type 0
 IsNoted words reads text note ended =
     (IsRight words reads text ended × Fits words text note)
@@ -161,15 +158,15 @@ pub record IsFaultLine (told : Fault) (answer : Answer) : Type 0 where
   pub status : answer.status ≡ status.Fault
   pub text : answer.text ≡ fault_text told
 
--- What is said of the text that octets were taken from, where that is asked for and memory was there for it; or the line
--- of the fault of one that isn't in its form, with the note on it.
+-- Octets, and the note on their text, if it is asked for and memory for it was available; or the line of the fault of a
+-- text that isn't in its form, with the note on it.
 abbrev pub SaysOf : Bool → OctetSource → Result (List ℕ) Fault → Taken → Type 0
 SaysOf explains given file (Given octets note) =
     IfOk note (λ text. SaysIf explains (λ said. said ≡ form_note given file) (string_bytes text))
 SaysOf explains given file (Refused made) =
     IsFaultLine fault.Hex made.answer × IfOk made.note (λ note. IsFormNote given file (string_bytes note))
 
--- what taking octets gives, and what is said of their text
+-- the result of taking octets, with the note on their text
 pub record IsTakenWith (explains : Bool) (given : OctetSource) (reads : Calls)
     (result : Result Taken Fault) :
     Type 0 where
@@ -178,12 +175,12 @@ pub record IsTakenWith (explains : Bool) (given : OctetSource) (reads : Calls)
 
 -- ---- answers with notes
 
--- what is said: a note, or nothing where memory for it was refused
+-- the note, empty if memory for it wasn't available
 abbrev pub said_of : {E : Type 0} → Result (String Global) E → List ℕ
 said_of (Ok note) = string_bytes note
 said_of (Err _) = []
 
--- an answer to a request of these words, with the note on what that was given or none, where memory was there for it
+-- an answer to a request of these words, with the note on its input if memory for it was available
 pub record IsReplyTo (words : List (List ℕ)) (request : Request) (reads : Calls)
     (made : WithNote) :
     Type 0 where
@@ -192,28 +189,28 @@ pub record IsReplyTo (words : List (List ℕ)) (request : Request) (reads : Call
   pub is_answer : IsAnswerTo request file made.answer.text made.answer.status
   pub is_note : IfOk made.note (λ note. (string_bytes note ≡ []) ⊎ IsNoteTo words request file (string_bytes note))
 
--- what answers a request, or the fault for which nothing does
+-- the answer to a request, or the fault for which there is none
 abbrev pub RepliesTo : List (List ℕ) → Request → Calls → Result WithNote Fault
     → Type 0
 RepliesTo words request reads (Ok made) = IsReplyTo words request reads made
 RepliesTo words request reads (Err fault) =
     IsRightTo request reads (fault_text fault) status.Fault
 
--- a text and a note that are right of words: no note where none is asked for
+-- a text and a note that are right for words: the note is empty unless one is asked for
 pub record IsSaid (words : List (List ℕ)) (reads : Calls) (text note : List ℕ)
     (ended : Status) : Type 0 where
   pub is_right : IsRight words reads text ended
   pub is_noted : IsNoted words reads text note ended
   pub unasked : asks_to_explain words ≡ false → note ≡ []
 
--- what answers words
+-- the answer to words, or a fault
 abbrev pub Replies : List (List ℕ) → Calls → Result WithNote Fault → Type 0
 Replies words reads (Ok made) =
     IsSaid words reads made.answer.text (said_of made.note) made.answer.status
 Replies words reads (Err fault) =
     IsSaid words reads (fault_text fault) [] status.Fault
 
--- the same whether an explanation is asked for or not
+-- the answer to words with its note, whether or not one is asked for
 abbrev pub AreNoted : List (List ℕ) → Calls → Result WithNote Fault → Type 0
 AreNoted words reads (Ok made) =
     IsNoted words reads made.answer.text (said_of made.note) made.answer.status
@@ -225,12 +222,12 @@ abbrev pub IsNotedLine : Fault → Result (String Global) AllocError → Result 
 IsNotedLine told note (Ok made) = IsFaultLine told made.answer × (made.note ≡ note)
 IsNotedLine told note (Err same) = same ≡ told
 
--- the same with a note of which this holds
+-- the line of a fault with a note that this holds of, or the fault itself
 abbrev pub IsFaulted : Fault → (List ℕ → Type 0) → Result WithNote Fault → Type 0
 IsFaulted told Note (Ok made) = IsFaultLine told made.answer × IfOk made.note (λ note. Note (string_bytes note))
 IsFaulted told Note (Err same) = same ≡ told
 
--- the text that is right of words, with what is said after it
+-- the text that is right for words, with the note after it
 pub record IsRightWith (words : List (List ℕ)) (reads : Calls) (whole : List ℕ)
     (ended : Status) : Type 0 where
   pub text : List ℕ
@@ -238,7 +235,7 @@ pub record IsRightWith (words : List (List ℕ)) (reads : Calls) (whole : List �
   pub is_said : IsSaid words reads text note ended
   pub is_whole : whole ≡ text ++ note
 
--- what makes an answer with what comes after it, or a fault
+-- an answer with the note after it is right, or the line of a fault is
 abbrev pub Gives : (List ℕ → Status → Type 0) → Result WithNote Fault → Type 0
 Gives Right (Ok made) = Right (made.answer.text ++ said_of made.note) made.answer.status
 Gives Right (Err fault) = Right (fault_text fault) status.Fault

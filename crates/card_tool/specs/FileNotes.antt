@@ -12,7 +12,7 @@ use Rattle.explainer.specs.Notes.{line_note, IsSessionNote}
 use Rattle.explainer.specs.Texts.{character}
 use Rattle.card_tool.specs.Waits.{waiting_said}
 
--- the line that a fault of a file is in
+-- the line that has a fault of a file
 abbrev pub line_of : ExchangeFault → ℕ
 line_of Header = 1
 line_of (End line) = line
@@ -23,27 +23,27 @@ line_of Memory = 0
 
 -- ---- a line by its number
 
--- how many lines are left after an octet, which may end one
+-- how many lines are left after an octet, which may end a line
 abbrev pub lines_left : ℕ → ℕ → ℕ
 lines_left left x = if x == 10 then left - 1 else left
 
--- a text from the line with this number on, counted from 1; empty where there is none
+-- a text from the line with this number on, counted from 1; empty if there is no such line
 abbrev pub line_from : ℕ → List ℕ → List ℕ
 line_from number [] = []
 line_from number (x ∷ text) = if nat_le number 1 then x ∷ text else line_from (lines_left number x) text
 
--- the line at the front of a text, with a question mark for each octet that is no printable character
+-- the line at the front of a text, with a question mark for each octet that isn't a printable character
 abbrev pub line_shown : List ℕ → List ℕ
 line_shown [] = []
 line_shown (x ∷ text) = if x == 10 then [] else encode_utf8 (character x) ++ line_shown text
 
--- a line of a text, as far as it is shown, and what is said of it
+-- the note: a line of a text, cut to the length that is shown, and what there is to say about it
 abbrev pub line_text : List ℕ → ℕ → List ℕ → List ℕ
 line_text text number what = line_note number (line_shown (take 80 (line_from number text))) what
 
 -- ---- what is expected in a line
 
--- a line ends with a carriage return, after this octet
+-- a line ends with a carriage return, if this octet comes before the text
 abbrev pub returns_after : ℕ → List ℕ → Bool
 returns_after last [] = last == 13
 returns_after last (x ∷ text) = if x == 10 then last == 13 else returns_after x text
@@ -70,7 +70,7 @@ abbrev pub octets_at : List ℕ → ℕ → List ℕ
 octets_at text number = if has_return text number then return_said
     else codes "expected: OCTETS in upper-case hexadecimal, two digits each, or none; HH is one octet"
 
--- the first word of a line ends before a space
+-- an octet ends the first word of a line: a space or a line feed
 abbrev pub ends_word : ℕ → Bool
 ends_word x = x == 32 || x == 10
 
@@ -93,7 +93,7 @@ abbrev pub stands_alone : List ℕ → Bool
 stands_alone word = bytes_eq word (codes "quiet") || (bytes_eq word (codes "ifs-set")
     || (bytes_eq word (codes "given-up") || bytes_eq word (codes "dead")))
 
--- what comes after a first word; of all other words, what is one
+-- what must come after a first word; for an unknown word, which words may come first
 abbrev pub form_of : List ℕ → List ℕ
 form_of word =
     if takes_octets word then codes "expected: this word and OCTETS"
@@ -111,7 +111,7 @@ form_at text number =
     if has_return text number then return_said
     else (if number == 2 then codes "expected: atr OCTETS" else form_of (first_word (line_from number text)))
 
--- what is expected in the line of a fault
+-- what is expected in the line with a fault
 abbrev pub expected : List ℕ → ExchangeFault → List ℕ
 expected text Header = header_at text
 expected text (End line) = codes "expected: a line feed at its end, and a line atr OCTETS after the header"
@@ -120,13 +120,13 @@ expected text (Hex line) = octets_at text line
 expected text (Falls line) = codes "expected: a number that isn't below that of an earlier line at N"
 expected text Memory = []
 
--- and of one of a text that has blocks which were seen, where this is said of words
+-- what is expected in the line with a fault of a trace, with this text for wrong words
 abbrev pub expected_seen : List ℕ → List ℕ → ExchangeFault → List ℕ
 expected_seen words text (Word line) = words
 expected_seen words text (Hex line) = codes "expected: an even number of hexadecimal digits"
 expected_seen words text fault = expected text fault
 
--- the line with the first fault of a text, and what is expected there
+-- the note on the first fault of a text: its line, and what is expected there
 abbrev pub fault_note : List ℕ → ExchangeFault → List ℕ
 fault_note text fault = line_text text (line_of fault) (expected text fault)
 
@@ -135,7 +135,7 @@ trace_note words text fault = line_text text (line_of fault) (expected_seen word
 
 -- ---- why an end differs from a line
 
--- by what it gives there, and whether that is past the lines of the file
+-- why the end differs, by what it gives there, and whether that is past the lines of the file
 abbrev pub reason : List ℕ → Bool → List ℕ
 reason gives is_past =
     if starts_with (λ x y. x == y) gives (codes "refused ")
@@ -146,8 +146,8 @@ reason gives is_past =
     else codes
     "the end's turn has to be met by a line before anything else happens to it, and this is another line"))
 
--- Of the line of the answer to reset it is the note on that, whose last line has no end here; of another it says what
--- the end waits for, too.
+-- For line 2 it is the note on the answer to reset, without the last line feed. For another line it also says what the
+-- end waits for.
 pub data IsWhy (e : ExchangeParts) (which : Side) (line : ℕ) (gives what : List ℕ) : Type 0 where
   no_session : (note : List ℕ) → line ≡ 2 → IsSessionNote e.atr note → what ≡ trim_end note
       → IsWhy e which line gives what

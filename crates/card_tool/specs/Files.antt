@@ -1,5 +1,5 @@
--- What reading a whole input answers, and what it leaves.
-use Rattle.std.specs.Prelude.{◌≡◌, ◌⊎◌, ℕ, ◌+◌, ◌≤◌, List, Option, drop, length, nat_le, take, Result, Ok, Err, IfOk, if◌then◌else◌}
+-- The result of reading a whole input, and what is left to read.
+use Rattle.std.specs.Prelude.{◌≡◌, ◌⊎◌, ℕ, ◌+◌, ◌≤◌, List, drop, length, nat_le, take, Result, Ok, Err, IfOk, if◌then◌else◌}
 use Rattle.std.specs.Io.KnownBytes.{Consumes, IsAtEnd, Keeps}
 use Rattle.octet_core.specs.Failures.{next_count}
 use Rattle.card_words.specs.Given.{octets_given, IsFromReader}
@@ -8,35 +8,35 @@ use Rattle.card_words.specs.declared.fault.Fault.{Fault}
 use Rattle.card_words.specs.declared.fault.Fault.TheVariants.{Memory, Read, TooLarge}
 use Rattle.card_tool.specs.Calls.{Calls}
 
--- how many octets a file has at most
+-- the most octets that a file may have
 abbrev pub largest_file : ℕ
 largest_file = 4194304
 
--- the octets are all that the reader had, and no call failed
+-- these octets are all that the reader had, and no call failed
 pub record IsWhole (reads : Calls) (file : List ℕ) : Type 0 where
   pub from : Consumes reads.from reads.to file
   pub end : IsAtEnd reads.to
   pub fits : length file ≤ largest_file
   pub count : reads.after ≡ reads.before
 
--- some of the first octets were read, at most one more than a file has
+-- some of the first octets were read, at most this many
 pub record IsBegun (reads : Calls) (most : ℕ) : Type 0 where
   pub read : List ℕ
   pub from : Consumes reads.from reads.to read
   pub few : length read ≤ most
 
--- one octet more than a file has was read, and no call failed
+-- one octet more than a file may have was read, and no call failed
 pub record IsTooLarge (reads : Calls) : Type 0 where
   pub read : List ℕ
   pub from : Consumes reads.from reads.to read
   pub many : length read ≡ largest_file + 1
   pub count : reads.after ≡ reads.before
 
--- what reading these octets gives, with ample memory and no failure
+-- the result of reading these octets, if memory suffices and no call fails
 abbrev pub file_of : List ℕ → Result (List ℕ) Fault
 file_of b = if nat_le (length b) largest_file then Ok b else Err TooLarge
 
--- each answer of reading a whole input
+-- each result of reading a whole input
 abbrev pub ReadsWhole : Calls → Result (List ℕ) Fault → Type 0
 ReadsWhole reads (Ok file) = IsWhole reads file
 ReadsWhole reads (Err TooLarge) = IsTooLarge reads
@@ -44,7 +44,8 @@ ReadsWhole reads (Err Read) = IsBegun reads largest_file × (reads.after ≡ nex
 ReadsWhole reads (Err Memory) = IsBegun reads largest_file × (reads.after ≡ reads.before)
 ReadsWhole reads (Err _) = ⊥
 
--- What taking the octets gives: those that the word gave, or that were read and have this form; or their fault; or that memory ran out, with no failed call.
+-- The result of taking the octets: those of the word, or those that were read in this form; or their fault; or memory
+-- ran out without a failed call.
 pub record IsTaken (given : OctetSource) (reads : Calls)
     (taken : Result (List ℕ) Fault) :
     Type 0 where
@@ -55,7 +56,7 @@ pub record IsTaken (given : OctetSource) (reads : Calls)
 
 -- ---- one call of the reader
 
--- so many octets came after the first ones of the buffer, which stay, or none, at the end of the input
+-- one call read this many octets after the first ones of the buffer, which stay; 0 at the end of the input
 pub record IsMore (reads : Calls) (old new : List ℕ) (filled count : ℕ) : Type 0 where
   pub inside : filled + count ≤ length new
   pub most : length new ≤ largest_file + 1
@@ -72,7 +73,7 @@ ReadsMore reads old new filled (Err _) = ⊥
 
 -- ---- the calls so far
 
--- so many octets were read into the first places of the buffer, and no call failed
+-- this many octets were read into the front of the buffer, and no call failed
 pub record IsHeld (reads : Calls) (items : List ℕ) (filled : ℕ) : Type 0 where
   pub inside : filled ≤ length items
   pub most : length items ≤ largest_file + 1

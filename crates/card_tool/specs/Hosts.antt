@@ -1,5 +1,5 @@
--- What the program does on a system that gives it words.
-use Rattle.std.specs.Prelude.{◌≡◌, ◌⊎◌, ℕ, List, Option}
+-- What the program does on a system with words.
+use Rattle.std.specs.Prelude.{◌≡◌, ◌⊎◌, ℕ, List}
 use Rattle.card_words.specs.Texts.{fault_text}
 use Rattle.card_words.specs.Words.{AskForLines}
 use Rattle.card_words.specs.declared.fault.Fault.{Fault}
@@ -13,18 +13,18 @@ use Rattle.card_tool.specs.InJson.{IsRightAsked}
 use Rattle.card_tool.specs.LineAnswers.{AskForNoLines, WritesLines}
 use Rattle.card_tool.specs.LineNotes.{telling_of}
 
--- no words could be had: memory ran out, or one is no UTF-8
+-- the system gave no words: memory ran out, or a word isn't UTF-8
 abbrev pub IsWithoutWords : Fault → Type 0
 IsWithoutWords fault = (fault ≡ Memory) ⊎ (fault ≡ Words)
 
--- the texts that are right for some words, and how the program then ends
+-- what the program writes for these words, and the status
 pub record Runs (words : List (List ℕ)) (reads writes : Calls) (ended : Status) : Type 0 where
   pub written : AskForNoLines words
       → Writes (IsRightAsked words reads) writes ended
   pub lines : (task : Task) → AskForLines task words
       → WritesLines (telling_of words task) reads writes ended
 
--- The text that is written and the status belong together: both are those of some words, or of a fault without any.
+-- The text and the status belong together: they are right for some words, or for a fault without any.
 pub data Does (reads writes : Calls)
     (ended : Status) : Type 0 where
   runs : (words : List (List ℕ)) → Runs words reads writes ended

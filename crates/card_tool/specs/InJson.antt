@@ -1,5 +1,5 @@
--- The text that words have as lines, or where they ask for it as an object of JSON.
-use Rattle.std.specs.Prelude.{◌≡◌, ℕ, List, [], ◌∷◌, ◌++◌, Option, Result, Ok, Err, codes, drop, true, false}
+-- The text for words as lines, or as a JSON object if they ask for it.
+use Rattle.std.specs.Prelude.{◌≡◌, ℕ, List, [], ◌∷◌, ◌++◌, Result, Ok, Err, codes, drop, true, false}
 use Rattle.command_line.specs.Asked.{asks_for_json}
 use Rattle.card_words.specs.Texts.{fault_text}
 use Rattle.card_words.specs.declared.fault.Fault.{Fault}
@@ -25,14 +25,14 @@ use Rattle.card_tool.specs.Explained.{IsRightWith, IsSaid}
 use Rattle.card_tool.specs.declared.json.Object.{Object}
 use Rattle.card_tool.specs.declared.json.Object.TheVariants.{Told, Report, Judged, Content}
 
--- what is told of a file, by its subcommand
+-- the subcommand's name, which is the subject of an answer about a file
 abbrev pub file_subject : FileTask → List ℕ
 file_subject (Replay ends) = codes "replay"
 file_subject Migrate = codes "migrate"
 file_subject Apdus = codes "apdus"
 file_subject (Draw drawing) = codes "draw"
 
--- what an object is about that answers a request: the kind of the octets, or the subcommand
+-- the subject of the object that answers a request: the kind of the octets, or the subcommand
 abbrev pub subject : Request → List ℕ
 subject (Tell task given) = kind_name task.expected.kind
 subject (BuildChain ifs number message) = codes "chain"
@@ -46,82 +46,82 @@ subject (SimulateLines session) = codes "simulate"
 subject (Help help) = codes "help"
 subject Version = codes "version"
 
--- what is told of octets in this layout is an object already, and lines become one
+-- an answer about octets as an object: in the layout JSON it is one already, and lines become one
 abbrev pub told_object : Layout → Task → Status → List ℕ → List ℕ
 told_object layout.Lines task ended told = json_object (kind_name task.expected.kind) told
 told_object layout.Json task ended told = object_of task.aim task.expected.kind ended told
 
--- an object that has lines as they are
+-- an object with lines as strings, unchanged
 abbrev pub object_with_lines : List ℕ → List ℕ → List ℕ
 object_with_lines about lines = object_head about
     ++ (codes "\"verdict\":\"ok\",\"lines\":[" ++ (line_strings lines ++ codes "]}\n"))
 
--- lines that are what was asked for are such an object, and those of a refusal or a fault one by their forms
+-- content as an object: its lines unchanged; a refusal or a fault becomes an object by its form
 abbrev pub content_object : List ℕ → Status → List ℕ → List ℕ
 content_object about status.Accepted told = object_with_lines about told
 content_object about status.Refused told = json_object about told
 content_object about status.Fault told = json_object about told
 
--- the verdict of lines that don't say it, by the status: a fault says it
+-- the verdict's member for lines without it, by the status: a fault already has it
 abbrev pub verdict_member : Status → List ℕ
 verdict_member status.Accepted = codes "\"verdict\":\"ok\","
 verdict_member status.Refused = codes "\"verdict\":\"differs\","
 verdict_member status.Fault = []
 
--- an object by forms of lines that don't say their verdict
+-- lines without their verdict as an object by their forms, with the verdict
 abbrev pub judged_object : List ℕ → Status → List ℕ → List ℕ
 judged_object about ended lines = object_head about ++ (verdict_member ended ++ drop 1 (json_text lines))
 
--- the object of a replay: that of both ends has the verdict of both
+-- the object of a replay: at both ends it has the verdict of both
 abbrev pub replay_object : Ends → Status → List ℕ → List ℕ
 replay_object end.Terminal ended told = json_object (codes "replay") told
 replay_object end.Card ended told = json_object (codes "replay") told
 replay_object end.Both ended told = judged_object (codes "replay") ended told
 
--- the object of what is told of a file: an account of it, or its content in another form
+-- the object about a file: an account of it, or its content in another form
 abbrev pub file_object : FileTask → Status → List ℕ → List ℕ
 file_object (Replay ends) ended told = replay_object ends ended told
 file_object Apdus ended told = judged_object (codes "apdus") ended told
 file_object Migrate ended told = content_object (codes "migrate") ended told
 file_object (Draw drawing) ended told = content_object (codes "draw") ended told
 
--- the object of what a request comes to
+-- the object of the answer to a request
 abbrev pub request_object : Request → Status → List ℕ → List ℕ
 request_object (Tell task given) ended told = told_object task.layout task ended told
 request_object (File task) ended told = file_object task ended told
 request_object (Judge atr judging) ended told = json_object (codes "judge") told
 request_object request ended told = content_object (subject request) ended told
 
--- the object of what words come to that were read so
+-- the object of the answer to words, by what they were read as
 abbrev pub object_by : Result Request Fault → Status → List ℕ → List ℕ
 object_by (Ok request) ended told = request_object request ended told
 object_by (Err fault) ended told = json_object (codes "words") told
 
--- the same by how that is
+-- the object of an answer, by how it becomes one
 abbrev pub object_as : Object → Status → List ℕ → List ℕ
 object_as (Told task) ended told = told_object task.layout task ended told
 object_as (Report about) ended told = json_object about.now told
 object_as (Judged about) ended told = judged_object about.now ended told
 object_as (Content about) ended told = content_object about.now ended told
 
--- the member that explains an object
+-- the member for an explanation
 abbrev pub explanation_member : List ℕ → List ℕ
 explanation_member note = codes ",\"explanation\":" ++ json_string note
 
--- an object, and what is said of it, which may be nothing
+-- an object with its explanation, if there is one
 abbrev pub with_explanation : List ℕ → List ℕ → List ℕ
 with_explanation object [] = object
 with_explanation object (x ∷ note) = with_member object (explanation_member (x ∷ note))
 
--- words have a text with what is said of it, by what was read
+-- with what was read, words have a text and a note
 pub record HaveAnswer (words : List (List ℕ)) (reads : Calls) : Type 0 where
   pub text : List ℕ
   pub note : List ℕ
   pub ended : Status
   pub is_said : IsSaid words reads text note ended
 
--- The object of the text that is right, with its status and what is said of it; or memory was refused, where the words
--- have a text by what was read.
+-- The object of the right text, with its status and its note; or memory ran out, and with what was read the words have
+-- a text.
 pub data IsRightJson (words : List (List ℕ)) (reads : Calls) (whole : List ℕ)
     (ended : Status) : Type 0 where
   made : (read : Result Request Fault) (text note : List ℕ) → IsReadFrom words read
@@ -131,7 +131,7 @@ pub data IsRightJson (words : List (List ℕ)) (reads : Calls) (whole : List ℕ
   unmade : HaveAnswer words reads → whole ≡ fault_text Memory → ended ≡ status.Fault
       → IsRightJson words reads whole ended
 
--- what is right of words
+-- what is right for words
 pub data IsRightAsked (words : List (List ℕ)) (reads : Calls) (whole : List ℕ)
     (ended : Status) : Type 0 where
   in_lines : asks_for_json words ≡ false → IsRightWith words reads whole ended

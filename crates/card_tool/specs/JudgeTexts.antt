@@ -1,4 +1,4 @@
--- What the program says of a trace that is judged.
+-- What the program prints about a trace that it judges.
 use Rattle.std.specs.Prelude.{◌≡◌, ◌≢◌, ℕ, List, [], codes, Bool, true, false, Option, Some, None, Ok, Err}
 use Rattle.card_kinds.specs.Texts.{refused_as_text}
 use Rattle.card_kinds.specs.declared.status.Status.{Status}
@@ -21,17 +21,17 @@ use Rattle.explainer.specs.Notes.{IsSessionNote}
 use Rattle.card_tool.specs.FileNotes.{trace_note}
 use Rattle.card_tool.specs.ExchangeTexts.{file_fault_text}
 
--- the end that is judged alone, if one is
+-- the end that is judged alone, if there is one
 abbrev pub only_of : Ends → Option Side
 only_of end.Terminal = Some side.Terminal
 only_of end.Card = Some side.Card
 only_of end.Both = None
 
--- what is judged of a trace
+-- the scope of a judgment
 abbrev pub scope_of : Judging → Scope
 scope_of judging = record { only = only_of judging.ends; clock = judging.clock; rules = judging.rules }
 
--- Octets that are one whole answer to reset, with parameters of T=1, offer these, and F and D.
+-- Octets are exactly one answer to reset with parameters of T=1. They offer these parameters, F and D.
 pub record IsOffer (atr : List ℕ) (offered : Offered) : Type 0 where
   pub parts : AtrParts
   pub is : IsAtr parts atr
@@ -42,14 +42,15 @@ abbrev pub judged_status : Bool → Status
 judged_status true = status.Refused
 judged_status false = status.Accepted
 
--- What a text comes to at a card that offers this: its judgment, or its first fault.
+-- The answer about a text for a card that offers this: its judgment, or its first fault.
 pub data JudgesText (offered : Offered) (judging : Judging) (file text : List ℕ) (ended : Status) : Type 0 where
   judged : (judgment : Judgment) → Judges offered (scope_of judging) file (Ok judgment) → text ≡ judgment.text
       → ended ≡ judged_status judgment.deviates → JudgesText offered judging file text ended
   faulty : (fault : ExchangeFault) → Judges offered (scope_of judging) file (Err fault) → fault ≢ Memory
       → text ≡ file_fault_text fault → ended ≡ status.Fault → JudgesText offered judging file text ended
 
--- What it comes to with an answer to reset, which may be none that can be used.
+-- The answer about an answer to reset and a text: the answer to reset can't be used, or the answer is that about the
+-- text.
 pub data JudgesTrace (atr : List ℕ) (judging : Judging) (file text : List ℕ) (ended : Status) : Type 0 where
   refused : (name : List ℕ) → IsFound atr (Err name) → text ≡ refused_as_text name → ended ≡ status.Refused
       → JudgesTrace atr judging file text ended
@@ -58,12 +59,12 @@ pub data JudgesTrace (atr : List ℕ) (judging : Judging) (file text : List ℕ)
 
 -- ---- notes
 
--- what is expected where the words of a line are wrong
+-- what is expected in a line with wrong words
 abbrev pub expected_words : List ℕ
 expected_words =
     codes "expected: t HEX or c HEX, with lost or as HEX after it or not, quiet, reset, or at N"
 
--- The note on a text: none on its judgment, or that on the line with its first fault.
+-- The note on a text: empty for a judgment, or on the line with its first fault.
 pub data IsTextNote (offered : Offered) (judging : Judging) (file note : List ℕ) : Type 0 where
   silent : (judgment : Judgment) → Judges offered (scope_of judging) file (Ok judgment) → note ≡ []
       → IsTextNote offered judging file note

@@ -1,4 +1,4 @@
--- Answers that have a note of the same verdict.
+-- Answers with a note from the same verdict.
 use Rattle.std.specs.Prelude.{◌≡◌, ℕ, List, [], Bool, true, false, Option, None, Result, IfOk, string_bytes}
 use Rattle.octet_core.specs.declared.stop.Stop.{Stop}
 use Rattle.card_words.specs.declared.request.Expected.{Expected}
@@ -23,8 +23,8 @@ use Rattle.explainer.specs.Sentences.{atr_sentence, block_sentence, chain_senten
 use Rattle.card_tool.specs.declared.judged.Annotatable.{Annotatable}
 use Rattle.card_tool.specs.declared.judged.WithNote.{WithNote}
 
--- the note on octets by the verdict of a codec on them, with the sentence of each reason, and how many octets must still
--- come at least, where that is known
+-- the note on octets by a codec's verdict on them, with the sentence of each reason, and with how many more octets are
+-- needed at least, if that is known
 abbrev pub IsNoteBy : {V R : Type 0} → Codec V R → (R → List ℕ) → Option ℕ → List ℕ → List ℕ → Type 0
 IsNoteBy {V} {R} c says least b note =
     (verdict : Result ℕ (Stop R)) × IsVerdict c b verdict × (note ≡ verdict_text says b least verdict)
@@ -32,11 +32,11 @@ IsNoteBy {V} {R} c says least b note =
 abbrev pub IsForestNote : List ℕ → List ℕ → Type 0
 IsForestNote b = IsNoteBy forest_codec tlv_sentence None b
 
--- a list that is to be filled has no number of octets that must come
+-- the note on a list to fill never says how many octets are needed
 abbrev pub IsListNote : List ℕ → List ℕ → Type 0
 IsListNote b = IsNoteBy list_codec dol_sentence None b
 
--- the same by what they are taken for
+-- the note on octets by their kind
 abbrev pub IsKindNote : Kind → Expected → List ℕ → List ℕ → Type 0
 IsKindNote kind.Atr expected b = IsNoteBy atr_codec atr_sentence (least_of kind.Atr b) b
 IsKindNote kind.Block expected b = IsNoteBy (block_codec expected.ifs) block_sentence (least_of kind.Block b) b
@@ -47,12 +47,12 @@ IsKindNote kind.Response expected b = IsNoteBy response_codec response_sentence 
 IsKindNote kind.Tlv expected b = IsForestNote b
 IsKindNote kind.Dol expected b = IsNoteBy list_codec dol_sentence (least_of kind.Dol b) b
 
--- a note is said where it is asked for, and nothing where it isn't
+-- the note, if one is asked for; else an empty one
 abbrev pub SaysIf : Bool → (List ℕ → Type 0) → List ℕ → Type 0
 SaysIf true Note note = Note note
 SaysIf false Note note = note ≡ []
 
--- an answer and a note, where memory was there for it, of which these hold
+-- this holds of an answer, and this of its note if memory for the note was available
 abbrev pub AreOf : (List ℕ → Status → Type 0) → (List ℕ → Type 0) → WithNote → Type 0
 AreOf Told Note made = Told made.answer.text made.answer.status × IfOk made.note (λ note. Note (string_bytes note))
 
@@ -60,11 +60,11 @@ AreOf Told Note made = Told made.answer.text made.answer.status × IfOk made.not
 abbrev pub IsRefusalBy : {V R : Type 0} → Codec V R → List ℕ → List ℕ → Type 0
 IsRefusalBy {V} {R} c b line = (stop : Stop R) × Stops c b stop × (line ≡ refused_text c.name stop)
 
--- the same by what they are taken for
+-- the line of a refusal of octets, by their kind
 abbrev pub IsRefusalLine : Kind → Expected → List ℕ → List ℕ → Type 0
 IsRefusalLine kind expected b = IsRefusalBy (codec_of kind expected).codec b
 
--- An answer and a note of which these hold; where it is a refusal as an object that is to have notes, there is its line.
+-- This holds of an answer, and this of its note. A refusal as an object, if notes are asked for, also has its line.
 abbrev pub AreAnnotatable : Bool → Layout → (List ℕ → Status → Type 0) → (List ℕ → Type 0) → (List ℕ → Type 0)
     → Annotatable → Type 0
 AreAnnotatable noted layout Told Note Line made = AreOf Told Note made.said

@@ -1,4 +1,4 @@
--- What is said of each line of standard input, with an explanation after its answer where one is asked for.
+-- The answer to each line of standard input, with an explanation after it if one is asked for.
 use Rattle.std.specs.Prelude.{◌≡◌, ◌==◌, ◌++◌, ℕ, List, [], ◌∷◌, Bool, true, if◌then◌else◌, codes, Result, Ok, Err}
 use Rattle.command_line.specs.Asked.{asks_to_explain}
 use Rattle.card_words.specs.declared.fault.Fault.{Fault}
@@ -16,11 +16,11 @@ use Rattle.explainer.specs.Notes.{large_note}
 use Rattle.explainer.specs.Texts.{column_note, hex_stop}
 use Rattle.card_tool.specs.declared.telling.Telling.{Telling}
 
--- what is told of lines by these words, which ask for them
+-- how lines are answered for these words, which ask for them
 abbrev pub telling_of : List (List ℕ) → Task → Telling
 telling_of words task = record { task = task; explains = asks_to_explain words }
 
--- each line of a text after two blanks, where its first octet begins a line or not
+-- each line of a text after two blanks; begins: the first octet begins a line
 abbrev pub indented_from : Bool → List ℕ → List ℕ
 indented_from begins [] = []
 indented_from begins (x ∷ text) = (if begins then codes "  " else []) ++ (x ∷ indented_from (x == 10) text)
@@ -34,12 +34,12 @@ fault_note line fault.Hex = column_note (hex_stop line)
 fault_note line fault.TooLarge = large_note largest_file
 fault_note line _ = []
 
--- the note on a line by its octets, or by the fault for which it has none
+-- the note on a line by its octets, or by its fault if it has none
 abbrev pub IsNoteOfLine : Task → List ℕ → Result (List ℕ) Fault → List ℕ → Type 0
 IsNoteOfLine task line (Ok b) = IsKindNote task.expected.kind task.expected b
 IsNoteOfLine task line (Err fault) = λ note. note ≡ fault_note line fault
 
--- how a line is answered by what is told of it and a note, which may be empty
+-- the text that answers a line, from its answer and a note, which may be empty
 abbrev pub said_in : Layout → Task → Status → List ℕ → List ℕ → List ℕ
 said_in layout.Lines task ended told note = lines_text task.aim (told ++ indented note)
 said_in layout.Json task ended told note = with_explanation (object_of task.aim task.expected.kind ended told) note

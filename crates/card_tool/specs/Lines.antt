@@ -1,4 +1,4 @@
--- The lines of octets, and what lines come to, each in its turn.
+-- The lines of octets, and the answers to lines in their order.
 use Rattle.std.specs.Prelude.{◌≡◌, ◌==◌, ◌++◌, ℕ, List, [], ◌∷◌, length, nat_le, Result, Err, if◌then◌else◌}
 use Rattle.card_words.specs.Loose.{loose_octets}
 use Rattle.card_words.specs.declared.fault.Fault.{Fault}
@@ -10,17 +10,17 @@ use Rattle.card_kinds.specs.declared.status.Status.TheVariants as status
 
 -- ---- the lines of octets
 
--- the lines that end within the octets, of which the first began with `line`
+-- the lines that end within the octets; the first began with `line`
 abbrev pub lines_after : List ℕ → List ℕ → List (List ℕ)
 lines_after line [] = []
 lines_after line (x ∷ b) = if x == 10 then line ∷ lines_after [] b else lines_after (line ++ (x ∷ [])) b
 
--- what comes after the last line end
+-- the octets after the last line end
 abbrev pub rest_after : List ℕ → List ℕ → List ℕ
 rest_after line [] = line
 rest_after line (x ∷ b) = if x == 10 then rest_after [] b else rest_after (line ++ (x ∷ [])) b
 
--- a last line needs no end, where it has octets
+-- the last line needs no end; it counts if it has octets
 abbrev pub last_line : List ℕ → List (List ℕ)
 last_line [] = []
 last_line (x ∷ b) = (x ∷ b) ∷ []
@@ -31,20 +31,20 @@ ended_lines b = lines_after [] b
 abbrev pub all_lines : List ℕ → List (List ℕ)
 all_lines b = ended_lines b ++ last_line (rest_after [] b)
 
--- ---- what lines come to
+-- ---- the answers to lines
 
--- the octets that a line gives in hexadecimal, or their fault
+-- the octets of a line in hexadecimal, or the line's fault
 abbrev pub line_octets : List ℕ → Result (List ℕ) Fault
 line_octets line = if nat_le (length line) largest_file then loose_octets line else Err TooLarge
 
--- the worse of two ends: a fault before a refusal
+-- the worse of two statuses: a fault before a refusal
 abbrev pub worse : Status → Status → Status
 worse Accepted other = other
 worse Refused Accepted = Refused
 worse Refused other = other
 worse status.Fault other = status.Fault
 
--- a line's text and then those of more lines, which together end as the worst of them
+-- a line's text and then those of more lines, with the worst status of all
 pub record IsLineThen (Line More : List ℕ → Status → Type 0) (text : List ℕ) (ended : Status) : Type 0 where
   pub first : List ℕ
   pub one : Status
@@ -55,7 +55,7 @@ pub record IsLineThen (Line More : List ℕ → Status → Type 0) (text : List 
   pub is_text : text ≡ first ++ more
   pub is_ended : ended ≡ worse one others
 
--- the text and the status of lines, each in its turn, where Line says what one comes to
+-- the text and the status of lines in their order; Line gives those of one line
 abbrev pub AreTold : (List ℕ → List ℕ → Status → Type 0) → List (List ℕ) → List ℕ → Status → Type 0
 AreTold Line [] text ended = (text ≡ []) × (ended ≡ Accepted)
 AreTold Line (line ∷ lines) text ended = IsLineThen (Line line) (AreTold Line lines) text ended

@@ -1,4 +1,4 @@
--- What the program says of the blocks that were seen on a line.
+-- What the program prints about the blocks that were seen on a line.
 use Rattle.std.specs.Prelude.{◌≡◌, ◌<◌, ◌≤◌, ℕ, List, [], ◌++◌, codes, decimal, length, Some, None, Ok, Err, MatchResult}
 use Rattle.std.specs.List.{slice_split}
 use Rattle.card_kinds.specs.Texts.{refused_as_text}
@@ -20,7 +20,7 @@ use Rattle.card_tool.specs.ExchangeTexts.{file_fault_text}
 use Rattle.card_tool.specs.Files.{largest_file}
 use Rattle.card_tool.specs.SimulationTexts.{IsFile}
 
--- the line of a text that says an item
+-- the number of the text's line with an item
 abbrev pub line_with : List ℕ → ℕ → ℕ
 line_with file place = item_line 1 place (slice_split is_line_end file)
 
@@ -28,8 +28,8 @@ line_with file place = item_line 1 place (slice_split is_line_end file)
 abbrev pub unfit_text : ℕ → List ℕ → List ℕ
 unfit_text line name = codes "refused at line " ++ (decimal line ++ (codes ": " ++ (name ++ codes "\n")))
 
--- What the items of a text come to with an answer to reset: it can't be used, a line can't be recorded, or the text of
--- their exchange.
+-- The answer about an answer to reset and the items of a text: the answer to reset can't be used, a line can't be
+-- recorded, or the text of their exchange.
 pub data RecordsItems (atr file : List ℕ) (items : List Item) (text : List ℕ) (ended : Status) : Type 0 where
   refused : (name : List ℕ) → IsFound atr (Err name) → text ≡ refused_as_text name → ended ≡ status.Refused
       → RecordsItems atr file items text ended
@@ -39,14 +39,14 @@ pub data RecordsItems (atr file : List ℕ) (items : List Item) (text : List ℕ
   whole : (ifsc : ℕ) → IsFound atr (Ok ifsc) → unfit_in items ≡ None → IsFile (exchange_of ifsc atr items) text ended
       → RecordsItems atr file items text ended
 
--- what a text comes to: its items, or its first fault
+-- the answer about a text: that about its items, or the line of its first fault
 abbrev pub Records : List ℕ → List ℕ → List ℕ → Status → Type 0
 Records atr file text ended = MatchResult (trace_of file) (λ items. RecordsItems atr file items text ended)
     (λ fault. (text ≡ file_fault_text fault) × (ended ≡ status.Fault))
 
 -- ---- notes
 
--- what is said of a line that can't be recorded
+-- why a line can't be recorded
 abbrev pub unfit_words : Unfit → List ℕ
 unfit_words Pps = codes "this is PPS, and a session begins after it: leave it out"
 unfit_words NodeAddress = codes "both ends use a node address other than 00, which record doesn't follow: judge does"
@@ -56,11 +56,11 @@ unfit_words Silence =
 abbrev pub unfit_note : List ℕ → ℕ → Unfit → List ℕ
 unfit_note file line why = line_text file line (unfit_words why)
 
--- what is expected where the words of a line are wrong
+-- what is expected in a line with wrong words
 abbrev pub expected_words : List ℕ
 expected_words = codes "expected: t HEX or c HEX, with lost after it or not, quiet, or at N"
 
--- the note on the text of an exchange: none where it fits a file, else how large that may be
+-- the note on the text of an exchange: empty if it fits a file, else how large a file may be
 pub data IsSizeNote (e : ExchangeParts) (note : List ℕ) : Type 0 where
   fits : length (exchange_text e) ≤ largest_file → note ≡ [] → IsSizeNote e note
   over : largest_file < length (exchange_text e) → note ≡ large_note largest_file → IsSizeNote e note

@@ -1,4 +1,4 @@
--- What the program says of a session that it simulates.
+-- What the program prints about a session that it simulates.
 use Rattle.std.specs.Prelude.{◌≡◌, ◌<◌, ◌≤◌, ℕ, Bool, true, false, List, length, Ok, Err, MatchResult}
 use Rattle.std.specs.List.{count_by}
 use Rattle.card_words.specs.Texts.{fault_text}
@@ -19,14 +19,15 @@ use Rattle.card_kinds.specs.Texts.{refused_as_text}
 use Rattle.card_kinds.specs.declared.status.Status.{Status}
 use Rattle.card_kinds.specs.declared.status.Status.TheVariants as status
 
--- the text of an exchange, where it isn't larger than a file
+-- the text of an exchange, or a fault if it is larger than a file
 pub data IsFile (e : ExchangeParts) (text : List ℕ) (ended : Status) : Type 0 where
   fits : length (exchange_text e) ≤ largest_file → text ≡ exchange_text e → ended ≡ status.Accepted
       → IsFile e text ended
   over : largest_file < length (exchange_text e) → text ≡ fault_text TooLarge → ended ≡ status.Fault
       → IsFile e text ended
 
--- What a session comes to: an answer to reset that can't be used, the text of its exchange, or that no end of it has a text that fits.
+-- The answer about a session: the answer to reset can't be used, the text of its exchange, or no text of it fits a
+-- file.
 pub data Simulates (s : Session) (text : List ℕ) (ended : Status) : Type 0 where
   unusable : (name : List ℕ) → IsFound s.atr (Err name) → text ≡ refused_as_text name → ended ≡ status.Refused
       → Simulates s text ended
@@ -37,7 +38,7 @@ pub data Simulates (s : Session) (text : List ℕ) (ended : Status) : Type 0 whe
       → ((r : Recording) → EndsAs s ifsc r → largest_file < length (exchange_text (exchange_of r)))
       → text ≡ fault_text TooLarge → ended ≡ status.Fault → Simulates s text ended
 
--- what it comes to with the pairs that the lines of a text say, or their fault
+-- the answer about a session whose pairs are the lines of a text, or the fault of a line
 abbrev pub SimulatesLines : Session → List ℕ → List ℕ → Status → Type 0
 SimulatesLines s b text ended = MatchResult (pairs_in b)
     (λ pairs. Simulates (record s { pairs = pairs }) text ended)
@@ -54,15 +55,15 @@ is_block _ = false
 abbrev pub blocks_in : List Line → ℕ
 blocks_in lines = count_by is_block lines
 
--- The note on the exchange of a session: that on blocks which its lists name and which were never sent, or, where its
--- text is larger than a file, how large that may be.
+-- The note on the exchange of a session: on the blocks that its lists name and that were never sent; or, if its text is
+-- larger than a file, how large a file may be.
 pub data IsExchangeNote (s : Session) (e : ExchangeParts) (note : List ℕ) : Type 0 where
   in_file : length (exchange_text e) ≤ largest_file → AreUnsentNotes s (blocks_in e.lines) note
       → IsExchangeNote s e note
   past_file : largest_file < length (exchange_text e) → note ≡ large_note largest_file → IsExchangeNote s e note
 
--- The note on a session: that on its exchange; that on its answer to reset, where it is refused; or how large a text may
--- be, where no end of it has one that fits.
+-- The note on a session: that on its exchange; that on its answer to reset, if it is refused; or how large a file may
+-- be, if no text of it fits.
 pub data IsSimulationNote (s : Session) (note : List ℕ) : Type 0 where
   refused : (name : List ℕ) → IsFound s.atr (Err name) → IsSessionNote s.atr note → IsSimulationNote s note
   recorded : (ifsc : ℕ) (r : Recording) → IsFound s.atr (Ok ifsc) → EndsAs s ifsc r
@@ -71,7 +72,7 @@ pub data IsSimulationNote (s : Session) (note : List ℕ) : Type 0 where
       → ((r : Recording) → EndsAs s ifsc r → largest_file < length (exchange_text (exchange_of r)))
       → note ≡ large_note largest_file → IsSimulationNote s note
 
--- the same with the pairs that the lines of a text say, or the note on one that isn't one
+-- the note on a session whose pairs are the lines of a text, or on a line that isn't a pair
 abbrev pub IsLinesNote : Session → List ℕ → List ℕ → Type 0
 IsLinesNote s b note = MatchResult (pairs_in b) (λ pairs. IsSimulationNote (record s { pairs = pairs }) note)
     (λ _. note ≡ pairs_note b)

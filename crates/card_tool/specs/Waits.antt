@@ -35,14 +35,14 @@ state_of (Card awaits) = card_state awaits
 abbrev pub in_session : List ℕ
 in_session = codes " in SESSION.md)"
 
--- ---- what is said
+-- ---- the texts
 
--- a call that is refused, and a turn that the end doesn't have, are about the state at the line itself
+-- a refused call, and a turn that the end doesn't have, are about its state at the line
 abbrev pub is_about_now : List ℕ → Bool
 is_about_now gives =
     starts_with (λ x y. x == y) gives (codes "refused ") || bytes_eq gives (codes "nothing")
 
--- a turn that the end has is that of its last call
+-- a turn that the end has comes from its last call
 abbrev pub call_said : Option Call → List ℕ
 call_said None = []
 call_said (Some call) = codes "; line " ++ (decimal call.line

@@ -1,4 +1,4 @@
-//! Values and refusals whose lines have notes.
+//! Values and refusals with notes on their lines.
 
 ghost use Rattle.std.specs.Prelude.{◌≡◌, true, Err, List, ℕ, IfOk};
 ghost use Rattle.card_kinds.specs.Verdicts.{ShowsWhere};
@@ -18,7 +18,7 @@ use notes::{noted_line, wanting_note};
 use octet_core::{Named, Octets, Stop};
 use std::alloc::{AllocError, Global};
 
-/// What `show` says of octets as lines with notes on them: on the line of a refusal, these words.
+/// Returns the lines that `show` prints about octets, with notes on them. The line of a refusal gets these words.
 pub(crate) fn annotated(alloc: Global, shown: Answer, words: &str) -> Result<Answer, AllocError>
     ensures { (expected : AnyExpected) (octets : List ℕ)
         → ShowsWhere true layout.Lines expected.kind expected octets shown.text shown.status
@@ -37,7 +37,8 @@ pub(crate) fn annotated(alloc: Global, shown: Answer, words: &str) -> Result<Ans
     }
 }
 
-/// What `show` says of octets as an object with the notes on their lines: of a refusal, these words on its line.
+/// Returns the object that `show` prints about octets, with the notes on its lines. For a refusal these words are the
+/// note on its line.
 pub(crate) fn annotated_object(
     alloc: Global,
     object: Answer,
@@ -63,7 +64,7 @@ pub(crate) fn annotated_object(
     }
 }
 
-/// The line of a refusal that is an object, where it is `noted`.
+/// Returns the line of a refusal that is printed as an object, if it is `noted`.
 pub(crate) fn refusal_line<R: Named + Copy>(
     alloc: Global,
     noted: bool,
@@ -79,8 +80,8 @@ pub(crate) fn refusal_line<R: Named + Copy>(
     }
 }
 
-/// The words of the note on the line of a refusal, where it is `noted`: of octets that are short, where nothing else is
-/// said of them, how many must still come at least.
+/// Returns the words of the note on the line of a refusal, if it is `noted`. For octets that are short and have no
+/// other note, they say how many more octets are needed at least.
 pub(crate) fn words_on<R: Copy>(
     alloc: Global,
     noted: bool,

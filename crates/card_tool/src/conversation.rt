@@ -1,4 +1,4 @@
-//! What reads octets and writes texts, in turn.
+//! Reading octets and writing texts in turn.
 
 ghost use Rattle.std.specs.Prelude.{◌<◌, List, [], ◌∷◌, length, IfErr};
 ghost use Rattle.std.specs.Io.{ReadsAtMost};
@@ -7,29 +7,29 @@ ghost use Rattle.card_tool.specs.Conversations.{AreSame, Event, Happens, HaveMov
 use octet_core::{Sink, Source, WriteFault, write_octets};
 use std::io;
 
-/// One who sends octets and reads texts, as a user at a terminal or a program at the other ends of two pipes.
+/// A peer that sends octets and reads texts, such as a user at a terminal, or a program at the other ends of two pipes.
 ///
-/// Contracts see what was heard and told since it was another conversation, in order. So who is proved over any
-/// conversation tells what its clauses say before it hears more. A conversation of which nothing is known has for
-/// `said` what always holds, `λ _ _ _. Unit {0}`.
+/// A contract can name the events since an earlier state of the conversation, in order. So a function that is proved
+/// for every conversation also shows which texts it writes before it reads more. An implementation about which nothing
+/// is known sets `said` to what always holds, `λ _ _ _. Unit {0}`.
 pub trait Conversation {
-    /// These may be the events since it was another conversation (the second).
+    /// Whether these may be the events since the conversation was in the second state.
     ghost said: { Self → Self → List Event → Type 0 };
 
-    /// Waits for octets and takes some to the front of the buffer, which has room for one at least: none at the end
-    /// of the input.
+    /// Waits for octets, and copies some to the front of the buffer, which has room for at least one. Returns how many,
+    /// 0 at the end of the input.
     fn hear(&mut self, room: &mut [u8]) -> io::Result<usize>
         requires { 0 < length room.old }
         ensures bound { ReadsAtMost result room.new }
         ensures said { Happens (said self.old) (said self.new) (hearing result room.new ∷ []) };
 
-    /// Tells a text, whole, or its first octets where that fails.
+    /// Writes a whole text. If that fails, the first octets of the text may be written.
     fn tell(&mut self, text: &[u8]) -> Result<(), WriteFault>
         ensures fewer { IfErr result (λ fault. fault.written < length text.now) }
         ensures said { Happens (said self.old) (said self.new) (telling text.now result ∷ []) };
 }
 
-/// The conversation of a reader and a writer: what is heard is read by one call, and each text is written
+/// The conversation of a reader and a writer. Each call of `hear` is one call of the reader. Each text is written
 /// before the call returns.
 #[derive(Drop)]
 pub struct Streams<'a, R, W> {

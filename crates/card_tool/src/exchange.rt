@@ -1,4 +1,4 @@
-//! Recorded exchanges, replayed, migrated, listed and drawn.
+//! Recorded exchanges: replayed, migrated, listed and drawn.
 
 ghost use Rattle.std.specs.Prelude.{◌≡◌, ◌≢◌, ◌++◌, IfOk, IsOkAnd, string_bytes};
 ghost use Rattle.apdu_list.specs.Listing.{apdus_text};
@@ -24,7 +24,7 @@ use exchange_core::{
 use octet_core::Octets;
 use std::alloc::{AllocError, Global};
 
-/// What is told of a file, with a note on the first line that an end does otherwise, or on that of the file's fault.
+/// Returns the answer about a file, with a note on the first line where an end differs, or on the file's first fault.
 pub(crate) fn told(alloc: Global, file: &[u8], task: FileTask) -> Result<WithNote, AllocError>
     ensures { IfOk result (AreOf (TellsFile task file.now) (IsFileNote task file.now)) }
 {
@@ -34,7 +34,7 @@ pub(crate) fn told(alloc: Global, file: &[u8], task: FileTask) -> Result<WithNot
     }
 }
 
-/// What is told of an exchange, with a note where it is replayed.
+/// Returns the answer about an exchange, with a note if it is replayed.
 fn told_of(
     alloc: Global,
     file: &[u8],
@@ -53,7 +53,7 @@ fn told_of(
     Ok(WithNote::alone(alloc, answer))
 }
 
-/// Whether the end that is named does what the exchange says, with a note.
+/// Replays an exchange at the end or ends that are named. Returns whether they agree with it, with a note.
 fn replayed_at(
     alloc: Global,
     file: &[u8],
@@ -76,7 +76,7 @@ fn replayed_at(
     }
 }
 
-/// Whether this end does what the exchange says, with a note.
+/// Replays an exchange at one end. Returns whether the end agrees with it, with a note.
 fn replayed_by(
     alloc: Global,
     file: &[u8],
@@ -92,7 +92,7 @@ fn replayed_by(
     Ok(WithNote { answer, note })
 }
 
-/// What is said of both ends, each with its name before it.
+/// Joins the answers about both ends, each after the name of its end.
 fn both(alloc: Global, terminal: &Answer, card: &Answer) -> Result<Answer, AllocError>
     ensures text { IfOk result (λ both. both.text ≡ both_text terminal.now.text card.now.text) }
     ensures status { IfOk result (λ both.
@@ -109,7 +109,7 @@ fn both(alloc: Global, terminal: &Answer, card: &Answer) -> Result<Answer, Alloc
     })
 }
 
-/// The line of a fault of the file, with a note on the line that it is in.
+/// Returns the line of a fault of the file, with a note on the file's line that has the fault.
 fn refused_with_note(
     alloc: Global,
     file: &[u8],
@@ -125,7 +125,7 @@ fn refused_with_note(
     Ok(WithNote { answer, note })
 }
 
-/// The commands and answers of an exchange.
+/// Lists the commands and answers of an exchange.
 fn listed(alloc: Global, exchange: &Exchange) -> Result<Answer, AllocError>
     ensures text { IfOk result (λ answer. answer.text ≡ apdus_text exchange.now.lines) }
     ensures status { IfOk result (λ answer. answer.status ≡ ended.Accepted) }
@@ -137,7 +137,7 @@ fn listed(alloc: Global, exchange: &Exchange) -> Result<Answer, AllocError>
     })
 }
 
-/// An exchange, drawn.
+/// Draws an exchange.
 fn drawn(alloc: Global, exchange: &Exchange, drawing: Drawing) -> Result<Answer, AllocError>
     ensures text { IfOk result (λ answer. answer.text ≡ drawn drawing exchange.now) }
     ensures status { IfOk result (λ answer. answer.status ≡ ended.Accepted) }
@@ -152,7 +152,7 @@ fn drawn(alloc: Global, exchange: &Exchange, drawing: Drawing) -> Result<Answer,
     })
 }
 
-/// Whether the end does what the exchange says, by what replaying it came to.
+/// Returns whether an end agrees with an exchange, by the outcome of replaying it.
 fn agreement(
     alloc: Global,
     exchange: &Exchange,
@@ -176,7 +176,7 @@ fn agreement(
     }
 }
 
-/// The text of an exchange.
+/// Returns the text of an exchange.
 pub(crate) fn written(alloc: Global, exchange: &Exchange) -> Result<Answer, AllocError>
     ensures text { IfOk result (λ answer. answer.text ≡ exchange_text exchange.now) }
     ensures status { IfOk result (λ answer. answer.status ≡ ended.Accepted) }
@@ -188,7 +188,7 @@ pub(crate) fn written(alloc: Global, exchange: &Exchange) -> Result<Answer, Allo
     })
 }
 
-/// The line of a fault of the file.
+/// Returns the line of a fault of the file.
 pub(crate) fn refused(alloc: Global, fault: ExchangeFault) -> Result<Answer, AllocError>
     ensures other { IfOk result (λ _. fault ≢ Memory) }
     ensures text { IfOk result (λ answer. answer.text ≡ file_fault_text fault) }

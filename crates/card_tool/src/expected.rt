@@ -6,7 +6,7 @@ ghost use Rattle.card_tool.specs.FileNotes.{begins_with_mark, ends_word, first_w
 
 use crate::file_notes::{ATR_LINE, line_from};
 
-/// What is said of a line that ends with a carriage return.
+/// The note on a line that ends with a carriage return.
 const RETURN: &str = "it ends with a carriage return; expected: a line feed alone";
 
 /// Whether a line ends with a carriage return.
@@ -16,7 +16,7 @@ fn has_return(text: &[u8], number: usize) -> bool
     returns_after(b'\n', line_from(text, number))
 }
 
-/// Whether the line at the front of a text ends with a carriage return, after this octet.
+/// Whether the line at the front of a text, after this octet, ends with a carriage return.
 fn returns_after(before: u8, text: &[u8]) -> bool
     ensures { result ≡ returns_after before text.now }
 {
@@ -30,7 +30,7 @@ fn returns_after(before: u8, text: &[u8]) -> bool
     last == b'\r'
 }
 
-/// What is wrong with a first line that isn't the header.
+/// Returns what is wrong with a first line that isn't the header.
 pub(crate) fn header_at(text: &[u8]) -> &'static str
     ensures { result.now ≡ header_at text.now }
 {
@@ -50,7 +50,7 @@ fn begins_with_mark(text: &[u8]) -> bool
     matches!(text, [0xEF, 0xBB, 0xBF, ..])
 }
 
-/// What is wrong with a line that has no octets where they should be.
+/// Returns what is wrong with a line that should have octets and hasn't.
 pub(crate) fn octets_at(text: &[u8], number: usize) -> &'static str
     ensures { result.now ≡ octets_at text.now number }
 {
@@ -61,7 +61,7 @@ pub(crate) fn octets_at(text: &[u8], number: usize) -> &'static str
     }
 }
 
-/// The form of a line, by its first word.
+/// Returns the form of a line, by its first word.
 pub(crate) fn form_at(text: &[u8], number: usize) -> &'static str
     ensures { result.now ≡ form_at text.now number }
 {
@@ -74,7 +74,7 @@ pub(crate) fn form_at(text: &[u8], number: usize) -> &'static str
     }
 }
 
-/// What comes after a first word; of all other words, what is one.
+/// Returns what must come after a first word. For an unknown word, returns which words may come first.
 fn form_of(word: &[u8]) -> &'static str
     ensures { result.now ≡ form_of word.now }
 {
@@ -127,7 +127,7 @@ fn is_word(word: &[u8], name: &str) -> bool
     word == name.as_bytes()
 }
 
-/// What is before the first space of the line at the front of a text.
+/// Returns the octets before the first space of the line at the front of a text.
 fn first_word(text: &[u8]) -> &[u8]
     ensures { result.now ≡ first_word text.now }
 {
@@ -137,7 +137,7 @@ fn first_word(text: &[u8]) -> &[u8]
     }
 }
 
-/// The place of the first octet that ends a word.
+/// Returns the place of the first octet that ends a word.
 fn end_of_word(text: &[u8]) -> Option<usize>
     ensures place { result ≡ position_from ends_word 0 text.now }
     ensures inside { IfSome result (λ place. place < length text.now) }

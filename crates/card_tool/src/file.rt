@@ -1,4 +1,4 @@
-//! A whole input, read into one buffer.
+//! Reads a whole input into one buffer.
 
 ghost use Rattle.std.specs.Prelude.{◌≡◌, ◌<◌, ◌≤◌, OnOk, length, take};
 ghost use Rattle.card_tool.specs.Calls.{calls_of};
@@ -8,17 +8,17 @@ use card_words::Fault;
 use octet_core::{Octets, Source};
 use std::alloc::{AllocError, Global};
 
-/// How many octets a file has at most.
+/// The most octets that a file may have.
 pub const LARGEST_FILE: usize = 4_194_304;
 
-/// How many octets the buffer has at first.
+/// The initial size of the buffer in octets.
 const FIRST_ROOM: usize = 4_096;
 
-/// All octets that the reader has, at most 4,194,304, in a buffer of at most one octet more.
+/// Reads all octets of a reader, at most 4,194,304, into a buffer with at most one octet more.
 ///
-/// `TooLarge` comes where one octet more was read, `Read` where a call of the reader failed, which isn't
-/// tried again, an interruption neither, and `Memory` where a growth was refused. No octet is read past
-/// the first 4,194,305, from a reader without an end neither.
+/// Fails with `TooLarge` if one octet more was read, with `Read` if a call of the reader failed, and with `Memory` if
+/// the buffer couldn't grow. A failed call isn't retried, not even after an interruption. No octet after the first
+/// 4,194,305 is read, even from a reader without an end.
 pub fn read_whole<R: Source>(alloc: Global, reader: &mut R) -> Result<Octets, Fault>
     ensures { ReadsWhole (calls_of R.remaining R.failures reader.old reader.new) result }
 {
@@ -35,8 +35,8 @@ pub fn read_whole<R: Source>(alloc: Global, reader: &mut R) -> Result<Octets, Fa
     Err(Fault::TooLarge)
 }
 
-/// Reads octets by one call into the buffer, after the `filled` ones that it has: how many, none at the
-/// end of the input.
+/// Reads octets into the buffer by one call, after the `filled` ones that it has. Returns how many, 0 at the end of the
+/// input.
 fn read_more<R: Source>(reader: &mut R, held: &mut Vec<u8>, filled: usize) -> Result<usize, Fault>
     requires inside { filled ≤ length held.old.items }
     requires few { filled ≤ 4194304 }
@@ -53,7 +53,7 @@ fn read_more<R: Source>(reader: &mut R, held: &mut Vec<u8>, filled: usize) -> Re
     }
 }
 
-/// Makes the buffer twice as long, but no longer than one octet more than a file.
+/// Doubles the length of the buffer, up to one octet more than the longest file.
 fn grow(held: &mut Vec<u8>) -> Result<(), AllocError>
     requires { length held.old.items ≤ 4194304 }
     ensures kept { OnOk result (take (length held.old.items) held.new.items ≡ held.old.items) }

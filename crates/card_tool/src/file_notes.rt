@@ -1,4 +1,4 @@
-//! Notes on the file of a recorded exchange: the line that is wrong, with its text, and what is expected there.
+//! Notes on the file of a recorded exchange: the line that is wrong, its text, and what is expected there.
 
 ghost use Rattle.std.specs.Prelude.{◌≡◌, ◌≢◌, ℕ, List, IfOk, string_bytes, take};
 ghost use Rattle.std.specs.Str.{trim_end};
@@ -15,20 +15,20 @@ use exchange_core::{Exchange, ExchangeFault, ReplayFault, Side, waiting_at};
 use explainer::{character, session_note};
 use std::alloc::{AllocError, Global};
 
-/// How many characters of a line are shown, at most.
+/// The most characters of a line that are shown.
 const SHOWN: usize = 80;
 
 /// The number of the line with the answer to reset.
 pub(crate) const ATR_LINE: usize = 2;
 
-/// A line of a file by its number, with its text, and what is to be said of it.
+/// Returns a note: a line of a file with its number and its text, and what there is to say about it.
 fn line_said(alloc: Global, number: usize, line: &str, what: &str) -> Result<String, AllocError>
     ensures { IfOk result (λ text. string_bytes text ≡ line_note number line.now what.now) }
 {
     format!(in alloc; "line {number} of the file: {line}\n{what}\n")
 }
 
-/// The line with the first fault of a text, and what is expected there.
+/// Returns the note on the first fault of a file: its line, and what is expected there.
 pub(crate) fn fault_note(
     alloc: Global,
     text: &[u8],
@@ -53,8 +53,8 @@ pub(crate) fn fault_note(
     }
 }
 
-/// The line with the first fault of a text that has blocks which were seen, and what is expected there, of words as the
-/// caller says.
+/// Returns the note on the first fault of a trace: its line, and what is expected there. For a line with wrong words
+/// this is the caller's text.
 pub(crate) fn trace_note(
     alloc: Global,
     text: &[u8],
@@ -75,8 +75,8 @@ pub(crate) fn trace_note(
     }
 }
 
-/// The first line that an end does otherwise, and why, by what replaying the exchange came to; nothing where the end
-/// does all of it. Of a file that was recorded of a trace it also says where in the trace the line is.
+/// Returns the note on the outcome of a replay: the first line where the end differs, and why. It is empty if the end
+/// agrees with all lines. For a file that was recorded from a trace, it also says where in the trace the line is.
 pub(crate) fn difference_note(
     alloc: Global,
     text: &[u8],
@@ -99,7 +99,7 @@ pub(crate) fn difference_note(
     }
 }
 
-/// Why an end differs from a line, by what it gives there, and what it waits for.
+/// Returns why an end differs from a line, by what the end gives there, and what the end waits for.
 fn why(
     alloc: Global,
     exchange: &Exchange,
@@ -118,7 +118,7 @@ fn why(
     Ok(what)
 }
 
-/// Why no end begins from an answer to reset.
+/// Returns why no session can begin from an answer to reset.
 fn atr_why(alloc: Global, exchange: &Exchange) -> Result<String, AllocError>
     ensures { IfOk result (λ what. (note : List ℕ) × IsSessionNote exchange.now.atr note
         × (string_bytes what ≡ trim_end note)) }
@@ -127,7 +127,7 @@ fn atr_why(alloc: Global, exchange: &Exchange) -> Result<String, AllocError>
     String::from_str(alloc, note.as_str().trim_end())
 }
 
-/// Why an end differs from a line after that of the answer to reset, by what it gives there.
+/// Returns why an end differs from a line after the answer to reset, by what the end gives there.
 fn reason(gives: &str, is_past: bool) -> &'static str
     ensures { result.now ≡ reason gives.now is_past }
 {
@@ -142,7 +142,7 @@ fn reason(gives: &str, is_past: bool) -> &'static str
     }
 }
 
-/// A line of a text, as far as it is shown, and what is to be said of it.
+/// Returns a note: a line of a text, cut to the length that is shown, and what there is to say about it.
 pub(crate) fn shown_at(
     alloc: Global,
     text: &[u8],
@@ -156,7 +156,7 @@ pub(crate) fn shown_at(
     line_said(alloc, number, line.as_str(), what)
 }
 
-/// As many octets as are shown of a line, or all where there are fewer.
+/// Returns the first 80 octets of a line, or all if there are fewer.
 fn front(text: &[u8]) -> &[u8]
     ensures { result.now ≡ take 80 text.now }
 {
@@ -167,7 +167,7 @@ fn front(text: &[u8]) -> &[u8]
     }
 }
 
-/// A text from the line with this number on, counted from 1; empty where there is none.
+/// Returns a text from the line with this number on, counted from 1. Empty if there is no such line.
 pub(crate) fn line_from(text: &[u8], number: usize) -> &[u8]
     ensures { result.now ≡ line_from number text.now }
 {
@@ -183,7 +183,7 @@ pub(crate) fn line_from(text: &[u8], number: usize) -> &[u8]
     rest
 }
 
-/// How many lines are left after an octet, which may end one.
+/// Returns how many lines are left after an octet, which may end a line.
 fn lines_left(left: usize, octet: u8) -> usize
     ensures { result ≡ lines_left left octet }
 {
@@ -194,7 +194,7 @@ fn lines_left(left: usize, octet: u8) -> usize
     }
 }
 
-/// The line at the front of a text, with a question mark for each octet that is no printable character.
+/// Returns the line at the front of a text, with a question mark for each octet that isn't a printable character.
 fn shown(alloc: Global, text: &[u8]) -> Result<String, AllocError>
     ensures { IfOk result (λ line. string_bytes line ≡ line_shown text.now) }
 {

@@ -1,4 +1,4 @@
-//! The program on a system: its words and streams, and its exit status.
+//! The program on a system: its words, its streams and its exit status.
 
 ghost use Rattle.std.specs.Prelude.{◌≡◌, IfErr};
 ghost use Rattle.std.specs.Process.{exit_status};
@@ -15,11 +15,11 @@ use std::env::{self, Env};
 use std::io::ErrorKind;
 use std::process::ExitCode;
 
-/// Does what the words of the system ask for, of which the first is the program's name. The words fail as a whole
-/// where one is no UTF-8: `fault: words`.
+/// Runs the program with the words of the system. The first word is the program's name. If a word isn't UTF-8, the
+/// answer is `fault: words`.
 ///
-/// No contract says which words the system gives: there are some for which the text that is written and the exit
-/// status are right, or none could be had.
+/// No contract says which words the system gives. So the contract says that the text and the exit status are right for
+/// some words, or for a fault of the system's words.
 pub fn serve<H, R, W>(rt: &H, reader: &mut R, writer: &mut W) -> ExitCode
 where
     H: Env + AllocGlobal,
@@ -32,7 +32,7 @@ where
     ExitCode::from(status.number())
 }
 
-/// Does what the words of the system ask for.
+/// Runs the program with the words of the system.
 fn done<H, R, W>(rt: &H, reader: &mut R, writer: &mut W) -> Status
 where
     H: Env + AllocGlobal,
@@ -47,7 +47,7 @@ where
     }
 }
 
-/// The words that the system gives.
+/// Returns the words of the system.
 fn words<H: Env + AllocGlobal>(rt: &H) -> Result<Vec<String>, Fault>
     ensures { IfErr result IsWithoutWords }
 {

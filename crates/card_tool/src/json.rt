@@ -1,4 +1,4 @@
-//! Answers as objects of JSON.
+//! Answers as JSON objects.
 
 ghost use Rattle.std.specs.Prelude.{◌≡◌, ◌++◌, ℕ, List, codes, drop, IfOk, string_bytes};
 ghost use Rattle.card_kinds.specs.Verdicts.{kind_name};
@@ -18,23 +18,25 @@ use card_words::{Aim, Ends, Fault, FileTask, Layout, Request, Task};
 use octet_core::Octets;
 use std::alloc::{AllocError, Global};
 
-/// What an object ends with.
+/// The end of an object.
 const CLOSING: &[u8; 2] = b"}\n";
 
-/// How an answer becomes an object of JSON.
+/// How an answer becomes a JSON object.
 #[derive(Clone, Copy)]
 pub(crate) enum Object {
-    /// What this task tells of octets: it is an object where its layout is JSON, unless it is the line of a fault.
+    /// The answer of this task on octets. With the layout JSON it already is an object, unless it is the line of a
+    /// fault.
     Told(Task),
-    /// Lines about this that report, of which each form has its members.
+    /// Lines about this subject, whose forms give the object its members.
     Report(&'static str),
-    /// The same of lines that don't have their verdict.
+    /// Lines about this subject without their verdict, whose forms give the object its other members.
     Judged(&'static str),
-    /// Lines about this that are what was asked for: an array has them as they are, unless they are a refusal or a fault.
+    /// Lines about this subject that are content. They go into an array unchanged, unless they are a refusal or a
+    /// fault.
     Content(&'static str),
 }
 
-/// How the answer to what words were read as becomes an object.
+/// Returns how the answer becomes an object, by what the words were read as.
 pub(crate) fn object_by(read: &Result<Request, Fault>) -> Object
     ensures { (ended : AnyStatus) (told : List ℕ)
         → object_as result ended told ≡ object_by read.now ended told }
@@ -45,7 +47,7 @@ pub(crate) fn object_by(read: &Result<Request, Fault>) -> Object
     }
 }
 
-/// The same of a request.
+/// Returns how the answer to a request becomes an object.
 fn request_object(request: &Request) -> Object
     ensures { (ended : AnyStatus) (told : List ℕ)
         → object_as result ended told ≡ request_object request.now ended told }
@@ -65,7 +67,7 @@ fn request_object(request: &Request) -> Object
     }
 }
 
-/// The same of a file.
+/// Returns how the answer about a file becomes an object.
 fn file_object(task: FileTask) -> Object
     ensures { (ended : AnyStatus) (told : List ℕ)
         → object_as result ended told ≡ file_object task ended told }
@@ -77,7 +79,7 @@ fn file_object(task: FileTask) -> Object
     }
 }
 
-/// What an object is about that answers a request: the kind of the octets, or the subcommand.
+/// Returns the subject of the object that answers a request: the kind of the octets, or the subcommand.
 fn subject(request: &Request) -> &'static str
     ensures { result.now ≡ subject request.now }
 {
@@ -95,7 +97,7 @@ fn subject(request: &Request) -> &'static str
     }
 }
 
-/// What is told of a file, by its subcommand.
+/// Returns the subcommand's name, which is the subject of an answer about a file.
 fn file_subject(task: FileTask) -> &'static str
     ensures { result.now ≡ file_subject task }
 {
@@ -107,7 +109,7 @@ fn file_subject(task: FileTask) -> &'static str
     }
 }
 
-/// An answer as an object of JSON, with its explanation as a member.
+/// Returns an answer as a JSON object, with its explanation as a member.
 pub(crate) fn in_json(alloc: Global, object: &Object, made: WithNote) -> Result<Octets, AllocError>
     ensures { IfOk result (λ text. text ≡ with_explanation
         (object_as object.now made.answer.status made.answer.text) (said_of made.note)) }
@@ -117,7 +119,7 @@ pub(crate) fn in_json(alloc: Global, object: &Object, made: WithNote) -> Result<
     explained(alloc, text, note)
 }
 
-/// An object with an explanation as its last member, where there is one.
+/// Appends an explanation, if there is one, to an object as its last member.
 pub(crate) fn explained(
     alloc: Global,
     object: Octets,
@@ -131,7 +133,7 @@ pub(crate) fn explained(
     }
 }
 
-/// An object with an explanation as its last member.
+/// Appends an explanation to an object as its last member.
 fn with_explanation(alloc: Global, object: Octets, note: String) -> Result<Octets, AllocError>
     ensures { IfOk result (λ text.
         text ≡ with_member object (explanation_member (string_bytes note))) }
@@ -140,7 +142,7 @@ fn with_explanation(alloc: Global, object: Octets, note: String) -> Result<Octet
     with_member(object, member.as_bytes())
 }
 
-/// The member that has an explanation, after a comma.
+/// Returns the member for an explanation, which begins with a comma.
 fn explanation_member(alloc: Global, note: String) -> Result<String, AllocError>
     ensures { IfOk result (λ member.
         string_bytes member ≡ explanation_member (string_bytes note)) }
@@ -149,7 +151,7 @@ fn explanation_member(alloc: Global, note: String) -> Result<String, AllocError>
     format!(in alloc; ",\"explanation\":{text}")
 }
 
-/// An object with the notes on these lines as its last member.
+/// Appends the notes on these lines to an object as its last member.
 pub(crate) fn with_notes(alloc: Global, object: Octets, noted: &[u8]) -> Result<Octets, AllocError>
     ensures { IfOk result (λ text. text ≡ with_notes object noted.now) }
 {
@@ -157,7 +159,7 @@ pub(crate) fn with_notes(alloc: Global, object: Octets, noted: &[u8]) -> Result<
     with_member(object, member.as_bytes())
 }
 
-/// An object with one more member at its end, which begins with a comma.
+/// Appends a member, which begins with a comma, to an object.
 fn with_member(object: Octets, member: &[u8]) -> Result<Octets, AllocError>
     ensures { IfOk result (λ text. text ≡ with_member object member.now) }
 {
@@ -168,7 +170,7 @@ fn with_member(object: Octets, member: &[u8]) -> Result<Octets, AllocError>
     Ok(Octets::of(text))
 }
 
-/// An answer as an object of JSON.
+/// Returns an answer as a JSON object.
 fn object_of(alloc: Global, object: &Object, answer: Answer) -> Result<Octets, AllocError>
     ensures { IfOk result (λ text. text ≡ object_as object.now answer.status answer.text) }
 {
@@ -180,7 +182,7 @@ fn object_of(alloc: Global, object: &Object, answer: Answer) -> Result<Octets, A
     }
 }
 
-/// What a task tells of octets as an object.
+/// Returns the answer of a task on octets as an object.
 fn told_object(alloc: Global, task: Task, answer: Answer) -> Result<Octets, AllocError>
     ensures { IfOk result (λ text.
         text ≡ told_object task.layout task answer.status answer.text) }
@@ -193,7 +195,7 @@ fn told_object(alloc: Global, task: Task, answer: Answer) -> Result<Octets, Allo
     }
 }
 
-/// Lines that are what was asked for as an object; a refusal or a fault as its own.
+/// Returns lines that are content as an object. A refusal or a fault becomes an object by its form.
 fn content_object(alloc: Global, about: &str, answer: Answer) -> Result<Octets, AllocError>
     ensures { IfOk result (λ text. text ≡ content_object about.now answer.status answer.text) }
 {
@@ -203,7 +205,7 @@ fn content_object(alloc: Global, about: &str, answer: Answer) -> Result<Octets, 
     }
 }
 
-/// An object that has lines as they are.
+/// Returns an object with lines as strings, unchanged.
 fn object_with_lines(alloc: Global, about: &str, lines: &[u8]) -> Result<Octets, AllocError>
     ensures { IfOk result (λ text. text ≡ object_with_lines about.now lines.now) }
 {
@@ -211,7 +213,7 @@ fn object_with_lines(alloc: Global, about: &str, lines: &[u8]) -> Result<Octets,
     lines_after(alloc, head, lines)
 }
 
-/// Lines as they are after the beginning of an object, with the verdict that they are all.
+/// Returns the beginning of an object, followed by the verdict that all is well and by lines as strings, unchanged.
 fn lines_after(alloc: Global, head: String, lines: &[u8]) -> Result<Octets, AllocError>
     ensures { IfOk result (λ text. text ≡ string_bytes head
         ++ (codes "\"verdict\":\"ok\",\"lines\":[" ++ (line_strings lines.now ++ codes "]}\n"))) }
@@ -223,7 +225,7 @@ fn lines_after(alloc: Global, head: String, lines: &[u8]) -> Result<Octets, Allo
     Ok(Octets::of(text))
 }
 
-/// What a task tells of octets in JSON as an object: it is one, and the line of a fault becomes one.
+/// Returns the JSON answer of a task on octets as an object. It already is one, unless it is the line of a fault.
 pub(crate) fn object_told(
     alloc: Global,
     task: Task,
@@ -239,7 +241,7 @@ pub(crate) fn object_told(
     }
 }
 
-/// The line of a fault as an object: without a note where notes are asked for.
+/// Returns the line of a fault as an object. If notes are asked for, its array of notes is empty.
 fn fault_object(alloc: Global, task: Task, line: &[u8]) -> Result<Octets, AllocError>
     ensures { IfOk result (λ text.
         text ≡ noted_as task.aim (json_object (kind_name task.expected.kind) line.now) line.now) }
@@ -251,7 +253,7 @@ fn fault_object(alloc: Global, task: Task, line: &[u8]) -> Result<Octets, AllocE
     }
 }
 
-/// Lines as an object of JSON about something, in one line.
+/// Returns lines as a JSON object about a subject, in one line.
 fn object_of_lines(alloc: Global, about: &str, lines: &[u8]) -> Result<Octets, AllocError>
     ensures { IfOk result (λ text. text ≡ json_object about.now lines.now) }
 {
@@ -259,7 +261,7 @@ fn object_of_lines(alloc: Global, about: &str, lines: &[u8]) -> Result<Octets, A
     members_after(alloc, head, lines)
 }
 
-/// The members of lines after the beginning of an object.
+/// Returns the beginning of an object, followed by the members of lines.
 fn members_after(alloc: Global, head: String, lines: &[u8]) -> Result<Octets, AllocError>
     ensures { IfOk result (λ text. text ≡ string_bytes head ++ drop 1 (json_text lines.now)) }
 {
@@ -269,7 +271,7 @@ fn members_after(alloc: Global, head: String, lines: &[u8]) -> Result<Octets, Al
     Ok(Octets::of(text))
 }
 
-/// Lines as an object of JSON about something, with the verdict, which they don't have.
+/// Returns lines that don't have their verdict as a JSON object about a subject, with the verdict.
 fn judged_object(alloc: Global, about: &str, answer: Answer) -> Result<Octets, AllocError>
     ensures { IfOk result (λ text. text ≡ judged_object about.now answer.status answer.text) }
 {
@@ -278,7 +280,7 @@ fn judged_object(alloc: Global, about: &str, answer: Answer) -> Result<Octets, A
     members_after(alloc, head, answer.text.get())
 }
 
-/// The verdict of lines that don't have it, by the status. A fault has it.
+/// Returns the verdict's member for lines that don't have it, by the status. A fault already has it.
 fn verdict_member(status: Status) -> &'static str
     ensures { result.now ≡ verdict_member status }
 {
@@ -289,7 +291,7 @@ fn verdict_member(status: Status) -> &'static str
     }
 }
 
-/// All octets but the first.
+/// Returns all octets except the first.
 fn after_first(octets: &[u8]) -> &[u8]
     ensures { result.now ≡ drop 1 octets.now }
 {

@@ -1,4 +1,4 @@
-//! Answers about octets, each with a note that is made from the verdict of the answer.
+//! Answers about octets, each with a note from the same verdict.
 
 ghost use Rattle.std.specs.Prelude.{◌≡◌, ◌++◌, [], IfOk, IsOkAnd, string_bytes};
 ghost use Rattle.card_kinds.specs.Codec.{IsVerdict};
@@ -28,24 +28,24 @@ use octet_core::Octets;
 use std::alloc::{AllocError, Global};
 use tlv_core::{Dol, DolReason, Forest};
 
-/// An answer, and what is to be said after its text, where memory for that isn't refused.
+/// An answer and a note to print after it, if memory for the note was available.
 #[derive(Drop)]
 pub(crate) struct WithNote {
     pub(crate) answer: Answer,
     pub(crate) note: Result<String, AllocError>,
 }
 
-/// An answer with what is to be said after its text, and of a refusal the words of a note on its line.
+/// An answer with its note. For a refusal also the words of a note on its line.
 #[derive(Drop)]
 struct Annotatable {
     said: WithNote,
-    /// The line, where the answer is an object that is to have notes.
+    /// The line of the refusal, if the answer is an object and notes are asked for.
     line: Octets,
     words: String,
 }
 
 impl WithNote {
-    /// An answer of which nothing is to be said.
+    /// Returns an answer with an empty note.
     pub(crate) fn alone(alloc: Global, answer: Answer) -> Self
         ensures answer { result.answer ≡ answer }
         ensures note { IfOk result.note (λ note. string_bytes note ≡ []) }
@@ -55,7 +55,7 @@ impl WithNote {
         WithNote { answer, note }
     }
 
-    /// The same answer, with another note after its own.
+    /// Appends another note to that of an answer.
     pub(crate) fn and(self, other: Result<String, AllocError>) -> Self
         ensures answer { result.answer ≡ self.answer }
         ensures note { IfOk result.note (λ note. IsOkAnd self.note (λ one. IsOkAnd other (λ more.
@@ -68,7 +68,7 @@ impl WithNote {
     }
 }
 
-/// One note and then another, where both could be made.
+/// Joins two notes, if both could be made.
 pub(crate) fn joined(
     first: Result<String, AllocError>,
     second: Result<String, AllocError>,
@@ -82,7 +82,7 @@ pub(crate) fn joined(
     Ok(note)
 }
 
-/// What is said of octets, with a note where it is asked for.
+/// Returns the answer about octets, with a note if one is asked for.
 pub(crate) fn answer_about(
     alloc: Global,
     telling: Telling,
@@ -98,7 +98,7 @@ pub(crate) fn answer_about(
     }
 }
 
-/// The value itself with the notes on its lines, as lines or as an object, and a note.
+/// Returns the value itself, as lines with notes or as an object with notes, and a note about the octets.
 fn noted_in(alloc: Global, telling: Telling, octets: &[u8]) -> Result<WithNote, AllocError>
     ensures { IfOk result (AreOf (Tells aim.Note telling.task.layout telling.task.expected
         octets.now)
@@ -110,7 +110,7 @@ fn noted_in(alloc: Global, telling: Telling, octets: &[u8]) -> Result<WithNote, 
     }
 }
 
-/// The value itself as lines with notes on them, and a note.
+/// Returns the value itself as lines with notes, and a note about the octets.
 fn noted_value(alloc: Global, telling: Telling, octets: &[u8]) -> Result<WithNote, AllocError>
     requires { telling.task.layout ≡ layout.Lines }
     ensures { IfOk result (AreOf (ShowsNoted telling.task.expected.kind telling.task.expected
@@ -123,7 +123,7 @@ fn noted_value(alloc: Global, telling: Telling, octets: &[u8]) -> Result<WithNot
     Ok(WithNote { answer, note })
 }
 
-/// The value itself as an object with the notes on its lines, and a note.
+/// Returns the value itself as an object with the notes on its lines, and a note about the octets.
 fn noted_object(alloc: Global, telling: Telling, octets: &[u8]) -> Result<WithNote, AllocError>
     requires { telling.task.layout ≡ layout.Json }
     ensures { IfOk result (AreOf (ShowsNotedObject telling.task.expected.kind telling.task.expected
@@ -136,7 +136,7 @@ fn noted_object(alloc: Global, telling: Telling, octets: &[u8]) -> Result<WithNo
     Ok(WithNote { answer, note })
 }
 
-/// How many octets the value takes, with a note where it is asked for.
+/// Returns how many octets the value takes, with a note if one is asked for.
 fn checked(alloc: Global, telling: Telling, octets: &[u8]) -> Result<WithNote, AllocError>
     ensures { IfOk result (AreOf
         (Checks telling.task.layout telling.task.expected.kind telling.task.expected octets.now)
@@ -153,7 +153,7 @@ fn checked(alloc: Global, telling: Telling, octets: &[u8]) -> Result<WithNote, A
     }
 }
 
-/// The value itself, with notes on its lines where it is `noted`, and a note where it is asked for.
+/// Returns the value itself, with notes on its lines if it is `noted`, and a note if one is asked for.
 fn shown(
     alloc: Global,
     telling: Telling,
@@ -177,7 +177,7 @@ fn shown(
     }
 }
 
-/// How many octets the value of a codec takes, with a note where it is asked for.
+/// Returns how many octets the value of a codec takes, with a note if one is asked for.
 fn checked_by<C: Codec>(
     alloc: Global,
     telling: Telling,
@@ -205,7 +205,7 @@ where
     Ok(WithNote { answer, note })
 }
 
-/// The value of a codec, with the notes on its lines where it is `noted`, and a note where it is asked for. The octets
+/// Returns the value of a codec, with notes on its lines if it is `noted`, and a note if one is asked for. The octets
 /// are decoded once.
 fn shown_by<C: Codec>(
     alloc: Global,
@@ -242,8 +242,8 @@ where
     })
 }
 
-/// What is to be said of octets by the verdict on them, where it `explains`. `kind` is what they are taken for, which may
-/// tell how many octets must still come at least.
+/// Returns the note on octets by their verdict, if one is asked for. With `kind` it can say how many more octets are
+/// needed at least.
 fn asked_note<R: Explained + Copy>(
     alloc: Global,
     explains: bool,
@@ -260,7 +260,7 @@ fn asked_note<R: Explained + Copy>(
     verdict_note(alloc, octets, verdict, least_wanting(kind, octets))
 }
 
-/// A forest in the shortest octets that say the same, with a note where it `explains`.
+/// Returns the shortest encoding of a forest's objects, with a note if one is asked for.
 pub(crate) fn tidied(alloc: Global, explains: bool, octets: &[u8]) -> Result<WithNote, AllocError>
     ensures { IfOk result (AreOf (Tidies octets.now)
         (SaysIf explains (IsForestNote octets.now))) }
@@ -274,7 +274,7 @@ pub(crate) fn tidied(alloc: Global, explains: bool, octets: &[u8]) -> Result<Wit
     Ok(WithNote { answer, note })
 }
 
-/// What a list asks for of what is known, with a note.
+/// Returns the octets that a list requests from known values, with a note.
 pub(crate) fn filled(
     alloc: Global,
     words: &[String],
@@ -293,8 +293,8 @@ pub(crate) fn filled(
     Ok(WithNote { answer, note })
 }
 
-/// What is to be said of a list that is to be filled: of its octets, or where they are a list, of a word that says no
-/// known value, or of two that say values of one tag.
+/// Returns the note on a list to fill. It is about the list's octets; or, if they are a list, about a word that isn't a
+/// known value, or about two words with values of one tag.
 fn fill_note(
     alloc: Global,
     words: &[String],

@@ -1,4 +1,4 @@
-//! Traces of a line, of which the standard says what each end may send.
+//! Traces of a line, judged by what the standard permits each end to send.
 
 ghost use Rattle.std.specs.Prelude.{◌≡◌, ◌≢◌, Err, IfErr, IfOk};
 ghost use Rattle.exchange_core.specs.Faults.{atr_fault_name};
@@ -27,7 +27,7 @@ use trace_judge::{Judgment, Offer, Scope, judge_trace, rates_before};
 const EXPECTED: &str =
     "expected: t HEX or c HEX, with lost or as HEX after it or not, quiet, reset, or at N";
 
-/// What octets offer that are one whole answer to reset with parameters of T=1.
+/// Returns what octets offer that are exactly one answer to reset with parameters of T=1.
 fn offer_of(octets: &[u8]) -> Result<Offer, AtrFault>
     ensures found { IfOk result (IsOffer octets.now) }
     ensures refused { IfErr result (λ fault. IsFound octets.now (Err (atr_fault_name fault))) }
@@ -44,7 +44,7 @@ fn offer_of(octets: &[u8]) -> Result<Offer, AtrFault>
     }
 }
 
-/// What is judged of a trace.
+/// Returns the scope of a judgment: what it covers.
 fn scope_of(judging: Judging) -> Scope
     ensures { result ≡ scope_of judging }
 {
@@ -55,7 +55,7 @@ fn scope_of(judging: Judging) -> Scope
     }
 }
 
-/// The end that is judged alone, if one is.
+/// Returns the end that is judged alone, if there is one.
 fn only_of(ends: Ends) -> Option<Side>
     ensures { result ≡ only_of ends }
 {
@@ -66,7 +66,7 @@ fn only_of(ends: Ends) -> Option<Side>
     }
 }
 
-/// The text of a judgment, by which the program ends.
+/// Returns a judgment as an answer: its text, and the status by whether an end deviates.
 fn answer_of(judgment: Judgment) -> Answer
     ensures text { result.text ≡ judgment.text }
     ensures status { result.status ≡ judged_status judgment.deviates }
@@ -79,8 +79,8 @@ fn answer_of(judgment: Judgment) -> Answer
     Answer::of(judgment.text.into_inner(), status)
 }
 
-/// What of the blocks that a text has isn't permitted, or the text's fault, with a note on an answer to reset that can't
-/// be used, or on the line with the fault.
+/// Returns what isn't permitted among the blocks of a text, or the text's fault. The note is on an answer to reset that
+/// can't be used, or on the line with the fault.
 pub(crate) fn judged(
     alloc: Global,
     atr: &[u8],
@@ -100,7 +100,7 @@ pub(crate) fn judged(
     }
 }
 
-/// The same at a card that offers this.
+/// Judges a text for a card that offers this.
 fn text_judged(
     alloc: Global,
     offer: Offer,
@@ -119,7 +119,7 @@ fn text_judged(
     }
 }
 
-/// The line of a text's fault, with a note on the line that it is in.
+/// Returns the line of a text's fault, with a note on the text's line that has it.
 fn fault_with_note(alloc: Global, text: &[u8], fault: ExchangeFault) -> Result<WithNote, AllocError>
     ensures other { IfOk result (λ _. fault ≢ Memory) }
     ensures made { IfOk result (AreOf

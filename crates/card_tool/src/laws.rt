@@ -1,4 +1,4 @@
-//! What holds of the program's definitions alone, as contracts.
+//! What holds of the program's definitions alone. The contracts state it.
 
 ghost use Rattle.std.specs.Prelude.{◌≡◌, ◌<◌, ◌⊎◌, ◌++◌, ◌∷◌, [], ℕ, List, Option, Some, Result, Err, IfOk};
 ghost use Rattle.clap.specs.Kinds.{IsAmong};
@@ -19,8 +19,8 @@ ghost use Rattle.card_words.specs.declared.request.Asked.{Asked as AnyAsked};
 ghost use Rattle.card_tool.specs.declared.telling.Telling.{Telling as AnyTelling};
 ghost use Rattle.card_kinds.specs.declared.status.Status.{Status as AnyStatus};
 
-/// What is asked for has one text and one status, and no other, with what reading standard input gave; texts with notes
-/// are one without them, since the words on a refusal are open. What is taken as it was read has to be octets.
+/// Each request has exactly one text and one status for each outcome of reading standard input. Texts with notes may
+/// differ in the words on a refusal, and are the same without notes. Input that is taken as it was read must be octets.
 pub fn one_answer()
     ensures some { (asked : AnyAsked) (file : Result (List ℕ) AnyFault) → AreSized asked
         → HaveOctets asked → (IsOnce NeedsOctets asked → IfOk file AreOctets) → (text : List ℕ)
@@ -32,8 +32,8 @@ pub fn one_answer()
         → AreAlike asked text other × (ended ≡ different) }
 {}
 
-/// A text with notes is the one without them, with the same status: where each line is cut at its first note, or each
-/// object has no member for them.
+/// Without its notes, a text is the answer to the same request without notes, and the status is the same. In lines,
+/// each line is cut at its first note. In objects, the member for notes is left out.
 pub fn notes_cut()
     ensures { (asked : AnyAsked) (file : Result (List ℕ) AnyFault) (text : List ℕ)
         (ended : AnyStatus) → IsAnswerAsked asked file text ended
@@ -41,9 +41,9 @@ pub fn notes_cut()
         × IsPlain asked text plain }
 {}
 
-/// Every list of words has a text and a status, and no other, but where `clap` answers a call for help:
-/// the text of help is open, and where its word `help` is followed by others, help and `fault: words` both
-/// are right. Where notes are asked for, the text is one without them.
+/// Every list of words has exactly one text and one status, unless `clap` answers a call for help: the text of help is
+/// open. If other words follow the word `help`, both help and `fault: words` are right. If notes are asked for, the
+/// text without its notes is unique.
 pub fn one_text()
     ensures some { (words : List (List ℕ)) (file : Result (List ℕ) AnyFault)
         → (AskForOctets words → IfOk file AreOctets) → (text : List ℕ) × (ended : AnyStatus)
@@ -55,16 +55,16 @@ pub fn one_text()
         ⊎ (IsSameText words text other × (ended ≡ different)) }
 {}
 
-/// Where the octets of a reader are known and no call of it fails, what is read as a file is those octets, or
-/// `TooLarge` where they are too many, but for memory.
+/// If the octets of a reader are known and no call of it fails, reading a file gives these octets. It gives `TooLarge`
+/// if there are too many, and may give `Memory`.
 pub fn one_file()
     ensures { (octets : List ℕ) (left : Option (List ℕ)) (before after : ℕ)
         (file : Result (List ℕ) AnyFault) → ReadsWhole (calls (Some octets) left before after) file
         → after ≡ before → before < most_failures → (file ≡ Err Memory) ⊎ (file ≡ file_of octets) }
 {}
 
-/// Wherever more is heard in a conversation about lines, the texts that were told before are the answers to all lines
-/// that the octets heard before end, and nothing else.
+/// Whenever a conversation about lines reads more, the texts written before are exactly the answers to all lines that
+/// the octets read before end.
 pub fn answered_first()
     ensures { (telling : AnyTelling) (events before after : List Event) (event : Event)
         (ended : AnyStatus) → AnswersLines telling [] [] events ended

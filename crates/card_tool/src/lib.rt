@@ -1,11 +1,12 @@
-//! The program `scard` as a function of its words and of a reader: all that the program does. `serve` takes
-//! the words from the system.
+//! The program `scard` as a function of its words and of a reader. `serve` takes the words from the system.
 //!
-//! card_words reads what a command line asks for: one text, by a `Request`, or the text of each line of standard
-//! input, which `answer_lines` answers. The module `replies` makes the text, the status and the explanation that a request has,
-//! by card_kinds for octets, and by a module each for files of recorded exchanges, which `read_whole` reads, for traces that are recorded or
-//! judged, and for simulated sessions, and `run` writes that text. What the text is, is said by definitions: `IsAnswer`
-//! in `specs/Answers.antt`, over card_words' `IsRead`. What exchange_core gives stands at the root too.
+//! card_words reads what a command line asks for: one text, as a `Request`, or the text for each line of standard
+//! input, which `answer_lines` gives. The module `replies` makes the text, the status and the explanation for a
+//! request. It calls card_kinds for octets. A module each is for files of recorded exchanges, for traces that are
+//! recorded or judged, and for simulated sessions. `read_whole` reads the input, and `run` writes the text.
+//!
+//! Definitions say which text is right: `IsAnswer` in `specs/Answers.antt`, over card_words' `IsRead`. The root also
+//! reexports what exchange_core gives.
 #![tactic(auto)]
 
 mod annotated;

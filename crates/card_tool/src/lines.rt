@@ -1,4 +1,4 @@
-//! Lines of octets, each of which is answered as it comes.
+//! Answers each line of octets as it comes.
 
 ghost use Rattle.std.specs.Prelude.{◌≡◌, ◌⊎◌, ◌++◌, ◌∷◌, [], ℕ, List, IfOk, IfErr, OnOk, OnErr, string_bytes};
 ghost use Rattle.card_tool.specs.Calls.{calls_of};
@@ -21,30 +21,32 @@ use card_words::{Aim, Fault, Layout, Task};
 use octet_core::{Octets, Sink, Source, WriteFault};
 use std::alloc::{AllocError, Global};
 
-/// How many octets are read by one call at most.
+/// The most octets that one call reads.
 const PIECE: usize = 8_192;
 
-/// What is kept between two calls of the reader.
+/// The state between two calls of the reader.
 #[derive(Drop)]
 struct AnsweredLines {
     telling: Telling,
-    /// The octets of the line under way, but no more than one past the limit.
+    /// The octets of the unfinished line, up to one more than the limit.
     line: Vec<u8>,
-    /// What is still to be told.
+    /// The text that isn't written yet.
     text: Vec<u8>,
-    /// How the program ends where no more lines come.
+    /// The status if no more lines come.
     status: Status,
 }
 
-/// Answers each line that is heard by what the task tells of it: a line that `\n` ends before more is heard, and a last
-/// one, where it has octets, at the end of the input. The answer of a check is one line, and that of a value its lines
-/// and an empty one. Where explanations are asked for, one comes after the lines of the answer, each of its lines after
-/// two blanks, or as a member of an object of JSON. Nothing else is written, but for the line of a fault as the last: `fault: read` where a call to hear more
-/// failed, `fault: memory` where a growth of memory was refused, and `fault: too large` after 2<sup>64</sup> - 1
-/// octets.
+/// Answers each line of the input by the answer of the task. Each line that `\n` ends is answered before more is read.
+/// A last line without `\n` is answered at the end of the input, if it has octets.
 ///
-/// `run` does so with a reader and a writer, as [`Streams`](crate::Streams), where words ask for the lines of standard
-/// input.
+/// The answer to a check is one line. The answer to a value is its lines and an empty one. An explanation, if asked
+/// for, comes after the lines of the answer, each of its lines after two blanks, or as a member of a JSON object.
+///
+/// The only other text is the line of a fault, as the last. It is `fault: read` if a call to read more failed,
+/// `fault: memory` if memory couldn't grow, and `fault: TooLarge` after at least 2<sup>64</sup> - 1 octets.
+///
+/// `run` calls it with a reader and a writer, as [`Streams`](crate::Streams), if the words ask for the lines of
+/// standard input.
 pub fn answer_lines<C: Conversation>(
     alloc: Global,
     telling: Telling,
@@ -76,7 +78,7 @@ pub fn answer_lines<C: Conversation>(
     told.faulted(Fault::TooLarge, conversation)
 }
 
-/// Answers each line of the reader by a line, before the next call of the reader.
+/// Answers each line of the reader before the next call of the reader.
 pub(crate) fn tell_lines<R: Source, W: Sink>(
     alloc: Global,
     telling: Telling,
@@ -90,7 +92,7 @@ pub(crate) fn tell_lines<R: Source, W: Sink>(
     answer_lines(alloc, telling, &mut streams)
 }
 
-/// Tells the text that was kept, and empties it.
+/// Writes the text that was kept, and empties it.
 fn tell_kept<C: Conversation>(text: &mut Vec<u8>, conversation: &mut C) -> Result<(), WriteFault>
     ensures told { OnOk result (Happens (C.said conversation.old) (C.said conversation.new)
         (told text.old.items ∷ [])) }
@@ -109,7 +111,7 @@ fn tell_kept<C: Conversation>(text: &mut Vec<u8>, conversation: &mut C) -> Resul
     }
 }
 
-/// Tells a text: the status, unless that fails.
+/// Writes a text. Returns the status, or that of a fault if writing failed.
 fn tell<C: Conversation>(text: &[u8], status: Status, conversation: &mut C) -> Status
     ensures { (event : Event)
         × Happens (C.said conversation.old) (C.said conversation.new) (event ∷ [])
@@ -142,7 +144,7 @@ impl AnsweredLines {
         Ok(())
     }
 
-    /// Takes an octet, and answers the line that it ends.
+    /// Takes an octet, and answers the line that it ends, if it ends one.
     fn take(&mut self, alloc: Global, octet: u8) -> Result<(), AllocError>
         ensures telling { self.new.telling ≡ self.old.telling }
         ensures said { OnOk result
@@ -161,7 +163,7 @@ impl AnsweredLines {
         Ok(())
     }
 
-    /// Answers the line under way, and begins another.
+    /// Answers the unfinished line, and begins another.
     fn answer(&mut self, alloc: Global) -> Result<(), AllocError>
         ensures telling { self.new.telling ≡ self.old.telling }
         ensures told { OnOk result
@@ -179,7 +181,7 @@ impl AnsweredLines {
         Ok(())
     }
 
-    /// Answers the last line, where it has octets: it needs no end.
+    /// Answers the last line, if it has octets. It needs no line end.
     fn last(&mut self, alloc: Global) -> Result<(), AllocError>
         ensures told { OnOk result
             ((read written : List ℕ)
@@ -194,7 +196,7 @@ impl AnsweredLines {
         self.answer(alloc)
     }
 
-    /// Answers the last line, and tells what is left.
+    /// Answers the last line, and writes what is left.
     fn ended<C: Conversation>(mut self, alloc: Global, conversation: &mut C) -> Status
         ensures { (read written : List ℕ)
             → HasSaid self.telling read written self.line.items self.text.items self.status
@@ -207,7 +209,7 @@ impl AnsweredLines {
         }
     }
 
-    /// Tells what is left, and the line of a fault.
+    /// Writes what is left, and the line of a fault.
     fn faulted<C: Conversation>(self, fault: Fault, conversation: &mut C) -> Status
         ensures { (events : List Event)
             × Happens (C.said conversation.old) (C.said conversation.new) events
@@ -220,7 +222,7 @@ impl AnsweredLines {
     }
 }
 
-/// What a line of octets is answered by.
+/// Returns the answer to a line of octets.
 fn line_answer(alloc: Global, telling: Telling, line: &[u8]) -> Result<Answer, AllocError>
     ensures { IfOk result (λ answer. IsLineSaid telling line.now answer.text answer.status) }
 {
@@ -232,8 +234,9 @@ fn line_answer(alloc: Global, telling: Telling, line: &[u8]) -> Result<Answer, A
     Ok(Answer { text, status })
 }
 
-/// How a line is answered by its text and a note on it: the note comes after the lines of the text, or as a member of
-/// the object of JSON. An empty line comes after a value, which has several lines, and none after an object.
+/// Returns the text that answers a line: the answer's text and the note. The note comes after the lines of the text, or
+/// as a member of the JSON object. After a value, which has several lines, comes an empty line. After an object there
+/// is none.
 fn said_text(alloc: Global, task: Task, answer: Answer, note: String) -> Result<Octets, AllocError>
     ensures { IfOk result (λ text.
         text ≡ said_text task answer.status answer.text (string_bytes note)) }
@@ -247,7 +250,7 @@ fn said_text(alloc: Global, task: Task, answer: Answer, note: String) -> Result<
     }
 }
 
-/// How a line is answered by lines.
+/// Returns the lines that answer a line.
 fn lines_text(task: Task, told: Octets) -> Result<Octets, AllocError>
     ensures { IfOk result (λ text. text ≡ lines_text task.aim told) }
 {
@@ -261,7 +264,7 @@ fn lines_text(task: Task, told: Octets) -> Result<Octets, AllocError>
     }
 }
 
-/// The worse of two ends.
+/// Returns the worse of two statuses.
 pub(crate) fn worse(status: Status, other: Status) -> Status
     ensures { result ≡ worse status other }
 {

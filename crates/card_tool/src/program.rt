@@ -25,18 +25,17 @@ use command_line::{asks_for_json, asks_to_explain};
 use octet_core::{Sink, Source, write_octets};
 use std::alloc::{AllocError, Global};
 
-/// Does what the words ask for, of which the first is the program's name, and writes one text: as lines, or as an object
-/// of JSON where they have `--json`. Where they have `--explain` an explanation comes after the lines, or as a member of
-/// the object; it is left out where memory for it is refused.
+/// Runs the program, and writes one text. The first of the words is the program's name. The text is lines, or a JSON
+/// object if the words have `--json`. With `--explain` an explanation comes after the lines, or as a member of the
+/// object. It is left out if memory for it isn't available.
 ///
-/// Where a growth of memory is refused the text is `fault: memory`; where the writer fails a part of
-/// the text is written; in both cases the status is `Fault`. The reader is read only where the words ask
-/// for octets or pairs of standard input or for a file of recorded exchanges, to its end, but no further than one
-/// octet past the largest file.
+/// If memory can't grow, the text is `fault: memory`. If the writer fails, a part of the text is written. In both cases
+/// the status is `Fault`. The reader is called only if the words ask for octets, pairs or blocks of standard input, or
+/// for a file of recorded exchanges. It is read to its end, but at most one octet past the largest file.
 ///
-/// Where the words ask for the lines of standard input, each is answered before the reader is called again, however
-/// many come, with an explanation after it where the words have `--explain`. After a fault of memory or of the reader
-/// no more lines are answered.
+/// If the words ask for the lines of standard input, each line is answered before the reader is called again, however
+/// many come. With `--explain` an explanation comes after each. After a fault of memory or of the reader no more lines
+/// are answered.
 pub fn run<R: Source, W: Sink>(
     alloc: Global,
     words: Vec<String>,
@@ -64,7 +63,7 @@ pub fn run<R: Source, W: Sink>(
     }
 }
 
-/// Writes the one text that the words have, as what they were read.
+/// Writes the one text for the words, by what they were read as.
 fn one_text<R: Source, W: Sink>(
     alloc: Global,
     words: &[String],
@@ -93,7 +92,7 @@ pub fn report<W: Sink>(fault: Fault, writer: &mut W) -> Status
     write(fault.text().as_bytes(), Status::Fault, writer)
 }
 
-/// Writes a text: the status, unless the writer fails.
+/// Writes a text. Returns the status, or that of a fault if the writer fails.
 fn write<W: Sink>(text: &[u8], status: Status, writer: &mut W) -> Status
     ensures { IsWritten text.now status (calls_of W.contents W.failures writer.old writer.new)
         result }
@@ -104,7 +103,7 @@ fn write<W: Sink>(text: &[u8], status: Status, writer: &mut W) -> Status
     }
 }
 
-/// What is said of an answer, nothing where memory for that was refused.
+/// Returns the note of an answer, empty if memory for it wasn't available.
 fn said(made: &WithNote) -> &[u8]
     ensures { result.now ≡ said_of made.now.note }
 {
@@ -114,7 +113,7 @@ fn said(made: &WithNote) -> &[u8]
     }
 }
 
-/// Writes an answer and what is said of it: the status, unless the writer fails.
+/// Writes an answer and its note. Returns the answer's status, or that of a fault if the writer fails.
 fn write_made<W: Sink>(made: &WithNote, writer: &mut W) -> Status
     ensures { IsWritten (made.now.answer.text ++ said_of made.now.note) made.now.answer.status
         (calls_of W.contents W.failures writer.old writer.new) result }
@@ -125,7 +124,7 @@ fn write_made<W: Sink>(made: &WithNote, writer: &mut W) -> Status
     }
 }
 
-/// What the words ask for, as an object of JSON, or as lines with an explanation where they ask for one.
+/// Returns the answer to the words as a JSON object, or as lines, with an explanation if they ask for one.
 fn answer_as_asked<R: Source>(
     alloc: Global,
     words: &[String],
@@ -145,7 +144,7 @@ fn answer_as_asked<R: Source>(
     }
 }
 
-/// What the words ask for as an object of JSON, in which the explanation is a member.
+/// Returns the answer to the words as a JSON object, with the explanation as a member.
 fn answer_in_json<R: Source>(
     alloc: Global,
     words: &[String],
@@ -165,7 +164,7 @@ fn answer_in_json<R: Source>(
     Ok(WithNote::alone(alloc, Answer { text, status }))
 }
 
-/// The answer to what the words ask for, or the line of a fault.
+/// Returns the answer to the words, or the line of a fault.
 fn whole_reply<R: Source>(
     alloc: Global,
     words: &[String],

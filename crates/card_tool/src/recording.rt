@@ -1,4 +1,4 @@
-//! Exchanges that are made of the blocks which were seen on a line.
+//! Exchanges that are made from the blocks seen on a line.
 
 ghost use Rattle.std.specs.Prelude.{◌≡◌, ◌≢◌, ◌<◌, ◌≤◌, length, IfOk, string_bytes};
 ghost use Rattle.exchange_text.specs.Text.{exchange_text};
@@ -24,7 +24,7 @@ use traces::{RecordFault, Trace, Unfit, line_of_item, read_trace, record_trace};
 /// What is expected in a line of a trace.
 const EXPECTED: &str = "expected: t HEX or c HEX, with lost after it or not, quiet, or at N";
 
-/// A line of a text can't be recorded, by this name.
+/// Returns the line that refuses to record a line of a text, by this name.
 fn refused_line(alloc: Global, line: usize, name: &str) -> Result<Answer, AllocError>
     ensures text { IfOk result (λ answer. answer.text ≡ unfit_text line name.now) }
     ensures status { IfOk result (λ answer. answer.status ≡ ended.Refused) }
@@ -33,7 +33,7 @@ fn refused_line(alloc: Global, line: usize, name: &str) -> Result<Answer, AllocE
     Ok(Answer::of(text, Status::Refused))
 }
 
-/// The file of the exchange in which the blocks that a text has were seen, or the text's fault, with a note.
+/// Returns the file of the exchange with the blocks of a text, or the text's fault, with a note.
 pub(crate) fn recorded(alloc: Global, atr: &[u8], text: &[u8]) -> Result<WithNote, AllocError>
     ensures { IfOk result (AreOf (Records atr.now text.now) (IsRecordNote atr.now text.now)) }
 {
@@ -47,7 +47,7 @@ pub(crate) fn recorded(alloc: Global, atr: &[u8], text: &[u8]) -> Result<WithNot
     }
 }
 
-/// The file of the blocks of a text, or why there is none, with a note.
+/// Returns the file of the exchange with the blocks of a text, or why there is none, with a note.
 fn recorded_items(
     alloc: Global,
     atr: &[u8],
@@ -78,7 +78,7 @@ fn recorded_items(
     }
 }
 
-/// What is to be said of the text of an exchange, by how the program ends with it.
+/// Returns the note on the text of an exchange, by the status.
 fn size_note(alloc: Global, _exchange: &Exchange, status: Status) -> Result<String, AllocError>
     requires past { status ≡ ended.Fault → largest_file < length (exchange_text _exchange.now) }
     requires inside { (status ≡ ended.Fault → ⊥)
@@ -91,14 +91,14 @@ fn size_note(alloc: Global, _exchange: &Exchange, status: Status) -> Result<Stri
     }
 }
 
-/// The line of a text that can't be recorded, and what is to be said of it.
+/// Returns the note on a line that can't be recorded: its text, and why.
 fn unfit_note(alloc: Global, text: &[u8], line: usize, why: Unfit) -> Result<String, AllocError>
     ensures { IfOk result (λ note. string_bytes note ≡ unfit_note text.now line why) }
 {
     shown_at(alloc, text, line, unfit_words(why))
 }
 
-/// What is said of a line that can't be recorded.
+/// Returns why a line can't be recorded.
 fn unfit_words(why: Unfit) -> &'static str
     ensures { result.now ≡ texts.unfit_words why }
 {

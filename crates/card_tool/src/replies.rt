@@ -1,7 +1,7 @@
-//! What answers a request: a text, a status, and the explanation of them.
+//! Answers to requests: a text, a status, and an explanation of them.
 //!
-//! The text and the status are the same whether an explanation is asked for or not. The crate explainer makes it; where
-//! memory for it is refused it is left out.
+//! The text and the status don't depend on whether an explanation is asked for. The crate explainer makes it. If memory
+//! for it isn't available, it is left out.
 
 ghost use Rattle.std.specs.Prelude.{◌≡◌, ◌≢◌, ℕ, List, Ok, true, false, IfOk, string_bytes};
 ghost use Rattle.card_tool.specs.Calls.{calls_of};
@@ -29,7 +29,7 @@ use explainer::{large_note, offsets_note, text_note, words_note};
 use octet_core::{Octets, Source};
 use std::alloc::{AllocError, Global};
 
-/// The answer to what the words were read as, with an explanation where they ask for one.
+/// Returns the answer to what the words were read as, with an explanation if they ask for one.
 pub(crate) fn reply<R: Source>(
     alloc: Global,
     words: &[String],
@@ -49,7 +49,7 @@ pub(crate) fn reply<R: Source>(
     }
 }
 
-/// The answer to a request, with an explanation where the words ask for one.
+/// Returns the answer to a request, with an explanation if the words ask for one.
 fn request_reply<R: Source>(
     alloc: Global,
     words: &[String],
@@ -71,7 +71,7 @@ fn request_reply<R: Source>(
     }
 }
 
-/// The answer to a request, with what is to be said of what it was given.
+/// Returns the answer to a request, with a note on its input.
 fn replied_to<R: Source>(
     alloc: Global,
     words: &[String],
@@ -123,7 +123,7 @@ fn replied_to<R: Source>(
     }
 }
 
-/// What is said of the octets that are given.
+/// Returns the answer about the given octets.
 fn octets_told<R: Source>(
     alloc: Global,
     telling: Telling,
@@ -144,7 +144,7 @@ fn octets_told<R: Source>(
     }
 }
 
-/// The forest that is given, in the shortest octets that say the same.
+/// Returns the shortest encoding of the given forest's objects.
 fn octets_tidied<R: Source>(
     alloc: Global,
     explains: bool,
@@ -165,17 +165,17 @@ fn octets_tidied<R: Source>(
     }
 }
 
-/// What octets are taken from.
+/// The result of taking octets from their source.
 #[derive(Drop)]
 enum Taken {
-    /// Octets, and what is to be said of the text that they were taken from, where memory for that isn't refused.
+    /// Octets, and the note on the text that they were taken from, if memory for it was available.
     Given(Octets, Result<String, AllocError>),
-    /// A text that isn't in its form: the line of that fault, and what is to be said of the text.
+    /// A text that isn't in its form: the line of that fault, and the note on the text.
     Refused(WithNote),
 }
 
-/// The octets that are given, with what is to be said of their text where it `explains`. The reader is read only where the
-/// octets are its.
+/// Takes the given octets, with a note on their text if it `explains`. Calls the reader only if the octets come from
+/// it.
 fn octets_taken<R: Source>(
     alloc: Global,
     given: OctetSource,
@@ -200,7 +200,7 @@ fn octets_taken<R: Source>(
     }
 }
 
-/// The octets that a text in a form gives.
+/// Returns the octets of a text in a form.
 fn read_as(alloc: Global, form: Form, text: Octets) -> Result<Taken, Fault>
     ensures octets { UnlessMemory (octets_of result) (octets_in form text) }
     ensures note { IfOk result (SaysOf false (AnySource.Read form) (Ok text)) }
@@ -209,7 +209,7 @@ fn read_as(alloc: Global, form: Form, text: Octets) -> Result<Taken, Fault>
     Ok(Taken::Given(octets, Ok(String::new(alloc))))
 }
 
-/// The same, with what is to be said of the text.
+/// Returns the octets of a text in a form, with a note on the text.
 fn read_explained(alloc: Global, form: Form, text: Octets) -> Result<Taken, Fault>
     ensures octets { UnlessMemory (octets_of result) (octets_in form text) }
     ensures note { IfOk result (SaysOf true (AnySource.Read form) (Ok text)) }
@@ -225,7 +225,7 @@ fn read_explained(alloc: Global, form: Form, text: Octets) -> Result<Taken, Faul
     }
 }
 
-/// What is to be said of a text that is in its form.
+/// Returns the note on a text that is in its form.
 fn on_form(alloc: Global, form: Form, text: Octets) -> Result<String, AllocError>
     ensures { IfOk result (λ note. string_bytes note ≡ text_note form text) }
 {
@@ -235,7 +235,7 @@ fn on_form(alloc: Global, form: Form, text: Octets) -> Result<String, AllocError
     }
 }
 
-/// The line of a fault of words, with what is wrong with them.
+/// Returns the line of a fault of words, with what is wrong with them.
 fn words_faulted(alloc: Global, words: &[String], fault: Fault) -> Result<WithNote, Fault>
     ensures told { IsFaulted fault (IsWordsNote (texts words.now)) result }
     ensures other { IfOk result (λ _. fault ≢ Fault.Memory) }
@@ -247,7 +247,7 @@ fn words_faulted(alloc: Global, words: &[String], fault: Fault) -> Result<WithNo
     }
 }
 
-/// The line of a fault of reading, with how many octets there may be where there are more.
+/// Returns the line of a fault of reading. If there are too many octets, the note says how many there may be.
 fn read_faulted(alloc: Global, fault: Fault) -> Result<WithNote, Fault>
     ensures told { IsFaulted fault (λ note. note ≡ large_note largest_file) result }
     ensures large { IfOk result (λ _. fault ≡ Fault.TooLarge) }
@@ -258,7 +258,7 @@ fn read_faulted(alloc: Global, fault: Fault) -> Result<WithNote, Fault>
     }
 }
 
-/// The line of a fault, and a note on it; the fault where memory for the line is refused.
+/// Returns the line of a fault, and a note on it. Returns the fault if memory for the line isn't available.
 fn fault_noted(
     alloc: Global,
     fault: Fault,

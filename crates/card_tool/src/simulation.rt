@@ -19,14 +19,14 @@ use octet_core::Named;
 use simulator::{SimulationFault, simulate};
 use std::alloc::{AllocError, Global};
 
-/// The exchange that a session makes, or why there is none. Each event adds an octet to its text at least.
+/// Simulates a session. Returns its exchange, or why there is none. Each event adds at least an octet to the text.
 fn exchange_of(alloc: Global, session: &Session) -> Result<Exchange, SimulationFault>
     ensures simulated { IsSimulated largest_file session.now result }
 {
     simulate(alloc, session, LARGEST_FILE)
 }
 
-/// The file of the exchange that a session makes, or why there is none, with a note.
+/// Returns the file of a session's exchange, or why there is none, with a note.
 pub(crate) fn simulated(alloc: Global, session: &Session) -> Result<WithNote, AllocError>
     ensures { IfOk result (AreOf (Simulates session.now) (IsSimulationNote session.now)) }
 {
@@ -46,7 +46,7 @@ pub(crate) fn simulated(alloc: Global, session: &Session) -> Result<WithNote, Al
     }
 }
 
-/// The same with the pairs that the lines of a text say.
+/// Returns the file of the exchange of a session whose pairs are the lines of a text, with a note.
 pub(crate) fn lines_simulated(
     alloc: Global,
     session: Session,
@@ -66,7 +66,7 @@ pub(crate) fn lines_simulated(
     }
 }
 
-/// The text of an exchange, where it isn't larger than a file.
+/// Returns the text of an exchange, or a fault if it is larger than a file.
 pub(crate) fn file(alloc: Global, exchange: &Exchange) -> Result<Answer, AllocError>
     ensures { IfOk result (λ answer. IsFile exchange.now answer.text answer.status) }
 {
@@ -77,7 +77,7 @@ pub(crate) fn file(alloc: Global, exchange: &Exchange) -> Result<Answer, AllocEr
     Ok(answer)
 }
 
-/// The same, with a note.
+/// Returns the text of a session's exchange, or a fault if it is larger than a file, with a note.
 fn file_with_note(
     alloc: Global,
     session: &Session,
@@ -91,7 +91,7 @@ fn file_with_note(
     Ok(WithNote { answer, note })
 }
 
-/// What is to be said of the exchange of a session, by how the program ends with its text.
+/// Returns the note on the exchange of a session, by the status of its text.
 fn exchange_note(
     alloc: Global,
     session: &Session,
@@ -109,7 +109,7 @@ fn exchange_note(
     }
 }
 
-/// How many blocks both ends sent in an exchange.
+/// Returns how many blocks both ends sent in an exchange.
 fn sent_in(exchange: &Exchange) -> usize
     ensures { result ≡ blocks_in exchange.now.lines }
 {

@@ -1,4 +1,4 @@
-//! What is said of a line of octets, with an explanation where one is asked for.
+//! The answer to a line of octets, with an explanation if one is asked for.
 
 ghost use Rattle.card_words.specs.declared.fault.Fault.TheVariants.{Memory};
 ghost use Rattle.std.specs.Prelude.{◌≡◌, ◌≢◌, ◌==◌, ◌++◌, ◌∷◌, ℕ, List, Bool, IfOk};
@@ -17,16 +17,16 @@ use explainer::{digits_note, large_note};
 use octet_core::Octets;
 use std::alloc::{AllocError, Global};
 
-/// What the text of each line says.
+/// How each line is answered.
 #[derive(Clone, Copy, Debug)]
 pub struct Telling {
-    /// What it says of its octets.
+    /// What the answer says about the octets.
     pub task: Task,
     /// Whether an explanation comes after the answer.
     pub explains: bool,
 }
 
-/// What is said of a line of octets, with a note where it is asked for.
+/// Returns the answer to a line of octets, with a note if one is asked for.
 pub(crate) fn line_told(
     alloc: Global,
     telling: Telling,
@@ -44,7 +44,7 @@ pub(crate) fn line_told(
     }
 }
 
-/// The line of a fault, with what is wrong with a line where it `explains`.
+/// Returns the line of a fault, with what is wrong with the line if it `explains`.
 fn fault_told(
     alloc: Global,
     explains: bool,
@@ -71,7 +71,7 @@ fn fault_told(
     Ok(WithNote { answer, note })
 }
 
-/// A text with a note after it, each line of the note after two blanks.
+/// Appends a note to a text, with two blanks before each line of the note.
 pub(crate) fn with_indented(alloc: Global, told: Octets, note: &str) -> Result<Octets, AllocError>
     ensures { IfOk result (λ text. text ≡ told ++ indented note.now) }
 {
@@ -80,7 +80,7 @@ pub(crate) fn with_indented(alloc: Global, told: Octets, note: &str) -> Result<O
     Ok(Octets::of(text))
 }
 
-/// A text with two blanks before each line.
+/// Returns a text with two blanks before each line.
 fn indented(alloc: Global, text: &[u8]) -> Result<Vec<u8>, AllocError>
     ensures { IfOk result (λ added. added.items ≡ indented text.now) }
 {
@@ -95,7 +95,7 @@ fn indented(alloc: Global, text: &[u8]) -> Result<Vec<u8>, AllocError>
     Ok(added)
 }
 
-/// Adds an octet, after two blanks where it begins a line.
+/// Appends an octet, after two blanks if it begins a line.
 fn push_indented(added: &mut Vec<u8>, begins: bool, octet: u8) -> Result<(), AllocError>
     ensures { IfOk result (λ _. (rest : List ℕ) (next : Bool) → next ≡ (octet == 10)
         → added.new.items ++ indented_from next rest ≡ added.old.items ++ indented_from begins (octet ∷ rest)) }

@@ -1,4 +1,4 @@
-//! Where the lines of a file are in the trace that it was recorded of.
+//! Where the lines of a file are in the trace that it was recorded from.
 
 ghost use Rattle.std.specs.Prelude.{◌≡◌, ◌++◌, ◌+◌, ◌<◌, ◌^◌, OnOk, decimal, false, string_bytes, take};
 ghost use Rattle.card_tool.specs.TracePlaces.{after_text, has_added, is_placed, is_seen, place_text, seen_after, seen_over, trace_place};
@@ -6,11 +6,11 @@ ghost use Rattle.card_tool.specs.TracePlaces.{after_text, has_added, is_placed, 
 use exchange_core::Line;
 use std::alloc::{AllocError, Global};
 
-/// How many lines of a file come before those of its exchange.
+/// The number of lines in a file before those of its exchange.
 const LINES_BEFORE: usize = 2;
 
-/// Adds which block of the trace the line with this number is, or after which it comes. Nothing is added for a file without
-/// `note added`.
+/// Appends which block of the trace the line with this number is, or after which block it comes. Appends nothing for a
+/// file without `note added`.
 pub(crate) fn push_place(
     alloc: Global,
     text: &mut String,
@@ -28,7 +28,7 @@ pub(crate) fn push_place(
     push_between(alloc, text, before, through)
 }
 
-/// Whether a file was recorded of a trace, and the line comes after that of its answer to reset.
+/// Whether a file was recorded from a trace and the line comes after that of its answer to reset.
 fn is_placed(lines: &[Line], number: usize) -> bool
     ensures { result ≡ is_placed lines.now number }
 {
@@ -46,7 +46,7 @@ fn has_added(lines: &[Line]) -> bool
     false
 }
 
-/// Adds the place of a line before which the trace has so many blocks, and so many up to the line's end.
+/// Appends the place of a line, by how many blocks of the trace come before it and how many there are up to its end.
 fn push_between(
     alloc: Global,
     text: &mut String,
@@ -63,7 +63,7 @@ fn push_between(
     }
 }
 
-/// Adds the place of a line that is no block of the trace.
+/// Appends the place of a line that isn't a block of the trace.
 fn push_after(alloc: Global, text: &mut String, before: usize) -> Result<(), AllocError>
     ensures { OnOk result (string_bytes text.new ≡ string_bytes text.old ++ after_text before) }
 {
@@ -74,7 +74,7 @@ fn push_after(alloc: Global, text: &mut String, before: usize) -> Result<(), All
     }
 }
 
-/// Adds words, and the number of a block.
+/// Appends words and the number of a block.
 fn push_numbered(
     alloc: Global,
     text: &mut String,
@@ -88,7 +88,7 @@ fn push_numbered(
     text.push_str(format!(in alloc; "{number}")?.as_str())
 }
 
-/// The first lines, or all where there are fewer.
+/// Returns the first lines, or all if there are fewer.
 fn front(lines: &[Line], count: usize) -> &[Line]
     ensures { result.now ≡ take count lines.now }
 {
@@ -99,7 +99,7 @@ fn front(lines: &[Line], count: usize) -> &[Line]
     }
 }
 
-/// How many blocks of the trace these lines have.
+/// Returns how many blocks of the trace these lines have.
 fn blocks_seen(lines: &[Line]) -> usize
     ensures { result ≡ seen_over 0 false lines.now }
 {
@@ -112,7 +112,7 @@ fn blocks_seen(lines: &[Line]) -> usize
     seen
 }
 
-/// How many there are after a line, where the line before it is `note added` or not.
+/// Returns the number of blocks after one more line. `added` is whether the line before it is `note added`.
 fn seen_after(added: bool, seen: usize, line: &Line) -> usize
     requires { seen + 1 < 2 ^ 64 }
     ensures { result ≡ seen_after added seen line.now }

@@ -7,11 +7,11 @@ use exchange_core::{Awaits, Call, Waiting};
 use std::alloc::AllocError;
 use t1_core::{CardAwaits, TerminalAwaits};
 
-/// What every state ends with.
+/// The end of the text for each state.
 const IN_SESSION: &str = " in SESSION.md)";
 
-/// Adds what an end waits for that gives this in place of a line: at the line itself where it refuses the call or has no
-/// turn, and else at its last call, of which its turn comes.
+/// Appends what an end waits for that gives this in place of a line. If the end refuses the call or has no turn, this
+/// is its state at the line. Otherwise it is its state at its last call, which gave the turn.
 pub(crate) fn push_waiting(
     text: &mut String,
     gives: &str,
@@ -30,14 +30,14 @@ pub(crate) fn push_waiting(
     }
 }
 
-/// Whether what an end gives is about the state that it is in at the line: a refused call, or no turn.
+/// Whether what an end gives is about its state at the line: a refused call, or no turn.
 fn is_about_now(gives: &str) -> bool
     ensures { result ≡ is_about_now gives.now }
 {
     gives.starts_with("refused ") || gives == "nothing"
 }
 
-/// Adds the last call of an end, if there was one, and what it waited for.
+/// Appends the last call of an end, if there was one, and what the end waited for.
 fn push_call(text: &mut String, call: Option<Call>) -> Result<(), AllocError>
     ensures { OnOk result (string_bytes text.new ≡ string_bytes text.old ++ call_said call) }
 {
@@ -50,7 +50,7 @@ fn push_call(text: &mut String, call: Option<Call>) -> Result<(), AllocError>
     }
 }
 
-/// Adds a state, and where it is written of.
+/// Appends a state, and the page that describes it.
 fn push_state(text: &mut String, awaits: Awaits) -> Result<(), AllocError>
     ensures { OnOk result (string_bytes text.new ≡ string_bytes text.old
         ++ (state_of awaits ++ in_session)) }
@@ -60,7 +60,7 @@ fn push_state(text: &mut String, awaits: Awaits) -> Result<(), AllocError>
     Ok(())
 }
 
-/// What an end waits for, and the name of that state in docs/SESSION.md.
+/// Returns what an end waits for, and the name of that state in docs/SESSION.md.
 fn state(awaits: Awaits) -> &'static str
     ensures { result.now ≡ state_of awaits }
 {

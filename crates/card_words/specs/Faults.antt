@@ -1,4 +1,4 @@
--- What a fault below is to the program.
+-- Faults of other crates as faults of the program.
 use Rattle.std.specs.Prelude.{ℕ, List}
 use Rattle.std.specs.Str.{trim_end}
 use Rattle.octet_core.specs.declared.hexadecimal.HexFault.{HexFault}
@@ -12,6 +12,6 @@ fault_of_hex Odd = fault.Hex
 fault_of_hex (Digit place) = fault.Hex
 fault_of_hex Memory = fault.Memory
 
--- the line that the program prints, without its end
+-- the line that the program prints, without its line feed
 abbrev pub fault_shown : Fault → List ℕ
 fault_shown shown = trim_end (fault_text shown)

@@ -25,20 +25,20 @@ form_of word =
     else (if bytes_eq word (codes "source") then Ok form.Source
     else Err Words)))
 
--- a HEX word, or a form of standard input: one of them, and not both
+-- a HEX word, or a form of standard input, and not both
 abbrev pub given_of : Option (List ℕ) → Option (List ℕ) → Result OctetSource Fault
 given_of (Some hex) None = octets_of_word hex >>= (λ octets. Ok (Word octets))
 given_of None (Some word) = form_of word >>= (λ form. Ok (Read form))
 given_of _ _ = Err Words
 
--- lines of standard input, and no HEX word beside that
+-- the words ask for lines of standard input, and have no HEX
 abbrev pub asks_for_lines : Option (List ℕ) → Option (List ℕ) → Bool
 asks_for_lines None (Some word) = bytes_eq word (codes "lines")
 asks_for_lines _ _ = false
 
--- ---- what they are
+-- ---- the octets
 
--- what isn't in the form is no hexadecimal text
+-- a text that isn't in its form counts as not hexadecimal
 abbrev pub of_dump : Result (List ℕ) DumpFault → Result (List ℕ) Fault
 of_dump (Ok octets) = Ok octets
 of_dump (Err dump.Form) = Err Hex
@@ -51,22 +51,22 @@ octets_in form.Octets text = Ok text
 octets_in form.Dump text = of_dump (dump_octets text)
 octets_in form.Source text = of_dump (source_octets text)
 
--- the octets, with what reading standard input gave
+-- the octets, with the result of reading standard input
 abbrev pub octets_given : OctetSource → Result (List ℕ) Fault → Result (List ℕ) Fault
 octets_given (Word octets) file = Ok octets
 octets_given (Read form) file = file >>= octets_in form
 
--- they are on standard input
+-- the octets come from standard input
 abbrev pub IsFromReader : OctetSource → Type 0
 IsFromReader (Word octets) = ⊥
 IsFromReader (Read form) = Unit {0}
 
--- they are what is read there, as it is
+-- the octets are standard input itself
 abbrev pub IsAsRead : OctetSource → Type 0
 IsAsRead (Read form.Octets) = Unit {0}
 IsAsRead _ = ⊥
 
--- what a word gave are octets
+-- each number that a word gives is an octet
 abbrev pub GivesOctets : OctetSource → Type 0
 GivesOctets (Word octets) = AreOctets octets
 GivesOctets (Read form) = Unit {0}

@@ -10,7 +10,7 @@ use Rattle.card_words.specs.Value.{◌>>=◌, each, hex_octets, octets_of_word, 
 use Rattle.card_words.specs.declared.fault.Fault.{Fault}
 use Rattle.card_words.specs.declared.fault.Fault.TheVariants.{Words}
 
--- numeric, compressed numeric or another format
+-- a format as a word: numeric, compressed numeric or another
 abbrev pub format_of : List ℕ → Result Format Fault
 format_of word =
     if bytes_eq word (codes "n") then Ok Numeric
@@ -21,11 +21,11 @@ format_of word =
 abbrev pub tag_of : List ℕ → Result (List ℕ) Fault
 tag_of octets = if is_tag octets then Ok octets else Err Words
 
--- a tag as a word; no word stands for no octets here
+-- a tag as a word; `none` isn't one
 abbrev pub tag_of_word : List ℕ → Result (List ℕ) Fault
 tag_of_word word = hex_octets (decode_of word) >>= tag_of
 
--- a known value of three words, looked at from left to right
+-- a known value from three words, read from left to right
 abbrev pub known_by : List ℕ → List ℕ → List ℕ → Result Known Fault
 known_by format_word tag_word value_word = do
   format ← format_of format_word
@@ -33,7 +33,7 @@ known_by format_word tag_word value_word = do
   value ← octets_of_word value_word
   Ok (record { tag = tag; format = format; value = value })
 
--- F:TAG:VALUE, parted at its first two colons before anything else is looked at
+-- F:TAG:VALUE, cut at its first two colons before its parts are read
 abbrev pub known_of : List ℕ → Result Known Fault
 known_of word = do
   first ← parted word

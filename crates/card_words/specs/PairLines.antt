@@ -1,4 +1,4 @@
--- The pairs of a session as lines: in each a command and the reply to it, which blanks part.
+-- The pairs of a session as lines: each line has a command and the reply to it, separated by blanks.
 use Rattle.std.specs.Prelude.{◌==◌, ◌||◌, ℕ, codes, length, not, List, [], ◌∷◌, Bool, true, false, Option, Some, None, Result, Ok, Err, if◌then◌else◌}
 use Rattle.std.specs.Str.{bytes_eq}
 use Rattle.std.specs.List.{slice_split}
@@ -9,7 +9,8 @@ use Rattle.card_words.specs.declared.fault.Fault.{Fault}
 use Rattle.card_words.specs.declared.fault.Fault.TheVariants.{Hex, Words}
 use Rattle.card_words.specs.declared.session.Pair.{Pair}
 
--- what the words of a line say, with the one after the first two: no pair where there is no word, else that of two
+-- the pair of a line with these first three words, each of them possibly empty: none if the line is blank; only two
+-- words are a pair
 abbrev pub pairs_of_words : List ℕ → List ℕ → List ℕ → Result (List Pair) Fault
 pairs_of_words command reply more =
     if length command == 0 then Ok []
@@ -25,12 +26,11 @@ pairs_of_line line =
 abbrev pub is_line_end : ℕ → Bool
 is_line_end x = x == 10
 
--- the pairs of all lines of a text; the last needs no end
+-- the pairs of all lines of a text; the last line needs no end
 abbrev pub pairs_in : List ℕ → Result (List Pair) Fault
 pairs_in text = all_said pairs_of_line (slice_split is_line_end text)
 
--- whether a form of standard input says that the pairs are lines there: no word is a pair then, and no other form is
--- taken
+-- whether the pairs are lines of standard input; then no word is a pair, and the form is `lines`
 abbrev pub are_lines : Option (List ℕ) → List (List ℕ) → Result Bool Fault
 are_lines None words = Ok false
 are_lines (Some form) [] = if bytes_eq form (codes "lines") then Ok true else Err Words

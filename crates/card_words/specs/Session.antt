@@ -16,7 +16,7 @@ pair_by command_word reply_word = do
   reply ← octets_of_word reply_word
   Ok (record { command = command; reply = reply })
 
--- COMMAND:REPLY, parted at its first colon before anything else is looked at
+-- COMMAND:REPLY, cut at its first colon before its parts are read
 abbrev pub pair_of : List ℕ → Result Pair Fault
 pair_of word = do
   both ← parted word
@@ -38,25 +38,24 @@ block_number word = counted (decimal_number word)
 abbrev pub is_dash : ℕ → Bool
 is_dash x = x == 45
 
--- A part of a list: a number, or two numbers with a dash between them, the first and the last of blocks that follow one
--- another.
+-- A part of a list: a number, or the first and the last number of a range, with a dash between them.
 abbrev pub block_range : List ℕ → Result (ℕ × ℕ) Fault
 block_range word =
     if position_or_len is_dash word == length word then block_number word >>= (λ n. Ok (n, n))
     else block_number (before_first is_dash word) >>= (λ first.
     block_number (after_first is_dash word) >>= (λ last. Ok (first, last)))
 
--- so many numbers, one after another
+-- this many numbers, from the first on
 abbrev pub numbers_from : ℕ → ℕ → List ℕ
 numbers_from first zero = []
 numbers_from first (suc count) = first ∷ numbers_from (first + 1) count
 
--- how many blocks a list names at most up to the end of a range, each as often as it is named
+-- the most blocks that a list may name up to the end of a range, each counted as often as it is named
 abbrev pub most_named : ℕ
 most_named = 1000000
 
--- the numbers of a range after those that the parts before it name; the last isn't below the first, and one number is
--- always taken
+-- the numbers of a range, after those of the parts before it; the last isn't below the first; a single number always
+-- fits
 abbrev pub with_range : List ℕ → ℕ → ℕ → Result (List ℕ) Fault
 with_range numbers first last =
     if nat_le first last && (first == last || nat_le (length numbers + (last + 1 - first)) most_named)
@@ -70,16 +69,16 @@ abbrev pub with_parts : List ℕ → List (List ℕ) → Result (List ℕ) Fault
 with_parts numbers [] = Ok numbers
 with_parts numbers (word ∷ words) = with_part numbers word >>= (λ longer. with_parts longer words)
 
--- one part or more, parted by commas
+-- the numbers of one or more parts, separated by commas
 abbrev pub block_numbers : List ℕ → Result (List ℕ) Fault
 block_numbers word = with_parts [] (slice_split (λ x. x == 44) word)
 
--- no blocks where there is no word
+-- no blocks if there is no word
 abbrev pub blocks_of : Option (List ℕ) → Result (List ℕ) Fault
 blocks_of None = Ok []
 blocks_of (Some word) = block_numbers word
 
--- ---- what holds of a session that words make
+-- ---- what holds of a session from words
 
 abbrev pub AreOctetPairs : List Pair → Type 0
 AreOctetPairs [] = Unit {0}

@@ -1,4 +1,4 @@
--- Octets as a word, and what reading one word after another comes to.
+-- Octets as a word, and reading one word after another.
 use Rattle.std.specs.Prelude.{◌≡◌, ◌⊎◌, ◌==◌, ◌++◌, List, ℕ, [], ◌∷◌, length, codes, Bool, Result, Ok, Err, if◌then◌else◌}
 use Rattle.std.specs.Str.{bytes_eq}
 use Rattle.std.specs.List.{position_or_len, before_first, after_first}
@@ -7,7 +7,7 @@ use Rattle.hex.specs.declared.error.FromHexError.{FromHexError}
 use Rattle.card_words.specs.declared.fault.Fault.{Fault}
 use Rattle.card_words.specs.declared.fault.Fault.TheVariants.{Words, Hex, Memory}
 
--- the first fault counts
+-- the second step reads the result of the first; the first fault is the result
 infixl 10 ◌>>=◌
 abbrev pub ◌>>=◌ : {A B : Type 0} → Result A Fault → (A → Result B Fault) → Result B Fault
 (Ok x) >>= f = f x
@@ -17,23 +17,23 @@ abbrev pub hex_octets : Result (List ℕ) FromHexError → Result (List ℕ) Fau
 hex_octets (Ok octets) = Ok octets
 hex_octets (Err e) = Err Hex
 
--- octets as a word: in hexadecimal, or none
+-- octets as a word: in hexadecimal, or `none`
 abbrev pub octets_of_word : List ℕ → Result (List ℕ) Fault
 octets_of_word word = if bytes_eq word (codes "none") then Ok [] else hex_octets (decode_of word)
 
--- the same, or out of memory
+-- the expected result, or memory ran out
 abbrev pub UnlessMemory : {X : Type 0} → Result X Fault → Result X Fault → Type 0
 UnlessMemory result expected = (result ≡ Err Memory) ⊎ (result ≡ expected)
 
 abbrev pub is_colon : ℕ → Bool
 is_colon x = x == 58
 
--- what is before the first colon of a word, and what is after it
+-- the texts before and after the first colon of a word
 abbrev pub parted : List ℕ → Result (List ℕ × List ℕ) Fault
 parted word = if position_or_len is_colon word == length word then Err Words else Ok
     (before_first is_colon word, after_first is_colon word)
 
--- words that say a value each, from left to right
+-- the values of words, read from left to right
 abbrev pub each : {A : Type 0} → (List ℕ → Result A Fault) → List (List ℕ) → Result (List A) Fault
 each said [] = Ok []
 each said (word ∷ words) = do
@@ -41,7 +41,7 @@ each said (word ∷ words) = do
   more ← each said words
   Ok (value ∷ more)
 
--- ---- parts of a text, each of which may say several values
+-- ---- parts of a text, each with any number of values
 
 -- the values of all parts, from left to right
 abbrev pub all_said : {A : Type 0} → (List ℕ → Result (List A) Fault) → List (List ℕ) → Result (List A) Fault
@@ -51,7 +51,7 @@ all_said said (part ∷ parts) = do
   more ← all_said said parts
   Ok (here ++ more)
 
--- the values of one more part come after the others
+-- the values of one more part are appended
 abbrev pub AddsSaid : {A : Type 0} → Result (List A) Fault → List A → List A → Result (Unit {0}) Fault → Type 0
 AddsSaid {A} said old new (Ok _) = (values : List A) × (said ≡ Ok values) × (new ≡ old ++ values)
 AddsSaid said old new (Err fault) = UnlessMemory (Err fault) said

@@ -43,7 +43,7 @@ use Rattle.block_core.specs.declared.pcb.Number.TheVariants.{Zero, One}
 
 -- ---- numbers
 
--- the number below 256 that the word gives in decimal digits, after a plus or not, and else the one given
+-- the number below 256 in a word of decimal digits, which may begin with a plus; for another word, `otherwise`
 abbrev pub byte_or : ℕ → List ℕ → ℕ
 byte_or otherwise word = if is_unsigned_in 0 255 word then digits_value 10 (without_leading_plus word) else otherwise
 
@@ -68,13 +68,13 @@ kind_of word =
     else (if bytes_eq word (codes "dol") then Ok Dol
     else Err Words))))))
 
--- an information size as a word; the greatest where there is no word
+-- an information size as a word; the largest if there is no word
 abbrev pub size_of : Option (List ℕ) → Result ℕ Fault
 size_of None = Ok 254
 size_of (Some word) = if nat_le 1 (byte_or 0 word) && nat_le (byte_or 0 word) 254 then Ok (byte_or 0 word) else Err
     Words
 
--- the number of the first block as a word; zero where there is no word
+-- the number of the first block as a word; zero if there is no word
 abbrev pub number_of_word : List ℕ → Result Number Fault
 number_of_word word = if byte_or 2 word == 0 then Ok Zero else (if byte_or 2 word == 1 then Ok One else Err Words)
 
@@ -82,7 +82,7 @@ abbrev pub number_of : Option (List ℕ) → Result Number Fault
 number_of None = Ok Zero
 number_of (Some word) = number_of_word word
 
--- the options first, since their range is a matter of the words' form; then the kind
+-- the options come first, since the form of the words limits their range; then the kind
 abbrev pub expected_of : List Row → Result Expected Fault
 expected_of rows = do
   ifs ← size_of (first_of (codes "ifs") rows)
@@ -91,13 +91,13 @@ expected_of rows = do
   kind ← kind_of kind_word
   Ok (record { kind = kind; ifs = ifs; number = number })
 
--- octets of which something is told, or lines of them
+-- check or show octets, or lines of them
 abbrev pub told_by : Task → Option (List ℕ) → Option (List ℕ) → Result Asked Fault
 told_by task hex form =
     if asks_for_lines hex form then Ok (Lines task)
     else given_of hex form >>= (λ given. Ok (Once (Tell task given)))
 
--- an option without a value is there
+-- an option without a value is given
 abbrev pub is_true : Option (List ℕ) → Bool
 is_true None = false
 is_true (Some word) = bytes_eq word (codes "true")
@@ -105,17 +105,17 @@ is_true (Some word) = bytes_eq word (codes "true")
 abbrev pub has_flag : List ℕ → List Row → Bool
 has_flag name rows = is_true (first_of name rows)
 
--- how what is told is laid out
+-- the layout of the answer
 abbrev pub layout_of : List Row → Layout
 layout_of rows = if has_flag (codes "json") rows then layout.Json else layout.Lines
 
--- what is expected, and then the octets
+-- what the octets are read as, and then the octets
 abbrev pub told_of : Aim → List Row → Result Asked Fault
 told_of aim rows = expected_of rows >>= (λ expected.
     told_by (record { aim = aim; layout = layout_of rows; expected = expected }) (first_of (codes "hex") rows)
     (first_of (codes "stdin") rows))
 
--- what `show` tells: the value, with notes where these are asked for
+-- what `show` prints: the value, with notes if they are asked for
 abbrev pub show_aim : List Row → Aim
 show_aim rows = if has_flag (codes "notes") rows then Note else Show
 
@@ -142,19 +142,19 @@ tidy_of [] form = given_of None form >>= (λ given. Ok (BuildTidy given))
 tidy_of (hex ∷ []) form = given_of (Some hex) form >>= (λ given. Ok (BuildTidy given))
 tidy_of _ form = Err Words
 
--- DOL KNOWN..: what is wrong with a known value counts only where the list is one
+-- DOL KNOWN..: a fault of a known value counts only if the octets are a list
 abbrev pub fill_of : List (List ℕ) → Result Request Fault
 fill_of [] = Err Words
 fill_of (hex ∷ words) = octets_of_word hex >>= (λ octets. Ok (BuildFill octets (knowns_of words)))
 
--- what is built of words alone
+-- what to build from words alone
 abbrev pub build_words : List ℕ → List (List ℕ) → Result Request Fault
 build_words what words =
     if bytes_eq what (codes "chain") then chain_of words
     else (if bytes_eq what (codes "fill") then fill_of words
     else Err Words)
 
--- only a forest that is tidied is taken from standard input
+-- only a forest to tidy can come from standard input
 abbrev pub build_by : List ℕ → List (List ℕ) → Option (List ℕ) → Result Request Fault
 build_by what words form =
     if bytes_eq what (codes "tidy") then tidy_of words form
@@ -183,7 +183,7 @@ replay_of rows = do
   side ← end_of_word word
   Ok (File (Replay side))
 
--- how recorded exchanges are drawn: as text, or as a picture where one is asked for
+-- how recorded exchanges are drawn: as text, or as a picture if one is asked for
 abbrev pub drawing_of : List Row → Drawing
 drawing_of rows = if has_flag (codes "svg") rows then Picture else Ladder
 
@@ -191,11 +191,11 @@ drawing_of rows = if has_flag (codes "svg") rows then Picture else Ladder
 abbrev pub atr_of : List Row → Result (List ℕ) Fault
 atr_of rows = needed (first_of (codes "atr") rows) >>= octets_of_word
 
--- the one with which an exchange is made of blocks
+-- the answer to reset for an exchange that is made from blocks
 abbrev pub record_of : List Row → Result Request Fault
 record_of rows = atr_of rows >>= (λ atr. Ok (Record atr))
 
--- the ends that are judged: both, where there is no word for one
+-- the ends to judge: both if there is no word
 abbrev pub judged_ends : Option (List ℕ) → Result Ends Fault
 judged_ends None = Ok end.Both
 judged_ends (Some word) = one_end word
@@ -209,7 +209,7 @@ abbrev pub clock_of : Option (List ℕ) → Result (Option ℕ) Fault
 clock_of None = Ok None
 clock_of (Some word) = hertz_of (decimal_number word)
 
--- these come first, and then the answer to reset of the card on whose line the blocks were seen
+-- these come first, and then the answer to reset of the card on the line
 abbrev pub judge_of : List Row → Result Request Fault
 judge_of rows = do
   ends ← judged_ends (first_of (codes "end") rows)
@@ -217,7 +217,7 @@ judge_of rows = do
   atr ← atr_of rows
   Ok (Judge atr (record { ends = ends; clock = clock; rules = has_flag (codes "rules") rows }))
 
--- an information size that is asked for, where there is a word
+-- an information size, if there is a word for it
 abbrev pub asked_size : Option (List ℕ) → Result (Option ℕ) Fault
 asked_size None = Ok None
 asked_size (Some word) = size_of (Some word) >>= (λ size. Ok (Some size))
@@ -236,7 +236,7 @@ session_of words rows = do
 abbrev pub session_by : Bool → Session → Request
 session_by are_lines session = if are_lines then SimulateLines session else Simulate session
 
--- where the pairs are comes first, and then the session, which has none where they are lines
+-- where the pairs come from, and then the session, which has no pairs yet if they are lines
 abbrev pub simulate_by : Option (List ℕ) → List (List ℕ) → List Row → Result Request Fault
 simulate_by form words rows = do
   lines ← are_lines form words
@@ -246,7 +246,7 @@ simulate_by form words rows = do
 abbrev pub simulate_of : List Row → Result Request Fault
 simulate_of rows = simulate_by (first_of (codes "stdin") rows) (all_or_none (all_of (codes "pairs") rows)) rows
 
--- what tells nothing of octets
+-- the request of a subcommand other than `check` and `show`
 abbrev pub request_by : List ℕ → List Row → Result Request Fault
 request_by name rows =
     if bytes_eq name (codes "build") then build_of rows
@@ -259,7 +259,7 @@ request_by name rows =
     else (if bytes_eq name (codes "simulate") then simulate_of rows
     else Err Words)))))))
 
--- a request that was read, as what is asked for
+-- a request as what is asked for
 abbrev pub once_of : Result Request Fault → Result Asked Fault
 once_of read = read >>= (λ request. Ok (Once request))
 
@@ -273,7 +273,7 @@ abbrev pub asked_of : Option (List ℕ × List Row) → Result Asked Fault
 asked_of None = Err Words
 asked_of (Some entered) = asked_by entered.0 entered.1
 
--- octets are told of under a size that information fields may have, and a chain can carry a message that it is built of
+-- the information size is one that information fields may have, and a message to cut fits a chain
 abbrev pub IsSized : Request → Type 0
 IsSized (Tell task given) = IsFieldSize task.expected.ifs
 IsSized (BuildChain ifs number message) = length message ≤ longest_message
@@ -283,7 +283,7 @@ abbrev pub AreSized : Asked → Type 0
 AreSized (Once request) = IsSized request
 AreSized (Lines task) = IsFieldSize task.expected.ifs
 
--- what a request has for octets are octets
+-- each number among the octets of a request is an octet
 abbrev pub HasOctets : Request → Type 0
 HasOctets (Tell task given) = GivesOctets given
 HasOctets (BuildChain ifs number message) = AreOctets message
@@ -301,7 +301,7 @@ abbrev pub HaveOctets : Asked → Type 0
 HaveOctets (Once request) = HasOctets request
 HaveOctets (Lines task) = Unit {0}
 
--- a request that standard input answers: octets, a file of recorded exchanges, blocks, or pairs
+-- a request that needs standard input: octets, a file of recorded exchanges, blocks, or pairs
 abbrev pub NeedsFile : Request → Type 0
 NeedsFile (Tell task given) = IsFromReader given
 NeedsFile (BuildTidy given) = IsFromReader given
@@ -311,23 +311,23 @@ NeedsFile (Judge atr judging) = Unit {0}
 NeedsFile (SimulateLines session) = Unit {0}
 NeedsFile _ = ⊥
 
--- a request that takes what it reads for octets, as they are
+-- a request whose octets are standard input itself
 abbrev pub NeedsOctets : Request → Type 0
 NeedsOctets (Tell task given) = IsAsRead given
 NeedsOctets (BuildTidy given) = IsAsRead given
 NeedsOctets _ = ⊥
 
--- a request for one text, of which this holds
+-- a request for one text, and this holds of it
 abbrev pub IsOnce : (Request → Type 0) → Asked → Type 0
 IsOnce Needs (Once request) = Needs request
 IsOnce Needs (Lines task) = ⊥
 
--- words that the parser of command lines takes: those that ask for the version don't reach it
+-- words that the parser of command lines accepts: words that ask for the version don't reach it
 pub record AreTaken (words : List (List ℕ)) : Type 0 where
   pub parsed : asks_for_version words ≡ false
   pub free : fault_of scard words ≡ []
 
--- such words, which make such a request
+-- the parser accepts the words, and this holds of their request
 abbrev pub AskFor : (Request → Type 0) → List (List ℕ) → Type 0
 AskFor Needs words = AreTaken words × MatchResult (asked_of (subcommand_of scard words)) (IsOnce Needs) (λ _. ⊥)
 
@@ -337,14 +337,15 @@ AskForFile = AskFor NeedsFile
 abbrev pub AskForOctets : List (List ℕ) → Type 0
 AskForOctets = AskFor NeedsOctets
 
--- words that ask for this of each line of standard input
+-- words that ask for this task on each line of standard input
 abbrev pub AskForLines : Task → List (List ℕ) → Type 0
 AskForLines task words = AreTaken words × (asked_of (subcommand_of scard words) ≡ Ok (Lines task))
 
 abbrev pub HasOther : Kinds → Type 0
 HasOther kinds = (kind : ErrorKind) × IsAmong kind kinds × (kind ≢ DisplayHelp)
 
--- What words are read as: the version, where they ask for it; what they ask for, where the parser of command lines takes them; some text, where it answers a call for help; else a fault.
+-- What words are read as: the version, if they ask for it; what they ask for, if the parser of command lines accepts
+-- them; some text, if the parser answers a call for help; else a fault.
 pub data IsRead (words : List (List ℕ)) (read : Result Asked Fault) : Type 0 where
   called_for_version : asks_for_version words ≡ true → read ≡ Ok (Once Version) → IsRead words read
   taken : AreTaken words → read ≡ asked_of (subcommand_of scard words) → IsRead words read
@@ -352,7 +353,7 @@ pub data IsRead (words : List (List ℕ)) (read : Result Asked Fault) : Type 0 w
       → read ≡ Ok (Once (Help help)) → IsRead words read
   not_taken : asks_for_version words ≡ false → HasOther (fault_of scard words) → read ≡ Err Words → IsRead words read
 
--- what a parse that gave no matches comes to, by its kind
+-- the result of a parse without matches, by the kind of its error
 abbrev pub IsHelpOrFault : ErrorKind → Result Asked Fault → Type 0
 IsHelpOrFault OutOfMemory read = read ≡ Err Memory
 IsHelpOrFault DisplayHelp read = (read ≡ Err Memory) ⊎ ((help : List ℕ) × (read ≡ Ok (Once (Help help))))

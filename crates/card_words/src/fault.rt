@@ -1,4 +1,4 @@
-//! Why the program could not answer.
+//! Why the program couldn't answer.
 
 ghost use Rattle.std.specs.Prelude.{◌≡◌};
 ghost use Rattle.card_words.specs.Texts.{fault_text};
@@ -9,14 +9,14 @@ use std::alloc::AllocError;
 use std::error::Error;
 use std::fmt::{self, Display, Formatter, Write};
 
-/// Why the program could not answer.
+/// Why the program couldn't answer.
 #[derive(Clone, Copy, Debug, PartialEq, Eq)]
 pub enum Fault {
     /// The words don't have the form that the program takes.
     Words,
-    /// A word that stands for octets is no hexadecimal text.
+    /// A word that should be octets isn't hexadecimal.
     Hex,
-    /// A growth of memory was refused.
+    /// Memory couldn't grow.
     Memory,
     /// A call of the reader failed.
     Read,
@@ -25,7 +25,7 @@ pub enum Fault {
 }
 
 impl Fault {
-    /// The line that the program prints.
+    /// Returns the line that the program prints.
     pub fn text(self) -> &'static str
         ensures { result.now ≡ fault_text self }
     {
@@ -39,7 +39,7 @@ impl Fault {
     }
 }
 
-/// The line that the program prints, without its end.
+/// Prints the line without its line feed.
 impl Display for Fault {
     ghost use Rattle.std.specs.Prelude.{Some};
     ghost use Rattle.card_words.specs.Faults.{fault_shown};

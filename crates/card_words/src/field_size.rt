@@ -6,7 +6,7 @@ ghost use Rattle.octet_core.specs.Sizes.{IsFieldSize};
 use octet_core::is_reserved;
 use std::marker::Model;
 
-/// A size of information fields, 1 to 254, which contracts see as that number (ISO/IEC 7816-3:2006, clause 11.4.2).
+/// A size of information fields, 1 to 254. Contracts see it as a number (ISO/IEC 7816-3:2006, clause 11.4.2).
 #[derive(Clone, Copy, Debug, PartialEq, Eq)]
 pub struct FieldSize {
     octet: u8,
@@ -26,10 +26,10 @@ impl Model for FieldSize {
 }
 
 impl FieldSize {
-    /// The greatest size.
+    /// The largest size.
     pub const GREATEST: FieldSize = FieldSize { octet: 254 };
 
-    /// The size that an octet says, `None` where it says none: 0 and 255 are reserved.
+    /// Returns the size in an octet, or `None` for 0 and 255, which are reserved.
     pub fn of(octet: u8) -> Option<FieldSize>
         ensures { SomeIff result (IsFieldSize octet) octet }
     {
@@ -40,7 +40,7 @@ impl FieldSize {
         }
     }
 
-    /// The size as an octet.
+    /// Returns the size as an octet.
     pub fn get(self) -> u8
         ensures value { result ≡ self }
         ensures size { IsFieldSize result }

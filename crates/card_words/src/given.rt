@@ -11,10 +11,10 @@ use dumps::{DumpFault, dump_octets, source_octets};
 use octet_core::Octets;
 use std::alloc::Global;
 
-/// What octets on standard input are written as.
+/// How octets are written on standard input.
 #[derive(Clone, Copy, Debug, PartialEq, Eq)]
 pub enum Form {
-    /// Hexadecimal in either case, two digits an octet, in groups that spaces, tabs and line ends part. A
+    /// Hexadecimal in either case, two digits for each octet, in groups separated by spaces, tabs and line ends. A
     /// group may begin with `0x` or `0X`.
     Hex,
     /// The octets themselves.
@@ -29,14 +29,14 @@ pub enum Form {
 /// Where octets come from.
 #[derive(Debug, PartialEq, Eq, Drop)]
 pub enum OctetSource {
-    /// A word gives them.
+    /// The octets of a word.
     Word(Octets),
-    /// They are on standard input, in this form.
+    /// Standard input, in this form.
     Read(Form),
 }
 
 impl Form {
-    /// The octets that a text in this form gives. A text that isn't in it is `Hex`.
+    /// Returns the octets that a text in this form gives. A text that isn't in the form is `Hex`.
     pub fn octets(self, alloc: Global, text: Octets) -> Result<Octets, Fault>
         ensures { UnlessMemory result (octets_in self text) }
     {
@@ -49,7 +49,7 @@ impl Form {
     }
 }
 
-/// The octets of a dump or a source, or the fault that its fault is here.
+/// Returns the octets of a dump or a source, or its fault as one of this program.
 fn of_dump(read: Result<Octets, DumpFault>) -> Result<Octets, Fault>
     ensures { result ≡ of_dump read }
 {
@@ -60,7 +60,7 @@ fn of_dump(read: Result<Octets, DumpFault>) -> Result<Octets, Fault>
     }
 }
 
-/// Octets as a HEX word, or on standard input in a form: one of them, and not both.
+/// Reads where octets come from: a HEX word, or a form of standard input. It is a fault if both are given, or none.
 pub(crate) fn read_given(
     alloc: Global,
     hex: Option<&str>,
@@ -76,7 +76,7 @@ pub(crate) fn read_given(
     }
 }
 
-/// Whether lines of standard input are asked for, and no HEX word is beside that.
+/// Whether the words ask for lines of standard input and have no HEX.
 pub(crate) fn asks_for_lines(hex: Option<&str>, form_word: Option<&str>) -> bool
     ensures { result ≡ asks_for_lines (option_map (λ word. word.now) hex.entry)
         (option_map (λ word. word.now) form_word.entry) }
@@ -87,7 +87,7 @@ pub(crate) fn asks_for_lines(hex: Option<&str>, form_word: Option<&str>) -> bool
     }
 }
 
-/// A form as a word. `clap` takes any word there.
+/// Reads a form of standard input. `clap` accepts any word as a form.
 fn read_form(word: &str) -> Result<Form, Fault>
     ensures { result ≡ form_of word.now }
 {

@@ -11,7 +11,7 @@ use octet_core::{Format, octets_of};
 use std::alloc::{AllocError, Global};
 use tlv_core::{Known, Tag};
 
-/// The values that the words say, or the fault of the first that says none.
+/// Returns the known values of the words, or the fault of the first word that isn't one.
 pub(crate) fn knowns(alloc: Global, words: &[&str]) -> Result<Knowns, Fault>
     ensures { UnlessMemory result (knowns_of (map (λ word. word.now) words.now)) }
 {
@@ -30,7 +30,7 @@ fn push(list: &mut Vec<Known>, known: Known) -> Result<(), AllocError>
     Ok(())
 }
 
-/// The value that a word says: a format, a tag and octets, parted by colons.
+/// Returns the known value of a word: a format, a tag and octets, separated by colons.
 fn known(alloc: Global, word: &str) -> Result<Known, Fault>
     ensures { UnlessMemory result (known_of word.now) }
 {
@@ -48,7 +48,7 @@ fn known_by(alloc: Global, format_word: &str, tag_word: &str, value: &str) -> Re
     Ok(Known { tag, format, value })
 }
 
-/// The format that a word names: numeric, compressed numeric or another.
+/// Returns the format that a word names: numeric, compressed numeric or another.
 pub fn format(word: &str) -> Result<Format, Fault>
     ensures { result ≡ format_of word.now }
 {
@@ -60,7 +60,7 @@ pub fn format(word: &str) -> Result<Format, Fault>
     }
 }
 
-/// The tag that a word gives in hexadecimal.
+/// Returns the tag that a word has in hexadecimal.
 pub fn tag(alloc: Global, word: &str) -> Result<Tag, Fault>
     ensures { UnlessMemory result (tag_of_word word.now) }
 {

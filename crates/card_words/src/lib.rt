@@ -1,9 +1,8 @@
 //! What the words of a command line ask for.
 //!
-//! `read` parses the words once, by the form of command_line, and reads the matches into an `Asked`, in which
-//! nothing of `clap` is left. What the words ask for is said by a function of the words, `asked_of` in
-//! `specs/Words.antt`; which words are refused before, by their form. The words that ask for the version aren't
-//! parsed.
+//! `read` parses the words once, by the form of command_line. It turns the matches into an `Asked`, in which nothing of
+//! `clap` is left. In `specs/Words.antt` the function `asked_of` defines what the words ask for, and `IsRead` which
+//! words are refused before, by their form. Words that ask for the version aren't parsed.
 #![tactic(auto)]
 
 pub mod fault;

@@ -10,8 +10,8 @@ use crate::fault::Fault;
 use octet_core::{Octets, after_blanks, is_blank};
 use std::alloc::Global;
 
-/// Reads octets from hexadecimal text: two digits each, with blanks between groups. The text `none`, with blanks
-/// before and after, gives no octets. Text that isn't hexadecimal is the fault `Hex`.
+/// Returns the octets of a hexadecimal text: two digits each, with blanks between groups. The text `none`, with or
+/// without blanks around it, gives no octets. Text that isn't hexadecimal is the fault `Hex`.
 pub fn loose_octets(alloc: Global, text: &[u8]) -> Result<Octets, Fault>
     ensures { UnlessMemory result (loose_octets text.now) }
 {
@@ -21,14 +21,14 @@ pub fn loose_octets(alloc: Global, text: &[u8]) -> Result<Octets, Fault>
     grouped_octets(alloc, text)
 }
 
-/// Whether a text is `none`, with blanks before and after.
+/// Whether a text is `none`, with or without blanks around it.
 fn is_none_alone(text: &[u8]) -> bool
     ensures { result ≡ is_none_alone text.now }
 {
     is_none_before_blanks(after_blanks(text))
 }
 
-/// Whether a text is `none`, with blanks after it.
+/// Whether a text is `none`, with or without blanks after it.
 fn is_none_before_blanks(text: &[u8]) -> bool
     ensures { result ≡ is_none_before_blanks text.now }
 {
@@ -44,7 +44,7 @@ fn are_blanks(text: &[u8]) -> bool
     text.iter().all(|octet| is_blank(*octet))
 }
 
-/// The octets of the groups of a text.
+/// Returns the octets of the groups of a text.
 fn grouped_octets(alloc: Global, text: &[u8]) -> Result<Octets, Fault>
     ensures { UnlessMemory result (grouped_octets text.now) }
 {
@@ -55,7 +55,7 @@ fn grouped_octets(alloc: Global, text: &[u8]) -> Result<Octets, Fault>
     Ok(Octets::of(octets))
 }
 
-/// Adds the octets of a group, which has no blanks.
+/// Appends the octets of a group, which has no blanks.
 fn push_group(octets: &mut Vec<u8>, group: &[u8]) -> Result<(), Fault>
     ensures { AddsSaid (group_octets group.now) octets.old.items octets.new.items result }
 {
@@ -68,7 +68,7 @@ fn push_group(octets: &mut Vec<u8>, group: &[u8]) -> Result<(), Fault>
     }
 }
 
-/// What is after the `0x` of a group, or all of it. After a `0x` there is something.
+/// Returns what comes after the `0x` of a group, or the whole group. A `0x` alone isn't cut off.
 fn digits(group: &[u8]) -> &[u8]
     ensures { result.now ≡ digits_of group.now }
 {

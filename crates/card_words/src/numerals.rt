@@ -1,4 +1,4 @@
-//! Numbers as words: an information size, and the number of a block.
+//! Numbers as words: an information size and the number of a block.
 
 ghost use Rattle.std.specs.Prelude.{◌≡◌, option_map};
 ghost use Rattle.card_words.specs.Words.{asked_size, number_of, number_of_word, size_of};
@@ -7,7 +7,7 @@ use crate::fault::Fault;
 use crate::field_size::FieldSize;
 use block_core::Number;
 
-/// An information size, the greatest where there is no word. `clap` has refused a word out of range.
+/// Reads an information size, the largest if there is no word. `clap` has already refused a word out of range.
 pub fn size(word: Option<&str>) -> Result<FieldSize, Fault>
     ensures { result ≡ size_of (option_map (λ word. word.now) word.entry) }
 {
@@ -17,7 +17,7 @@ pub fn size(word: Option<&str>) -> Result<FieldSize, Fault>
     }
 }
 
-/// Reads the information size of the option, where the option is given.
+/// Reads the information size of the option, if the option is given.
 pub(crate) fn asked_size(word: Option<&str>) -> Result<Option<FieldSize>, Fault>
     ensures { result ≡ asked_size (option_map (λ word. word.now) word.entry) }
 {
@@ -27,7 +27,7 @@ pub(crate) fn asked_size(word: Option<&str>) -> Result<Option<FieldSize>, Fault>
     }
 }
 
-/// The number of a block, zero where there is no word. `clap` has refused another one.
+/// Reads the number of a block, zero if there is no word. `clap` has already refused any other word.
 pub(crate) fn number_or_zero(word: Option<&str>) -> Result<Number, Fault>
     ensures { result ≡ number_of (option_map (λ word. word.now) word.entry) }
 {
@@ -37,7 +37,7 @@ pub(crate) fn number_or_zero(word: Option<&str>) -> Result<Number, Fault>
     }
 }
 
-/// The number of a block.
+/// Reads the number of a block.
 pub fn number(word: &str) -> Result<Number, Fault>
     ensures { result ≡ number_of_word word.now }
 {

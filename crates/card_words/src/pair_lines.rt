@@ -1,4 +1,4 @@
-//! The pairs of a session as lines: in each a command and the reply to it, which blanks part.
+//! The pairs of a session as lines. Each line has a command and the reply to it, separated by blanks.
 
 ghost use Rattle.std.specs.Prelude.{◌≡◌, map, option_map};
 ghost use Rattle.card_words.specs.PairLines.{are_lines, pairs_in, pairs_of_line};
@@ -9,8 +9,8 @@ use crate::session::{Pair, Pairs, push_pair, read_parts};
 use octet_core::first_word;
 use std::alloc::Global;
 
-/// Whether the pairs of a session are the lines of standard input, by its form and the words that are pairs: `Words`
-/// where there are both, or the form is another one.
+/// Whether the pairs of a session are the lines of standard input, by its form and by the words for pairs. Fails with
+/// `Words` if there are both, or if the form isn't `lines`.
 pub(crate) fn are_lines(form: Option<&str>, words: &[&str]) -> Result<bool, Fault>
     ensures { result ≡ are_lines (option_map (λ word. word.now) form.entry)
         (map (λ word. word.now) words.now) }
@@ -22,12 +22,12 @@ pub(crate) fn are_lines(form: Option<&str>, words: &[&str]) -> Result<bool, Faul
     }
 }
 
-/// The pairs that the lines of a text say. `\n` ends a line, and the last one needs no end. In a line are two words, the
-/// command and the reply, each in hexadecimal of either case or `none`; spaces, tabs and `\r` part them, and may come
-/// before and after them. A line without a word says nothing.
+/// Reads the pairs in the lines of a text. `\n` ends a line, and the last line needs no end. A line has two words, the
+/// command and the reply. Each is hexadecimal in either case, or `none`. Spaces, tabs and `\r` separate them, and may
+/// come before and after them. A line without a word has no pair.
 ///
-/// `Hex` where a line has one word, or more than two, or a word is no hexadecimal; `Memory` where a growth of memory was
-/// refused.
+/// Fails with `Hex` if a line has one word or more than two, or if a word isn't hexadecimal. Fails with `Memory` if
+/// memory couldn't grow.
 pub fn read_pair_lines(alloc: Global, text: &[u8]) -> Result<Pairs, Fault>
     ensures { UnlessMemory result (pairs_in text.now) }
 {
@@ -38,7 +38,7 @@ pub fn read_pair_lines(alloc: Global, text: &[u8]) -> Result<Pairs, Fault>
     Ok(Pairs::of(pairs))
 }
 
-/// Adds the pair that a line says, if it says one.
+/// Appends the pair of a line, if it has one.
 fn push_line(alloc: Global, pairs: &mut Vec<Pair>, line: &[u8]) -> Result<(), Fault>
     ensures { AddsSaid (pairs_of_line line.now) pairs.old.items pairs.new.items result }
 {

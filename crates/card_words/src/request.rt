@@ -10,7 +10,7 @@ use block_core::Number;
 use octet_core::{Listed, Octets, Text};
 use tlv_core::Known;
 
-/// What octets are checked or shown as.
+/// The kinds of values that octets are checked or shown as.
 #[derive(Clone, Copy, Debug, PartialEq, Eq)]
 pub enum Kind {
     /// An answer to reset.
@@ -29,7 +29,7 @@ pub enum Kind {
     Dol,
 }
 
-/// An end of a line, or both of them.
+/// An end of a line, or both ends.
 #[derive(Clone, Copy, Debug, PartialEq, Eq)]
 pub enum Ends {
     /// The terminal's end.
@@ -40,17 +40,18 @@ pub enum Ends {
     Both,
 }
 
-/// Which blocks of a trace are judged, and how.
+/// What is judged of a trace, and how.
 #[derive(Clone, Copy, Debug, PartialEq, Eq)]
 pub struct Judging {
     pub ends: Ends,
-    /// The frequency of the card's clock in hertz, 1 to 1,000,000,000. With it the times of the card's blocks are judged.
+    /// The frequency of the card's clock in hertz, 1 to 1,000,000,000. With it the judge also checks the times of the
+    /// card's blocks.
     pub clock: Option<u64>,
-    /// Whether to count how often each end kept and broke each rule, and which block was due.
+    /// Whether to count how often each end kept and broke each rule, and to say which block was due.
     pub rules: bool,
 }
 
-/// What octets are taken for.
+/// What octets are read as.
 #[derive(Clone, Copy, Debug, PartialEq, Eq)]
 pub struct Expected {
     pub kind: Kind,
@@ -72,7 +73,7 @@ pub enum Drawing {
 /// What to do with the file of a recorded exchange.
 #[derive(Clone, Copy, Debug, PartialEq, Eq)]
 pub enum FileTask {
-    /// Replay it against the engine of this end, or of both.
+    /// Replay it at this end, or at both.
     Replay(Ends),
     /// Write it in the newest version.
     Migrate,
@@ -98,11 +99,11 @@ pub enum Aim {
 pub enum Layout {
     /// As lines of text.
     Lines,
-    /// As an object of JSON on one line.
+    /// As a JSON object on one line.
     Json,
 }
 
-/// What to do with octets, and what they are taken for.
+/// What to do with octets, and what they are read as.
 #[derive(Clone, Copy, Debug, PartialEq, Eq)]
 pub struct Task {
     pub aim: Aim,
@@ -110,24 +111,24 @@ pub struct Task {
     pub expected: Expected,
 }
 
-/// Values that are known for tags, in the order of their words, which contracts see as a list.
+/// Known values of tags, in the order of their words. Contracts see them as a list.
 pub type Knowns = Listed<Known>;
 
 /// What a command line asks for.
 #[derive(Debug, PartialEq, Eq, Drop)]
 pub enum Asked {
-    /// One text, after all of standard input was read that it needs.
+    /// One text, after reading all that it needs of standard input.
     Once(Request),
     /// One answer for each line of standard input. Each line is hexadecimal, as a whole text is.
     Lines(Task),
 }
 
-/// What is answered by one text.
+/// A request that one text answers.
 #[derive(Debug, PartialEq, Eq, Drop)]
 pub enum Request {
     /// Check or show these octets.
     Tell(Task, OctetSource),
-    /// The blocks of the chain into which a message of at most 131,072 octets is cut.
+    /// Cut a message of at most 131,072 octets into the blocks of a chain.
     BuildChain {
         /// The information size.
         ifs: FieldSize,
@@ -135,30 +136,30 @@ pub enum Request {
         number: Number,
         message: Octets,
     },
-    /// The forest that the octets spell, in the shortest octets that say the same.
+    /// Encode the forest of the octets in the fewest octets that have the same objects.
     BuildTidy(OctetSource),
-    /// The octets that a data object list asks for.
+    /// Return the octets that a data object list requests.
     BuildFill {
         /// The octets of the list.
         list: Octets,
-        /// What is known, or the fault of the first word that says no known value. It counts only where
-        /// the octets are a list.
+        /// The known values, or the fault of the first word that isn't one. The fault counts only if the octets are a
+        /// list.
         known: Result<Knowns, Fault>,
     },
     /// Work on the file of a recorded exchange on standard input.
     File(FileTask),
-    /// The exchange of a card with this answer to reset in which the blocks of standard input were seen.
+    /// Make the exchange of a card with this answer to reset from the blocks of standard input.
     Record(Octets),
-    /// Judge the blocks of standard input, at a card with this answer to reset.
+    /// Judge the blocks of standard input for a card with this answer to reset.
     Judge {
         atr: Octets,
         judging: Judging,
     },
-    /// The exchange that a recorder of both ends writes of this session.
+    /// Simulate this session, and return its exchange as a recorder of both ends writes it.
     Simulate(Session),
-    /// The same of this session with the pairs that the lines of standard input say.
+    /// Simulate this session with the pairs in the lines of standard input.
     SimulateLines(Session),
-    /// This text, by which `clap` answers a call for help.
+    /// The text with which `clap` answers a call for help.
     Help(Text),
     /// The version.
     Version,

@@ -18,10 +18,10 @@ pub struct Pair {
     pub reply: Octets,
 }
 
-/// Commands and their replies, in the order of their words, which contracts see as a list.
+/// Commands and their replies, in the order of their words. Contracts see them as a list.
 pub type Pairs = Listed<Pair>;
 
-/// Numbers of blocks, from 1, in the order of their word, which contracts see as a list.
+/// Numbers of blocks, from 1, in the order of their word. Contracts see them as a list.
 pub type BlockNumbers = Listed<u64>;
 
 /// A session of both ends on one line.
@@ -29,10 +29,10 @@ pub type BlockNumbers = Listed<u64>;
 pub struct Session {
     /// The card's answer to reset.
     pub atr: Octets,
-    /// The information size that the terminal asks for first.
+    /// The information size that the terminal requests first.
     pub ifsd: Option<FieldSize>,
     pub pairs: Pairs,
-    /// The blocks that are lost, by their numbers in the order in which blocks are sent.
+    /// The blocks that are lost. Blocks are numbered in the order in which both ends send them.
     pub lost: BlockNumbers,
     /// The blocks that arrive damaged.
     pub damaged: BlockNumbers,
@@ -41,7 +41,7 @@ pub struct Session {
 }
 
 impl Session {
-    /// The same session with these pairs.
+    /// Returns the session with these pairs instead of its own.
     pub fn with_pairs(self, pairs: Pairs) -> Session
         ensures { result ≡ record self { pairs = pairs } }
     {
@@ -49,7 +49,7 @@ impl Session {
     }
 }
 
-/// The pairs that the words say, or the fault of the first that says none.
+/// Returns the pairs of the words, or the fault of the first word that isn't one.
 pub(crate) fn read_pairs(alloc: Global, words: &[&str]) -> Result<Pairs, Fault>
     ensures { UnlessMemory result (pairs_of (map (λ word. word.now) words.now)) }
 {
@@ -61,7 +61,7 @@ pub(crate) fn read_pairs(alloc: Global, words: &[&str]) -> Result<Pairs, Fault>
     Ok(Pairs::of(list))
 }
 
-/// Adds a pair to a list.
+/// Appends a pair to a list.
 pub(crate) fn push_pair(list: &mut Vec<Pair>, pair: Pair) -> Result<(), AllocError>
     ensures { OnOk result (list.new.items ≡ list.old.items ++ pair ∷ []) }
 {
@@ -69,7 +69,7 @@ pub(crate) fn push_pair(list: &mut Vec<Pair>, pair: Pair) -> Result<(), AllocErr
     Ok(())
 }
 
-/// The pair that a word says: a command and a reply, parted by a colon.
+/// Returns the pair of a word: a command and a reply, separated by a colon.
 fn read_pair(alloc: Global, word: &str) -> Result<Pair, Fault>
     ensures { UnlessMemory result (pair_of word.now) }
 {
@@ -77,7 +77,7 @@ fn read_pair(alloc: Global, word: &str) -> Result<Pair, Fault>
     read_parts(alloc, command.as_bytes(), reply.as_bytes())
 }
 
-/// The pair of a command and a reply, each in hexadecimal or `none`.
+/// Returns the pair of a command and a reply, each in hexadecimal or `none`.
 pub(crate) fn read_parts(
     alloc: Global,
     command_word: &[u8],
@@ -90,13 +90,19 @@ pub(crate) fn read_parts(
     Ok(Pair { command, reply })
 }
 
-/// How many blocks a list names at most up to the end of a range, each as often as it is named.
+/// The most blocks that a list may name up to the end of a range. Each block counts as often as it is named.
 pub const MOST_NAMED: u64 = 1_000_000;
 
-/// The blocks that a word names, in numbers from 1 and ranges as `2-5` that commas part; none where there is no word.
+/// Returns the blocks that a word names: numbers from 1 and ranges such as `2-5`, separated by commas. Returns no
+/// blocks if there is no word.
 ///
-/// `Words` where the word is no such list, the last number of a range is below its first, or the word up to the end of a
-/// range of several names more than `MOST_NAMED` blocks; `Memory` where a growth of memory was refused.
+/// Fails with `Words` if
+///
+/// - the word isn't such a list,
+/// - the last number of a range is below its first, or
+/// - the word up to the end of a range of several numbers names more than `MOST_NAMED` blocks.
+///
+/// Fails with `Memory` if memory couldn't grow.
 pub fn read_blocks(alloc: Global, word: Option<&str>) -> Result<BlockNumbers, Fault>
     ensures { UnlessMemory result (blocks_of (option_map (λ word. word.now) word.entry)) }
 {
@@ -106,7 +112,7 @@ pub fn read_blocks(alloc: Global, word: Option<&str>) -> Result<BlockNumbers, Fa
     }
 }
 
-/// The numbers of a list that is parted by commas.
+/// Returns the numbers of a list with commas.
 fn read_numbers(alloc: Global, word: &str) -> Result<BlockNumbers, Fault>
     ensures { UnlessMemory result (block_numbers word.now) }
 {
@@ -119,7 +125,7 @@ fn read_numbers(alloc: Global, word: &str) -> Result<BlockNumbers, Fault>
     with_part(named, rest)
 }
 
-/// These and the blocks that a part of a list names.
+/// Appends the blocks that a part of a list names.
 fn with_part(named: BlockNumbers, word: &str) -> Result<BlockNumbers, Fault>
     ensures { UnlessMemory result (session.with_part named word.now) }
 {
@@ -127,7 +133,7 @@ fn with_part(named: BlockNumbers, word: &str) -> Result<BlockNumbers, Fault>
     with_range(named, first, last)
 }
 
-/// These and the blocks of a range, where these are not too many.
+/// Appends the blocks of a range, if they aren't too many.
 fn with_range(named: BlockNumbers, first: u64, last: u64) -> Result<BlockNumbers, Fault>
     requires { last < 10 ^ 15 }
     ensures { UnlessMemory result (session.with_range named first last) }
@@ -138,7 +144,7 @@ fn with_range(named: BlockNumbers, first: u64, last: u64) -> Result<BlockNumbers
     Ok(with_numbers(named, first, last + 1)?)
 }
 
-/// Whether a range is one, and a list may name its blocks after these.
+/// Whether the range is valid, and a list may name its blocks after these.
 fn have_room(named: &[u64], first: u64, last: u64) -> bool
     requires { last < 10 ^ 15 }
     ensures { result ≡ (nat_le first last && (first == last
@@ -147,7 +153,7 @@ fn have_room(named: &[u64], first: u64, last: u64) -> bool
     first <= last && (first == last || named.len() as u64 + (last + 1 - first) <= MOST_NAMED)
 }
 
-/// These and the numbers from one on, up to another without it.
+/// Appends the numbers from the first up to, and without, the end.
 fn with_numbers(named: BlockNumbers, first: u64, end: u64) -> Result<BlockNumbers, AllocError>
     ensures { IfOk result (λ longer. longer ≡ named ++ numbers_from first (end - first)) }
 {
@@ -158,7 +164,7 @@ fn with_numbers(named: BlockNumbers, first: u64, end: u64) -> Result<BlockNumber
     Ok(BlockNumbers::of(numbers))
 }
 
-/// The first and the last block that a part of a list names.
+/// Returns the first and the last block that a part of a list names.
 fn read_range(word: &str) -> Result<(u64, u64), Fault>
     ensures read { result ≡ block_range word.now }
     ensures small { IfOk result (λ range. range.1 < 10 ^ 15) }
@@ -176,7 +182,7 @@ fn read_range(word: &str) -> Result<(u64, u64), Fault>
     }
 }
 
-/// The number of a block.
+/// Reads the number of a block.
 fn read_number(word: &str) -> Result<u64, Fault>
     ensures read { result ≡ block_number word.now }
     ensures small { IfOk result (λ number. number < 10 ^ 15) }

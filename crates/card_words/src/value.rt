@@ -1,4 +1,4 @@
-//! Octets as a word, and words parted by a colon.
+//! Octets as a word, and words separated by a colon.
 
 ghost use Rattle.std.specs.Prelude.{◌≡◌};
 ghost use Rattle.std.specs.Result.{result_map_both};
@@ -10,14 +10,14 @@ use hex::FromHexError;
 use octet_core::Octets;
 use std::alloc::Global;
 
-/// The octets that a word gives in hexadecimal, none where it is `none`.
+/// Returns the octets of a word in hexadecimal; `none` gives no octets.
 pub(crate) fn octets(alloc: Global, word: &str) -> Result<Octets, Fault>
     ensures { UnlessMemory result (octets_of_word word.now) }
 {
     word_octets(alloc, word.as_bytes())
 }
 
-/// The same of a word of a text.
+/// Returns the octets of a word that is part of a text, in hexadecimal; `none` gives no octets.
 pub(crate) fn word_octets(alloc: Global, word: &[u8]) -> Result<Octets, Fault>
     ensures { UnlessMemory result (octets_of_word word.now) }
 {
@@ -27,7 +27,7 @@ pub(crate) fn word_octets(alloc: Global, word: &[u8]) -> Result<Octets, Fault>
     digit_octets(alloc, word)
 }
 
-/// The octets of digits, two each, in either case.
+/// Returns the octets of digits, two for each, in either case.
 fn digit_octets(alloc: Global, digits: &[u8]) -> Result<Octets, Fault>
     ensures { UnlessMemory result (hex_octets (decode_of digits.now)) }
 {
@@ -38,7 +38,7 @@ fn digit_octets(alloc: Global, digits: &[u8]) -> Result<Octets, Fault>
     }
 }
 
-/// What is before the first colon, and what is after it.
+/// Returns the texts before and after the first colon.
 pub fn parts(word: &str) -> Result<(&str, &str), Fault>
     ensures { result_map_both (λ p. (p.0.now, p.1.now)) (λ fault. fault) result ≡ parted word.now }
 {

@@ -25,10 +25,10 @@ use command_line::{asks_for_version, matches_of};
 use octet_core::{Octets, Text, decimal_of};
 use std::alloc::Global;
 
-/// The highest frequency of a clock, in hertz.
+/// The highest frequency of a clock in hertz.
 const FASTEST_CLOCK: u64 = 1_000_000_000;
 
-/// What the words ask for, of which the first is the program's name.
+/// Reads what the words ask for. The first word is the program's name.
 pub fn read(alloc: Global, words: &[String]) -> Result<Asked, Fault>
     ensures read { (result ≡ Err Fault.Memory) ⊎ IsRead (texts words.now) result }
     ensures sized { IfOk result AreSized }
@@ -43,7 +43,7 @@ pub fn read(alloc: Global, words: &[String]) -> Result<Asked, Fault>
     }
 }
 
-/// What the matches of the words ask for.
+/// Reads what the matches of the words ask for.
 fn asked(alloc: Global, matches: &ArgMatches) -> Result<Asked, Fault>
     ensures { UnlessMemory result (asked_of (subcommand_rows_of matches.now)) }
 {
@@ -57,7 +57,7 @@ fn asked(alloc: Global, matches: &ArgMatches) -> Result<Asked, Fault>
     }
 }
 
-/// The request of a subcommand other than `check` and `show`.
+/// Reads the request of a subcommand other than `check` and `show`.
 fn request(alloc: Global, name: &str, matches: &ArgMatches) -> Result<Request, Fault>
     ensures { UnlessMemory result (request_by name.now (rows_of (found_of matches.now))) }
 {
@@ -74,7 +74,7 @@ fn request(alloc: Global, name: &str, matches: &ArgMatches) -> Result<Request, F
     }
 }
 
-/// The subcommand and its matches.
+/// Returns the name of the subcommand and its matches.
 fn entered<'a, 'b>(matches: &'b ArgMatches<'a>) -> Option<(&'a str, &'b ArgMatches<'a>)>
     ensures { option_map (λ p. (p.0.now, rows_of (found_of p.1.now))) result ≡ subcommand_rows_of
         matches.now }
@@ -82,7 +82,7 @@ fn entered<'a, 'b>(matches: &'b ArgMatches<'a>) -> Option<(&'a str, &'b ArgMatch
     matches.subcommand()
 }
 
-/// Octets to check or show, or lines of them.
+/// Reads what to check or show: octets, or lines of them.
 fn told(alloc: Global, aim: Aim, matches: &ArgMatches) -> Result<Asked, Fault>
     ensures { UnlessMemory result (told_of aim (rows_of (found_of matches.now))) }
 {
@@ -101,7 +101,7 @@ fn told(alloc: Global, aim: Aim, matches: &ArgMatches) -> Result<Asked, Fault>
     Ok(Asked::Once(Request::Tell(task, given)))
 }
 
-/// How the answer is laid out.
+/// Returns the layout of the answer.
 fn layout(matches: &ArgMatches) -> Layout
     ensures { result ≡ layout_of (rows_of (found_of matches.now)) }
 {
@@ -112,7 +112,7 @@ fn layout(matches: &ArgMatches) -> Layout
     }
 }
 
-/// What `show` does: with `--notes` it adds notes to the value.
+/// Returns what `show` prints: the value, with notes if there is `--notes`.
 fn show_aim(matches: &ArgMatches) -> Aim
     ensures { result ≡ show_aim (rows_of (found_of matches.now)) }
 {
@@ -123,14 +123,14 @@ fn show_aim(matches: &ArgMatches) -> Aim
     }
 }
 
-/// Whether an option without a value is there.
+/// Whether an option without a value is given.
 fn has_flag(matches: &ArgMatches, name: &str) -> bool
     ensures { result ≡ has_flag name.now (rows_of (found_of matches.now)) }
 {
     matches!(word(matches, name), Some("true"))
 }
 
-/// A kind, an information size and a first number.
+/// Reads a kind, an information size and a first number.
 fn expected(matches: &ArgMatches) -> Result<Expected, Fault>
     ensures { result ≡ expected_of (rows_of (found_of matches.now)) }
 {
@@ -140,7 +140,7 @@ fn expected(matches: &ArgMatches) -> Result<Expected, Fault>
     Ok(Expected { kind, ifs, number })
 }
 
-/// What is to be built, of the words after its name.
+/// Reads what to build from the words after its name.
 fn build(alloc: Global, matches: &ArgMatches) -> Result<Request, Fault>
     ensures { UnlessMemory result (build_of (rows_of (found_of matches.now))) }
 {
@@ -156,7 +156,7 @@ fn build(alloc: Global, matches: &ArgMatches) -> Result<Request, Fault>
     build_of_words(alloc, what, words)
 }
 
-/// What is to be built of words alone.
+/// Reads what to build from words alone.
 fn build_of_words(alloc: Global, what: &str, words: &[&str]) -> Result<Request, Fault>
     ensures { UnlessMemory result (build_words what.now (map (λ word. word.now) words.now)) }
 {
@@ -167,7 +167,7 @@ fn build_of_words(alloc: Global, what: &str, words: &[&str]) -> Result<Request, 
     }
 }
 
-/// The end at which recorded exchanges are replayed.
+/// Reads the end, or both ends, to replay recorded exchanges at.
 fn replay(matches: &ArgMatches) -> Result<Request, Fault>
     ensures { result ≡ replay_of (rows_of (found_of matches.now)) }
 {
@@ -175,7 +175,7 @@ fn replay(matches: &ArgMatches) -> Result<Request, Fault>
     Ok(Request::File(FileTask::Replay(side)))
 }
 
-/// How a recorded exchange is drawn: as text, or with `--svg` as a picture.
+/// Returns how to draw a recorded exchange: as text, or with `--svg` as a picture.
 fn drawing(matches: &ArgMatches) -> Drawing
     ensures { result ≡ drawing_of (rows_of (found_of matches.now)) }
 {
@@ -186,14 +186,14 @@ fn drawing(matches: &ArgMatches) -> Drawing
     }
 }
 
-/// The answer to reset with which an exchange is made of the blocks that were seen.
+/// Reads the answer to reset for an exchange that is made from blocks.
 fn record(alloc: Global, matches: &ArgMatches) -> Result<Request, Fault>
     ensures { UnlessMemory result (record_of (rows_of (found_of matches.now))) }
 {
     Ok(Request::Record(atr(alloc, matches)?))
 }
 
-/// The answer to reset of the card on whose line blocks were seen, and what is judged.
+/// Reads what to judge, and the answer to reset of the card on the line.
 fn judge(alloc: Global, matches: &ArgMatches) -> Result<Request, Fault>
     ensures { UnlessMemory result (judge_of (rows_of (found_of matches.now))) }
 {
@@ -205,14 +205,14 @@ fn judge(alloc: Global, matches: &ArgMatches) -> Result<Request, Fault>
     Ok(Request::Judge { atr, judging })
 }
 
-/// The answer to reset of a card.
+/// Reads the answer to reset of a card.
 fn atr(alloc: Global, matches: &ArgMatches) -> Result<Octets, Fault>
     ensures { UnlessMemory result (atr_of (rows_of (found_of matches.now))) }
 {
     octets(alloc, word(matches, "atr").ok_or(Fault::Words)?)
 }
 
-/// A session of both ends, whose pairs are words, or the lines of standard input.
+/// Reads a session of both ends. Its pairs are words, or the lines of standard input.
 fn simulate(alloc: Global, matches: &ArgMatches) -> Result<Request, Fault>
     ensures { UnlessMemory result (simulate_of (rows_of (found_of matches.now))) }
 {
@@ -225,7 +225,7 @@ fn simulate(alloc: Global, matches: &ArgMatches) -> Result<Request, Fault>
     Ok(Request::Simulate(session))
 }
 
-/// A session of both ends with the pairs that these words say.
+/// Reads a session of both ends with the pairs of these words.
 fn session(alloc: Global, matches: &ArgMatches, words: &[&str]) -> Result<Session, Fault>
     ensures { UnlessMemory result
         (session_of (map (λ word. word.now) words.now) (rows_of (found_of matches.now))) }
@@ -246,7 +246,7 @@ fn session(alloc: Global, matches: &ArgMatches, words: &[&str]) -> Result<Sessio
     })
 }
 
-/// A forest to be tidied.
+/// Reads a forest to tidy.
 fn tidy(alloc: Global, words: &[&str], form: Option<&str>) -> Result<Request, Fault>
     ensures { UnlessMemory result
         (tidy_of (map (λ word. word.now) words.now) (option_map (λ word. word.now) form.entry)) }
@@ -259,7 +259,7 @@ fn tidy(alloc: Global, words: &[&str], form: Option<&str>) -> Result<Request, Fa
     Ok(Request::BuildTidy(read_given(alloc, hex, form)?))
 }
 
-/// A data object list to be filled, and what is known.
+/// Reads a data object list to fill, and the known values.
 fn fill(alloc: Global, words: &[&str]) -> Result<Request, Fault>
     ensures { UnlessMemory result (fill_of (map (λ word. word.now) words.now)) }
 {
@@ -274,7 +274,7 @@ fn fill(alloc: Global, words: &[&str]) -> Result<Request, Fault>
     Ok(Request::BuildFill { list, known })
 }
 
-/// A chain to be built: an information size, a first number and a message.
+/// Reads a chain to build: an information size, a first number and a message.
 fn chain(alloc: Global, words: &[&str]) -> Result<Request, Fault>
     ensures { UnlessMemory result (chain_of (map (λ word. word.now) words.now)) }
 {
@@ -294,7 +294,7 @@ fn chain(alloc: Global, words: &[&str]) -> Result<Request, Fault>
     })
 }
 
-/// All values of an argument.
+/// Returns all values of an argument.
 fn all_words<'a, 'b>(matches: &'b ArgMatches<'a>, id: &str) -> Option<&'b [&'a str]>
     ensures { option_map (λ words. map (λ word. word.now) words.now) result ≡ all_of id.now
         (rows_of (found_of matches.now)) }
@@ -302,7 +302,7 @@ fn all_words<'a, 'b>(matches: &'b ArgMatches<'a>, id: &str) -> Option<&'b [&'a s
     matches.get_strs(id)
 }
 
-/// The first value of an argument.
+/// Returns the first value of an argument.
 fn word<'a>(matches: &ArgMatches<'a>, id: &str) -> Option<&'a str>
     ensures { option_map (λ word. word.now) result ≡ first_of id.now
         (rows_of (found_of matches.now)) }
@@ -310,7 +310,7 @@ fn word<'a>(matches: &ArgMatches<'a>, id: &str) -> Option<&'a str>
     matches.get_str(id)
 }
 
-/// The kind that a word names.
+/// Returns the kind that a word names.
 pub fn kind(word: &str) -> Result<Kind, Fault>
     ensures { result ≡ kind_of word.now }
 {
@@ -326,7 +326,7 @@ pub fn kind(word: &str) -> Result<Kind, Fault>
     }
 }
 
-/// An end of a line, or both. `clap` takes any word there.
+/// Reads an end of a line, or both. `clap` accepts any word as an end.
 fn end(word: &str) -> Result<Ends, Fault>
     ensures { result ≡ end_of_word word.now }
 {
@@ -336,7 +336,7 @@ fn end(word: &str) -> Result<Ends, Fault>
     }
 }
 
-/// The ends that are judged: both, where there is no word for one.
+/// Reads the ends to judge: both if there is no word.
 fn judged_ends(word: Option<&str>) -> Result<Ends, Fault>
     ensures { result ≡ judged_ends (option_map (λ word. word.now) word.entry) }
 {
@@ -346,7 +346,7 @@ fn judged_ends(word: Option<&str>) -> Result<Ends, Fault>
     }
 }
 
-/// The frequency of a clock, where there is a word for one.
+/// Reads the frequency of a clock, if there is a word for it.
 pub fn clock(word: Option<&str>) -> Result<Option<u64>, Fault>
     ensures { result ≡ clock_of (option_map (λ word. word.now) word.entry) }
 {
@@ -356,7 +356,7 @@ pub fn clock(word: Option<&str>) -> Result<Option<u64>, Fault>
     }
 }
 
-/// A number of hertz that a clock may have.
+/// Returns a number of hertz, if a clock may have it.
 fn hertz(number: Option<u64>) -> Result<Option<u64>, Fault>
     ensures { result ≡ hertz_of number }
 {
@@ -366,7 +366,7 @@ fn hertz(number: Option<u64>) -> Result<Option<u64>, Fault>
     }
 }
 
-/// One end of a line.
+/// Reads one end of a line.
 pub fn one_end(word: &str) -> Result<Ends, Fault>
     ensures { result ≡ one_end word.now }
 {
@@ -377,7 +377,7 @@ pub fn one_end(word: &str) -> Result<Ends, Fault>
     }
 }
 
-/// What a parse that gave no matches comes to: the text of a call for help, or a fault.
+/// Returns the result of a parse without matches: the text of a call for help, or a fault.
 fn help_or_fault(alloc: Global, error: &Error) -> Result<Asked, Fault>
     ensures { IsHelpOrFault (error_kind error.now) result }
 {

@@ -1,4 +1,4 @@
--- Chains of I-blocks, and the octets that spell them: ISO/IEC 7816-3, clause 11.6.
+-- Chains of I-blocks, and their encoding: ISO/IEC 7816-3, clause 11.6.
 use Rattle.std.specs.Prelude.{◌≡◌, ◌≢◌, ℕ, zero, suc, ◌+◌, ◌<◌, ◌≤◌, List, [], ◌∷◌, ◌++◌, length, Bool, true, false, slice_index}
 use Rattle.std.specs.List.{concat, AllByRecursion}
 use Rattle.octet_core.specs.Octets.{AreOctets, xor_of}
@@ -11,15 +11,15 @@ use Rattle.block_core.specs.Block.{Parts, other, pcb_octet, IsInfo}
 use Rattle.chain_core.specs.declared.reason.ChainReason.{ChainReason}
 use Rattle.chain_core.specs.declared.reason.ChainReason.TheVariants.{BadNad, BadPcb, NotInfo, BadSequence, TooManyBlocks, BadLen, OverIfs, TooLong, BadLrc}
 
--- the greatest number of blocks
+-- the greatest number of blocks of a chain
 abbrev pub most_blocks : ℕ
 most_blocks = 131072
 
--- and the greatest limit of a message
+-- the greatest limit of a message, in octets
 abbrev pub longest_message : ℕ
 longest_message = 131072
 
--- the number of the block after n blocks of which the first has this number
+-- the number of the block after n blocks, if the first has this number
 abbrev pub number_after : Number → ℕ → Number
 number_after number zero = number
 number_after number (suc n) = number_after (other number) n
@@ -35,7 +35,7 @@ chain_blocks number (field ∷ []) = chain_block number false field ∷ []
 chain_blocks number (field ∷ next ∷ fields) =
     chain_block number true field ∷ chain_blocks (other number) (next ∷ fields)
 
--- a block for each field, where all say that more follow
+-- a block for each field, all of which say that more follow
 abbrev pub open_blocks : Number → List (List ℕ) → List Parts
 open_blocks number [] = []
 open_blocks number (field ∷ fields) = chain_block number true field ∷ open_blocks (other number) fields
@@ -52,7 +52,7 @@ spelling number fields = octets_of (chain_blocks number fields)
 abbrev pub message_of : List (List ℕ) → List ℕ
 message_of fields = concat fields
 
--- what has a spelling: fields of at most ifs octets, a message of at most max
+-- the fields have an encoding: they have at most ifs octets each, and the message at most max
 pub record IsProper (ifs max : ℕ) (fields : List (List ℕ)) : Type 0 where
   pub some : 0 < length fields
   pub few : length fields ≤ most_blocks
@@ -60,16 +60,16 @@ pub record IsProper (ifs max : ℕ) (fields : List (List ℕ)) : Type 0 where
   pub octets : AreOctets (message_of fields)
   pub fits : length (message_of fields) ≤ max
 
--- the octets b spell the chain of these fields
+-- the octets b encode the chain of these fields
 pub record IsChain (ifs : ℕ) (number : Number) (max : ℕ) (fields : List (List ℕ)) (b : List ℕ) : Type 0 where
   pub proper : IsProper ifs max fields
   pub is : b ≡ spelling number fields
 
--- The first octets c of a block meet this line of the table of reasons, after blocks with these fields (clauses 11.3 and
--- 11.6): NAD isn't 00, the one address of a session here; PCB is none of the 18 octets; it is that of no I-block; its
--- number is that of the block before; it says that more follow the last block that a chain may have, a limit of this
--- project; LEN is FF, which is reserved; LEN is over the information size; the message gets longer than the limit; the
--- exclusive-or of all octets isn't 00.
+-- The first octets c of a block, after blocks with these fields, meet this line of the table of reasons (clauses 11.3
+-- and 11.6): NAD isn't 00, the only address of a session here; PCB isn't one of the 18 octets; PCB isn't that of an
+-- I-block; the number is that of the block before; the last block that a chain may have says that more follow, a limit
+-- of this project; LEN is FF, which is reserved; LEN is over the information field size; the message gets longer than
+-- the limit; the exclusive-or of all octets isn't 00.
 abbrev pub MeetsInBlock : ℕ → Number → ℕ → List (List ℕ) → List ℕ → ChainReason → Type 0
 MeetsInBlock ifs number max fields c BadNad = (length c ≡ 1) × (slice_index c 0 ≢ 0)
 MeetsInBlock ifs number max fields c BadPcb = (length c ≡ 2) × ((p : Pcb) → pcb_octet p ≡ slice_index c 1 → ⊥)
@@ -94,6 +94,6 @@ Meets ifs number max b r = (fields : List (List ℕ)) × (c : List ℕ) × (b �
 abbrev pub all_reasons : List ChainReason
 all_reasons = BadNad ∷ BadPcb ∷ NotInfo ∷ BadSequence ∷ TooManyBlocks ∷ BadLen ∷ OverIfs ∷ TooLong ∷ BadLrc ∷ []
 
--- the reason is the first line of the table that the octets up to and with the refused one meet
+-- the octets up to and including the refused one meet this line of the table, and no line before it
 abbrev pub IsReason : ℕ → Number → ℕ → ChainReason → List ℕ → Type 0
 IsReason ifs number max r b = IsFirst all_reasons (Meets ifs number max b) r

@@ -5,7 +5,7 @@ use Rattle.block_core.specs.declared.pcb.Number.{Number}
 use Rattle.block_core.specs.Block.{Parts}
 use Rattle.chain_core.specs.Chain.{message_of, chain_block, chain_blocks}
 
--- the first count fields of size octets, and then what is left
+-- the first `count` fields of `size` octets, and then the rest
 abbrev pub pieces : ℕ → ℕ → List ℕ → List (List ℕ)
 pieces size zero message = message ∷ []
 pieces size (suc count) message = take size message ∷ pieces size count (drop size message)
@@ -14,7 +14,7 @@ pieces size (suc count) message = take size message ∷ pieces size count (drop 
 abbrev pub cut_of : ℕ → List ℕ → List (List ℕ)
 cut_of size message = pieces size ((length message - 1) / size) message
 
--- all fields but the last have size octets, and the last has some
+-- all fields but the last have `size` octets, and the last has at least one
 abbrev pub IsFull : ℕ → List (List ℕ) → Type 0
 IsFull size [] = ⊥
 IsFull size (field ∷ []) = (0 < length field) × (length field ≤ size)
@@ -29,7 +29,7 @@ IsCut size (x ∷ message) fields = (message_of fields ≡ x ∷ message) × IsF
 abbrev pub leading_block : ℕ → Number → List ℕ → Parts
 leading_block size number message = chain_block number (nat_lt size (length message)) (take size message)
 
--- the blocks of what is left of a message, none where all were given
+-- the blocks for the rest of a message, none if all were returned
 abbrev pub blocks_left : ℕ → Number → Option (Bor (List ℕ)) → List Parts
 blocks_left size number None = []
 blocks_left size number (Some rest) = chain_blocks number (cut_of size rest.now)

@@ -1,4 +1,4 @@
--- A receiver of a chain as its caller keeps it, with the octets of the message in the caller's buffer.
+-- The state of a receiver of a chain as its caller keeps it, with the octets of the message in the caller's buffer.
 use Rattle.std.specs.Prelude.{◌≡◌, ℕ, ◌+◌, ◌-◌, ◌*◌, ◌<◌, ◌≤◌, List, [], ◌∷◌, ◌++◌, length, take, drop, Bool, true, false, Option, Some, None, Result, Err, OnOk, IfErr}
 use Rattle.octet_core.specs.Octets.{AreOctets}
 use Rattle.octet_core.specs.Grammar.{self_ended, RefusesAt}
@@ -17,26 +17,26 @@ use Rattle.chain_core.specs.Taking.{Taking, HasTaken, unrefused}
 use Rattle.chain_core.specs.declared.reason.ChainReason.{ChainReason}
 use Rattle.chain_core.specs.declared.reason.ChainReason.TheVariants.{BadNad, BadPcb, NotInfo, BadSequence, TooManyBlocks, BadLen, OverIfs, TooLong, BadLrc}
 
--- the octets of the block under way, by what comes next of it and those of its field that came
+-- the octets of the unfinished block that came, by the stage and the octets of the field
 abbrev pub under_way_of : Number → stage.BlockStage → List ℕ → List ℕ
 under_way_of number stages.Nad field = []
 under_way_of number stages.Pcb field = 0 ∷ []
 under_way_of number (stages.Len more) field = 0 ∷ pcb_octet (Info number more) ∷ []
 under_way_of number (stages.Rest more len) field = 0 ∷ pcb_octet (Info number more) ∷ len ∷ field
 
--- the number of the block under way, or of the next
+-- the number of the unfinished block, or of the next block
 abbrev pub number_at : LentReceiver → Number
 number_at p = number_after p.first p.blocks
 
--- the octets of its field that came: they come after the message
+-- the octets of the unfinished field, which are after the message in the buffer
 abbrev pub field_at : LentReceiver → List ℕ → List ℕ
 field_at p message = take p.came (drop p.joined message)
 
--- how many octets of the buffer are the message, or those of the field
+-- how many octets of the buffer belong to the message or to the unfinished field
 abbrev pub held_at : LentReceiver → ℕ
 held_at p = p.joined + came_of p.stage p.came
 
--- the receiver that they are with this buffer
+-- the receiver with this state and this buffer
 abbrev pub received_at : LentReceiver → List ℕ → Taking
 received_at p message = record {
   ifs = p.ifs;
@@ -49,7 +49,7 @@ received_at p message = record {
   refusal = p.refusal;
 }
 
--- a block under way that can come after so many blocks with so many octets, of whose field so many came
+-- an unfinished block is possible after this many blocks with `joined` octets, if `came` octets of its field came
 abbrev pub IsUnderWay : (ifs max blocks joined came : ℕ) → stage.BlockStage → Type 0
 IsUnderWay ifs max blocks joined came stages.Nad = Unit {0}
 IsUnderWay ifs max blocks joined came stages.Pcb = Unit {0}
@@ -57,12 +57,12 @@ IsUnderWay ifs max blocks joined came (stages.Len more) = blocks + 1 + more_coun
 IsUnderWay ifs max blocks joined came (stages.Rest more len) =
     (blocks + 1 + more_count more ≤ most_blocks) × (len ≤ ifs) × (joined + len ≤ max) × (came ≤ len)
 
--- a whole chain has blocks, and none under way
+-- a whole chain has blocks, and none of them is unfinished
 abbrev pub IsAmong : Bool → LentReceiver → Type 0
 IsAmong true p = (p.stage ≡ stages.Nad) × (1 ≤ p.blocks)
 IsAmong false p = (p.blocks + 1 ≤ most_blocks) × IsUnderWay p.ifs p.max p.blocks p.joined p.came p.stage
 
--- some octet can come for a PCB after so many blocks that is refused for this reason
+-- some octet may come for the PCB after this many blocks that is refused for this reason
 abbrev pub IsPcbReason : ℕ → ChainReason → Type 0
 IsPcbReason blocks BadPcb = Unit {0}
 IsPcbReason blocks NotInfo = Unit {0}
@@ -70,14 +70,14 @@ IsPcbReason blocks BadSequence = Unit {0}
 IsPcbReason blocks TooManyBlocks = blocks + 1 ≡ most_blocks
 IsPcbReason blocks _ = ⊥
 
--- and for a LEN, where so many octets have room in the message
+-- some octet may come for the LEN that is refused for this reason; the message has room for `room` more octets
 abbrev pub IsLenReason : ℕ → ℕ → ChainReason → Type 0
 IsLenReason ifs room BadLen = Unit {0}
 IsLenReason ifs room OverIfs = ifs < 254
 IsLenReason ifs room TooLong = room < ifs
 IsLenReason ifs room _ = ⊥
 
--- some octet can come next of the block under way that is refused for this reason: of its field none is
+-- some octet may come next in the unfinished block that is refused for this reason; no octet of its field is refused
 abbrev pub IsNextReason : (ifs max blocks joined came : ℕ) → stage.BlockStage → ChainReason → Type 0
 IsNextReason ifs max blocks joined came stages.Nad r = r ≡ BadNad
 IsNextReason ifs max blocks joined came stages.Pcb r = IsPcbReason blocks r
@@ -88,13 +88,13 @@ IsNextReason ifs max blocks joined came (stages.Rest more len) r = (came ≡ len
 abbrev pub taken_at : LentReceiver → ℕ
 taken_at p = p.joined + 4 * p.blocks + (place_of p.stage + came_of p.stage p.came)
 
--- a refusal that is kept is of the octet after those, where more octets were taken
+-- a refusal that was kept is that of the next octet, in a receiver that would take more
 abbrev pub IsKept : Option (Refusal ChainReason) → LentReceiver → Type 0
 IsKept None p = Unit {0}
 IsKept (Some refusal) p = (p.done ≡ false) × (refusal.place ≡ taken_at p)
     × IsNextReason p.ifs p.max p.blocks p.joined p.came p.stage refusal.reason
 
--- They are those of a receiver with a buffer of so many octets: those that some octets lead to (`AreLedTo`).
+-- This is the state of a receiver with a buffer of `room` octets: some octets lead to it (`AreLedTo`).
 pub record IsLentReceiver (p : LentReceiver) (room : ℕ) : Type 0 where
   pub least : 1 ≤ p.ifs
   pub most : p.ifs ≤ 254
@@ -104,45 +104,45 @@ pub record IsLentReceiver (p : LentReceiver) (room : ℕ) : Type 0 where
   -- no block has a longer field
   pub full : p.joined ≤ p.blocks * p.ifs
   pub blocks : p.blocks ≤ most_blocks
-  -- no octet of a field is counted where none is under way
+  -- octets of a field are counted only while a field is being read
   pub idle : came_of p.stage p.came ≡ p.came
   pub among : IsAmong p.done p
   pub kept : IsKept p.refusal p
 
--- The octets t bring a receiver here: it took them all; or it took all but the last, which it refused.
+-- The octets t bring a receiver to this state. It took them all, or it took all but the last and refused that one.
 abbrev pub Brings : Option (Refusal ChainReason) → Taking → List ℕ → Type 0
 Brings None r t = HasTaken r t
 Brings (Some refusal) r t = (s : List ℕ) × (x : ℕ) × (t ≡ s ++ x ∷ []) × HasTaken (unrefused r) s
     × RefusesAt self_ended (IsChain r.ifs r.number r.max) (IsReason r.ifs r.number r.max) t
     (At refusal.place refusal.reason)
 
--- The octets t lead a receiver, from its beginning, to this state and this buffer.
+-- The octets t lead a receiver from its beginning to this state and this buffer.
 pub record AreLedTo (p : LentReceiver) (message t : List ℕ) : Type 0 where
-  -- it can begin so
+  -- the receiver can begin so
   pub least : 1 ≤ p.ifs
   pub most : p.ifs ≤ 254
   pub limit : p.max ≤ longest_message
   pub reserved : p.max ≤ length message
   pub octets : AreOctets t
-  -- what it counts is in the buffer, and is of a field only where one is under way
+  -- what it counts is in the buffer; octets of a field are counted only while a field is being read
   pub held : held_at p ≤ length message
   pub idle : came_of p.stage p.came ≡ p.came
   pub brings : Brings p.refusal (received_at p message) t
 
--- Where the octets of the message are kept: there is room for the longest one, and octets that come are put after those
+-- The storage for the octets of the message has room for the longest message, and the next octets are put after those
 -- that count.
 pub record IsStored (p : LentReceiver) (kept : List ℕ) (room : ℕ) (ends_after : ℕ → Type 0) : Type 0 where
   pub fit : IsLentReceiver p room
   pub octets : AreOctets kept
   pub after : ends_after (held_at p)
 
--- A receiver has room for the longest message, and keeps the octets that are in use and no other.
+-- A receiver has room for the longest message, and stores the octets that are in use and no others.
 pub record IsReceiver (p : LentReceiver) (message : List ℕ) (room : ℕ) : Type 0 where
   pub stored : IsStored p message room (λ held. length message ≡ held)
   -- some list of octets may have been taken
   pub taken : p.refusal ≡ None → (t : List ℕ) × HasTaken (received_at p message) t
 
--- What a receiver answers when no more octets come, of all octets that it may have taken.
+-- What a receiver returns when no more octets come, for all octets that it may have taken.
 pub record IsFinishedHere (r : Taking) (result : Result (Unit {0}) (Stop ChainReason)) : Type 0 where
   pub done : OnOk result ((t : List ℕ) → HasTaken r t → (v : List (List ℕ)) × IsChain r.ifs r.number r.max v t)
   pub short : IfErr result (λ stop. r.refusal ≡ None → (t : List ℕ) → HasTaken r t → (stop ≡ Short (length t))

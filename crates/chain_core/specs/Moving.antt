@@ -1,6 +1,6 @@
 -- What single calls of a source bring to a receiver, and what all calls so far have brought.
 --
--- held and left are the octets that the source held before and after, where they are known.
+-- `held` and `left` are the octets that the source held before and after, if they are known.
 use Rattle.std.specs.Prelude.{◌≡◌, ℕ, ◌+◌, ◌*◌, ◌≤◌, List, ◌++◌, length, Option, Some, None}
 use Rattle.std.specs.Io.KnownBytes.{Consumes, IsAtEnd}
 use Rattle.octet_core.specs.declared.stop.Refusal.{Refusal}
@@ -12,7 +12,7 @@ use Rattle.chain_core.specs.declared.reason.ChainReason.{ChainReason}
 
 -- ---- one call of the source
 
--- so many octets came, of the block under way, or none, at the end of the input
+-- `count` octets of the unfinished block came, or none at the end of the input
 pub record MovesOn (held left : Option (List ℕ)) (old new : Taking) (count : ℕ) : Type 0 where
   pub piece : List ℕ
   pub long : length piece ≡ count
@@ -29,7 +29,8 @@ pub record MovesOn (held left : Option (List ℕ)) (old new : Taking) (count : �
 
 -- ---- the calls so far
 
--- so many octets were read, which the receiver took, or refused where the source was asked for no more
+-- `taken` octets were read; the receiver took them, or refused one, and then the source was asked for
+-- no more
 pub record HasRead (held left : Option (List ℕ)) (old new : Taking) (taken : ℕ) : Type 0 where
   pub read : List ℕ
   pub count : length read ≡ taken
@@ -37,5 +38,5 @@ pub record HasRead (held left : Option (List ℕ)) (old new : Taking) (taken : �
   pub goes : Goes old new read
   pub near : (refusal : Refusal ChainReason) → new.refusal ≡ Some refusal → IsOpen old → (t : List ℕ) → HasTaken old t
       → EndsNear old.number (t ++ read) refusal.place
-  -- they are some of those that the receiver has taken
+  -- these are some of the octets that the receiver has taken
   pub most : new.refusal ≡ None → taken ≤ length new.joined + new.blocks * 4 + length new.under_way

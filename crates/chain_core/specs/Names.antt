@@ -1,4 +1,4 @@
--- The names of reasons and faults, each that of its variant.
+-- The names of reasons and faults: the names of their variants.
 use Rattle.std.specs.Prelude.{ℕ, List, ◌++◌, Option, Some, codes, decimal}
 use Rattle.octet_core.specs.Stops.{stop_text}
 use Rattle.chain_core.specs.declared.reading.ReadRefusal.{ReadRefusal}

@@ -1,4 +1,4 @@
--- How a receiver gets on, and what it answers.
+-- How a receiver changes over octets, and what it returns.
 use Rattle.std.specs.Prelude.{◌≡◌, ℕ, ◌+◌, ◌*◌, ◌≤◌, ◌⊎◌, List, ◌++◌, length, take, Bool, true, false, Option, Some, None, Result, Ok, Err}
 use Rattle.octet_core.specs.Grammar.{self_ended, RefusesAt}
 use Rattle.octet_core.specs.declared.stop.Refusal.{Refusal}
@@ -8,7 +8,7 @@ use Rattle.chain_core.specs.Chain.{IsChain, IsReason}
 use Rattle.chain_core.specs.Taking.{Taking, HasTaken, AreBefore, IsClosed}
 use Rattle.chain_core.specs.declared.reason.ChainReason.{ChainReason}
 
--- how a receiver changes over octets that come: it takes them or refuses
+-- how a receiver changes over the octets that come: it takes them or refuses one
 pub record Goes (old new : Taking) (piece : List ℕ) : Type 0 where
   pub ifs : new.ifs ≡ old.ifs
   pub number : new.number ≡ old.number
@@ -20,20 +20,20 @@ pub record Goes (old new : Taking) (piece : List ℕ) : Type 0 where
   pub before : (refusal : Refusal ChainReason) → new.refusal ≡ Some refusal → (t : List ℕ) → HasTaken old t
       → AreBefore old.number new.blocks new.joined (take refusal.place (t ++ piece))
 
--- how it changes over the first octets of a piece, so many: all of it, unless it refused or has a whole chain; one that
--- had before stays as it was
+-- How a receiver changes over the first n octets of a piece. They are the whole piece, unless it refused an octet or
+-- has a whole chain. A receiver that had refused, or had a whole chain, stays as it was.
 pub record Fed (old new : Taking) (piece : List ℕ) (n : ℕ) : Type 0 where
   pub goes : Goes old new (take n piece)
   pub inside : n ≤ length piece
   pub closed : IsClosed old → (new ≡ old) × (n ≡ 0)
   pub exit : (length piece ≤ n) ⊎ IsClosed new
 
--- what it answers to a piece of which it took so many octets
+-- the result for a piece of which the receiver took `taken` octets
 abbrev pub fed_answer : Option (Refusal ChainReason) → Bool → ℕ → Result (ℕ × Bool) (Stop ChainReason)
 fed_answer (Some refusal) done taken = Err (At refusal.place refusal.reason)
 fed_answer None done taken = Ok (taken, done)
 
--- and at the end, where so many octets came
+-- the result at the end, after `count` octets
 abbrev pub answer_after : Option (Refusal ChainReason) → Bool → ℕ → Result Unit (Stop ChainReason)
 answer_after (Some refusal) done count = Err (At refusal.place refusal.reason)
 answer_after None true count = Ok tt

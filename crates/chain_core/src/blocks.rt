@@ -1,4 +1,4 @@
-//! The blocks of the chain into which a message is cut, one by one.
+//! Cutting of a message into the blocks of a chain, one by one.
 
 ghost use Rattle.std.specs.Prelude.{◌≡◌, ◌≤◌, length, drop};
 ghost use Rattle.block_core.specs.Block.{Parts};
@@ -9,9 +9,8 @@ use block_core::{Block, Number};
 use std::fmt::{self, Debug, Formatter, Write};
 use std::marker::Model;
 
-/// The first block of the chain into which the octets of a message from place `start` on are cut, with
-/// this number: as many octets as an information field of `ifs` octets has room for, 1 to 254, and M=1
-/// where more follow.
+/// Returns the first block of the chain for the octets of a message from place `start` on, with this number.
+/// Its information field has as many octets as fit in `ifs`, which is 1 to 254. M=1 if more octets follow.
 pub fn block_at(msg: &[u8], start: usize, ifs: u8, number: Number) -> Block
     requires least { 1 ≤ ifs }
     requires most { ifs ≤ 254 }
@@ -23,7 +22,7 @@ pub fn block_at(msg: &[u8], start: usize, ifs: u8, number: Number) -> Block
     Block::info(0, number, rest.len() > len, &rest[..len]).unwrap()
 }
 
-/// The blocks that are left of the chain into which a message is cut.
+/// The blocks that are left of the chain for a message.
 #[derive(Drop)]
 pub struct Cut<'a> {
     rest: Option<&'a [u8]>,
@@ -44,7 +43,7 @@ impl<'a> Model for Cut<'a> {
 }
 
 impl<'a> Cut<'a> {
-    /// All the blocks of the chain into which a message is cut.
+    /// Returns all the blocks of the chain for a message.
     pub(crate) fn of(msg: &'a [u8], ifs: u8, number: Number) -> Cut<'a>
         requires least { 1 ≤ ifs }
         requires most { ifs ≤ 254 }
@@ -81,8 +80,8 @@ impl Iterator for Cut<'_> {
     }
 }
 
-/// How many octets of the message are left, the information size and the number of the next block: no octet is
-/// shown.
+/// Shows how many octets of the message are left, the information field size and the number of the next block,
+/// but no octet.
 impl Debug for Cut<'_> {
     fn fmt<W: Write>(&self, f: &mut Formatter<W>) -> fmt::Result {
         f.debug_struct("Cut")

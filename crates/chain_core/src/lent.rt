@@ -1,4 +1,5 @@
-//! A receiver of a chain that its caller keeps, some thirty octets, and whose message is in the caller's buffer.
+//! A receiver of a chain with a state that the caller keeps, some thirty octets, and the message in a buffer of the
+//! caller.
 
 ghost use Rattle.std.specs.Prelude.{◌≡◌, ◌+◌, ◌*◌, ◌<◌, ◌≤◌, ◌++◌, length, take, Some, None, [], IfSome, IfNone, MatchBool, true, false, List, ℕ, ◌⊎◌, IsSome, IsTrue, ◌↔◌};
 ghost use Rattle.octet_core.specs.Reader.{IsFed};
@@ -20,15 +21,15 @@ use crate::store::LentBuffer;
 use block_core::{LONGEST_INF, Number};
 use octet_core::{Refusal, Stop};
 
-/// What a receiver of one chain keeps (ISO/IEC 7816-3, clause 11.6), but for the octets: the caller keeps it, and
-/// lends it the buffer of the message at each call.
+/// The state of a receiver of one chain (ISO/IEC 7816-3, clause 11.6), without the octets of the message. The caller
+/// keeps it, and passes the buffer of the message to each call.
 ///
-/// [`LentReceiver::begin`] makes one, and each call keeps it fit. Where something else may have written to it,
-/// [`LentReceiver::fit`] says whether it still is one. The first `joined` octets of the buffer are the message so far,
-/// and after them comes the field of the block under way.
+/// [`LentReceiver::begin`] makes a state, and each call keeps it valid. If something else may have written to it,
+/// [`LentReceiver::fit`] says whether it is still valid. The first `joined` octets of the buffer are the message so
+/// far. After them comes the field of the unfinished block.
 #[derive(Clone, Copy, Debug)]
 pub struct LentReceiver {
-    /// The information size.
+    /// The information field size.
     pub ifs: u8,
     /// The number of the first block.
     pub first: Number,
@@ -38,20 +39,20 @@ pub struct LentReceiver {
     pub blocks: u32,
     /// How many octets their fields have.
     pub joined: u32,
-    /// What comes next of the block under way.
+    /// Which octet of the unfinished block comes next.
     pub stage: BlockStage,
     /// How many octets of its field came.
     pub came: u8,
     /// Whether the chain is whole.
     pub done: bool,
-    /// The refusal that is repeated.
+    /// The refusal, which further calls repeat.
     pub refusal: Option<Refusal<ChainReason>>,
 }
 
 impl LentReceiver {
-    /// A receiver that has taken nothing. `ifs` is the information size, 1 to 254, `number` the number of the first
-    /// block, and `max` the limit of the message, at most 131,072 octets: each buffer that is lent has room for as
-    /// many.
+    /// Starts a receiver that has taken nothing. `ifs` is the information field size, 1 to 254. `number` is the number
+    /// of the first block. `max` is the limit of the message, at most 131,072 octets. Each buffer that is passed to a
+    /// call must have room for `max` octets.
     pub fn begin(ifs: u8, number: Number, max: u32) -> LentReceiver
         requires least { 1 ≤ ifs }
         requires most { ifs ≤ 254 }
@@ -74,8 +75,9 @@ impl LentReceiver {
         }
     }
 
-    /// Takes the next octets, as `Receiver::feed`: how many of this piece, and whether the chain is whole. It can't
-    /// know which octets came before: what it says is so of all that such a receiver may have taken.
+    /// Takes the next octets, like `Receiver::feed`. Returns how many of this piece were taken, and whether the chain
+    /// is whole. Contracts don't know which octets came before, so the clauses hold for all octets that may have led
+    /// to this state.
     pub fn feed(
         &mut self,
         message: &mut [u8],
@@ -88,7 +90,7 @@ impl LentReceiver {
             (received_at self.old message.old) (received_at self.new message.new) piece.now result }
         ensures kept { (self.new.ifs ≡ self.old.ifs) × (self.new.first ≡ self.old.first)
             × (self.new.max ≡ self.old.max) }
-        // the octets that led to the old state, and those of the piece that count, lead to the new one
+        // the octets that led to the old state, and those of the piece that count, lead to the new state
         ensures led { (t : List ℕ) → AreLedTo self.old message.old t → (n : ℕ)
             × (n ≤ length piece.now) × AreLedTo self.new message.new (t ++ take n piece.now) }
     {
@@ -97,8 +99,7 @@ impl LentReceiver {
         self.answer(taken)
     }
 
-    /// What there is to say when no more octets come, as `Receiver::finish`, of all octets that such a receiver may
-    /// have taken.
+    /// Ends the octets, like `Receiver::finish`. The clauses hold for all octets that may have led to this state.
     pub fn finish(&self) -> Result<(), Stop<ChainReason>>
         requires { (room : ℕ) × IsLentReceiver self.now room }
         ensures finished { (message : List ℕ) → IsLentReceiver self.now (length message)
@@ -115,7 +116,7 @@ impl LentReceiver {
         }
     }
 
-    /// How many octets at the front of the buffer are the message, once the chain is whole.
+    /// Returns how many octets at the front of the buffer are the message, once the chain is whole.
     pub fn message_len(&self) -> Option<usize>
         ensures whole { IfSome result
             (λ count. (self.now.refusal ≡ None) × (self.now.done ≡ true)
@@ -129,7 +130,7 @@ impl LentReceiver {
         }
     }
 
-    /// Whether some octets lead a receiver with a buffer of `room` octets to this state, from `begin` on.
+    /// Whether some octets lead a receiver with a buffer of `room` octets from `begin` to this state.
     pub fn fit(&self, room: usize) -> bool
         ensures yes { result ≡ true → IsLentReceiver self.now room }
         ensures no { IsLentReceiver self.now room → result ≡ true }
@@ -141,7 +142,7 @@ impl LentReceiver {
         self.are_fit(room)
     }
 
-    /// Whether its numbers suit one another and the buffer.
+    /// Whether the numbers are consistent, and fit the buffer.
     fn are_fit(&self, room: usize) -> bool
         ensures yes { result ≡ true → IsLentReceiver self.now room }
         ensures no { IsLentReceiver self.now room → result ≡ true }
@@ -158,14 +159,14 @@ impl LentReceiver {
             && self.is_kept()
     }
 
-    /// Whether octets of a field are counted only where one is under way.
+    /// Whether octets of a field are counted only while a field is being read.
     fn is_idle(&self) -> bool
         ensures { IsTrue result ↔ (came_of self.now.stage self.now.came ≡ self.now.came) }
     {
         matches!(self.stage, BlockStage::Rest { .. }) || self.came == 0
     }
 
-    /// Whether the chain is whole, with no block under way, or a block can be under way as it is said.
+    /// Whether the chain is whole with no unfinished block, or the unfinished block is possible.
     fn is_among(&self) -> bool
         requires joined { self.now.joined ≤ self.now.max }
         ensures yes { result ≡ true → IsAmong self.now.done self.now }
@@ -177,7 +178,7 @@ impl LentReceiver {
         self.blocks < MOST_BLOCKS && self.is_under_way()
     }
 
-    /// Whether a block can be under way as it is said.
+    /// Whether the unfinished block is possible.
     fn is_under_way(&self) -> bool
         requires blocks { self.now.blocks + 1 ≤ most_blocks }
         requires joined { self.now.joined ≤ self.now.max }
@@ -200,7 +201,7 @@ impl LentReceiver {
         }
     }
 
-    /// Whether the refusal that is kept, if any, is of the next octet of the block under way.
+    /// Whether the refusal that was kept, if any, is right for some next octet of the unfinished block.
     fn is_kept(&self) -> bool
         requires joined { self.now.joined ≤ self.now.max }
         requires limit { self.now.max ≤ longest_message }
@@ -216,7 +217,7 @@ impl LentReceiver {
         }
     }
 
-    /// Whether some octet can come next of the block under way that is refused for this reason.
+    /// Whether some octet may come next in the unfinished block that is refused for this reason.
     fn may_refuse(&self, reason: ChainReason) -> bool
         requires joined { self.now.joined ≤ self.now.max }
         requires blocks { self.now.blocks ≤ most_blocks }
@@ -234,7 +235,7 @@ impl LentReceiver {
         }
     }
 
-    /// How many octets were taken.
+    /// Returns how many octets were taken.
     fn taken(&self) -> usize
         requires joined { self.now.joined ≤ longest_message }
         requires blocks { self.now.blocks ≤ most_blocks }
@@ -243,7 +244,7 @@ impl LentReceiver {
         self.joined as usize + 4 * self.blocks as usize + self.under_way()
     }
 
-    /// What a call that fed octets answers, of which it took so many.
+    /// Returns the result of a call that fed octets and took `taken` of them.
     pub(crate) fn answer(&self, taken: usize) -> Result<(usize, bool), Stop<ChainReason>>
         ensures { result ≡ fed_answer self.now.refusal self.now.done taken }
     {
@@ -253,7 +254,7 @@ impl LentReceiver {
         }
     }
 
-    /// How many octets of the block under way came.
+    /// Returns how many octets of the unfinished block came.
     pub(crate) fn under_way(&self) -> usize
         ensures few { result ≤ 258 }
         ensures place { result ≡ place_of self.now.stage + came_of self.now.stage self.now.came }
@@ -266,7 +267,7 @@ impl LentReceiver {
         }
     }
 
-    /// Whether it takes more octets.
+    /// Whether the receiver takes more octets.
     pub(crate) fn is_open(&self) -> bool
         ensures { (message : List ℕ)
             → MatchBool result (IsOpen (received_at self.now message))
@@ -276,7 +277,7 @@ impl LentReceiver {
     }
 }
 
-/// Whether some octet can come for a PCB after so many blocks that is refused for this reason.
+/// Whether some octet may come for the PCB after this many blocks that is refused for this reason.
 fn is_pcb_reason(blocks: u32, reason: ChainReason) -> bool
     requires { blocks ≤ most_blocks }
     ensures yes { result ≡ true → IsPcbReason blocks reason }
@@ -289,7 +290,8 @@ fn is_pcb_reason(blocks: u32, reason: ChainReason) -> bool
     }
 }
 
-/// And for a LEN, where `room` octets have room in the message.
+/// Whether some octet may come for the LEN that is refused for this reason. The message has room for `room` more
+/// octets.
 fn is_len_reason(ifs: u8, room: u32, reason: ChainReason) -> bool
     ensures yes { result ≡ true → IsLenReason ifs room reason }
     ensures no { IsLenReason ifs room reason → result ≡ true }

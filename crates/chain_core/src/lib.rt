@@ -1,11 +1,13 @@
 //! Messages as chains of I-blocks (ISO/IEC 7816-3, clause 11.6).
 //!
-//! A chain carries a message in the information fields of I-blocks, with NAD 00, alternating numbers, and
-//! M=1 on all but the last. The grammar, `IsChain` in `specs/Chain.antt`, relates the fields to the octets
-//! of the blocks in a row; `specs/Cut.antt` says how a message is cut into fields. `cut` and `write_chain`
-//! make chains, a `Receiver` takes one in pieces and joins its message, a `LentReceiver` joins it in a buffer that
-//! their caller lends, `read_chain` feeds a receiver from a source, and `laws` says what holds of the grammar
-//! alone. A `Wiped` has octets of a message in memory of their own, which is overwritten before it is given back.
+//! A chain carries a message in the information fields of I-blocks, with NAD 00, alternating numbers, and M=1 on
+//! all blocks but the last. The grammar, `IsChain` in `specs/Chain.antt`, relates the fields to the octets of the
+//! blocks in a row. `specs/Cut.antt` says how a message is cut into fields.
+//!
+//! `cut` and `write_chain` make chains. A `Receiver` takes a chain in pieces and joins its message; a
+//! `LentReceiver` joins it in a buffer of the caller. `read_chain` feeds a receiver from a source. `laws` states
+//! what holds of the grammar alone. A `Wiped` holds octets of a message in its own memory, and overwrites them
+//! before it frees the memory.
 #![tactic(auto)]
 
 pub mod blocks;

@@ -1,4 +1,4 @@
-//! A chain read from a source.
+//! Reading of a chain from a source.
 
 ghost use Rattle.std.specs.Prelude.{◌≡◌, length, true, None, IfSome, IfNone};
 ghost use Rattle.std.specs.Io.KnownBytes.{Keeps};
@@ -18,14 +18,14 @@ use std::fmt::{self, Display, Formatter, Write};
 /// Why no whole chain was read.
 #[derive(Clone, Copy, Debug, PartialEq, Eq)]
 pub enum ReadRefusal {
-    /// The source failed, by an interruption too, after `taken` octets of this call, which the receiver
-    /// has taken.
+    /// The source failed after `taken` octets of this call, which the receiver has taken. An interruption is
+    /// a failure too.
     Read { taken: usize },
-    /// The chain was refused, or the source ended before it was whole.
+    /// The chain was refused, or the source ended before the chain was whole.
     Stop(Stop<ChainReason>),
 }
 
-/// `Read after N octets`, or the stop.
+/// Writes `Read after N octets`, or the stop.
 impl Display for ReadRefusal {
     ghost use Rattle.chain_core.specs.Names.{read_refusal_text};
 
@@ -44,19 +44,23 @@ impl Error for ReadRefusal {}
 /// The most octets that one call of a source is asked for: the longest field and the LRC.
 const MOST_WANTED: usize = 255;
 
-/// Reads a chain (ISO/IEC 7816-3, clause 11.6) to its end, after what the receiver took before. The source
-/// is asked for NAD, PCB and LEN of a block, and then for LEN + 1 octets, or for what is left of either, so
-/// what follows the chain stays unread.
+/// Reads a chain (ISO/IEC 7816-3, clause 11.6) to its end, after what the receiver took before.
 ///
-/// `Read` comes where a call of the source failed, which isn't tried again: the receiver is as after
-/// the `taken` octets, and a further call goes on from there. `Short` comes where the source ended, with the
-/// octets of the chain that came before the end, and the receiver is as after them. `At` gives the first
-/// octet after which no chain goes on, counted from the first that was fed since the receiver was new or
-/// restarted, and its reason; the receiver keeps it. No octet is then read past the first three of the block
-/// in which that octet is, or past that octet.
+/// The source is asked for NAD, PCB and LEN of a block, and then for LEN + 1 octets, or for the rest of
+/// either. So what follows the chain stays unread.
 ///
-/// Where the receiver is done the answer is `Ok(())`, and where it refused that refusal; then nothing is
-/// read.
+/// The error is `Read` if a call of the source failed. The call isn't retried: the receiver has taken the
+/// `taken` octets, and a further call continues from there.
+///
+/// It is `Short` if the source ended, with the number of octets of the chain before the end. The receiver
+/// has taken all of them.
+///
+/// It is `At` the first octet after which no chain can continue, with the reason. Its place counts from the
+/// first octet that was fed since the receiver was new or restarted. The receiver keeps this refusal. No
+/// octet was read past the first three of the refused block, or past the refused octet.
+///
+/// If the receiver is already done, the result is `Ok(())`. If it has refused an octet, the result is that
+/// refusal. Nothing is read in either case.
 pub fn read_chain<R: Source>(reader: &mut R, receiver: &mut Receiver) -> Result<(), ReadRefusal>
     ensures reads { Reads (R.remaining reader.old) (R.remaining reader.new) receiver.old
         receiver.new result }
@@ -82,8 +86,8 @@ pub fn read_chain<R: Source>(reader: &mut R, receiver: &mut Receiver) -> Result<
     receiver.finish().map_err(ReadRefusal::Stop)
 }
 
-/// Reads octets of the block under way by one call, which the receiver takes: how many, none at the end
-/// of the input, and `None` where the call fails.
+/// Reads octets of the unfinished block by one call, and feeds them to the receiver. Returns how many octets
+/// were read, 0 at the end of the input, or `None` if the call fails.
 fn read_some<R: Source>(reader: &mut R, receiver: &mut Receiver, room: &mut [u8]) -> Option<usize>
     requires open { IsOpen receiver.old }
     requires room { length room.old ≡ 255 }

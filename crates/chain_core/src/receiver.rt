@@ -1,4 +1,4 @@
-//! A chain that comes in pieces, and its message.
+//! A receiver of a chain that comes in pieces, with its message.
 
 ghost use Rattle.std.specs.Prelude.{◌≡◌, ◌+◌, ◌*◌, ◌<◌, ◌≤◌, ◌++◌, ◌⊎◌, length, take, Some, IsSome, IfOk, IfErr, IfSome, IfNone, OnOk, MatchBool, true, false, None, List, ℕ, slice_index};
 ghost use Rattle.octet_core.specs.Reader.{IsFed, IsFinished};
@@ -17,20 +17,20 @@ use std::alloc::{AllocError, Global};
 use std::fmt::{self, Debug, Formatter, Write};
 use std::marker::Model;
 
-/// The blocks of the longest chain.
+/// The greatest number of blocks of a chain.
 pub const MOST_BLOCKS: u32 = 131_072;
 
-/// The most octets that the limit of a message can be.
+/// The greatest limit of a message, in octets.
 pub const LONGEST_MESSAGE: usize = 131_072;
 
-/// A receiver of one chain (ISO/IEC 7816-3, clause 11.6) whose octets come in pieces. It joins the fields
-/// of the blocks to the message, for which `new` reserves memory once; no later call takes any. It judges
-/// octets as [`LentReceiver`] do, which it keeps beside a message of its own. Where it is restarted or dropped, the
-/// octets of that message are overwritten.
+/// A receiver of one chain (ISO/IEC 7816-3, clause 11.6) whose octets come in pieces. It joins the fields of the
+/// blocks to the message. `new` allocates memory for the message once, and no later call allocates. The receiver
+/// keeps the state of a [`LentReceiver`], and judges octets as that does. When it is restarted or dropped, the
+/// octets of the message are overwritten.
 #[derive(Drop)]
 pub struct Receiver {
     state: LentReceiver,
-    /// The message so far, and then what came of the field under way.
+    /// The message so far, and after it the octets of the unfinished field.
     message: Wiped,
 }
 
@@ -47,9 +47,9 @@ impl Model for Receiver {
 }
 
 impl Receiver {
-    /// A receiver that has taken nothing. `ifs` is the information size, 1 to 254, `number` the number of
-    /// the first block, and `max` the limit of the message, at most 131,072 octets, for which memory is
-    /// reserved.
+    /// Makes a receiver that has taken nothing. `ifs` is the information field size, 1 to 254. `number` is the
+    /// number of the first block. `max` is the limit of the message, at most 131,072 octets, for which memory is
+    /// allocated.
     pub fn new(alloc: Global, ifs: u8, number: Number, max: usize) -> Result<Receiver, AllocError>
         requires least { 1 ≤ ifs }
         requires most { ifs ≤ 254 }
@@ -61,7 +61,7 @@ impl Receiver {
         Ok(Receiver { state, message })
     }
 
-    /// Begins again, with a first block of this number.
+    /// Starts again, with a first block of this number.
     pub fn restart(&mut self, number: Number)
         ensures { self.new ≡ nothing_taken self.old.ifs number self.old.max }
     {
@@ -69,12 +69,12 @@ impl Receiver {
         self.message.clear();
     }
 
-    /// Takes the next octets: how many of this piece, and whether the chain is whole. It takes the whole
-    /// piece unless the chain ends in it; once the chain is whole it takes none.
+    /// Takes the next octets. Returns how many of this piece were taken, and whether the chain is whole. The whole
+    /// piece is taken unless the chain ends in it. Once the chain is whole, no octet is taken.
     ///
-    /// `At` gives the first octet after which no chain goes on, counted from the first that was fed since
-    /// the receiver was new or restarted, and its reason. From then on it is answered again, and nothing is
-    /// taken, until `restart`.
+    /// The error is `At` the first octet after which no chain can continue, with the reason. Its place counts from
+    /// the first octet that was fed since the receiver was new or restarted. From then on each call returns the
+    /// same refusal, and takes nothing, until `restart`.
     pub fn feed(&mut self, piece: &[u8]) -> Result<(usize, bool), Stop<ChainReason>>
         ensures fed { IsFed (IsChain self.old.ifs self.old.number self.old.max)
             (IsReason self.old.ifs self.old.number self.old.max) HasTaken refusal_of self.old
@@ -90,8 +90,8 @@ impl Receiver {
         self.state.answer(taken)
     }
 
-    /// What there is to say when no more octets come: `Short` with the octets taken where the chain isn't
-    /// whole, or the refusal that is kept.
+    /// Ends the octets. The error is `Short` with the number of octets taken if the chain isn't whole, or the
+    /// refusal that was kept.
     pub fn finish(&self) -> Result<(), Stop<ChainReason>>
         ensures finished { IsFinished (IsChain self.now.ifs self.now.number self.now.max)
             (IsReason self.now.ifs self.now.number self.now.max) HasTaken refusal_of self.now
@@ -105,7 +105,7 @@ impl Receiver {
         self.state.finish()
     }
 
-    /// The message, once the chain is whole.
+    /// Returns the message, once the chain is whole.
     pub fn message(&self) -> Option<&[u8]>
         ensures done { IfSome result
             (λ message. (self.now.refusal ≡ None) × (self.now.done ≡ true)
@@ -116,22 +116,23 @@ impl Receiver {
         Some(&self.message.as_slice()[..len])
     }
 
-    /// How many whole blocks were taken; after a refusal, those before the block that it is in.
+    /// Returns how many whole blocks were taken. After a refusal, these are the blocks before the one with the
+    /// refused octet.
     pub fn blocks(&self) -> u32
         ensures { result ≡ self.now.blocks }
     {
         self.state.blocks
     }
 
-    /// Whether it takes more octets.
+    /// Whether the receiver takes more octets.
     pub(crate) fn is_open(&self) -> bool
         ensures { MatchBool result (IsOpen self.now) (IsClosed self.now) }
     {
         self.state.is_open()
     }
 
-    /// How many octets may come next so that none lies past the block under way: those that are left of
-    /// its first three, or of the block once LEN has come, 1 to 255.
+    /// Returns how many octets may come next so that none is past the unfinished block, 1 to 255. They are the rest
+    /// of its first three, or the rest of the block once LEN has come.
     pub(crate) fn wanted(&self) -> usize
         requires { IsOpen self.now }
         ensures some { 0 < result }
@@ -146,7 +147,7 @@ impl Receiver {
     }
 }
 
-/// What comes next, and how many octets came. A message may carry a PIN, so no octet is shown.
+/// Shows the state of the receiver. A message may carry a PIN, so none of its octets is shown.
 impl Debug for Receiver {
     fn fmt<W: Write>(&self, f: &mut Formatter<W>) -> fmt::Result {
         f.debug_struct("Receiver")

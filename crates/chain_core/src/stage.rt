@@ -1,4 +1,4 @@
-//! How far the block of a chain has come, and what its first three octets are refused for.
+//! Which octet of a chain's block comes next, and why its first three octets are refused.
 
 ghost use Rattle.std.specs.Prelude.{◌≡◌, ◌≢◌, ◌<◌, ◌≤◌, IfOk, IfErr, OnOk, true, false, IsTrue};
 ghost use Rattle.block_core.specs.Block.{other, pcb_octet, IsInfo};
@@ -8,19 +8,19 @@ ghost use Rattle.chain_core.specs.Stage.{IsPcbFault, IsLenFault, IsHead, IsHeadF
 use crate::reason::ChainReason;
 use block_core::{BlockReason, Number, Pcb, block_len};
 
-/// What comes next of the block under way.
+/// Which octet of the unfinished block comes next.
 #[derive(Clone, Copy, Debug, PartialEq, Eq)]
 pub enum BlockStage {
     Nad,
     Pcb,
-    /// LEN, of a block that says by M whether more follow.
+    /// LEN. The PCB of the block said by its bit M whether more blocks follow.
     Len { more: bool },
-    /// The field, of this length, and the LRC.
+    /// The field, of this length, or the LRC.
     Rest { more: bool, len: u8 },
 }
 
 impl BlockStage {
-    /// The place in the block of the octet that comes next, 3 for all from the field on.
+    /// Returns the place in the block of the octet that comes next: 3 for the field and the LRC.
     pub(crate) fn place(self) -> usize
         ensures { result ≡ place_of self }
     {
@@ -32,8 +32,8 @@ impl BlockStage {
         }
     }
 
-    /// How many octets of the block there are up to the end of the first three, or of the block once LEN
-    /// has come.
+    /// Returns where the octets that may be read now end: after the first three of the block, or after the
+    /// block once LEN has come.
     pub(crate) fn end(self) -> usize
         ensures { result ≡ end_of self }
     {
@@ -44,8 +44,9 @@ impl BlockStage {
     }
 }
 
-/// Whether a block with this PCB says that more follow, if it can come next: `number` is the number of the
-/// next block, and `last` says that it is the last that a chain can have.
+/// Returns whether a block with this PCB says that more follow. The error is the reason why it can't come
+/// next. `number` is the number of the next block, and `last` says whether it is the last one that a chain
+/// can have.
 fn more_of(octet: u8, number: Number, last: bool) -> Result<bool, ChainReason>
     ensures kind { IfOk result (λ more. pcb_octet (Info number more) ≡ octet) }
     ensures room { IfOk result (λ more. more ≡ true → last ≡ false) }
@@ -66,7 +67,7 @@ fn more_of(octet: u8, number: Number, last: bool) -> Result<bool, ChainReason>
     Ok(more)
 }
 
-/// Whether an I-block can have a field of this length; `room` octets have room in the message.
+/// Checks that an I-block can have a field of this length. The message has room for `room` more octets.
 fn check_len(pcb: Pcb, len: u8, ifs: u8, room: usize) -> Result<(), ChainReason>
     requires kind { IsInfo pcb }
     requires most { ifs ≤ 254 }
@@ -76,15 +77,16 @@ fn check_len(pcb: Pcb, len: u8, ifs: u8, room: usize) -> Result<(), ChainReason>
 {
     match pcb.fault_of_len(len, ifs) {
         Some(BlockReason::BadLen) => Err(ChainReason::BadLen),
-        // A length has but two faults.
+        // a length has only two faults
         Some(_) => Err(ChainReason::OverIfs),
         None if len as usize > room => Err(ChainReason::TooLong),
         None => Ok(()),
     }
 }
 
-/// What comes after one of the first three octets of a block. `number` is the number of the block, `last`
-/// says that it is the last that a chain can have, and `room` octets have room in the message.
+/// Returns the stage after one of the first three octets of a block. `number` is the number of the block,
+/// and `last` says whether it is the last one that a chain can have. The message has room for `room` more
+/// octets.
 pub(crate) fn after(
     stage: BlockStage,
     octet: u8,

@@ -1,4 +1,4 @@
-//! Where the octets of a message are kept.
+//! Storage for the octets of a message.
 
 ghost use Rattle.std.specs.Prelude.{◌≡◌, ℕ, ◌+◌, ◌≤◌, ◌++◌, List, length, take};
 ghost use Rattle.std.specs.Borrow.{GName};
@@ -6,18 +6,18 @@ ghost use Rattle.octet_core.specs.Octets.{AreOctets};
 
 use crate::wiped::Wiped;
 
-/// Where the octets of a message are kept as they come: memory of a receiver's own, or a buffer that is lent to it.
+/// Storage for the octets of a message as they come: memory that the receiver owns, or a buffer that it borrows.
 pub(crate) trait MessageStore {
-    /// Its octets, those of the message first.
+    /// The octets in it, those of the message first.
     ghost kept: { Self → List ℕ };
 
     /// How many octets it has room for.
     ghost room: { Self → ℕ };
 
-    /// Octets can be put after so many.
+    /// Octets can be put after this many.
     ghost ends_after: { Self → ℕ → Type 0 };
 
-    /// Which buffer it is, where it is lent.
+    /// Which buffer it is, if it is borrowed.
     ghost loan: { Self → GName };
 
     /// Puts octets after the first `held`.
@@ -31,16 +31,16 @@ pub(crate) trait MessageStore {
         ensures loan { loan self.new ≡ loan self.old }
         ensures octets { AreOctets (kept self.old) → AreOctets (kept self.new) };
 
-    /// Its octets.
+    /// Borrows the octets.
     fn octets(&self) -> &[u8]
         ensures { result.now ≡ kept self.now };
 
-    /// There are as many as octets can be put after.
+    /// It has at least as many octets as octets can be put after.
     ghost inside: { (store : Self) (held : ℕ) → ends_after store held
         → held ≤ length (kept store) };
 }
 
-/// Memory of its own has the octets of the message and no other.
+/// Owned memory has the octets of the message and no others.
 impl MessageStore for Wiped {
     ghost use Rattle.std.specs.Prelude.{◌≡◌, length};
     ghost use Rattle.std.proofs.Common.{rules};
@@ -65,7 +65,7 @@ impl MessageStore for Wiped {
     }
 }
 
-/// A buffer that is lent for the octets of a message.
+/// A borrowed buffer for the octets of a message.
 #[derive(Drop)]
 pub(crate) struct LentBuffer<'a> {
     pub(crate) octets: &'a mut [u8],

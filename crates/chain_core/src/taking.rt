@@ -1,4 +1,4 @@
-//! What a receiver of a chain does with the octets that come, wherever those of its message are kept.
+//! How a receiver of a chain takes octets, for either storage of the message.
 
 ghost use Rattle.std.specs.Prelude.{◌≡◌, ◌+◌, ◌*◌, ◌<◌, ◌≤◌, ◌++◌, length, take, Some, None, [], ◌∷◌, false, List, ℕ, IsSome};
 ghost use Rattle.chain_core.specs.declared.stage.BlockStage.TheVariants.{Rest};
@@ -16,8 +16,8 @@ use block_core::{Number, Pcb};
 use octet_core::{Refusal, lrc};
 
 impl LentReceiver {
-    /// Takes the next octets: how many of this piece. It takes the whole piece unless the chain ends in it, or an
-    /// octet is refused.
+    /// Takes the next octets, and returns how many of this piece. The whole piece is taken unless the chain ends
+    /// in it, or an octet is refused.
     pub(crate) fn take<S: MessageStore>(&mut self, store: &mut S, piece: &[u8]) -> usize
         requires stored { IsStored self.old (S.kept store.old) (S.room store.old)
             (S.ends_after store.old) }
@@ -39,7 +39,7 @@ impl LentReceiver {
         taken
     }
 
-    /// Takes octets of the field under way, or one other octet of the block.
+    /// Takes octets of the unfinished field, or one other octet of the block.
     fn take_run<S: MessageStore>(&mut self, store: &mut S, piece: &[u8]) -> usize
         requires some { 0 < length piece.now }
         requires open { (self.old.refusal ≡ None) × (self.old.done ≡ false) }
@@ -65,7 +65,7 @@ impl LentReceiver {
         run
     }
 
-    /// How many octets of the field under way are still to come, none where another octet comes next.
+    /// Returns how many octets of the unfinished field are still to come, 0 if another octet comes next.
     fn field_left(&self) -> usize
         requires { IsUnderWay self.now.ifs self.now.max self.now.blocks self.now.joined
             self.now.came self.now.stage }
@@ -77,7 +77,7 @@ impl LentReceiver {
         }
     }
 
-    /// The number of the block under way, or of the next.
+    /// Returns the number of the unfinished block, or of the next block.
     fn number(&self) -> Number
         ensures { result ≡ number_after self.now.first self.now.blocks }
     {
@@ -130,7 +130,7 @@ impl LentReceiver {
         }
     }
 
-    /// Takes the LRC of a block whose field came, which then joins the message.
+    /// Takes the LRC of a block. If it is right, the field of the block becomes part of the message.
     fn take_lrc(&mut self, message: &[u8], more: bool, len: u8, octet: u8)
         requires open { (self.old.refusal ≡ None) × (self.old.done ≡ false) }
         requires fit { (room : ℕ) × IsLentReceiver self.old room }
@@ -161,7 +161,7 @@ impl LentReceiver {
         self.came = 0;
     }
 
-    /// Keeps the refusal of the octet at this place of the block under way.
+    /// Keeps the refusal of the octet at this place of the unfinished block.
     fn refuse(&mut self, place: usize, reason: ChainReason)
         requires place { place ≤ 258 }
         requires blocks { self.old.blocks ≤ most_blocks }

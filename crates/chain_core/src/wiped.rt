@@ -1,4 +1,4 @@
-//! Octets in memory that is overwritten before it is given back.
+//! Octets in memory that is overwritten before it is freed.
 
 ghost use Rattle.std.specs.Prelude.{◌≡◌, ◌+◌, ◌≤◌, ◌++◌, [], length, replicate, vec_len, vec_capacity, IfOk};
 ghost use Rattle.std.specs.Borrow.{sem};
@@ -6,10 +6,11 @@ ghost use Rattle.chain_core.specs.Wiped.{held_in, count_in, room_in, LendsHeld, 
 
 use std::alloc::{AllocError, Global};
 
-/// The octets of a message, which may carry a PIN: where they are dropped or cleared, each is set to 0 first.
+/// The octets of a message, which may carry a PIN. When they are dropped or cleared, each octet is first set
+/// to 0.
 ///
-/// The memory for them is taken once. They never move to other memory, which would leave them behind. No proof
-/// reaches what a compiler keeps of them elsewhere.
+/// The memory is allocated once, and the octets never move to other memory, where copies would stay behind.
+/// Copies that a compiler keeps elsewhere are beyond any proof.
 pub struct Wiped {
     memory: Memory,
 }
@@ -22,7 +23,7 @@ impl Drop for Wiped {
 }
 
 impl Wiped {
-    /// So many octets, each 0; `Err` out of memory.
+    /// Makes `count` octets 00. The error is a failed allocation.
     pub fn zeros(alloc: Global, count: usize) -> Result<Wiped, AllocError>
         ensures octets { IfOk result (λ wiped. held_in wiped ≡ replicate count 0) }
         ensures count { IfOk result (λ wiped. count_in wiped ≡ count) }
@@ -33,7 +34,7 @@ impl Wiped {
         })
     }
 
-    /// No octet, and room for so many; `Err` out of memory.
+    /// Makes an empty list with room for `count` octets. The error is a failed allocation.
     pub fn with_room(alloc: Global, count: usize) -> Result<Wiped, AllocError>
         ensures none { IfOk result (λ wiped. held_in wiped ≡ []) }
         ensures room { IfOk result (λ wiped. room_in wiped ≡ count) }
@@ -44,7 +45,7 @@ impl Wiped {
         })
     }
 
-    /// The octets.
+    /// Borrows the octets.
     pub fn as_slice(&self) -> &[u8]
         ensures value { result.now ≡ held_in self.now }
         ensures count { length result.now ≡ count_in self.now }
@@ -52,7 +53,7 @@ impl Wiped {
         self.memory.octets.as_slice()
     }
 
-    /// The octets, to be changed.
+    /// Borrows the octets mutably.
     pub fn as_mut_slice(&mut self) -> &mut [u8]
         ensures* writes_back { sem 𝓛 (LendsOctets self.entry result) }
         ensures value { result.now ≡ held_in self.old }
@@ -61,7 +62,7 @@ impl Wiped {
         self.memory.as_mut_slice()
     }
 
-    /// Adds octets for which there is room.
+    /// Appends octets, for which there must be room.
     pub fn append(&mut self, octets: &[u8])
         requires { length (held_in self.old) + length octets.now ≤ room_in self.old }
         ensures octets { held_in self.new ≡ held_in self.old ++ octets.now }
@@ -70,7 +71,7 @@ impl Wiped {
         self.memory.octets.extend_from_slice(octets).unwrap();
     }
 
-    /// Sets each octet to 0, and holds none then.
+    /// Sets each octet to 0, and then removes them all.
     pub fn clear(&mut self)
         ensures none { held_in self.new ≡ [] }
         ensures room { room_in self.new ≡ room_in self.old }
@@ -88,7 +89,7 @@ pub fn overwrite(octets: &mut [u8])
     octets.fill(0);
 }
 
-/// Memory for octets, which is given back only where each octet in it is 0.
+/// Memory for octets. It is freed only after each octet in it is 0.
 struct Memory {
     octets: Vec<u8>,
 }
@@ -103,7 +104,7 @@ impl Drop for Memory {
 }
 
 impl Memory {
-    /// The octets, to be changed.
+    /// Borrows the octets mutably.
     fn as_mut_slice(&mut self) -> &mut [u8]
         ensures* writes_back { sem 𝓛 (LendsHeld self.entry result) }
         ensures value { result.now ≡ self.old.octets.items }
@@ -113,7 +114,7 @@ impl Memory {
     }
 }
 
-/// The same memory with each octet set to 0.
+/// Returns the same memory with each octet set to 0.
 fn zeroed(memory: Memory) -> Memory
     ensures { result.octets.items ≡ replicate (vec_len result.octets) 0 }
 {
@@ -122,7 +123,7 @@ fn zeroed(memory: Memory) -> Memory
     held
 }
 
-/// Leaves octets out that were overwritten.
+/// Removes octets that were overwritten.
 fn forget(octets: &mut Vec<u8>)
     requires { octets.old.items ≡ replicate (vec_len octets.old) 0 }
     ensures none { octets.new.items ≡ [] }

@@ -1,4 +1,4 @@
-//! A chain written to a writer.
+//! Writing of a chain to a writer.
 
 ghost use Rattle.std.specs.Prelude.{◌≡◌, ◌<◌, ◌≤◌, length, take, OnOk, IfErr};
 ghost use Rattle.std.specs.Io.KnownBytes.{Appends};
@@ -10,11 +10,11 @@ use crate::cutting::cut;
 use block_core::{Number, encode};
 use octet_core::{Sink, WriteFault, write_octets};
 
-/// Writes the chain into which a message of at most 131,072 octets is cut: fields of `ifs` octets, 1 to
-/// 254, but for the last, and the first block with this number.
+/// Writes the chain for a message of at most 131,072 octets. All fields but the last have `ifs` octets,
+/// which is 1 to 254, and the first block has this number.
 ///
-/// At a fault the writer has taken the first `written` octets of the chain, fewer than all, and just
-/// one call of it failed; a failed call isn't tried again, an interruption neither.
+/// At a fault the writer has taken the first `written` octets of the chain, fewer than all, and exactly
+/// one of its calls failed. A failed call isn't retried, not even after an interruption.
 pub fn write_chain<W: Sink>(
     writer: &mut W,
     msg: &[u8],

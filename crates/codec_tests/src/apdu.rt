@@ -1,4 +1,5 @@
-//! Each call once with ample memory, and the lines below it. The verdicts on octets are in the folder `vectors`.
+//! Tests that make each call once with ample memory, and check the lower layers that it uses. The verdicts on
+//! octets are in the folder `vectors`.
 
 mod as_value;
 mod printed;
@@ -27,16 +28,16 @@ const READ: [u8; 4] = [0x00, 0xB0, 0x00, 0x00];
 
 const UPDATE: [u8; 4] = [0x00, 0xD6, 0x00, 0x00];
 
-/// 00 A4 04 00 00, in blocks of two octets.
+/// The command 00 A4 04 00 00 as a chain of blocks of two octets.
 const SELECT_CHAIN: [u8; 17] = [
     0x00, 0x20, 0x02, 0x00, 0xA4, 0x86, 0x00, 0x60, 0x02, 0x04, 0x00, 0x66, 0x00, 0x00, 0x01, 0x00,
     0x01,
 ];
 
-/// 90 00, in one block.
+/// The response 90 00 as a chain of one block.
 const DONE_CHAIN: [u8; 6] = [0x00, 0x00, 0x02, 0x90, 0x00, 0x92];
 
-/// Whether octets are a command with this header, which lends its data field.
+/// Whether octets are a command with this header and with a borrowed data field.
 fn has_header(octets: &[u8], header: [u8; 4]) -> bool {
     match CommandRef::decode(octets) {
         Ok(lent) => lent.header() == header,
@@ -44,7 +45,7 @@ fn has_header(octets: &[u8], header: [u8; 4]) -> bool {
     }
 }
 
-/// Whether octets are this command, and spell it.
+/// Whether octets decode as this command, and it encodes as them.
 fn are_command(alloc: Global, octets: &[u8], wanted: &Command) -> bool {
     match decode_command(alloc, octets) {
         Ok(command) => command == *wanted && is_command_spelled(alloc, &command, octets),
@@ -52,7 +53,7 @@ fn are_command(alloc: Global, octets: &[u8], wanted: &Command) -> bool {
     }
 }
 
-/// Whether the octets are this command, lent and copied, and spell it.
+/// Whether the octets are this command, borrowed and copied, and it encodes as them.
 fn is_command(rt: &impl Abort, alloc: Global, text: &str, header: [u8; 4], body: Body) -> bool {
     let wanted = command_of(rt, header, body);
     let octets = octets(rt, alloc, text);
@@ -68,7 +69,7 @@ fn commands_of_their_own(rt: HostRuntime) {
     assert!(rt; is_command(&rt, rt.alloc(), "00B00000000000", READ, body));
 }
 
-/// The data field of these octets.
+/// Returns the data field with these octets.
 fn field(rt: &impl Abort, alloc: Global, text: &str) -> Octets {
     Octets::of(octets(rt, alloc, text))
 }
@@ -104,7 +105,7 @@ const SELECT_BY_NAME: [u8; 13] = [
     0x00, 0xA4, 0x04, 0x00, 0x07, 0xA0, 0x00, 0x00, 0x00, 0x04, 0x10, 0x10, 0x00,
 ];
 
-/// Whether a command lends this data field, and wants so many octets.
+/// Whether a command borrows this data field and has this Le.
 fn lends(command: &CommandRef<'_>, part: Option<&[u8]>, le: u32) -> bool {
     same(Some(command.part()), part) && same(command.le(), Some(le))
 }
@@ -115,7 +116,7 @@ fn the_part_stands_behind_its_length(rt: HostRuntime) {
     assert!(rt; lends(&lent, SELECT_BY_NAME.get(5..12), 256));
 }
 
-/// Whether octets are no command, and stop so.
+/// Whether octets aren't a command, and have this stop.
 fn are_no_command(alloc: Global, octets: &[u8], stop: Stop<CommandReason>) -> bool {
     same(
         decode_command(alloc, octets).err(),
@@ -132,7 +133,7 @@ fn octets_that_are_no_command(rt: HostRuntime) {
     assert!(rt; are_no_command(rt.alloc(), &longer, Stop::At { place: 7, reason }));
 }
 
-/// Whether a command has no spelling, and its body comes back.
+/// Whether a command has no encoding, and its body is returned.
 fn comes_back(body: Body, again: Body) -> bool {
     match Command::new(READ, body) {
         Ok(_) => false,
@@ -140,12 +141,12 @@ fn comes_back(body: Body, again: Body) -> bool {
     }
 }
 
-/// Whether a command that wants so many octets has no spelling in the short form.
+/// Whether a command with this Le has no encoding in the short form.
 fn is_no_short_le(le: u32) -> bool {
     comes_back(Body::ShortLe { le }, Body::ShortLe { le })
 }
 
-/// Whether a command that wants so many octets has no spelling in the long form.
+/// Whether a command with this Le has no encoding in the long form.
 fn is_no_long_le(le: u32) -> bool {
     comes_back(Body::LongLe { le }, Body::LongLe { le })
 }
@@ -158,24 +159,24 @@ fn lengths_that_have_no_spelling(rt: HostRuntime) {
     assert!(rt; is_no_long_le(65_537));
 }
 
-/// Whether a command with this data field has no spelling in the short form.
+/// Whether a command with this data field has no encoding in the short form.
 fn is_no_short_part(part: Octets) -> bool {
     Command::new(UPDATE, Body::ShortPart { part }).is_err()
 }
 
-/// Whether a command with this data field has no spelling in the long form.
+/// Whether a command with this data field has no encoding in the long form.
 fn is_no_long_part(part: Octets) -> bool {
     Command::new(UPDATE, Body::LongPart { part }).is_err()
 }
 
-/// Whether a command with a data field of so many octets has no spelling, in either form.
+/// Whether a command with a data field of `count` octets has no encoding, in the short and in the long form.
 fn is_no_part(rt: &impl Abort, alloc: Global, count: usize) -> (bool, bool) {
     let short = is_no_short_part(Octets::of(zeros(rt, alloc, count)));
     let long = is_no_long_part(Octets::of(zeros(rt, alloc, count)));
     (short, long)
 }
 
-/// Lengths of a data field, and whether it has no spelling in the short and in the long form.
+/// Lengths of a data field, and whether it has no encoding in the short and in the long form.
 const PARTS: [(usize, (bool, bool)); 5] = [
     (0, (true, true)),
     (255, (false, false)),
@@ -205,7 +206,7 @@ fn is_done(rt: &impl Abort, alloc: Global, response: &Response, part: &[u8]) -> 
     response.part() == part && *response == wanted
 }
 
-/// The status word of a response.
+/// Returns the status word of a response.
 fn status(response: &Response) -> (u8, u8) {
     (response.sw1(), response.sw2())
 }
@@ -221,7 +222,7 @@ fn responses(rt: HostRuntime) {
     assert!(rt; is_done(&rt, rt.alloc(), &response, &[0x6F, 0x00]));
 }
 
-/// Whether octets are no response, lent and copied, and stop so.
+/// Whether octets aren't a response, borrowed and copied, and have this stop.
 fn are_no_response(alloc: Global, octets: &[u8], stop: Stop<ResponseReason>) -> bool {
     same(ResponseRef::decode(octets).err(), Some(stop))
         && same(
@@ -254,7 +255,7 @@ fn the_longest_response(rt: HostRuntime) {
     assert!(rt; same(response.part().len(), 65_536));
 }
 
-/// What sending a command in blocks of two octets gives.
+/// Sends a command in blocks of two octets.
 fn sent(alloc: Global, writer: &mut Counted<Taker>, command: &Command) -> Result<(), SendFault> {
     send_command(alloc, writer, command, 2, Number::Zero)
 }
@@ -271,7 +272,7 @@ fn a_command_is_sent(rt: HostRuntime) {
     assert!(rt; is_sent(rt.alloc(), &command, &SELECT_CHAIN));
 }
 
-/// What sending a response gives.
+/// Sends a response.
 fn replied(
     alloc: Global,
     writer: &mut Counted<Taker>,
@@ -292,7 +293,7 @@ fn a_response_is_sent(rt: HostRuntime) {
     assert!(rt; is_replied(rt.alloc(), &response, &DONE_CHAIN));
 }
 
-/// Whether a reader gives a command in blocks of at most so many octets.
+/// Whether a reader has this command in blocks of at most `ifs` octets.
 fn gives(alloc: Global, reader: &mut Counted<Feeder<'_>>, ifs: u8, wanted: &Command) -> bool
     requires least { 1 ≤ ifs }
     requires most { ifs ≤ 254 }
@@ -303,7 +304,8 @@ fn gives(alloc: Global, reader: &mut Counted<Feeder<'_>>, ifs: u8, wanted: &Comm
     }
 }
 
-/// Whether octets, by so many at a time, give SELECT in blocks of at most so many, and leave FF.
+/// Whether octets, read by at most `step` octets in a call, are SELECT in blocks of at most `ifs` octets, and FF
+/// is left.
 fn gives_select(rt: &impl Abort, alloc: Global, octets: &[u8], step: usize, ifs: u8) -> bool
     requires step { 1 ≤ step }
     requires least { 1 ≤ ifs }
@@ -323,7 +325,7 @@ fn a_command_is_received(rt: HostRuntime) {
     }
 }
 
-/// Whether octets give 9000 in blocks, and FF is left.
+/// Whether octets are 9000 in blocks, and FF is left.
 fn gives_done(rt: &impl Abort, alloc: Global, octets: &[u8]) -> bool {
     let mut reader = reader_of(octets, 4096);
     match response_read(alloc, &mut reader, 254) {
@@ -346,7 +348,7 @@ fn received_in_fields_of_any_size(rt: HostRuntime) {
     assert!(rt; gives_done(&rt, rt.alloc(), response.as_slice()));
 }
 
-/// Why a reader gives no command.
+/// Returns why a reader has no command.
 fn no_command(
     alloc: Global,
     reader: &mut Counted<Feeder<'_>>,
@@ -354,7 +356,7 @@ fn no_command(
     command_read(alloc, reader, 254).err()
 }
 
-/// Why a reader gives no response.
+/// Returns why a reader has no response.
 fn no_response(
     alloc: Global,
     reader: &mut Counted<Feeder<'_>>,
@@ -362,14 +364,14 @@ fn no_response(
     response_read(alloc, reader, 254).err()
 }
 
-/// Whether a chain carries no command, but so many octets of one, and FF is left.
+/// Whether a chain has only the first `place` octets of a command, and FF is left.
 fn carries_no_command(alloc: Global, octets: &[u8], place: usize) -> bool {
     let mut reader = reader_of(octets, 4096);
     let short = ReceiveFault::Apdu(Stop::Short { place });
     same(no_command(alloc, &mut reader), Some(short)) && is_left(&mut reader)
 }
 
-/// Whether a chain carries no response, but so many octets of one, and FF is left.
+/// Whether a chain has only the first `place` octets of a response, and FF is left.
 fn carries_no_response(alloc: Global, octets: &[u8], place: usize) -> bool {
     let mut reader = reader_of(octets, 4096);
     let short = ReceiveFault::Apdu(Stop::Short { place });

@@ -1,5 +1,5 @@
-//! Answers to reset in parts and in pieces, and times by ISO/IEC 7816-3. Verdicts, and what answers say, are in the
-//! folder `vectors`.
+//! Tests of answers to reset in parts and in pieces, and of times by ISO/IEC 7816-3. The verdicts, and the meaning
+//! of answers, are in the folder `vectors`.
 
 mod printed;
 
@@ -14,7 +14,7 @@ use std::alloc::Global;
 use std::process::Abort;
 use test_support::same;
 
-/// T=0 and T=1, fifteen historical bytes and TCK; the octet FF is left.
+/// T=0 and T=1, fifteen historical bytes and TCK. The octet FF is left.
 const BOTH_PROTOCOLS: &str = "3B8F8001804F0CA000000306030001000000006AFF";
 
 /// T=1 with IFSC 32, BWI 4 and CWI 5.
@@ -38,7 +38,7 @@ fn ranges_of_parameters(rt: HostRuntime) {
     assert!(rt; same(T1Params::new(32, 4, 16), None));
 }
 
-/// An answer that indicates this protocol alone, and has no historical bytes.
+/// Returns an answer that indicates this protocol alone, and has no historical bytes.
 fn indicating(protocol: u8) -> Option<Atr> {
     let mut indicated = ArrayVec::new();
     indicated.push(Indicated {
@@ -68,15 +68,15 @@ fn answers_of_parts(rt: HostRuntime) {
     assert!(rt; indicating(16).is_none());
 }
 
-/// What a reader answers to octets.
+/// The result of feeding a reader.
 type Fed = Result<(usize, bool), Stop<AtrReason>>;
 
-/// Whether a reader answers so to these octets.
+/// Whether feeding these octets has this result.
 fn feeds(reader: &mut AtrReader, octets: &[u8], wanted: Fed) -> bool {
     same(reader.feed(octets), wanted)
 }
 
-/// Whether a reader says so where no more octets come.
+/// Whether the end of the octets has this result.
 fn ends(reader: &AtrReader, wanted: Result<(), Stop<AtrReason>>) -> bool {
     same(reader.finish(), wanted)
 }
@@ -94,7 +94,7 @@ fn has(reader: &AtrReader, octets: &[u8]) -> bool {
     }
 }
 
-/// Whether a reader answers so to each of these pieces, one after another.
+/// Whether feeding these pieces, one after another, has these results.
 fn feeds_each(reader: &mut AtrReader, pieces: &[(&[u8], Fed)]) -> bool {
     for &(piece, wanted) in pieces {
         if !feeds(reader, piece, wanted) {
@@ -104,7 +104,7 @@ fn feeds_each(reader: &mut AtrReader, pieces: &[(&[u8], Fed)]) -> bool {
     true
 }
 
-/// The card with T=1 in pieces up to TCK, and what a reader answers to each.
+/// An answer of a card with T=1, in pieces up to TCK, and the result of feeding each.
 const FRONT: [(&[u8], Fed); 3] = [
     (b"\x3B", Ok((1, false))),
     (b"", Ok((0, false))),
@@ -126,7 +126,7 @@ fn fed_in_pieces(rt: HostRuntime) {
     assert!(rt; has(&reader, &T1_CARD));
 }
 
-/// Where a wrong TCK of the card with T=1 is refused.
+/// The stop for a wrong TCK of this answer.
 const BAD_TCK: Stop<AtrReason> = Stop::At {
     place: 6,
     reason: AtrReason::BadTck,
@@ -145,31 +145,31 @@ fn a_refusal_is_kept_until_reset(rt: HostRuntime) {
     assert!(rt; feeds(&mut reader, b"\x3F\x00\x00", Ok((2, true))));
 }
 
-/// A reader that was fed these octets.
+/// Returns a reader that was fed these octets.
 fn fed(piece: &[u8]) -> AtrReader {
     let mut reader = AtrReader::new();
     let _ = reader.feed(piece);
     reader
 }
 
-/// Whether readers are equal that were fed these octets.
+/// Whether two readers are equal, each after these octets.
 fn feed_same(one: &[u8], other: &[u8]) -> bool {
     fed(one) == fed(other)
 }
 
-/// Whether a reader that was fed these octets is equal to a new one.
+/// Whether a reader that was fed these octets equals a new one.
 fn is_new(piece: &[u8]) -> bool {
     fed(piece) == AtrReader::new()
 }
 
-/// Whether a reader that was fed two pieces is equal to one that was fed these octets.
+/// Whether a reader that was fed two pieces equals one that was fed these octets.
 fn is_joined(one: &[u8], other: &[u8], octets: &[u8]) -> bool {
     let mut in_pieces = fed(one);
     let _ = in_pieces.feed(other);
     in_pieces == fed(octets)
 }
 
-/// Whether a reader that was fed these octets is equal to a new one after a reset.
+/// Whether a reader that was fed these octets equals a new one after a reset.
 fn is_new_again(piece: &[u8]) -> bool {
     let mut reader = fed(piece);
     reader.reset();
@@ -223,7 +223,7 @@ const WHOLE_OR_NOT: [&str; 15] = [
     "",
 ];
 
-/// What a reader says of octets that it is fed one by one: how many it takes, or why not.
+/// Feeds octets to a reader one by one. Returns how many it takes, or the stop.
 fn octet_by_octet(octets: &[u8]) -> Result<usize, Stop<AtrReason>> {
     let mut reader = AtrReader::new();
     let mut count = 0;
@@ -237,20 +237,21 @@ fn octet_by_octet(octets: &[u8]) -> Result<usize, Stop<AtrReason>> {
     reader.finish().map(|_| count)
 }
 
-/// What a reader says of octets that it is fed at once.
+/// Feeds octets to a reader at once. Returns how many it takes, or the stop.
 fn at_once(octets: &[u8]) -> Result<usize, Stop<AtrReason>> {
     let mut reader = AtrReader::new();
     let (count, _) = reader.feed(octets)?;
     reader.finish().map(|_| count)
 }
 
-/// Whether one pass says of octets what a reader says that is fed one by one, and one that is fed at once.
+/// Whether one pass over octets agrees with a reader that is fed them one by one, and with one that is fed them at
+/// once.
 fn agree(octets: &[u8]) -> bool {
     let wanted = octet_by_octet(octets);
     same(decode(octets).map(|found| found.1), wanted) && same(at_once(octets), wanted)
 }
 
-/// Whether they agree on octets and all their beginnings.
+/// Whether these three agree on octets and all their beginnings.
 fn agree_on(octets: &[u8]) -> bool {
     let mut all_agree = true;
     for end in 0..=octets.len() {
@@ -268,12 +269,12 @@ fn one_pass_agrees_with_octet_by_octet(rt: HostRuntime) {
     }
 }
 
-/// Parameters with IFSC 32.
+/// Makes parameters with IFSC 32.
 fn params(rt: &impl Abort, bwi: u8, cwi: u8) -> T1Params {
     T1Params::new(32, bwi, cwi).expect(rt, "parameters")
 }
 
-/// The character waiting time, and the block waiting time at F = 372 and D = 1.
+/// Returns the character waiting time, and the block waiting time at F = 372 and D = 1.
 fn times(params: T1Params) -> (u32, u64) {
     (params.cwt_etu(), params.bwt(372, 1))
 }

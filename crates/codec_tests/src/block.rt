@@ -1,4 +1,5 @@
-//! Calls that no clause pins, and blocks in pieces. The verdicts on octets are in the folder `vectors`.
+//! Tests of calls whose result no clause determines, and of blocks in pieces. The verdicts on octets
+//! are in the folder `vectors`.
 
 mod printed;
 
@@ -9,7 +10,7 @@ use octet_core::Stop;
 use std::process::Abort;
 use test_support::same;
 
-/// Whether a block is there, and is read again from its octets.
+/// Whether there is a block, and it decodes from its own octets.
 fn is_read_again(block: Option<Block>) -> bool {
     match block {
         Some(block) => {
@@ -60,18 +61,18 @@ fn numbers_alternate(rt: HostRuntime) {
     assert!(rt; same(Number::One.other(), Number::Zero));
 }
 
-/// An I-block with this field.
+/// Makes an I-block with this field.
 fn info(rt: &impl Abort, inf: &[u8]) -> Block {
     Block::info(0x21, Number::Zero, false, inf).expect(rt, "a block")
 }
 
-/// The kind of that block.
+/// The kind of this I-block.
 const INFO: Pcb = Pcb::Info {
     number: Number::Zero,
     more: false,
 };
 
-/// Whether a block is that one.
+/// Whether a block is this I-block with this field.
 fn is_info(block: &Block, inf: &[u8]) -> bool {
     same((block.nad(), block.pcb()), (0x21, INFO)) && same(block.inf(), inf)
 }
@@ -83,15 +84,15 @@ fn parts_of_a_block(rt: HostRuntime) {
     assert!(rt; !same(block, Block::ready(0x21, Number::Zero, Fault::Free)));
 }
 
-/// What a reader answers to octets.
+/// The result of feeding a reader.
 type Fed = Result<(usize, bool), Stop<BlockReason>>;
 
-/// Whether a reader answers so to these octets.
+/// Whether feeding these octets has this result.
 fn feeds(reader: &mut BlockReader, octets: &[u8], wanted: Fed) -> bool {
     same(reader.feed(octets), wanted)
 }
 
-/// Whether a reader says so where no more octets come.
+/// Whether the end of the octets has this result.
 fn ends(reader: &BlockReader, wanted: Result<(), Stop<BlockReason>>) -> bool {
     same(reader.finish(), wanted)
 }
@@ -125,13 +126,13 @@ fn fed_octet_by_octet(rt: HostRuntime) {
     assert!(rt; has(&reader, &[0x00, 0xA4, 0x04, 0x00, 0x00]));
 }
 
-/// Where the octets 00 83 are refused.
+/// The stop for the octets 00 83.
 const BAD_PCB: Stop<BlockReason> = Stop::At {
     place: 1,
     reason: BlockReason::BadPcb,
 };
 
-/// Whether a reader refuses each of these pieces so, one after another.
+/// Whether a reader refuses each of these pieces with that stop, one after another.
 fn refuses_each(reader: &mut BlockReader, pieces: &[&[u8]]) -> bool {
     for &piece in pieces {
         if !feeds(reader, piece, Err(BAD_PCB)) {
@@ -163,7 +164,7 @@ fn fed_after_a_reset(rt: HostRuntime) {
 /// A request for fields of 254 octets, and an octet after it.
 const SIZE_AND_MORE: [u8; 6] = [0x00, 0xC1, 0x01, 0xFE, 0x3E, 0xFF];
 
-/// Whether a reader takes that request in two pieces, and the octet after it not.
+/// Whether a reader takes the request in two pieces, but not the octet after it.
 fn takes_both(front: &[u8], back: &[u8]) -> bool {
     let mut reader = BlockReader::new(32);
     feeds(&mut reader, front, Ok((front.len(), front.len() == 5)))
@@ -193,14 +194,14 @@ fn fed_in_two_pieces(rt: HostRuntime) {
 /// The same I-block from another address, and an octet after it.
 const SELECT_AND_MORE: [u8; 10] = [0x21, 0x00, 0x05, 0x00, 0xA4, 0x04, 0x00, 0x00, 0x84, 0xFF];
 
-/// Whether a block is lent with this field, and is the same one when it is copied.
+/// Whether a block borrows this field, and stays equal when it is copied.
 fn is_lent(block: &BlockRef<'_>, inf: &[u8]) -> bool {
     same((block.nad(), Some(block.pcb())), (0x21, Pcb::of(0x00)))
         && same(block.inf(), inf)
         && Some(block.to_block()) == Block::info(0x21, Number::Zero, false, inf)
 }
 
-/// Whether octets begin with a block with this field, which ends before the last octet.
+/// Whether octets begin with a block with this field that ends before the last octet.
 fn lends(octets: &[u8], inf: &[u8]) -> bool {
     match BlockRef::decode(octets, 254) {
         Ok((block, taken)) => same(taken, 9) && is_lent(&block, inf),
@@ -208,7 +209,7 @@ fn lends(octets: &[u8], inf: &[u8]) -> bool {
     }
 }
 
-/// Why octets are no block with a field of at most four octets.
+/// Returns why octets aren't a block with a field of at most four octets.
 fn refused(octets: &[u8]) -> Option<Stop<BlockReason>> {
     BlockRef::decode(octets, 4).err()
 }
@@ -225,28 +226,28 @@ fn read_where_it_stands(rt: HostRuntime) {
     );
 }
 
-/// A block that lends its field.
+/// Makes a block that borrows its field.
 fn lent<'a>(rt: &impl Abort, nad: u8, pcb: Pcb, inf: &'a [u8]) -> BlockRef<'a> {
     BlockRef::new(nad, pcb, inf).expect(rt, "a block")
 }
 
-/// How many octets a block puts into a buffer.
+/// Returns how many octets a block writes to a buffer.
 fn written(block: &BlockRef<'_>, out: &mut [u8; LONGEST_BLOCK]) -> usize {
     block.encode_into(out)
 }
 
-/// Whether a block is put so into a buffer.
+/// Whether a buffer has exactly the octets of a block.
 fn is_written(block: &BlockRef<'_>, out: &[u8; LONGEST_BLOCK]) -> bool {
     encode(&block.to_block()).as_slice() == out.as_slice()
 }
 
-/// The kind of an I-block with number one and more to come.
+/// The kind of an I-block with number one after which more blocks follow.
 const MORE: Pcb = Pcb::Info {
     number: Number::One,
     more: true,
 };
 
-/// Whether a request for fields of 254 octets is put into the front of a buffer that is full of EE.
+/// Whether a request for fields of 254 octets is written to the front of a buffer full of EE.
 fn puts_size(rt: &impl Abort, out: &mut [u8; LONGEST_BLOCK]) -> bool {
     let size = lent(rt, 0x00, Pcb::Request(S::Ifs), &[0xFE]);
     same(written(&size, out), 5) && out.starts_with(&[0x00, 0xC1, 0x01, 0xFE, 0x3E, 0xEE])
@@ -265,7 +266,7 @@ fn written_into_a_buffer(rt: HostRuntime) {
     assert!(rt; puts_longest(&rt, &mut out));
 }
 
-/// Whether no block can lend this field.
+/// Whether no block can have this field.
 fn is_none(nad: u8, pcb: Pcb, inf: &[u8]) -> bool {
     BlockRef::new(nad, pcb, inf).is_none()
 }

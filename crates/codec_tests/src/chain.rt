@@ -1,5 +1,5 @@
-//! Chains in pieces and over streams, and calls that no clause pins. Verdicts are in the folder `vectors`, and streams
-//! that fail after each octet or never end in hostile.
+//! Tests of chains in pieces and over streams, and of calls whose result no clause determines. The verdicts are in the
+//! folder `vectors`. Streams that fail after each octet, or never end, are in the crate `hostile`.
 
 mod plain;
 mod printed;
@@ -14,7 +14,7 @@ use std::alloc::Global;
 use std::process::Abort;
 use test_support::same;
 
-/// 00 A4 04 00 00, in blocks of two octets.
+/// The command 00 A4 04 00 00 as a chain of blocks of two octets.
 const CHAIN: [u8; 17] = [
     0x00, 0x20, 0x02, 0x00, 0xA4, 0x86, 0x00, 0x60, 0x02, 0x04, 0x00, 0x66, 0x00, 0x00, 0x01, 0x00,
     0x01,
@@ -28,7 +28,7 @@ const CHAIN_AND_MORE: [u8; 18] = [
 
 const SELECT: [u8; 5] = [0x00, 0xA4, 0x04, 0x00, 0x00];
 
-/// Whether the block of SELECT from a place on has these octets.
+/// Whether the block for SELECT from place `start` on has these octets.
 fn is_block_at(start: usize, number: Number, octets: &[u8]) -> bool
     requires { start ≤ 5 }
 {
@@ -42,7 +42,7 @@ fn block_at_a_place(rt: HostRuntime) {
     assert!(rt; is_block_at(5, Number::Zero, &[0x00, 0x00, 0x00, 0x00]));
 }
 
-/// Whether a writer keeps these octets.
+/// Whether a writer has taken exactly these octets.
 fn keeps(writer: Counted<Taker>, octets: &[u8]) -> bool {
     writer.into_inner().kept() == octets
 }
@@ -58,19 +58,19 @@ fn at(place: usize, reason: ChainReason) -> Fed {
     Err(Stop::At { place, reason })
 }
 
-/// Whether a receiver has no message after so many octets.
+/// Whether a receiver has no message after `place` octets.
 fn is_short(receiver: &Receiver, place: usize) -> bool {
     receiver.message().is_none() && ends(receiver, Err(Stop::Short { place }))
 }
 
-/// Whether a receiver takes the first piece of the chain, and lacks the rest of it, if there is some.
+/// Whether a receiver takes the first piece of the chain, and lacks the rest if there is any.
 fn takes_front(receiver: &mut Receiver, front: &[u8]) -> bool {
     let place = front.len();
     let whole = place == CHAIN.len();
     feeds(receiver, front, Ok((place, whole))) && (whole || is_short(receiver, place))
 }
 
-/// Whether a receiver takes the last piece of the chain and no octet more, and has the message.
+/// Whether a receiver takes the last piece of the chain, and no further octet, and has the message.
 fn takes_back(receiver: &mut Receiver, back: &[u8]) -> bool {
     feeds(receiver, back, Ok((back.len(), true)))
         && feeds(receiver, &[0xFF], Ok((0, true)))
@@ -90,7 +90,7 @@ fn received_in_two_pieces(rt: HostRuntime) {
     }
 }
 
-/// Whether a receiver over a lent buffer takes the first piece of the chain, and lacks the rest of it, if there is some.
+/// Whether a receiver with a borrowed buffer takes the first piece of the chain, and lacks the rest if there is any.
 fn takes_front_lent(lent: &mut LentReceiver, message: &mut [u8; 6], front: &[u8]) -> bool {
     let place = front.len();
     let whole = place == CHAIN.len();
@@ -98,18 +98,18 @@ fn takes_front_lent(lent: &mut LentReceiver, message: &mut [u8; 6], front: &[u8]
         && (whole || lacks_lent(lent, place))
 }
 
-/// Whether a receiver over a lent buffer has no message after so many octets.
+/// Whether a receiver with a borrowed buffer has no message after `place` octets.
 fn lacks_lent(lent: &LentReceiver, place: usize) -> bool {
     lent.message_len().is_none() && same(finish_lent(lent, 5), Some(Err(Stop::Short { place })))
 }
 
-/// Whether a receiver over a lent buffer takes the last piece of the chain and no octet more.
+/// Whether a receiver with a borrowed buffer takes the last piece of the chain, and no further octet.
 fn takes_back_lent(lent: &mut LentReceiver, message: &mut [u8; 6], back: &[u8]) -> bool {
     same(feed_lent(lent, message, back), Some(Ok((back.len(), true))))
         && same(feed_lent(lent, message, &[0xFF]), Some(Ok((0, true))))
 }
 
-/// Whether a receiver over a lent buffer has the message, and is none over a buffer of four octets.
+/// Whether a receiver has the message in a borrowed buffer, and isn't valid with a buffer of four octets.
 fn has_lent(lent: &LentReceiver, message: &[u8; 6]) -> bool {
     same(finish_lent(lent, 5), Some(Ok(())))
         && same(lent.message_len(), Some(5))
@@ -117,7 +117,7 @@ fn has_lent(lent: &LentReceiver, message: &[u8; 6]) -> bool {
         && same(finish_lent(lent, 4), None)
 }
 
-/// Whether the chain is joined in a lent buffer from these two pieces.
+/// Whether the chain is joined in a borrowed buffer from these two pieces.
 fn is_joined(front: &[u8], back: &[u8]) -> bool {
     let mut lent = LentReceiver::begin(2, Number::Zero, 5);
     let mut message = [0; 6];
@@ -134,8 +134,8 @@ fn joined_in_a_lent_buffer(rt: HostRuntime) {
     }
 }
 
-/// Whether the chain is taken, and the octet after it not, where a piece ends after the octet at each
-/// place whose bit is set in `cuts`.
+/// Whether the chain is taken, but not the octet after it. A piece ends after the octet at each place whose bit is set
+/// in `cuts`.
 fn is_received(receiver: &mut Receiver, cuts: u32) -> bool {
     let mut from = 0;
     for place in 0..16usize {
@@ -186,7 +186,7 @@ fn a_refusal_is_kept_until_a_restart(rt: HostRuntime) {
     assert!(rt; same(receiver.blocks(), 2));
 }
 
-/// Whether a receiver takes so many pairs of empty blocks, and then one more block.
+/// Whether a receiver takes `count` pairs of empty blocks, and then one more block.
 fn takes_pairs(receiver: &mut Receiver, count: u32) -> bool {
     let pair = [0x00, 0x20, 0x00, 0x20, 0x00, 0x60, 0x00, 0x60];
     let mut all_taken = true;
@@ -196,7 +196,7 @@ fn takes_pairs(receiver: &mut Receiver, count: u32) -> bool {
     all_taken && feeds(receiver, &pair[..4], Ok((4, false)))
 }
 
-/// A receiver of empty messages.
+/// Makes a receiver of empty messages.
 fn empty_receiver(rt: &impl Abort, alloc: Global) -> Receiver {
     Receiver::new(alloc, 254, Number::Zero, 0).expect(rt, "a receiver")
 }
@@ -214,7 +214,7 @@ fn most_blocks(rt: HostRuntime) {
     assert!(rt; feeds(&mut receiver, &[0x00, 0x60], refusal));
 }
 
-/// How many blocks a message is cut into, counted up to 100,000.
+/// Returns how many blocks a message is cut into, counted up to 100,000.
 fn blocks_of(message: &[u8], ifs: u8) -> u32
     requires least { 1 ≤ ifs }
     requires most { ifs ≤ 254 }
@@ -248,14 +248,14 @@ fn stop(place: usize, reason: ChainReason) -> Result<(), ReadRefusal> {
     Err(ReadRefusal::Stop(Stop::At { place, reason }))
 }
 
-/// A source of these octets, at most so many by a call.
+/// Makes a source of these octets, at most `step` in one call.
 fn source(octets: &[u8], step: usize) -> Counted<Feeder<'_>>
     requires { 1 ≤ step }
 {
     Counted::new(Feeder::new(octets, step, After::End))
 }
 
-/// How many octets a source gave.
+/// Returns how many octets were read from a source.
 fn given(source: Counted<Feeder<'_>>) -> u64 {
     source.into_inner().given()
 }
@@ -266,7 +266,7 @@ fn is_left(source: &mut Counted<Feeder<'_>>) -> bool {
     matches!(source.read(&mut next), Ok(1)) && next[0] == 0xFF
 }
 
-/// Whether a receiver takes seven octets of the chain from a source that fails then.
+/// Whether a receiver takes seven octets of the chain from a source that then fails.
 fn fails_after_seven(receiver: &mut Receiver) -> bool {
     let mut reader = Counted::new(Feeder::new(&CHAIN[..7], 4096, After::Fails));
     same(
@@ -289,7 +289,7 @@ fn read_on_behind_a_failure(rt: HostRuntime) {
     assert!(rt; has(&receiver, &SELECT));
 }
 
-/// Whether a receiver takes these octets from a source, twice lacks the rest, and takes that from another.
+/// Whether a receiver takes these octets from a source, twice lacks the rest, and takes the rest from another source.
 fn is_read_on(receiver: &mut Receiver, front: &[u8], back: &[u8], step: usize) -> bool
     requires { 1 ≤ step }
 {
@@ -310,7 +310,7 @@ fn read_from_a_source_that_ends(rt: HostRuntime) {
     }
 }
 
-/// Whether reading octets gives this, and takes so many of them.
+/// Whether reading octets has this result, and this many of them are read.
 fn reads(
     receiver: &mut Receiver,
     octets: &[u8],
@@ -321,7 +321,7 @@ fn reads(
     same(read(&mut reader, receiver), wanted) && same(given(reader), count)
 }
 
-/// Blocks, where and why they are refused, and how many octets are read of them.
+/// Blocks, the place and the reason of their refusal, and how many of their octets are read.
 const REFUSED: [([u8; 6], usize, ChainReason, u64); 5] = [
     (
         [0x01, 0x20, 0x02, 0x00, 0xA4, 0x86],
@@ -355,7 +355,7 @@ const REFUSED: [([u8; 6], usize, ChainReason, u64); 5] = [
     ),
 ];
 
-/// Whether a receiver reads each of these blocks up to the octet that is refused.
+/// Whether a receiver reads each of these blocks as far as listed, and refuses it.
 fn reads_up_to_each(receiver: &mut Receiver) -> bool {
     for (octets, place, reason, given) in &REFUSED {
         receiver.restart(Number::Zero);
@@ -375,7 +375,7 @@ fn read_up_to_the_refused_block(rt: HostRuntime) {
     assert!(rt; reads_up_to_each(&mut receiver));
 }
 
-/// Whether a receiver that is done takes nothing from a source of one more chain.
+/// Whether a receiver that is done reads nothing from a source of another chain.
 fn reads_nothing(receiver: &mut Receiver) -> bool {
     let mut reader = Counted::new(Feeder::new(&CHAIN, 4096, After::Fails));
     same(read(&mut reader, receiver), Ok(())) && same(given(reader), 0)

@@ -1,4 +1,4 @@
-//! What the other tests compare by, since it has no contract.
+//! Comparisons that the other tests use, since they have no contract.
 
 use octet_core::Named;
 use std::alloc::Global;
@@ -6,12 +6,12 @@ use std::fmt::Display;
 use std::process::Abort;
 use test_support::{debugs, of_hex, same, shows};
 
-/// The octets of a hexadecimal text.
+/// Decodes a hexadecimal text.
 pub(super) fn octets(rt: &impl Abort, alloc: Global, text: &str) -> Vec<u8> {
     of_hex(alloc, text).expect(rt, "octets")
 }
 
-/// Whether a reason has this name, and is shown by it.
+/// Whether a reason has this name and is printed as it.
 pub(super) fn is_named<R: Named + Display + Copy>(alloc: Global, reason: R, name: &str) -> bool {
     same(reason.name(), name) && shows(alloc, &reason, name)
 }

@@ -1,5 +1,5 @@
-//! The tests of the codecs, from [`octet_core`] to [`apdu_core`], and of [`test_support`]. They are apart from these, so that
-//! the gate proves each once, and in one crate, since the toolchain takes a minute to begin with one.
+//! The tests of the codecs, from [`octet_core`] to [`apdu_core`], and of [`test_support`]. They are in one separate
+//! crate so that the gate proves each codec once: the toolchain takes a minute to start with each crate.
 #![tactic(auto)]
 
 #[cfg(test)]

@@ -1,4 +1,4 @@
-//! What no clause says: values from outside, and what the devices give and keep.
+//! Tests of what no clause says: values from outside, and what the test devices read and keep.
 
 mod decimal;
 mod refusals;
@@ -14,7 +14,7 @@ use std::io::{ErrorKind, Read, Write};
 use std::process::Abort;
 use test_support::same;
 
-/// Whether a call of a reader gives so many octets.
+/// Whether a call of a reader returns `count` octets.
 fn gives<R: Source>(reader: &mut R, room: &mut [u8; 4], count: usize) -> bool {
     match reader.read(room) {
         Ok(given) => given == count,
@@ -22,7 +22,7 @@ fn gives<R: Source>(reader: &mut R, room: &mut [u8; 4], count: usize) -> bool {
     }
 }
 
-/// Whether a call of a writer takes so many of these octets.
+/// Whether a call of a writer takes `count` of these octets.
 fn takes<W: Sink>(writer: &mut W, octets: &[u8], count: usize) -> bool {
     match writer.write(octets) {
         Ok(taken) => taken == count,
@@ -30,17 +30,17 @@ fn takes<W: Sink>(writer: &mut W, octets: &[u8], count: usize) -> bool {
     }
 }
 
-/// Whether a taker keeps these octets, below a count of the failed calls.
+/// Whether a taker, inside a count of failed calls, keeps these octets.
 fn keeps(writer: Counted<Taker>, octets: &[u8]) -> bool {
     writer.into_inner().kept() == octets
 }
 
-/// Whether a taker keeps these octets, below one that fails once and a count of the failed calls.
+/// Whether a taker, inside a writer that fails once and a count of failed calls, keeps these octets.
 fn keeps_below(writer: Counted<FailsOnce<Taker>>, octets: &[u8]) -> bool {
     writer.into_inner().into_inner().kept() == octets
 }
 
-/// What writing these octets whole gives.
+/// Writes all of these octets.
 fn written<W: Sink>(writer: &mut W, octets: &[u8]) -> Result<(), WriteFault> {
     write_octets(writer, octets)
 }
@@ -92,7 +92,7 @@ fn feeder_ends_and_fails(rt: HostRuntime) {
     );
 }
 
-/// Whether a call of a taker takes so many of these octets.
+/// Whether a call of a taker takes `count` of these octets.
 fn keeps_of(taker: &mut Taker, octets: &[u8], count: usize) -> bool {
     match taker.write(octets) {
         Ok(taken) => taken == count,
@@ -117,7 +117,7 @@ fn taker_keeps_step_by_step(rt: HostRuntime) {
     assert!(rt; taker.kept() == b"abc".as_slice());
 }
 
-/// How an empty reader fails.
+/// Returns the error of an empty reader.
 fn read_fault(after: After) -> Option<ErrorKind>
     requires { after ≢ After.Repeats }
 {
@@ -126,7 +126,7 @@ fn read_fault(after: After) -> Option<ErrorKind>
     read.err().map(|e| e.kind())
 }
 
-/// How a writer with no room fails.
+/// Returns the error of a writer with no room.
 fn write_fault(after: After) -> Option<ErrorKind>
     requires { after ≢ After.Repeats }
 {
@@ -152,7 +152,7 @@ fn fails_to_give<R: Source>(reader: &mut R, room: &mut [u8; 4]) -> bool {
     reader.read(room).is_err()
 }
 
-/// Whether a reader that fails once after two octets gives the others at the next call.
+/// Whether a reader that fails once after two octets returns the others at the next call.
 fn gives_on(fault: After) -> bool
     requires { fault ≢ After.Repeats }
 {
@@ -161,7 +161,7 @@ fn gives_on(fault: After) -> bool
     gives_after_a_failure(&mut reader) && same(reader.into_inner().into_inner().given(), 4)
 }
 
-/// Whether a reader gives two octets, fails, and gives the last two.
+/// Whether a reader returns two octets, fails, and returns the last two.
 fn gives_after_a_failure<R: Source>(reader: &mut R) -> bool {
     let mut room = [0u8; 4];
     gives(reader, &mut room, 2)
@@ -171,7 +171,7 @@ fn gives_after_a_failure<R: Source>(reader: &mut R) -> bool {
         && gives(reader, &mut room, 0)
 }
 
-// A reader in a `Counted` that tried the failed call again, without a word, would answer `Ok(2)` at it.
+// A reader in a `Counted` that silently retried the failed call would return `Ok(2)` from it.
 #[test]
 fn a_failed_read_is_answered_and_not_tried_again(rt: HostRuntime) {
     assert!(rt; gives_on(After::Fails));
@@ -194,14 +194,15 @@ fn takes_on(fault: After) -> bool
         && keeps_below(writer, b"abef")
 }
 
-// A writer in a `Counted` that tried the failed call again would keep "cd" at it.
+// A writer in a `Counted` that retried the failed call would keep "cd" from it.
 #[test]
 fn a_failed_write_is_answered_and_not_tried_again(rt: HostRuntime) {
     assert!(rt; takes_on(After::Fails));
     assert!(rt; takes_on(After::Interrupted));
 }
 
-/// Whether a writer that fails once after so many octets stops there, and keeps these in the end.
+/// Whether a writer that fails once after `failing` octets stops there, and keeps these octets in the
+/// end.
 fn stops_once(fault: After, failing: usize, kept: &[u8]) -> bool
     requires { fault ≢ After.Repeats }
 {
@@ -212,8 +213,8 @@ fn stops_once(fault: After, failing: usize, kept: &[u8]) -> bool
         && keeps_below(writer, kept)
 }
 
-// A `write_octets`, or a `Counted` below it, that tried the failed call again would write all six octets
-// and answer `Ok(())`.
+// A `write_octets`, or a `Counted` below it, that retried the failed call would write all six octets and
+// return `Ok(())`.
 #[test]
 fn writes_no_more_after_a_call_that_failed(rt: HostRuntime) {
     const ROWS: [After; 3] = [After::End, After::Fails, After::Interrupted];
@@ -225,7 +226,7 @@ fn writes_no_more_after_a_call_that_failed(rt: HostRuntime) {
     }
 }
 
-/// Whether a text spells these octets.
+/// Whether a text decodes as these octets.
 fn spells(alloc: Global, text: &str, octets: &[u8]) -> bool {
     match octets_of(alloc, text) {
         Ok(found) => found.as_slice() == octets,
@@ -233,7 +234,7 @@ fn spells(alloc: Global, text: &str, octets: &[u8]) -> bool {
     }
 }
 
-/// Whether octets are written as this text.
+/// Whether octets encode as this text.
 fn is_written(alloc: Global, octets: &[u8], text: &str) -> bool {
     match hex_upper(alloc, octets) {
         Ok(found) => found.as_str() == text,
@@ -249,12 +250,12 @@ fn hexadecimal_with_ample_memory(rt: HostRuntime) {
     assert!(rt; is_written(rt.alloc(), &[], ""));
 }
 
-/// The octets of a text.
+/// Decodes a text.
 fn octets(rt: &impl Abort, alloc: Global, text: &str) -> Octets {
     Octets::of(octets_of(alloc, text).expect(rt, "octets"))
 }
 
-/// The text of an octet.
+/// Encodes an octet as text.
 fn as_text(rt: &impl Abort, alloc: Global, octet: u8) -> Text {
     Text::of(hex_upper(alloc, &[octet]).expect(rt, "a text"))
 }

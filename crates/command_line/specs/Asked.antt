@@ -1,8 +1,8 @@
--- Words that ask for an explanation, or for JSON.
+-- Words that ask for an explanation or for JSON.
 use Rattle.std.specs.Prelude.{ℕ, List, [], ◌∷◌, codes, Bool, true, false, if◌then◌else◌}
 use Rattle.std.specs.Str.{bytes_eq}
 
--- one of the words is this option, and none before it is --
+-- one of the words is this option, and no word before it is --
 abbrev pub asked_in : List ℕ → List (List ℕ) → Bool
 asked_in option [] = false
 asked_in option (word ∷ words) =
@@ -10,7 +10,7 @@ asked_in option (word ∷ words) =
     else (if bytes_eq word option then true
     else asked_in option words)
 
--- the first word is the program's name
+-- one of the words after the program's name is this option
 abbrev pub asks_for : List ℕ → List (List ℕ) → Bool
 asks_for option [] = false
 asks_for option (name ∷ words) = asked_in option words

@@ -9,14 +9,14 @@ use Rattle.clap.specs.declared.builder.action.ArgAction.TheVariants.{Append, Set
 abbrev pub flag_rule : List ℕ → Rule
 flag_rule name = record (new_rule name) { long = Some name; action = Some SetTrue }
 
--- the option that asks for an explanation, which the program and every subcommand have
+-- the option that asks for an explanation; the program and every subcommand have it
 abbrev pub explain_rule : Rule
 explain_rule = flag_rule (codes "explain")
 
 abbrev pub begun_app : List ℕ → App
 begun_app name = with_rule (new_app name) explain_rule
 
--- a word that has to be there
+-- a word that is required
 abbrev pub required_rule : List ℕ → Rule
 required_rule name = record (new_rule name) { required = true; value_names = 1 }
 
@@ -26,11 +26,11 @@ kind_rule = required_rule (codes "kind")
 abbrev pub hex_rule : Rule
 hex_rule = record (new_rule (codes "hex")) { value_names = 1 }
 
--- an option that takes any word
+-- an option that takes one word, whatever it is
 abbrev pub option_rule : List ℕ → Rule
 option_rule name = record (new_rule name) { long = Some name; value_names = 1 }
 
--- the form of octets on standard input
+-- the option with the form of octets on standard input
 abbrev pub stdin_rule : Rule
 stdin_rule = option_rule (codes "stdin")
 
@@ -42,19 +42,19 @@ abbrev pub number_rule : Rule
 number_rule = record (new_rule (codes "number"))
     { long = Some (codes "number"); value_names = 1; parser = Some (parser.Signed (pos 0) (pos 1)) }
 
--- a subcommand that takes what octets are taken for: a kind, an information size and a first number
+-- a subcommand with the expected kind of octets, an information size and a first number
 abbrev pub expected_app : List ℕ → App
 expected_app name = with_rule (with_rule (with_rule (begun_app name) kind_rule) ifs_rule) number_rule
 
--- the option by which an answer is an object of JSON
+-- the option that makes an answer a JSON object
 abbrev pub json_rule : Rule
 json_rule = flag_rule (codes "json")
 
--- the same with the octets
+-- such a subcommand, which also takes the octets
 abbrev pub input_app : List ℕ → App
 input_app name = with_rule (with_rule (with_rule (expected_app name) hex_rule) stdin_rule) json_rule
 
--- the subcommand that shows a value, with notes where an option asks for them
+-- the option of the subcommand show that adds notes
 abbrev pub notes_rule : Rule
 notes_rule = flag_rule (codes "notes")
 
@@ -67,7 +67,7 @@ what_rule = required_rule (codes "what")
 abbrev pub words_rule : Rule
 words_rule = record (new_rule (codes "words")) { value_names = 1; action = Some Append }
 
--- the subcommand that builds what a word says, of the words after it
+-- the subcommand that builds what its first word says, from the words after it
 abbrev pub build_app : App
 build_app =
     with_rule (with_rule (with_rule (with_rule (begun_app (codes "build")) what_rule) words_rule) stdin_rule) json_rule
@@ -79,7 +79,7 @@ end_rule = record (new_rule (codes "end")) { long = Some (codes "end"); value_na
 abbrev pub replay_app : App
 replay_app = with_rule (with_rule (begun_app (codes "replay")) end_rule) json_rule
 
--- the subcommand that takes recorded exchanges into the newest version, which takes no words
+-- the subcommand that converts recorded exchanges to the newest version; it takes no words
 abbrev pub migrate_app : App
 migrate_app = with_rule (begun_app (codes "migrate")) json_rule
 
@@ -87,7 +87,7 @@ migrate_app = with_rule (begun_app (codes "migrate")) json_rule
 abbrev pub apdus_app : App
 apdus_app = with_rule (begun_app (codes "apdus")) json_rule
 
--- the subcommand that draws recorded exchanges, as a picture where an option asks for one
+-- the option of the subcommand draw that asks for a picture
 abbrev pub svg_rule : Rule
 svg_rule = flag_rule (codes "svg")
 
@@ -97,11 +97,11 @@ draw_app = with_rule (with_rule (begun_app (codes "draw")) svg_rule) json_rule
 abbrev pub atr_rule : Rule
 atr_rule = required_rule (codes "atr")
 
--- the subcommand that makes recorded exchanges of the blocks that were seen on a line
+-- the subcommand that makes recorded exchanges from the blocks that were seen on a line
 abbrev pub record_app : App
 record_app = with_rule (with_rule (begun_app (codes "record")) atr_rule) json_rule
 
--- the option that names the end that is judged alone
+-- the option that names the one end that is judged
 abbrev pub judged_rule : Rule
 judged_rule = option_rule (codes "end")
 
@@ -109,11 +109,11 @@ judged_rule = option_rule (codes "end")
 abbrev pub clock_rule : Rule
 clock_rule = option_rule (codes "clock")
 
--- the option by which rules and states are counted
+-- the option that counts rules and states
 abbrev pub rules_rule : Rule
 rules_rule = flag_rule (codes "rules")
 
--- the subcommand that judges the blocks that were seen on a line, first with its words and the end
+-- the subcommand that judges the blocks that were seen on a line, here with its words and the end
 abbrev pub judged_app : App
 judged_app = with_rule (with_rule (begun_app (codes "judge")) atr_rule) judged_rule
 
@@ -127,8 +127,8 @@ abbrev pub ifsd_rule : Rule
 ifsd_rule = record (new_rule (codes "ifsd"))
     { long = Some (codes "ifsd"); value_names = 1; parser = Some (parser.Signed (pos 1) (pos 254)) }
 
--- the subcommand that records a session of both ends, first with its words, the size that is asked for, and where the
--- pairs are read
+-- the subcommand that records a session of both ends, here with its words, the size that the terminal asks for, and
+-- where the pairs come from
 abbrev pub session_app : App
 session_app = with_rule (with_rule (with_rule (with_rule
     (with_rule (begun_app (codes "simulate")) atr_rule) pairs_rule) ifsd_rule) stdin_rule) json_rule
@@ -137,19 +137,19 @@ abbrev pub simulate_app : App
 simulate_app = with_rule (with_rule (with_rule session_app (option_rule (codes "lose"))) (option_rule (codes "damage")))
     (option_rule (codes "spoil"))
 
--- the program as a command, which takes the option before its subcommand too, first with what it says of octets
+-- the program as a command, here with its subcommands for octets; it has the option for an explanation too
 abbrev pub octets_app : App
 octets_app = with_subcommand (with_subcommand
     (with_subcommand (begun_app (codes "scard")) (input_app (codes "check")).top) show_app.top)
     build_app.top
 
--- the same with what it says of recorded exchanges
+-- the program with its subcommands for octets and recorded exchanges
 abbrev pub exchanges_app : App
 exchanges_app = with_subcommand (with_subcommand
     (with_subcommand (with_subcommand octets_app replay_app.top) migrate_app.top) apdus_app.top)
     draw_app.top
 
--- and with what it makes and says of traces of a line
+-- the program with its subcommands for octets, recorded exchanges and traces of a line
 abbrev pub traces_app : App
 traces_app = with_subcommand (with_subcommand exchanges_app record_app.top) judge_app.top
 

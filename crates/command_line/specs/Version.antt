@@ -1,4 +1,4 @@
--- Words that ask for the version, and the line that has it.
+-- Words that ask for the version, and the line with the version.
 use Rattle.std.specs.Prelude.{◌||◌, ◌&&◌, ℕ, List, [], ◌∷◌, codes, Bool, false}
 use Rattle.std.specs.Str.{bytes_eq}
 
@@ -8,7 +8,7 @@ is_version word = bytes_eq word (codes "--version") || bytes_eq word (codes "-V"
 abbrev pub is_json : List ℕ → Bool
 is_json word = bytes_eq word (codes "--json")
 
--- one word after the program's name, and maybe --json before or after it
+-- one word after the program's name, with --json before or after it or without
 abbrev pub asks_for_version : List (List ℕ) → Bool
 asks_for_version (name ∷ word ∷ []) = is_version word
 asks_for_version (name ∷ first ∷ second ∷ []) =

@@ -1,4 +1,4 @@
-//! The words that commands take, as arguments of `clap`: the name of each value, and what help says of it.
+//! The words that commands take, as arguments of `clap`: the name of each value, and its text in help.
 
 ghost use Rattle.std.specs.Prelude.{◌≡◌, false};
 ghost use Rattle.clap.specs.Words.{rule_of};
@@ -18,7 +18,7 @@ pub(crate) fn explain_arg<'a>(alloc: Global) -> Arg<'a>
     )
 }
 
-/// An option without a value.
+/// Returns an option without a value.
 fn flag_arg<'a>(alloc: Global, name: &'a str, help: &'a str) -> Arg<'a>
     ensures rule { rule_of result ≡ flag_rule name.now }
     ensures local { result.global ≡ false }
@@ -213,7 +213,7 @@ pub(crate) fn ifsd_arg<'a>(alloc: Global) -> Arg<'a>
         .help("The information field size that the terminal requests first, 1 to 254")
 }
 
-/// The option by which the pairs of a session come from standard input.
+/// Returns the option that reads the pairs of a session from standard input.
 pub(crate) fn lines_arg<'a>(alloc: Global) -> Arg<'a>
     ensures rule { rule_of result ≡ stdin_rule }
     ensures local { result.global ≡ false }
@@ -226,7 +226,7 @@ pub(crate) fn lines_arg<'a>(alloc: Global) -> Arg<'a>
     )
 }
 
-/// An option that takes a list of blocks.
+/// Returns an option that takes a list of blocks.
 pub(crate) fn list_arg<'a>(alloc: Global, name: &'a str, help: &'a str) -> Arg<'a>
     ensures rule { rule_of result ≡ option_rule name.now }
     ensures local { result.global ≡ false }
@@ -234,7 +234,7 @@ pub(crate) fn list_arg<'a>(alloc: Global, name: &'a str, help: &'a str) -> Arg<'
     option_arg(alloc, name, "LIST", help)
 }
 
-/// A word that has to be there, which help calls `value`.
+/// Returns a word that is required. Help calls it `value`.
 fn required_arg<'a>(alloc: Global, name: &'a str, value: &'a str, help: &'a str) -> Arg<'a>
     ensures rule { rule_of result ≡ required_rule name.now }
     ensures local { result.global ≡ false }
@@ -245,7 +245,7 @@ fn required_arg<'a>(alloc: Global, name: &'a str, value: &'a str, help: &'a str)
         .help(help)
 }
 
-/// An option that takes any word, which help calls `value`.
+/// Returns an option that takes one word, whatever it is. Help calls it `value`.
 fn option_arg<'a>(alloc: Global, name: &'a str, value: &'a str, help: &'a str) -> Arg<'a>
     ensures rule { rule_of result ≡ option_rule name.now }
     ensures local { result.global ≡ false }

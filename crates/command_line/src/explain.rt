@@ -1,4 +1,4 @@
-//! What the parser of command lines says of words.
+//! The messages of the parser of command lines.
 
 ghost use Rattle.std.specs.Prelude.{◌≡◌, ◌≢◌, [], IfOk, is_some, false};
 ghost use Rattle.clap.specs.Values.{kind_of};
@@ -10,8 +10,7 @@ use clap::Error;
 use clap::error::ErrorKind;
 use std::alloc::{AllocError, Global};
 
-/// What the parser of command lines says of words that it refuses, with the form that it takes; nothing where it
-/// takes them.
+/// Returns the parser's message about words that it refuses, with the form of the words; `None` if it accepts them.
 pub fn parser_message(alloc: Global, words: &[String]) -> Result<Option<String>, AllocError>
     ensures none { IfOk result
         (λ said. is_some said ≡ false → fault_of scard (texts words.now) ≡ []) }
@@ -24,7 +23,7 @@ pub fn parser_message(alloc: Global, words: &[String]) -> Result<Option<String>,
     }
 }
 
-/// What an error says, and the form of the words.
+/// Returns the message of an error, and the form of the words.
 fn message(alloc: Global, error: &Error) -> Result<String, AllocError>
     ensures { IfOk result (λ _. kind_of error.now ≢ ErrorKind.OutOfMemory) }
 {

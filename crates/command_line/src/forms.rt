@@ -15,18 +15,18 @@ use crate::help::{
 use clap::{Arg, Command};
 use std::alloc::{AllocError, Global};
 
-/// A command under way, or want of memory. Each step takes it from the one before, so that the functions below have
-/// one way out.
+/// A command that is being built, or out of memory. Each step takes the result of the step before, so that the
+/// functions below have one way out.
 type Built<'a> = Result<Command<'a>, AllocError>;
 
-/// The program as a command of `clap`.
+/// Returns the program as a command of `clap`.
 pub(crate) fn program<'a>(alloc: Global) -> Built<'a>
     ensures { HasForm scard result }
 {
     offering(traces_command(alloc), simulate_command(alloc))
 }
 
-/// The program's command with the subcommands on octets, on recorded exchanges and on traces of a line.
+/// Returns the program's command with the subcommands for octets, recorded exchanges and traces of a line.
 fn traces_command<'a>(alloc: Global) -> Built<'a>
     ensures { HasForm traces_app result }
 {
@@ -34,7 +34,7 @@ fn traces_command<'a>(alloc: Global) -> Built<'a>
     offering(record, judge_command(alloc))
 }
 
-/// The program's command with the subcommands on octets and on recorded exchanges.
+/// Returns the program's command with the subcommands for octets and recorded exchanges.
 fn exchanges_command<'a>(alloc: Global) -> Built<'a>
     ensures { HasForm exchanges_app result }
 {
@@ -44,7 +44,7 @@ fn exchanges_command<'a>(alloc: Global) -> Built<'a>
     offering(apdus, draw_command(alloc))
 }
 
-/// The program's command with the subcommands on octets.
+/// Returns the program's command with the subcommands for octets.
 fn octets_command<'a>(alloc: Global) -> Built<'a>
     ensures { HasForm octets_app result }
 {
@@ -54,7 +54,7 @@ fn octets_command<'a>(alloc: Global) -> Built<'a>
     offering(show, build_command(alloc))
 }
 
-/// A command with one more argument.
+/// Adds an argument to a command.
 fn asking<'a>(command: Built<'a>, arg: Arg<'a>) -> Built<'a>
     ensures form { AddsTo command.entry arg.entry result }
     ensures local { StaysLocal command.entry arg.entry result }
@@ -62,7 +62,7 @@ fn asking<'a>(command: Built<'a>, arg: Arg<'a>) -> Built<'a>
     command?.arg(arg)
 }
 
-/// A command with one more subcommand.
+/// Adds a subcommand to a command.
 fn offering<'a>(command: Built<'a>, subcommand: Built<'a>) -> Built<'a>
     ensures { AddsSubcommandTo command.entry subcommand.entry result }
 {
@@ -70,7 +70,7 @@ fn offering<'a>(command: Built<'a>, subcommand: Built<'a>) -> Built<'a>
     command.subcommand(subcommand?)
 }
 
-/// The subcommand that shows a value.
+/// Returns the subcommand that shows a value.
 fn show_command<'a>(alloc: Global) -> Built<'a>
     ensures form { HasForm show_app result }
     ensures local { IsLocal result }
@@ -78,7 +78,7 @@ fn show_command<'a>(alloc: Global) -> Built<'a>
     asking(input_command(alloc, "show", &SHOW), notes_arg(alloc))
 }
 
-/// A subcommand that takes octets, and what they are taken for.
+/// Returns a subcommand that takes octets and their expected kind.
 fn input_command<'a>(alloc: Global, name: &'a str, page: &Page<'a>) -> Built<'a>
     ensures form { HasForm (input_app name.now) result }
     ensures local { IsLocal result }
@@ -88,7 +88,7 @@ fn input_command<'a>(alloc: Global, name: &'a str, page: &Page<'a>) -> Built<'a>
     asking(stdin, json_arg(alloc))
 }
 
-/// The same without the octets: a kind, an information size and a first number.
+/// Returns that subcommand without the octets: it has a kind, an information size and a first number.
 fn expected_command<'a>(alloc: Global, name: &'a str, page: &Page<'a>) -> Built<'a>
     ensures form { HasForm (expected_app name.now) result }
     ensures local { IsLocal result }
@@ -98,7 +98,7 @@ fn expected_command<'a>(alloc: Global, name: &'a str, page: &Page<'a>) -> Built<
     asking(ifs, number_arg(alloc))
 }
 
-/// The program or a subcommand with what all of them have: the option that asks for an explanation.
+/// Returns the program or a subcommand with what all of them have: the option that asks for an explanation.
 fn begun_command<'a>(alloc: Global, name: &'a str, page: &Page<'a>) -> Built<'a>
     ensures form { HasForm (begun_app name.now) result }
     ensures local { IsLocal result }
@@ -106,7 +106,7 @@ fn begun_command<'a>(alloc: Global, name: &'a str, page: &Page<'a>) -> Built<'a>
     with_page(Command::new(alloc, name), page).arg(explain_arg(alloc))
 }
 
-/// The subcommand that builds what a word says.
+/// Returns the subcommand that builds what a word says.
 fn build_command<'a>(alloc: Global) -> Built<'a>
     ensures form { HasForm build_app result }
     ensures local { IsLocal result }
@@ -117,7 +117,7 @@ fn build_command<'a>(alloc: Global) -> Built<'a>
     asking(stdin, json_arg(alloc))
 }
 
-/// The subcommand that replays recorded exchanges.
+/// Returns the subcommand that replays recorded exchanges.
 fn replay_command<'a>(alloc: Global) -> Built<'a>
     ensures form { HasForm replay_app result }
     ensures local { IsLocal result }
@@ -126,7 +126,7 @@ fn replay_command<'a>(alloc: Global) -> Built<'a>
     asking(end, json_arg(alloc))
 }
 
-/// The subcommand that takes recorded exchanges into the newest version.
+/// Returns the subcommand that converts recorded exchanges to the newest version.
 fn migrate_command<'a>(alloc: Global) -> Built<'a>
     ensures form { HasForm migrate_app result }
     ensures local { IsLocal result }
@@ -134,7 +134,7 @@ fn migrate_command<'a>(alloc: Global) -> Built<'a>
     asking(begun_command(alloc, "migrate", &MIGRATE), json_arg(alloc))
 }
 
-/// The subcommand that lists the commands and answers of recorded exchanges.
+/// Returns the subcommand that lists the commands and answers of recorded exchanges.
 fn apdus_command<'a>(alloc: Global) -> Built<'a>
     ensures form { HasForm apdus_app result }
     ensures local { IsLocal result }
@@ -142,7 +142,7 @@ fn apdus_command<'a>(alloc: Global) -> Built<'a>
     asking(begun_command(alloc, "apdus", &APDUS), json_arg(alloc))
 }
 
-/// The subcommand that draws recorded exchanges.
+/// Returns the subcommand that draws recorded exchanges.
 fn draw_command<'a>(alloc: Global) -> Built<'a>
     ensures form { HasForm draw_app result }
     ensures local { IsLocal result }
@@ -151,7 +151,7 @@ fn draw_command<'a>(alloc: Global) -> Built<'a>
     asking(svg, json_arg(alloc))
 }
 
-/// The subcommand that makes recorded exchanges of blocks.
+/// Returns the subcommand that makes recorded exchanges from blocks.
 fn record_command<'a>(alloc: Global) -> Built<'a>
     ensures form { HasForm record_app result }
     ensures local { IsLocal result }
@@ -160,7 +160,7 @@ fn record_command<'a>(alloc: Global) -> Built<'a>
     asking(atr, json_arg(alloc))
 }
 
-/// The subcommand that judges the blocks of a trace.
+/// Returns the subcommand that judges the blocks of a trace.
 fn judge_command<'a>(alloc: Global) -> Built<'a>
     ensures form { HasForm judge_app result }
     ensures local { IsLocal result }
@@ -171,7 +171,7 @@ fn judge_command<'a>(alloc: Global) -> Built<'a>
     asking(rules, json_arg(alloc))
 }
 
-/// The same with the answer to reset and the end alone.
+/// Returns that subcommand with only the answer to reset and the end.
 fn judged_command<'a>(alloc: Global) -> Built<'a>
     ensures form { HasForm judged_app result }
     ensures local { IsLocal result }
@@ -180,7 +180,7 @@ fn judged_command<'a>(alloc: Global) -> Built<'a>
     asking(atr, judged_arg(alloc))
 }
 
-/// The subcommand that records a session of both ends.
+/// Returns the subcommand that records a session of both ends.
 fn simulate_command<'a>(alloc: Global) -> Built<'a>
     ensures form { HasForm simulate_app result }
     ensures local { IsLocal result }
@@ -207,7 +207,7 @@ fn simulate_command<'a>(alloc: Global) -> Built<'a>
     )
 }
 
-/// The same without the options that name blocks.
+/// Returns that subcommand without the options that name blocks.
 fn session_command<'a>(alloc: Global) -> Built<'a>
     ensures form { HasForm session_app result }
     ensures local { IsLocal result }

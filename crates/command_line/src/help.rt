@@ -1,6 +1,7 @@
-//! The words of help: of each command what it does, its forms, and what a person has to know to use it.
+//! The texts of help: what each command does, its forms, and what a person needs to know to use it.
 //!
-//! No clause names these words, so another wording breaks no proof. The names of values are those of docs/PROGRAM.md.
+//! No clause of a contract has these texts, so another wording breaks no proof. The names of values are those of
+//! docs/PROGRAM.md.
 
 ghost use Rattle.std.specs.Prelude.{◌≡◌};
 ghost use Rattle.clap.specs.Words.{app_of};
@@ -8,9 +9,9 @@ ghost use Rattle.clap.specs.declared.builder.command.Command.TheViews.{out-Comma
 
 use clap::Command;
 
-/// What help says of a command beside its lists of arguments.
+/// The texts of a command's help beside its lists of arguments.
 pub(crate) struct Page<'a> {
-    /// What it does, in a line.
+    /// What it does, in one line.
     about: &'a str,
     /// A line for each form of its words.
     usage: &'a str,
@@ -18,7 +19,7 @@ pub(crate) struct Page<'a> {
     after: &'a str,
 }
 
-/// A command with a page of help.
+/// Adds a page of help to a command.
 pub(crate) fn with_page<'a>(command: Command<'a>, page: &Page<'a>) -> Command<'a>
     ensures app { app_of result ≡ app_of command.entry }
     ensures local { (out-Command result).has_globals ≡ (out-Command command.entry).has_globals }
@@ -29,7 +30,7 @@ pub(crate) fn with_page<'a>(command: Command<'a>, page: &Page<'a>) -> Command<'a
     )
 }
 
-/// A command with a line of what it does.
+/// Adds to a command the line that says what it does.
 fn with_about<'a>(command: Command<'a>, about: &'a str) -> Command<'a>
     ensures app { app_of result ≡ app_of command.entry }
     ensures local { (out-Command result).has_globals ≡ (out-Command command.entry).has_globals }
@@ -37,7 +38,7 @@ fn with_about<'a>(command: Command<'a>, about: &'a str) -> Command<'a>
     command.about(about)
 }
 
-/// A command with this usage.
+/// Adds this usage to a command.
 fn with_usage<'a>(command: Command<'a>, usage: &'a str) -> Command<'a>
     ensures app { app_of result ≡ app_of command.entry }
     ensures local { (out-Command result).has_globals ≡ (out-Command command.entry).has_globals }
@@ -45,7 +46,7 @@ fn with_usage<'a>(command: Command<'a>, usage: &'a str) -> Command<'a>
     command.override_usage(usage)
 }
 
-/// A command with this text after its lists.
+/// Adds this text to a command, after its lists.
 fn with_after<'a>(command: Command<'a>, after: &'a str) -> Command<'a>
     ensures app { app_of result ≡ app_of command.entry }
     ensures local { (out-Command result).has_globals ≡ (out-Command command.entry).has_globals }

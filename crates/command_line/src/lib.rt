@@ -1,7 +1,7 @@
-//! The form of the words that the program takes, what help says of it, and the words that are looked for without it.
+//! The form of the words that the program takes, their help, and the options that are found without the parser.
 //!
-//! `matches_of` parses words by `clap`. Their form is `scard` in `specs/Form.antt`; which words are refused, and what the
-//! others have where, follows from it by `clap`'s own definitions.
+//! `matches_of` parses words with `clap`. Their form is `scard` in `specs/Form.antt`. The definitions of `clap` say
+//! which words that form refuses, and what it returns for the others.
 #![tactic(auto)]
 
 mod arguments;

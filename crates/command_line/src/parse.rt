@@ -1,4 +1,4 @@
-//! Words, parsed by their form.
+//! Parses words by their form.
 
 ghost use Rattle.std.specs.Prelude.{◌≡◌, [], IfOk, IfErr};
 ghost use Rattle.clap.specs.Kinds.{HasKind};
@@ -9,7 +9,7 @@ use crate::forms::program;
 use clap::{ArgMatches, Error};
 use std::alloc::Global;
 
-/// What `clap` reads of the words, of which the first is the program's name.
+/// Parses the words with `clap`. The first word is the program's name.
 pub fn matches_of<'a>(alloc: Global, words: &'a [String]) -> Result<ArgMatches<'a>, Error>
     ensures taken { IfOk result (λ m. fault_of scard (texts words.now) ≡ []) }
     ensures entered { IfOk result (λ m.

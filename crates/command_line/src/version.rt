@@ -4,10 +4,10 @@ ghost use Rattle.std.specs.Prelude.{◌≡◌, string_bytes};
 ghost use Rattle.command_line.specs.Version.{asks_for_version, is_json, is_version};
 ghost use Rattle.command_line.specs.Form.{texts};
 
-/// The line that the program prints for `--version`, with the version that `include/scard.h` has.
+/// The line that the program prints for `--version`. It has the same version as `include/scard.h`.
 pub const VERSION_LINE: &str = "scard 1.5.0\n";
 
-/// Whether the words after the program's name are `--version` or `-V` alone, or one of these and `--json`.
+/// Whether the words after the program's name are `--version` or `-V`, alone or with `--json`.
 pub fn asks_for_version(words: &[String]) -> bool
     ensures { result ≡ asks_for_version (texts words.now) }
 {

@@ -2,8 +2,8 @@
 
 use std::alloc::{AllocError, Global};
 
-/// The octets that a field stands for, or none where it isn't of the format: `-` alone is no octets, and a backslash
-/// begins `\n`, `\t`, `\s` (a space), `\e` (no octet) or `\xHH`.
+/// Returns the octets that a field stands for, or `None` if the field isn't in the format. `-` alone means no
+/// octets. A backslash begins `\n`, `\t`, `\s` (a space), `\e` (no octet) or `\xHH`.
 pub(crate) fn octets(alloc: Global, field: &str) -> Result<Option<Vec<u8>>, AllocError> {
     let mut octets = Vec::new(alloc);
     if field == "-" {
@@ -25,7 +25,7 @@ pub(crate) fn octets(alloc: Global, field: &str) -> Result<Option<Vec<u8>>, Allo
     Ok(Some(octets))
 }
 
-/// The octet that comes of what is after a backslash, if any, and the rest of it.
+/// Parses what follows a backslash. Returns the octet for it, if it stands for one, and the rest.
 fn escaped(piece: &[u8]) -> Option<(Option<u8>, &[u8])> {
     match piece {
         [b'n', rest @ ..] => Some((Some(b'\n'), rest)),
@@ -40,7 +40,7 @@ fn escaped(piece: &[u8]) -> Option<(Option<u8>, &[u8])> {
     }
 }
 
-/// The value of a hexadecimal digit in upper case.
+/// Returns the value of a hexadecimal digit in upper case.
 fn digit(octet: u8) -> Option<u8> {
     match octet {
         b'0'..=b'9' => Some(octet - b'0'),

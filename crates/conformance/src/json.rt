@@ -1,14 +1,14 @@
-//! Lines, back from the object that stands for them in JSON.
+//! Conversion of an object in JSON back to the lines that it stands for.
 //!
 //! A form here is a line with the names of members in braces. After a `|` comes the word for a member that is null or
-//! isn't there, and a blank before a name is there where the member is.
+//! absent. A blank before a name is written only if the member is present.
 
 use crate::told::add_judgment;
 use serde_json::Value;
 use std::alloc::{AllocError, Global};
 
-/// The members of an answer in the order of their lines, each with the form of its line, and with that of its items
-/// where it is an array.
+/// The members of an answer in the order of their lines, each with the form of its line, and with the form of its
+/// items if it is an array.
 const LINES: [(&str, &str, &str); 23] = [
     ("convention", "convention {convention}", ""),
     ("interface", "", "{name} {value}"),
@@ -44,7 +44,7 @@ const LINES: [(&str, &str, &str); 23] = [
     ("other", "", ""),
 ];
 
-/// The forms of a line that has an object of its own, each with a member that this has.
+/// The forms of lines that have an object of their own, each with a member that such an object has.
 const INNER: [(&str, &str); 6] = [
     ("ifsc", "t1 ifsc {ifsc} bwi {bwi} cwi {cwi}"),
     ("reason", "t1 {reason}"),
@@ -54,7 +54,7 @@ const INNER: [(&str, &str); 6] = [
     ("response", "pcb {kind} response {response}"),
 ];
 
-/// A member of each value that is shown.
+/// A member of each kind of value that is shown.
 const VALUES: [&str; 7] = [
     "convention",
     "nad",
@@ -65,7 +65,7 @@ const VALUES: [&str; 7] = [
     "entries",
 ];
 
-/// The lines for which a text in JSON stands, or none where it is no JSON.
+/// Returns the lines that a text in JSON stands for, or `None` if it isn't JSON.
 pub(crate) fn lines_of(alloc: Global, json: &str) -> Result<Option<String>, AllocError> {
     let Ok(answer) = Value::from_str(alloc, json) else {
         return Ok(None);
@@ -90,7 +90,7 @@ pub(crate) fn lines_of(alloc: Global, json: &str) -> Result<Option<String>, Allo
     Ok(Some(with_notes(alloc, text, &answer)?))
 }
 
-/// Lines with the notes that an object has on them, in their order.
+/// Returns the lines with the notes that an object has on them, in their order.
 fn with_notes(alloc: Global, lines: String, answer: &Value) -> Result<String, AllocError> {
     let Some(Value::Array(notes)) = answer.get("notes") else {
         return Ok(lines);
@@ -114,7 +114,7 @@ fn with_notes(alloc: Global, lines: String, answer: &Value) -> Result<String, Al
     Ok(text)
 }
 
-/// The note, where it is on this line.
+/// Returns the note if it is on this line.
 fn note_on<'a>(note: Option<&'a Value>, line: &str) -> Option<&'a str> {
     let note = note?;
     let on = note.get("line").and_then(Value::as_str)?;
@@ -125,7 +125,7 @@ fn note_on<'a>(note: Option<&'a Value>, line: &str) -> Option<&'a str> {
     }
 }
 
-/// Whether an object says a value, whose lines have no verdict.
+/// Whether an object is a value that is shown. Its lines have no verdict.
 fn is_value(object: &Value) -> bool {
     VALUES.iter().any(|&name| object.get(name).is_some())
 }
@@ -135,7 +135,7 @@ fn has_number(object: &Value, name: &str) -> bool {
     matches!(object.get(name), Some(Value::Number(_)))
 }
 
-/// The form of the line that has the verdict, or none for a value that is shown.
+/// Returns the form of the line with the verdict, or an empty one for a value that is shown.
 fn verdict_form(object: &Value) -> &'static str {
     let is_there = |name| object.get(name).is_some();
     match object.get("verdict").and_then(Value::as_str) {
@@ -153,7 +153,7 @@ fn verdict_form(object: &Value) -> &'static str {
     }
 }
 
-/// Adds the lines for which a member of an answer stands.
+/// Appends the lines that a member of an answer stands for.
 fn add_member(
     alloc: Global,
     text: &mut String,
@@ -175,7 +175,7 @@ fn add_member(
     }
 }
 
-/// Adds the line for which an object in an answer stands.
+/// Appends the line that an object in an answer stands for.
 fn add_inner(alloc: Global, text: &mut String, object: &Value) -> Result<(), AllocError> {
     for &(name, form) in &INNER {
         if object.get(name).is_some() {
@@ -185,7 +185,8 @@ fn add_inner(alloc: Global, text: &mut String, object: &Value) -> Result<(), All
     Ok(())
 }
 
-/// Adds the line for which an item stands: a line itself, or an object. Each depth above 1 has two blanks.
+/// Appends the line that an item stands for: the item is the line, or an object. Two blanks are written for each
+/// depth above 1.
 fn add_item(alloc: Global, text: &mut String, item: &Value, form: &str) -> Result<(), AllocError> {
     if let Value::String(line) = item {
         text.push_str(line.as_str())?;
@@ -199,7 +200,7 @@ fn add_item(alloc: Global, text: &mut String, item: &Value, form: &str) -> Resul
     add_line(alloc, text, item, form)
 }
 
-/// Adds a line of a form that isn't empty, with the members of an object.
+/// Appends a line of a form, unless that is empty, with the members of an object.
 pub(crate) fn add_line(
     alloc: Global,
     text: &mut String,
@@ -219,7 +220,7 @@ pub(crate) fn add_line(
     text.push('\n')
 }
 
-/// Adds what a member of an object has at a place.
+/// Appends the member of an object that a place of a form names.
 fn add_place(
     alloc: Global,
     text: &mut String,
@@ -237,7 +238,7 @@ fn add_place(
     }
 }
 
-/// Adds a value as a line has it.
+/// Appends a value as a line has it.
 fn add_value(
     alloc: Global,
     text: &mut String,
@@ -254,7 +255,7 @@ fn add_value(
     }
 }
 
-/// Adds numbers, with commas between them.
+/// Appends numbers, with commas between them.
 fn add_items(alloc: Global, text: &mut String, items: &[Value]) -> Result<(), AllocError> {
     let mut before = "";
     for item in items {

@@ -1,10 +1,10 @@
-//! Runs each line of the vector files, which are the folder `vectors` of the top, as words of the program scard.
+//! Runs each line of the vector files as words of the program scard. The files are in the folder `vectors` at the top.
 //!
-//! It writes a line for each file, with how many lines of it there are. The first line whose status or text is another
-//! is printed, and the program ends with status 1. docs/VECTORS.md has the format of the files.
+//! It writes a line for each file, with the number of lines in it. It prints the first line that has another status or
+//! text, and then ends with status 1. docs/VECTORS.md has the format of the files.
 //!
-//! Each line is run once more with `--json`, but for those of changes:
-//! the lines of their texts have to come back from the objects.
+//! It runs each line once more with `--json`, except lines of changes. The objects must convert back to the lines of
+//! the text.
 #![tactic(auto)]
 
 mod field;
@@ -17,7 +17,7 @@ use std::process::ExitCode;
 use std::{fs, io};
 use tried::{Fault, tried};
 
-/// The files, which lie where the program runs.
+/// The files, in the folder where the program runs.
 const NAMES: [&str; 29] = [
     "atr",
     "atr.changes",
@@ -64,7 +64,7 @@ fn main(rt: HostRuntime) -> io::Result<ExitCode> {
     Ok(ExitCode::SUCCESS)
 }
 
-/// Prints why a file's lines were not gone through to their end.
+/// Prints why the lines of a file weren't all run.
 fn tell(rt: &HostRuntime, name: &str, fault: &Fault) -> io::Result<()> {
     match fault {
         Fault::Form { line } => println!(rt; "{name}: line {line} isn't of the format"),

@@ -1,10 +1,10 @@
-//! The lines of a file.
+//! Parsing of the lines of a file.
 
 use crate::field::octets;
 use std::alloc::{AllocError, Global};
 use std::str;
 
-/// What a line says: the words after the program's name, standard input, and the status and the text that come.
+/// What a line says: the words after the program's name, standard input, and the expected status and text.
 #[derive(Drop)]
 pub(crate) struct Row {
     pub(crate) words: Vec<String>,
@@ -13,7 +13,7 @@ pub(crate) struct Row {
     pub(crate) text: Vec<u8>,
 }
 
-/// The row of a line, or none where the line isn't of the format: four fields, parted by tabs.
+/// Parses a line. The result is `None` if the line isn't in the format: four fields, separated by tabs.
 pub(crate) fn row_of(alloc: Global, line: &str) -> Result<Option<Row>, AllocError> {
     let fields: Vec<&str> = line.split('\t').collect(alloc)?;
     let [line, input, status, text] = fields.as_slice() else {
@@ -35,7 +35,7 @@ pub(crate) fn row_of(alloc: Global, line: &str) -> Result<Option<Row>, AllocErro
     }))
 }
 
-/// The number of a status.
+/// Parses the number of a status.
 fn number(field: &str) -> Option<u8> {
     match field {
         "0" => Some(0),
@@ -45,7 +45,7 @@ fn number(field: &str) -> Option<u8> {
     }
 }
 
-/// The words of a command line, after the program's name.
+/// Parses the words of a command line, after the program's name.
 fn words(alloc: Global, field: &str) -> Result<Option<Vec<String>>, AllocError> {
     let mut words = Vec::new(alloc);
     words.push(String::from_str(alloc, "scard")?)?;

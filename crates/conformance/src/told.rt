@@ -1,10 +1,10 @@
-//! The lines of a judged trace, back from the object that stands for them in JSON.
+//! Conversion of the object for a judged trace in JSON back to its lines.
 
 use crate::json::add_line;
 use serde_json::Value;
 use std::alloc::{AllocError, Global};
 
-/// Adds the lines of a judgment that has told this.
+/// Appends the lines of a judgment with these findings.
 pub(crate) fn add_judgment(
     alloc: Global,
     text: &mut String,
@@ -34,7 +34,7 @@ pub(crate) fn add_judgment(
     }
 }
 
-/// The form of the line of what was told.
+/// Returns the form of the line for a finding.
 fn told_form(one: &Value) -> &'static str {
     let has_block = one.get("block").is_some();
     if is(one, "kind", "rule") || is(one, "kind", "state") {
@@ -56,7 +56,7 @@ fn told_form(one: &Value) -> &'static str {
     }
 }
 
-/// The form of the line of a rule, or of a state.
+/// Returns the form of the line for a rule or a state.
 fn counts_form(one: &Value) -> &'static str {
     match (is(one, "kind", "rule"), one.get("never").is_some()) {
         (true, true) => "rule {rule}: never",
@@ -73,7 +73,7 @@ fn is(object: &Value, name: &str, word: &str) -> bool {
     object.get(name).and_then(Value::as_str) == Some(word)
 }
 
-/// Adds a number of things with this name.
+/// Appends a number of things with this name.
 fn add_counted(
     alloc: Global,
     text: &mut String,

@@ -1,4 +1,4 @@
-//! Rows, run through the program.
+//! Runs of rows through the program.
 
 ghost use Rattle.std.specs.Prelude.{◌≤◌};
 
@@ -9,12 +9,12 @@ use octet_core::{After, Counted, Feeder, hex_upper};
 use std::alloc::{AllocError, AllocFailed, Global};
 use std::str;
 
-/// Why the lines of a file weren't gone through to their end.
+/// Why the lines of a file weren't all run.
 #[derive(Drop)]
 pub(crate) enum Fault {
-    /// The line isn't of the format.
+    /// The line isn't in the format.
     Form { line: u64 },
-    /// The program gives this status and this text, and not those of the line.
+    /// The program returns this status and this text instead of those of the line.
     Differs { line: u64, status: u8, text: String },
     /// Out of memory.
     Memory,
@@ -32,8 +32,8 @@ impl<T: Drop> From<AllocFailed<T>> for Fault {
     }
 }
 
-/// Runs each line of a file that is neither empty nor a remark, and once more for JSON where that is asked for: how many
-/// they are.
+/// Runs each line of a file that isn't empty or a remark, and runs it once more with `--json` if `in_json` is true.
+/// Returns how many lines these are.
 pub(crate) fn tried(alloc: Global, file: &str, in_json: bool) -> Result<u64, Fault> {
     let mut line = 0u64;
     let mut rows = 0u64;
@@ -50,10 +50,10 @@ pub(crate) fn tried(alloc: Global, file: &str, in_json: bool) -> Result<u64, Fau
     Ok(rows)
 }
 
-/// How many octets of standard input come by a call at most.
+/// How many octets of standard input a call may read at most.
 const STEPS: [usize; 3] = [1, 3, 4096];
 
-/// Runs one line, and once for each step where it has standard input.
+/// Runs one line. If it has standard input, the line is run once for each step.
 fn try_line(alloc: Global, line: u64, text: &str) -> Result<(), Fault> {
     for &step in &STEPS {
         let Some(row) = row_of(alloc, text)? else {
@@ -68,7 +68,7 @@ fn try_line(alloc: Global, line: u64, text: &str) -> Result<(), Fault> {
     Ok(())
 }
 
-/// Runs a row whose standard input comes by such steps.
+/// Runs a row whose standard input is read in steps of `step` octets.
 fn try_row(alloc: Global, line: u64, row: Row, step: usize) -> Result<(), Fault>
     requires { 1 ≤ step }
 {
@@ -97,8 +97,8 @@ const IN_JSON: [&str; 10] = [
     "check", "show", "build", "replay", "migrate", "apdus", "draw", "record", "judge", "simulate",
 ];
 
-/// Runs a line with `--json`, where its subcommand takes that and its lines have nothing beside what they say: these
-/// have to come back from the objects.
+/// Runs a line with `--json`, if its subcommand takes that and its text has no notes. The objects must convert back to
+/// the lines of the text.
 fn try_json(alloc: Global, line: u64, text: &str) -> Result<(), Fault> {
     let Some(row) = row_of(alloc, text)? else {
         return Err(Fault::Form { line });
@@ -122,7 +122,7 @@ fn try_json(alloc: Global, line: u64, text: &str) -> Result<(), Fault> {
     })
 }
 
-/// Whether these words may go on with `--json`.
+/// Whether `--json` can be added to these words.
 fn may_have_json(words: &[String]) -> bool {
     let has = |option: &str| words.iter().any(|word| word.as_str() == option);
     let Some(name) = words.get(1) else {
@@ -131,7 +131,7 @@ fn may_have_json(words: &[String]) -> bool {
     IN_JSON.contains(&name.as_str()) && !has("--explain") && !has("--json") && !has("--")
 }
 
-/// Whether the objects stand for the lines of a text, in which an empty line may come after each value.
+/// Whether the objects convert back to the lines of a text. In the text an empty line may follow each value.
 fn are_lines_back(alloc: Global, objects: &[u8], text: &[u8]) -> Result<bool, AllocError> {
     let Ok(objects) = str::from_utf8(objects) else {
         return Ok(false);
@@ -150,7 +150,7 @@ fn are_lines_back(alloc: Global, objects: &[u8], text: &[u8]) -> Result<bool, Al
     Ok(back.as_bytes() == text)
 }
 
-/// The number of a status, as the program ends with it.
+/// Returns the number of a status, as the program ends with it.
 fn number(status: Status) -> u8 {
     match status {
         Status::Accepted => 0,
@@ -159,7 +159,7 @@ fn number(status: Status) -> u8 {
     }
 }
 
-/// A text as it is, or in hexadecimal where it is no UTF-8.
+/// Returns a text as it is, or in hexadecimal if it isn't UTF-8.
 fn readable(alloc: Global, text: &[u8]) -> Result<String, AllocError> {
     match str::from_utf8(text) {
         Ok(text) => String::from_str(alloc, text),

@@ -1,4 +1,4 @@
--- The drawing as lines of text, a line a row, of at most 100 columns.
+-- The drawing as lines of text, one for each row, with at most 100 columns.
 use Rattle.std.specs.Prelude.{ℕ, ◌-◌, List, [], ◌∷◌, ◌++◌, codes, decimal, length}
 use Rattle.std.specs.List.{repeat}
 use Rattle.exchange_text.specs.Exchange.{ExchangeParts}
@@ -12,7 +12,8 @@ use Rattle.drawings.specs.declared.row.Row.TheVariants.{Said, Between, Block}
 use Rattle.block_core.specs.declared.side.Side.{Side}
 use Rattle.block_core.specs.declared.side.Side.TheVariants.{Terminal, Card}
 
--- the columns of a number and the blank after it, those from the terminal to the card, those before a text in the middle
+-- the columns of a number and the blank after it; those from the terminal to the card; those before a text in the
+-- middle
 abbrev pub margin : ℕ
 margin = 7
 
@@ -22,7 +23,7 @@ width = 93
 abbrev pub middle : ℕ
 middle = 27
 
--- the characters of an arrow beside its label and its dashes
+-- the characters of an arrow without its label and its dashes
 abbrev pub around : ℕ
 around = 8
 
@@ -37,21 +38,21 @@ blanks count = repeat count (codes " ")
 abbrev pub after : ℕ → List ℕ → List ℕ
 after count label = blanks count ++ label
 
--- what is said at a side, at its edge
+-- a label at the edge of a side
 abbrev pub said_text : Side → List ℕ → List ℕ
 said_text Terminal label = blanks margin ++ label
 said_text Card label = blanks margin ++ after (width - length label) label
 
--- the number of a block, at the end of its columns, and a blank
+-- the number of a block, right-aligned in its columns, and a blank
 abbrev pub number_text : ℕ → List ℕ
 number_text number = blanks (margin - 1 - length (decimal number)) ++ (decimal number ++ codes " ")
 
--- a text so many times, and others before and after
+-- a text so many times, with one text before and one after
 abbrev pub trail : List ℕ → List ℕ → ℕ → List ℕ → List ℕ
 trail before fill count after = before ++ (repeat count fill ++ after)
 
--- what is between a label of so many characters and the card: an arrow to it, or one that ends before; dots where nobody
--- saw the block
+-- what is between a label of so many characters and the card: an arrow to the card, or one that ends before it; it has
+-- dots if nobody saw the block
 abbrev pub to_card : Course → ℕ → List ℕ
 to_card Arrives len = trail (codes " ") (codes "-") (width - around - len) (codes "->|")
 to_card Lost len = trail (codes " -x") (codes " ") (width - around - len) (codes "|")
@@ -63,7 +64,7 @@ to_terminal Arrives len = trail (codes "|<-") (codes "-") (width - around - len)
 to_terminal Lost len = trail (codes "|") (codes " ") (width - around - len) (codes "x- ")
 to_terminal Added len = trail (codes "|") (codes " ") (width - around - len) (codes "x. ")
 
--- where an arrow begins
+-- the beginning of an arrow
 abbrev pub shaft : Course → List ℕ
 shaft Arrives = codes "--"
 shaft Lost = codes "--"
@@ -85,12 +86,12 @@ abbrev pub rows_text : List Row → List ℕ
 rows_text [] = []
 rows_text (row ∷ rows) = row_text row ++ (codes "\n" ++ rows_text rows)
 
--- the version of a file, in words
+-- the version of a file, as words
 abbrev pub version_words : Version → List ℕ
 version_words One = codes "version 1"
 version_words Two = codes "version 2"
 
--- both sides and what is between them, with so many blanks around it
+-- both sides and the text between them, with so many blanks around it
 abbrev pub sides_text : List ℕ → ℕ → List ℕ
 sides_text between count = codes "terminal" ++ (blanks count ++ (between ++ (blanks count ++ codes "card\n")))
 

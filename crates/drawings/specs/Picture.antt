@@ -11,14 +11,14 @@ use Rattle.drawings.specs.declared.row.Row.TheVariants.{Said, Between, Block}
 use Rattle.block_core.specs.declared.side.Side.{Side}
 use Rattle.block_core.specs.declared.side.Side.TheVariants.{Terminal, Card}
 
--- how high a row is, in units of the picture, and where the first row begins
+-- the height of a row, in units of the picture, and where the first row begins
 abbrev pub row_height : ℕ
 row_height = 24
 
 abbrev pub first_row : ℕ
 first_row = 36
 
--- a character as SVG wants it
+-- a character as SVG needs it
 abbrev pub escape : ℕ → List ℕ
 escape c =
     if c == 38 then codes "&amp;"
@@ -30,11 +30,11 @@ abbrev pub escaped : List ℕ → List ℕ
 escaped [] = []
 escaped (c ∷ text) = escape c ++ escaped text
 
--- a number in decimal digits, with what is around it
+-- a number in decimal digits, with a text before it and one after
 abbrev pub enclosed : List ℕ → ℕ → List ℕ → List ℕ
 enclosed before number after = before ++ (decimal number ++ after)
 
--- a label as text, after what says where it is
+-- a label as text, after its position
 abbrev pub label_text : List ℕ → List ℕ → List ℕ
 label_text before label = before ++ (escaped label ++ codes "</text>")
 
@@ -55,29 +55,29 @@ arrow Card Added = codes "<path class=\"lost\" stroke-dasharray=\"2 4\" d=\"M780
 unfoldable pub number_text : ℕ → List ℕ
 number_text number = enclosed (codes "<text class=\"number\" x=\"68\" y=\"16\">") number (codes "</text>")
 
--- what a row has
+-- the content of a row
 abbrev pub parts_text : Row → List ℕ
 parts_text (Said side label) = label_text (at_side side) label
 parts_text (Between label) = label_text (codes "<text class=\"middle\" x=\"430\" y=\"14\">") label
 parts_text (Block number from course label) =
     number_text number ++ (arrow from course ++ label_text (at_side from) label)
 
--- a row that begins here
+-- a row that begins at this height
 abbrev pub row_text : ℕ → Row → List ℕ
 row_text top row =
     enclosed (codes "<g transform=\"translate(0 ") top (codes ")\">") ++ (parts_text row ++ codes "</g>\n")
 
--- each row, below the one before
+-- each row, below the row before
 abbrev pub rows_text : ℕ → List Row → List ℕ
 rows_text top [] = []
 rows_text top (row ∷ rows) = row_text top row ++ rows_text (top + row_height) rows
 
--- the lines of both sides, of this length
+-- the vertical lines of both sides, of this length
 unfoldable pub lines_text : ℕ → List ℕ
 lines_text len =
     enclosed (codes "</text>\n<path d=\"M80 26v") len [] ++ enclosed (codes "M780 26v") len (codes "\"/>\n")
 
--- how the picture looks, dark where the browser is, and both sides
+-- the style of the picture, dark if the browser is, and both sides
 unfoldable pub style_text : List ℕ
 style_text = codes "\">\n"
     ++ (codes "<title>A recorded exchange between terminal and card</title>\n"
@@ -98,7 +98,7 @@ style_text = codes "\">\n"
 unfoldable pub before_height : List ℕ
 before_height = codes "<svg xmlns=\"http://www.w3.org/2000/svg\" role=\"img\" width=\"860\" height=\""
 
--- the begin of the picture, by the height of its rows
+-- the beginning of the picture, with the height of its rows
 unfoldable pub open_text : ℕ → List ℕ
 open_text height = enclosed before_height (height + first_row) style_text
 
@@ -106,7 +106,7 @@ open_text height = enclosed before_height (height + first_row) style_text
 abbrev pub head_text : Version → ℕ → List ℕ
 head_text version height = open_text height ++ (version_words version ++ lines_text height)
 
--- the picture of rows of this height
+-- the picture of rows, with this height
 abbrev pub rows_picture : Version → ℕ → List Row → List ℕ
 rows_picture version height rows = head_text version height ++ (rows_text first_row rows ++ codes "</svg>\n")
 

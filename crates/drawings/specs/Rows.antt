@@ -1,4 +1,4 @@
--- The rows of a drawing: what each line of a recorded exchange brings, one after another.
+-- The rows of a drawing: what each line of a recorded exchange adds, in order.
 use Rattle.std.specs.Prelude.{ℕ, ◌+◌, ◌-◌, ◌==◌, nat_le, nat_lt, List, [], ◌∷◌, ◌++◌, Bool, true, false, codes, decimal, length, slice_index, take, Option, Some, None, if◌then◌else◌}
 use Rattle.exchange_text.specs.Exchange.{ExchangeParts, is_added}
 use Rattle.exchange_text.specs.Names.{name_text}
@@ -21,7 +21,7 @@ use Rattle.block_core.specs.declared.side.Side.TheVariants.{Terminal, Card}
 
 -- ---- labels
 
--- the most octets of a row of a side, and of a block; of more, so many fewer are shown
+-- the most octets in a row of a side, and in a row of a block; if there are more, so many fewer are shown
 abbrev pub wide : ℕ
 wide = 40
 
@@ -31,18 +31,18 @@ narrow = 15
 abbrev pub fewer : ℕ
 fewer = 8
 
--- the most characters of a remark; of more, so many fewer are shown
+-- the most characters of a remark; if there are more, so many fewer are shown
 abbrev pub longest_note : ℕ
 longest_note = 68
 
 abbrev pub fewer_of_note : ℕ
 fewer_of_note = 18
 
--- that not all is shown, and how many there are of what
+-- that not everything is shown, and the whole count
 abbrev pub rest_text : ℕ → List ℕ → List ℕ
 rest_text count what = codes ".. " ++ (decimal count ++ what)
 
--- octets, or where they are more than so many the first of them and how many there are
+-- octets; if there are more than so many, the first of them and the whole count
 abbrev pub shown_octets : ℕ → List ℕ → List ℕ
 shown_octets most octets =
     if nat_le (length octets) most then octets_text octets
@@ -55,7 +55,7 @@ message_label word octets = word ++ (codes " " ++ shown_octets wide octets)
 abbrev pub moment_label : ℕ → List ℕ
 moment_label moment = codes "at " ++ decimal moment
 
--- characters, or where they are more than so many the first of them and how many there are
+-- characters; if there are more than so many, the first of them and the whole count
 abbrev pub cut_text : ℕ → List ℕ → List ℕ
 cut_text most text =
     if nat_le (length text) most then text
@@ -68,23 +68,23 @@ abbrev pub number_text : Option ℕ → List ℕ
 number_text None = []
 number_text (Some number) = decimal number
 
--- a note in words: octets of which there is none are no block
+-- a note as words; octets without a note aren't a block
 abbrev pub note_words : NoteText → List ℕ
 note_words note =
     if length note.before == 0 then codes "no block"
     else note.before ++ (number_text note.number ++ note.after)
 
--- the first octet of a field of so many octets, 0 where it has none
+-- the first octet of a field of so many octets, or 0 if it has none
 abbrev pub field_first : ℕ → ℕ → ℕ
 field_first len first = if len == 0 then 0 else first
 
--- what a block says, by its PCB and the first octet of its field
+-- what a block says, from its PCB and the first octet of its field
 abbrev pub block_words : List ℕ → List ℕ
 block_words sent =
     if nat_lt (length sent) 4 then codes "no block"
     else note_words (pcb_says (slice_index sent 1) (field_first (slice_index sent 2) (slice_index sent 3)))
 
--- what became of a block, where it didn't arrive as it was sent
+-- how a block arrived, unless it arrived as it was sent
 abbrev pub fate : Arrival → List ℕ
 fate Whole = []
 fate Lost = codes "  lost"
@@ -101,14 +101,14 @@ word_rows side name = Said side (name_text name) ∷ []
 abbrev pub message_rows : Side → List ℕ → List ℕ → List Row
 message_rows side word octets = Said side (message_label word octets) ∷ []
 
--- what became of a block, and whether a line `note added` comes before it
+-- the course of a block, from how it arrived and whether a line `note added` comes before it
 abbrev pub course_of : Bool → Arrival → Course
 course_of added Whole = Arrives
 course_of true Lost = Added
 course_of false Lost = course.Lost
 course_of added (Changed octets) = Arrives
 
--- what arrived in place of a block that was damaged
+-- the octets that arrived instead of a damaged block
 abbrev pub arrived_rows : Side → Arrival → List Row
 arrived_rows side Whole = []
 arrived_rows side Lost = []
@@ -118,7 +118,7 @@ abbrev pub block_rows : ℕ → Bool → Side → List ℕ → Arrival → List 
 block_rows number added from sent arrival =
     Block number from (course_of added arrival) (block_label sent arrival) ∷ arrived_rows (other from) arrival
 
--- what the terminal's application says or hears
+-- the calls and results of the terminal's application
 abbrev pub terminal_rows : Line → List Row
 terminal_rows (line.Command octets) = message_rows Terminal (codes "command") octets
 terminal_rows (line.Ifsd size) = message_rows Terminal (codes "ifsd") (size ∷ [])
@@ -129,7 +129,7 @@ terminal_rows line.GivenUp = word_rows Terminal name.GivenUp
 terminal_rows line.Dead = word_rows Terminal name.Dead
 terminal_rows _ = []
 
--- what the card's host says or hears
+-- the calls and results of the card's host
 abbrev pub card_rows : Line → List Row
 card_rows (line.Reply octets) = message_rows Card (codes "reply") octets
 card_rows (line.Time multiple) = message_rows Card (codes "time") (multiple ∷ [])
@@ -137,7 +137,7 @@ card_rows (line.Ifsc size) = message_rows Card (codes "ifsc") (size ∷ [])
 card_rows (line.Asked octets) = message_rows Card (codes "asked") octets
 card_rows _ = []
 
--- the rows of a line, with the number that it has if it is a block, and whether a line `note added` comes before it
+-- the rows of a line; number is its number if it is a block, and added says whether a line `note added` comes before it
 abbrev pub line_rows : ℕ → Bool → Line → List Row
 line_rows number added (line.FromTerminal sent arrival) = block_rows number added Terminal sent arrival
 line_rows number added (line.FromCard sent arrival) = block_rows number added Card sent arrival
@@ -149,18 +149,18 @@ line_rows number added (line.Ifsc size) = card_rows (line.Ifsc size)
 line_rows number added (line.Asked octets) = card_rows (line.Asked octets)
 line_rows number added said = terminal_rows said
 
--- how many blocks were sent after a line
+-- how many blocks are sent after a line
 abbrev pub sent_after : ℕ → Line → ℕ
 sent_after sent (line.FromTerminal octets arrival) = sent + 1
 sent_after sent (line.FromCard octets arrival) = sent + 1
 sent_after sent _ = sent
 
--- the rows of lines after so many blocks, and after a line `note added` or not
+-- the rows of lines after so many blocks; added says whether a line `note added` comes before them
 abbrev pub rows_from : ℕ → Bool → List Line → List Row
 rows_from sent added [] = []
 rows_from sent added (line ∷ lines) =
     line_rows (sent + 1) added line ++ rows_from (sent_after sent line) (is_added line) lines
 
--- those of an exchange, first the answer to reset, which the card sends
+-- the rows of an exchange, first the answer to reset, which the card sends
 abbrev pub rows_of : ExchangeParts → List Row
 rows_of e = message_rows Card (codes "atr") e.atr ++ rows_from 0 false e.lines

@@ -10,22 +10,22 @@ use notes::{Note, pcb_note};
 use octet_core::{Octets, hex_upper};
 use std::alloc::{AllocError, Global};
 
-/// How many octets a row of a side shows at most.
+/// The most octets that a row of a side shows.
 const WIDE: usize = 40;
 
-/// How many a row of a block shows at most.
+/// The most octets that a row of a block shows.
 const NARROW: usize = 15;
 
-/// How many fewer are shown where not all are, since their number comes after them.
+/// How many fewer are shown if there are more, since their number comes after them.
 const FEWER: usize = 8;
 
-/// How many characters of a remark are shown at most.
+/// The most characters of a remark that are shown.
 const LONGEST_NOTE: usize = 68;
 
-/// How many fewer of a longer one, since their number comes after them.
+/// How many fewer are shown of a longer remark, since their number comes after them.
 const FEWER_OF_NOTE: usize = 18;
 
-/// A word, and octets after it.
+/// Returns a word, and octets after it.
 pub(crate) fn message_label(alloc: Global, word: &str, octets: &[u8]) -> Result<Octets, AllocError>
     ensures { IfOk result (λ label. label ≡ rows.message_label word.now octets.now) }
 {
@@ -36,7 +36,7 @@ pub(crate) fn message_label(alloc: Global, word: &str, octets: &[u8]) -> Result<
     Ok(Octets::of(label))
 }
 
-/// A word alone.
+/// Returns a word alone.
 pub(crate) fn word_label(alloc: Global, word: &str) -> Result<Octets, AllocError>
     ensures { IfOk result (λ label. label ≡ word.now) }
 {
@@ -45,7 +45,7 @@ pub(crate) fn word_label(alloc: Global, word: &str) -> Result<Octets, AllocError
     Ok(Octets::of(label))
 }
 
-/// A moment.
+/// Returns the label of a moment.
 pub(crate) fn moment_label(alloc: Global, moment: u64) -> Result<Octets, AllocError>
     ensures { IfOk result (λ label. label ≡ rows.moment_label moment) }
 {
@@ -56,7 +56,7 @@ pub(crate) fn moment_label(alloc: Global, moment: u64) -> Result<Octets, AllocEr
     Ok(Octets::of(label))
 }
 
-/// A remark, or the first characters of it and how many it has.
+/// Returns a remark, or its first characters and how many it has.
 pub(crate) fn note_label(alloc: Global, note: &str) -> Result<Octets, AllocError>
     ensures { IfOk result (λ label. label ≡ rows.note_label note.now) }
 {
@@ -67,7 +67,7 @@ pub(crate) fn note_label(alloc: Global, note: &str) -> Result<Octets, AllocError
     Ok(Octets::of(label))
 }
 
-/// Adds characters, or where they are more than `most` the first of them and how many there are.
+/// Appends characters; if there are more than `most`, the first of them and the whole count.
 fn push_cut(alloc: Global, label: &mut Vec<u8>, text: &[u8], most: usize) -> Result<(), AllocError>
     ensures { OnOk result (label.new.items ≡ label.old.items ++ rows.cut_text most text.now) }
 {
@@ -78,7 +78,7 @@ fn push_cut(alloc: Global, label: &mut Vec<u8>, text: &[u8], most: usize) -> Res
     push_rest(alloc, label, text.len(), " characters")
 }
 
-/// What a block says, its octets, and what became of it.
+/// Returns what a block says, its octets, and how it arrived.
 pub(crate) fn block_label(
     alloc: Global,
     sent: &[u8],
@@ -94,7 +94,7 @@ pub(crate) fn block_label(
     Ok(Octets::of(label))
 }
 
-/// What became of a block, where it didn't arrive as it was sent.
+/// Returns how a block arrived, unless it arrived as it was sent.
 fn fate(arrival: &Arrival) -> &'static str
     ensures { result.now ≡ rows.fate arrival.now }
 {
@@ -105,7 +105,7 @@ fn fate(arrival: &Arrival) -> &'static str
     }
 }
 
-/// Adds what a block says by its PCB.
+/// Appends what a block says by its PCB.
 fn push_words(alloc: Global, label: &mut Vec<u8>, sent: &[u8]) -> Result<(), AllocError>
     ensures { OnOk result (label.new.items ≡ label.old.items ++ rows.block_words sent.now) }
 {
@@ -119,14 +119,14 @@ fn push_words(alloc: Global, label: &mut Vec<u8>, sent: &[u8]) -> Result<(), All
     )
 }
 
-/// The first octet of a field of so many octets, 0 where it has none.
+/// Returns the first octet of a field of so many octets, or 0 if it has none.
 fn field_first(len: u8, first: u8) -> u8
     ensures { result ≡ rows.field_first len first }
 {
     if len == 0 { 0 } else { first }
 }
 
-/// Adds a note, or that there is no block where it has no words.
+/// Appends a note, or `no block` if it has no words.
 fn push_note(alloc: Global, label: &mut Vec<u8>, note: Note) -> Result<(), AllocError>
     ensures { OnOk result (label.new.items ≡ label.old.items
         ++ rows.note_words (said note.before.now note.number note.after.now)) }
@@ -139,7 +139,7 @@ fn push_note(alloc: Global, label: &mut Vec<u8>, note: Note) -> Result<(), Alloc
     push(label, note.after)
 }
 
-/// Adds a number in decimal digits, where there is one.
+/// Appends a number in decimal digits, if there is one.
 fn push_number(alloc: Global, label: &mut Vec<u8>, number: Option<u32>) -> Result<(), AllocError>
     ensures { OnOk result (label.new.items ≡ label.old.items ++ rows.number_text number) }
 {
@@ -149,7 +149,7 @@ fn push_number(alloc: Global, label: &mut Vec<u8>, number: Option<u32>) -> Resul
     }
 }
 
-/// Adds octets, or where they are more than `most` the first of them and how many there are.
+/// Appends octets; if there are more than `most`, the first of them and the whole count.
 fn push_shown(
     alloc: Global,
     label: &mut Vec<u8>,
@@ -165,7 +165,7 @@ fn push_shown(
     push_rest(alloc, label, octets.len(), " octets")
 }
 
-/// Adds that not all is shown, and how many there are of what.
+/// Appends that not everything is shown, and the whole count.
 fn push_rest(alloc: Global, label: &mut Vec<u8>, count: usize, what: &str) -> Result<(), AllocError>
     ensures { OnOk result (label.new.items ≡ label.old.items ++ rows.rest_text count what.now) }
 {
@@ -174,7 +174,7 @@ fn push_rest(alloc: Global, label: &mut Vec<u8>, count: usize, what: &str) -> Re
     push(label, what)
 }
 
-/// Adds octets in hexadecimal, or `none` for no octets.
+/// Appends octets in hexadecimal, or `none` for no octets.
 fn push_octets(alloc: Global, label: &mut Vec<u8>, octets: &[u8]) -> Result<(), AllocError>
     ensures { OnOk result (label.new.items ≡ label.old.items ++ octets_text octets.now) }
 {
@@ -185,21 +185,21 @@ fn push_octets(alloc: Global, label: &mut Vec<u8>, octets: &[u8]) -> Result<(), 
     }
 }
 
-/// Adds a number in decimal digits.
+/// Appends a number in decimal digits.
 pub(crate) fn push_decimal(alloc: Global, out: &mut Vec<u8>, number: u64) -> Result<(), AllocError>
     ensures { OnOk result (out.new.items ≡ out.old.items ++ decimal number) }
 {
     push(out, format!(in alloc; "{number}")?.as_str())
 }
 
-/// Adds a text.
+/// Appends a text.
 pub(crate) fn push(out: &mut Vec<u8>, text: &str) -> Result<(), AllocError>
     ensures { OnOk result (out.new.items ≡ out.old.items ++ text.now) }
 {
     extend(out, text.as_bytes())
 }
 
-/// Adds octets as they are.
+/// Appends octets unchanged.
 pub(crate) fn extend(out: &mut Vec<u8>, octets: &[u8]) -> Result<(), AllocError>
     ensures { OnOk result (out.new.items ≡ out.old.items ++ octets.now) }
 {

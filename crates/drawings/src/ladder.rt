@@ -12,26 +12,26 @@ use block_core::Side;
 use exchange_text::{Exchange, Version};
 use std::alloc::{AllocError, Global};
 
-/// How many columns a line has for the numbers of blocks, with the blank after them.
+/// How many columns a line has for the number of a block and the blank after it.
 const MARGIN: usize = 7;
 
-/// How many it has after them.
+/// How many columns a line has after them.
 const WIDTH: usize = 93;
 
-/// How many are before a moment or a remark.
+/// How many columns are before a moment or a remark.
 const MIDDLE: usize = 27;
 
-/// How many an arrow has around its label, at the least.
+/// How many columns an arrow has around its label, at least.
 const AROUND: usize = 8;
 
-/// How many are between a side and the version of the file in the first line.
+/// How many columns are between a side and the version of the file in the first line.
 const HALF: usize = 36;
 
-/// A recorded exchange as lines of text: the terminal is on the left, the card on the right, and each row is a line.
+/// Draws a recorded exchange as lines of text, one for each row: the terminal is on the left, the card on the right.
 ///
-/// The first line has both sides, and the version of the file between them. What is said at a side is at its edge. A
-/// block's line begins with its number, and has an arrow with its label, which ends beside the label where the block is
-/// lost. Moments and remarks are in the middle.
+/// The first line has both sides, and the version of the file between them. The text of a side is at its edge. The line
+/// of a block begins with its number, and has an arrow with its label. If the block is lost, the arrow ends beside the
+/// label. Moments and remarks are in the middle.
 pub fn draw_ladder(alloc: Global, exchange: &Exchange) -> Result<Vec<u8>, AllocError>
     ensures { IfOk result (λ text. text.items ≡ ladder_text exchange.now) }
 {
@@ -42,7 +42,7 @@ pub fn draw_ladder(alloc: Global, exchange: &Exchange) -> Result<Vec<u8>, AllocE
     Ok(text)
 }
 
-/// Adds the first line.
+/// Appends the first line.
 fn push_head(alloc: Global, text: &mut Vec<u8>, version: Version) -> Result<(), AllocError>
     ensures { OnOk result (text.new.items ≡ text.old.items ++ ladder.head_text version) }
 {
@@ -50,7 +50,7 @@ fn push_head(alloc: Global, text: &mut Vec<u8>, version: Version) -> Result<(), 
     push_sides(alloc, text, version_words(version), HALF)
 }
 
-/// Adds both sides and what is between them, with so many blanks around it.
+/// Appends both sides and the text between them, with so many blanks around it.
 fn push_sides(
     alloc: Global,
     text: &mut Vec<u8>,
@@ -67,7 +67,7 @@ fn push_sides(
     push(text, "card\n")
 }
 
-/// The version of a file, in words.
+/// Returns the version of a file, as words.
 pub(crate) fn version_words(version: Version) -> &'static str
     ensures { result.now ≡ ladder.version_words version }
 {
@@ -77,7 +77,7 @@ pub(crate) fn version_words(version: Version) -> &'static str
     }
 }
 
-/// Adds a line for each row.
+/// Appends a line for each row.
 fn push_rows(alloc: Global, text: &mut Vec<u8>, rows: &[Row]) -> Result<(), AllocError>
     ensures { OnOk result (text.new.items ≡ text.old.items ++ ladder.rows_text rows.now) }
 {
@@ -88,7 +88,7 @@ fn push_rows(alloc: Global, text: &mut Vec<u8>, rows: &[Row]) -> Result<(), Allo
     Ok(())
 }
 
-/// Adds the line of a row, without its end.
+/// Appends the line of a row, without its line feed.
 fn push_row(alloc: Global, text: &mut Vec<u8>, row: &Row) -> Result<(), AllocError>
     ensures { OnOk result (text.new.items ≡ text.old.items ++ ladder.row_text row.now) }
 {
@@ -107,7 +107,7 @@ fn push_row(alloc: Global, text: &mut Vec<u8>, row: &Row) -> Result<(), AllocErr
     }
 }
 
-/// Adds what is said at a side.
+/// Appends the text of a side.
 fn push_said(alloc: Global, text: &mut Vec<u8>, side: Side, label: &[u8]) -> Result<(), AllocError>
     ensures { OnOk result (text.new.items ≡ text.old.items ++ ladder.said_text side label.now) }
 {
@@ -118,7 +118,7 @@ fn push_said(alloc: Global, text: &mut Vec<u8>, side: Side, label: &[u8]) -> Res
     }
 }
 
-/// Adds a label after so many blanks.
+/// Appends a label after so many blanks.
 fn push_after(
     alloc: Global,
     text: &mut Vec<u8>,
@@ -131,7 +131,7 @@ fn push_after(
     extend(text, label)
 }
 
-/// Adds the number of a block at the end of its columns.
+/// Appends the number of a block, right-aligned in its columns.
 fn push_number(alloc: Global, text: &mut Vec<u8>, number: usize) -> Result<(), AllocError>
     ensures { OnOk result (text.new.items ≡ text.old.items ++ ladder.number_text number) }
 {
@@ -141,7 +141,7 @@ fn push_number(alloc: Global, text: &mut Vec<u8>, number: usize) -> Result<(), A
     push(text, " ")
 }
 
-/// Adds an arrow with a label.
+/// Appends an arrow with a label.
 fn push_arrow(
     alloc: Global,
     text: &mut Vec<u8>,
@@ -170,7 +170,7 @@ fn push_arrow(
     }
 }
 
-/// Where an arrow begins: of dots where nobody saw the block.
+/// Returns the beginning of an arrow, with dots if nobody saw the block.
 fn shaft(course: Course) -> &'static str
     ensures { result.now ≡ ladder.shaft course }
 {
@@ -180,7 +180,7 @@ fn shaft(course: Course) -> &'static str
     }
 }
 
-/// Adds what is between a label of so many characters and the card.
+/// Appends what is between a label of so many characters and the card.
 fn push_to_card(
     alloc: Global,
     text: &mut Vec<u8>,
@@ -197,7 +197,7 @@ fn push_to_card(
     }
 }
 
-/// Adds what is between the terminal and a label of so many characters.
+/// Appends what is between the terminal and a label of so many characters.
 fn push_to_terminal(
     alloc: Global,
     text: &mut Vec<u8>,
@@ -214,7 +214,7 @@ fn push_to_terminal(
     }
 }
 
-/// Adds a text so many times, and others before and after.
+/// Appends a text so many times, with one text before and one after.
 fn push_trail(
     alloc: Global,
     text: &mut Vec<u8>,
@@ -231,7 +231,7 @@ fn push_trail(
     push(text, after)
 }
 
-/// Adds a text so many times.
+/// Appends a text so many times.
 fn push_many(alloc: Global, text: &mut Vec<u8>, part: &str, count: usize) -> Result<(), AllocError>
     ensures { OnOk result (text.new.items ≡ text.old.items ++ repeat count part.now) }
 {

@@ -1,8 +1,8 @@
-//! A recorded exchange as people draw it: a ladder between terminal and card.
+//! Draws a recorded exchange as a ladder between terminal and card.
 //!
-//! The rows of a drawing are a fold over the lines of the exchange, `rows_of` in `specs/Rows.antt`. The text is a
-//! function of these rows, in `specs/Ladder.antt`, which [`draw_ladder`] gives; the picture is another of the same rows,
-//! in `specs/Picture.antt`, which [`draw_picture`] gives.
+//! The lines of the exchange decide the rows of a drawing, as `rows_of` in `specs/Rows.antt` says. [`draw_ladder`]
+//! returns the rows as text (`specs/Ladder.antt`). [`draw_picture`] returns the same rows as a picture
+//! (`specs/Picture.antt`).
 #![tactic(auto)]
 
 mod labels;

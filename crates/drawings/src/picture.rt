@@ -12,7 +12,7 @@ use block_core::Side;
 use exchange_text::{Exchange, Version};
 use std::alloc::{AllocError, Global};
 
-/// How high a row is, in units of the picture.
+/// The height of a row, in units of the picture.
 const ROW: usize = 24;
 
 /// Where the first row begins.
@@ -21,7 +21,7 @@ const TOP: usize = 36;
 /// What comes before the height of the picture.
 const OPEN: &str = r#"<svg xmlns="http://www.w3.org/2000/svg" role="img" width="860" height=""#;
 
-/// What comes after it: how the picture looks, dark where the browser is, and both sides.
+/// What comes after the height: the style of the picture, dark if the browser is, and both sides.
 static STYLE: &str = r#"">
 <title>A recorded exchange between terminal and card</title>
 <style>
@@ -37,17 +37,17 @@ path { fill: none; stroke: currentColor; }
 <text class="middle" x="780" y="18">card</text>
 <text class="middle" x="430" y="18">"#;
 
-/// What comes after the version, before how long the line of the terminal is.
+/// What comes after the version, before the length of the terminal's line.
 const LINES: &str = r#"</text>
 <path d="M80 26v"#;
 
 /// What comes between the two lengths.
 const CARD_LINE: &str = "M780 26v";
 
-/// What comes after them.
+/// What comes after the two lengths.
 const LINES_END: &str = "\"/>\n";
 
-/// What comes before and after where a row begins.
+/// What comes before and after the position of a row.
 const ROW_OPEN: &str = r#"<g transform="translate(0 "#;
 
 const ROW_AT: &str = r#")">"#;
@@ -71,7 +71,7 @@ const TO_CARD: &str = r#"<path d="M80 19H780m-7-4 7 4-7 4"/>"#;
 
 const LOST_TO_CARD: &str = r#"<path class="lost" d="M80 19H640m-5-5 10 10m0-10-10 10"/>"#;
 
-/// The same of a block that nobody saw.
+/// The arrows of a block that nobody saw.
 const ADDED_TO_CARD: &str =
     r#"<path class="lost" stroke-dasharray="2 4" d="M80 19H640m-5-5 10 10m0-10-10 10"/>"#;
 
@@ -85,9 +85,10 @@ const ADDED_TO_TERMINAL: &str =
 /// The end of the picture.
 const CLOSE: &str = "</svg>\n";
 
-/// A recorded exchange as one document of SVG, with the same rows as the text has, each with its label as text.
+/// Draws a recorded exchange as one SVG document, with the same rows as the text. Each label is text.
 ///
-/// It has no script, and takes dark or light from the browser. In labels `<`, `>` and `&` are written as SVG wants them.
+/// It has no script, and the browser's setting decides whether it is dark or light. In labels `<`, `>` and `&` are
+/// escaped as SVG needs it.
 pub fn draw_picture(alloc: Global, exchange: &Exchange) -> Result<Vec<u8>, AllocError>
     ensures { IfOk result (λ text. text.items ≡ picture_text exchange.now) }
 {
@@ -104,7 +105,7 @@ pub fn draw_picture(alloc: Global, exchange: &Exchange) -> Result<Vec<u8>, Alloc
     Ok(text)
 }
 
-/// Adds the picture of rows of this height.
+/// Appends the picture of rows of this height.
 fn push_picture(
     alloc: Global,
     text: &mut Vec<u8>,
@@ -120,14 +121,14 @@ fn push_picture(
     push(text, CLOSE)
 }
 
-/// How high so many rows are; more of them than memory has room for may be none.
+/// Returns the height of so many rows, or `Err` if that is too large for memory.
 fn height_of(count: usize) -> Result<usize, AllocError>
     ensures { IfOk result (λ height. height ≡ count * picture.row_height) }
 {
     count.checked_mul(ROW).ok_or(AllocError)
 }
 
-/// Adds what comes before rows of this height.
+/// Appends what comes before rows of this height.
 fn push_head(
     alloc: Global,
     text: &mut Vec<u8>,
@@ -141,7 +142,7 @@ fn push_head(
     push_lines(alloc, text, height)
 }
 
-/// Adds the begin of the picture.
+/// Appends the beginning of the picture.
 #[tactic(auto, unfolding(crate::specs::Picture::open_text))]
 fn push_open(alloc: Global, text: &mut Vec<u8>, height: usize) -> Result<(), AllocError>
     ensures { OnOk result (text.new.items ≡ text.old.items ++ picture.open_text height) }
@@ -150,7 +151,7 @@ fn push_open(alloc: Global, text: &mut Vec<u8>, height: usize) -> Result<(), All
     push_enclosed(alloc, text, before_height(), whole, style())
 }
 
-/// What comes before the height of the picture.
+/// Returns what comes before the height of the picture.
 #[tactic(auto, unfolding(crate::specs::Picture::before_height))]
 fn before_height() -> &'static str
     ensures { result.now ≡ picture.before_height }
@@ -158,7 +159,7 @@ fn before_height() -> &'static str
     OPEN
 }
 
-/// What comes after it.
+/// Returns what comes after the height of the picture.
 #[tactic(auto, unfolding(crate::specs::Picture::style_text))]
 fn style() -> &'static str
     ensures { result.now ≡ picture.style_text }
@@ -166,7 +167,7 @@ fn style() -> &'static str
     STYLE
 }
 
-/// Adds the lines of both sides, of this length.
+/// Appends the vertical lines of both sides, of this length.
 #[tactic(auto, unfolding(crate::specs::Picture::lines_text))]
 fn push_lines(alloc: Global, text: &mut Vec<u8>, len: usize) -> Result<(), AllocError>
     ensures { OnOk result (text.new.items ≡ text.old.items ++ picture.lines_text len) }
@@ -175,7 +176,7 @@ fn push_lines(alloc: Global, text: &mut Vec<u8>, len: usize) -> Result<(), Alloc
     push_enclosed(alloc, text, CARD_LINE, len, LINES_END)
 }
 
-/// Adds each row, below the one before.
+/// Appends each row, below the row before.
 fn push_rows(alloc: Global, text: &mut Vec<u8>, rows: &[Row]) -> Result<(), AllocError>
     ensures { OnOk result (text.new.items
         ≡ text.old.items ++ picture.rows_text picture.first_row rows.now) }
@@ -188,7 +189,7 @@ fn push_rows(alloc: Global, text: &mut Vec<u8>, rows: &[Row]) -> Result<(), Allo
     Ok(())
 }
 
-/// Adds a row that begins here.
+/// Appends a row that begins at this height.
 fn push_row(alloc: Global, text: &mut Vec<u8>, top: usize, row: &Row) -> Result<(), AllocError>
     ensures { OnOk result (text.new.items ≡ text.old.items ++ picture.row_text top row.now) }
 {
@@ -197,7 +198,7 @@ fn push_row(alloc: Global, text: &mut Vec<u8>, top: usize, row: &Row) -> Result<
     push(text, ROW_END)
 }
 
-/// Adds what a row has.
+/// Appends the content of a row.
 fn push_parts(alloc: Global, text: &mut Vec<u8>, row: &Row) -> Result<(), AllocError>
     ensures { OnOk result (text.new.items ≡ text.old.items ++ picture.parts_text row.now) }
 {
@@ -217,7 +218,7 @@ fn push_parts(alloc: Global, text: &mut Vec<u8>, row: &Row) -> Result<(), AllocE
     }
 }
 
-/// Adds the number of a block.
+/// Appends the number of a block.
 #[tactic(auto, unfolding(crate::specs::Picture::number_text))]
 fn push_number(alloc: Global, text: &mut Vec<u8>, number: usize) -> Result<(), AllocError>
     ensures { OnOk result (text.new.items ≡ text.old.items ++ picture.number_text number) }
@@ -225,7 +226,7 @@ fn push_number(alloc: Global, text: &mut Vec<u8>, number: usize) -> Result<(), A
     push_enclosed(alloc, text, NUMBER_OPEN, number, TEXT_END)
 }
 
-/// What comes before a label at a side.
+/// Returns what comes before a label at a side.
 fn at_side(side: Side) -> &'static str
     ensures { result.now ≡ picture.at_side side }
 {
@@ -235,7 +236,7 @@ fn at_side(side: Side) -> &'static str
     }
 }
 
-/// The arrow of a block from a side.
+/// Returns the arrow of a block from a side.
 fn arrow(from: Side, course: Course) -> &'static str
     ensures { result.now ≡ picture.arrow from course }
 {
@@ -249,7 +250,7 @@ fn arrow(from: Side, course: Course) -> &'static str
     }
 }
 
-/// Adds a label as text.
+/// Appends a label as text.
 fn push_label(text: &mut Vec<u8>, before: &str, label: &[u8]) -> Result<(), AllocError>
     ensures { OnOk result (text.new.items
         ≡ text.old.items ++ picture.label_text before.now label.now) }
@@ -259,7 +260,7 @@ fn push_label(text: &mut Vec<u8>, before: &str, label: &[u8]) -> Result<(), Allo
     push(text, TEXT_END)
 }
 
-/// Adds characters as SVG wants them.
+/// Appends characters as SVG needs them.
 fn push_escaped(text: &mut Vec<u8>, label: &[u8]) -> Result<(), AllocError>
     ensures { OnOk result (text.new.items ≡ text.old.items ++ picture.escaped label.now) }
 {
@@ -280,7 +281,7 @@ fn push_character(text: &mut Vec<u8>, character: u8) -> Result<(), AllocError>
     }
 }
 
-/// Adds a number in decimal digits, with what is around it.
+/// Appends a number in decimal digits, with a text before it and one after.
 fn push_enclosed(
     alloc: Global,
     text: &mut Vec<u8>,

@@ -1,28 +1,28 @@
-//! What a drawing has.
+//! The content of a drawing.
 
 use block_core::Side;
 use octet_core::Octets;
 
-/// What became of a block, as its arrow says it.
+/// What happened to a block, as its arrow shows it.
 #[derive(Clone, Copy)]
 pub(crate) enum Course {
     /// It arrives, as it was sent or as other octets.
     Arrives,
     /// It is lost.
     Lost,
-    /// It counts as lost, and nobody saw it: `note added` comes before it.
+    /// It counts as lost and nobody saw it: a line `note added` comes before it.
     Added,
 }
 
 /// A row of a drawing. A label is text in ASCII.
 #[derive(Drop)]
 pub(crate) enum Row {
-    /// What is said at a side.
+    /// A text at a side.
     Said {
         side: Side,
         label: Octets,
     },
-    /// What is said at neither: a moment, or a remark.
+    /// A text between the sides: a moment, or a remark.
     Between {
         label: Octets,
     },

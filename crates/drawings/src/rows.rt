@@ -11,7 +11,7 @@ use block_core::Side;
 use exchange_text::{Arrival, Exchange, Line, Name};
 use std::alloc::{AllocError, Global};
 
-/// The rows of a recorded exchange.
+/// Returns the rows of a recorded exchange.
 pub(crate) fn rows(alloc: Global, exchange: &Exchange) -> Result<Vec<Row>, AllocError>
     ensures { IfOk result (λ rows. rows.items ≡ drawing.rows_of exchange.now) }
 {
@@ -21,7 +21,7 @@ pub(crate) fn rows(alloc: Global, exchange: &Exchange) -> Result<Vec<Row>, Alloc
     Ok(rows)
 }
 
-/// Adds the rows of lines.
+/// Appends the rows of lines.
 fn push_lines(alloc: Global, rows: &mut Vec<Row>, lines: &[Line]) -> Result<(), AllocError>
     ensures { OnOk result (rows.new.items ≡ rows.old.items ++ drawing.rows_from 0 false lines.now) }
 {
@@ -35,7 +35,7 @@ fn push_lines(alloc: Global, rows: &mut Vec<Row>, lines: &[Line]) -> Result<(), 
     Ok(())
 }
 
-/// How many blocks were sent after a line.
+/// Returns how many blocks are sent after a line.
 fn sent_after(sent: usize, line: &Line) -> usize
     requires { sent + 1 < 2 ^ 64 }
     ensures { result ≡ drawing.sent_after sent line.now }
@@ -46,7 +46,8 @@ fn sent_after(sent: usize, line: &Line) -> usize
     }
 }
 
-/// Adds the rows of a line, with the number that it has if it is a block, and whether `note added` comes before it.
+/// Appends the rows of a line. `number` is its number if it is a block, and `is_added` says whether `note added` comes
+/// before it.
 fn push_line(
     alloc: Global,
     rows: &mut Vec<Row>,
@@ -99,7 +100,7 @@ fn push_line(
     }
 }
 
-/// Adds the row of what the terminal's application says or hears, nothing for another line.
+/// Appends the row of a call or a result of the terminal's application, and nothing for another line.
 fn push_terminal(alloc: Global, rows: &mut Vec<Row>, line: &Line) -> Result<(), AllocError>
     ensures { OnOk result (rows.new.items ≡ rows.old.items ++ drawing.terminal_rows line.now) }
 {
@@ -116,7 +117,7 @@ fn push_terminal(alloc: Global, rows: &mut Vec<Row>, line: &Line) -> Result<(), 
     }
 }
 
-/// Adds the row of what the card's host says or hears, nothing for another line.
+/// Appends the row of a call or a result of the card's host, and nothing for another line.
 fn push_card(alloc: Global, rows: &mut Vec<Row>, line: &Line) -> Result<(), AllocError>
     ensures { OnOk result (rows.new.items ≡ rows.old.items ++ drawing.card_rows line.now) }
 {
@@ -130,7 +131,7 @@ fn push_card(alloc: Global, rows: &mut Vec<Row>, line: &Line) -> Result<(), Allo
     }
 }
 
-/// Adds the row of a name alone.
+/// Appends the row of a name alone.
 fn push_word(alloc: Global, rows: &mut Vec<Row>, side: Side, name: Name) -> Result<(), AllocError>
     ensures { OnOk result (rows.new.items ≡ rows.old.items ++ drawing.word_rows side name) }
 {
@@ -138,7 +139,7 @@ fn push_word(alloc: Global, rows: &mut Vec<Row>, side: Side, name: Name) -> Resu
     push_row(rows, Row::Said { side, label })
 }
 
-/// Adds the row of a name with octets.
+/// Appends the row of a name with octets.
 fn push_named(
     alloc: Global,
     rows: &mut Vec<Row>,
@@ -152,7 +153,7 @@ fn push_named(
     push_message(alloc, rows, side, name.word(), octets)
 }
 
-/// Adds the row of a word with octets.
+/// Appends the row of a word with octets.
 fn push_message(
     alloc: Global,
     rows: &mut Vec<Row>,
@@ -167,7 +168,7 @@ fn push_message(
     push_row(rows, Row::Said { side, label })
 }
 
-/// Adds the row of a block, and one of what arrived in its place.
+/// Appends the row of a block, and a row of what arrived in its place.
 fn push_block(
     alloc: Global,
     rows: &mut Vec<Row>,
@@ -194,7 +195,7 @@ fn push_block(
     push_arrived(alloc, rows, from.other(), arrival)
 }
 
-/// What became of a block, and whether `note added` comes before it.
+/// Returns the course of a block, from how it arrived and whether `note added` comes before it.
 fn course_of(is_added: bool, arrival: &Arrival) -> Course
     ensures { result ≡ drawing.course_of is_added arrival.now }
 {
@@ -205,7 +206,7 @@ fn course_of(is_added: bool, arrival: &Arrival) -> Course
     }
 }
 
-/// Adds a row of what arrived, where it isn't what was sent.
+/// Appends a row of what arrived, if that isn't what was sent.
 fn push_arrived(
     alloc: Global,
     rows: &mut Vec<Row>,
@@ -221,7 +222,7 @@ fn push_arrived(
     }
 }
 
-/// Adds a row.
+/// Appends a row.
 fn push_row(rows: &mut Vec<Row>, row: Row) -> Result<(), AllocError>
     ensures { OnOk result (rows.new.items ≡ rows.old.items ++ row ∷ []) }
 {

@@ -1,4 +1,4 @@
--- The bases in which programs write offsets, and the numbers that the digits of a text write in them.
+-- The bases of offsets, and the numbers that the digits of a text write in them.
 use Rattle.std.specs.Prelude.{ℕ, ◌+◌, ◌*◌, min, nat_le, nat_lt, List, [], ◌∷◌, Bool, true, false, if◌then◌else◌}
 use Rattle.dumps.specs.Characters.{digit}
 use Rattle.dumps.specs.declared.base.Base.{Base}
@@ -12,14 +12,14 @@ radix Decimal = 10
 radix Octal = 8
 radix Headed = 16
 
--- the number that the digits in front of a text write after a number, and what is after them; one from 2 ^ 49 on
+-- the number of the digits in front of a text, after those of `number`, and the text after them; from 2 ^ 49 on it
 -- counts as 2 ^ 49
 abbrev pub offset_from : Base → ℕ → List ℕ → ℕ × List ℕ
 offset_from base number [] = (number, [])
 offset_from base number (x ∷ more) = if nat_lt (digit x) (radix base)
     then offset_from base (min (number * radix base + digit x) 562949953421312) more else (number, x ∷ more)
 
--- od and xxd may write decimal offsets, and od octal ones, with seven digits or more
+-- od and xxd may write decimal offsets, and od octal ones; those of od have seven or more digits
 abbrev pub counts : Base → ℕ → Style → Bool
 counts Hexadecimal digits style = true
 counts Decimal digits style.Xxd = true

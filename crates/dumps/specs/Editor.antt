@@ -27,14 +27,14 @@ abbrev pub has_columns : List ℕ → Bool
 has_columns line = bytes_eq line (codes "Offset Bytes                                           Ascii")
     || bytes_eq line (codes "------ ----------------------------------------------- -----")
 
--- a line of a heading, after its blanks: HxD's, PowerShell's, or where it says what it read
+-- a line of a heading, after its blanks: HxD's, PowerShell's, or PowerShell's about its input
 abbrev pub is_title : List ℕ → Bool
 is_title line =
     has_numbers line || (has_columns line || (begins_path line || begins_label line))
 
 -- ---- a column in UTF-8
 
--- an octet of a character after its first one
+-- an octet of UTF-8 that continues a character
 abbrev pub is_more : ℕ → Bool
 is_more x = is_within 128 191 x
 
@@ -46,11 +46,11 @@ abbrev pub after_more : List ℕ → List ℕ
 after_more [] = []
 after_more (x ∷ text) = if is_more x then after_more text else x ∷ text
 
--- an octet 20 to 7E is shown as it is, any other one as a full stop or as a character beyond those of ASCII
+-- an octet 20 to 7E is shown as it is, any other octet as a full stop or as a character beyond ASCII
 abbrev pub may_show : ℕ → ℕ → Bool
 may_show octet x = x == shown octet || (nat_le 192 x && not (is_within 32 126 octet))
 
--- what is after the characters of these octets, where a text begins with them
+-- the text after the characters that show these octets, if it begins with them
 abbrev pub after_column : List ℕ → List ℕ → Option (List ℕ)
 after_column [] text = Some text
 after_column (octet ∷ octets) [] = None
@@ -58,12 +58,12 @@ after_column (octet ∷ octets) (x ∷ text) = if may_show octet x then after_co
 
 -- ---- gdb
 
--- a text begins with > and : and a tab, after which a symbol is over
+-- a text begins with >, : and a tab, which end a symbol
 abbrev pub is_close : List ℕ → Bool
 is_close (x ∷ y ∷ z ∷ text) = x == 62 && (y == 58 && z == 9)
 is_close _ = false
 
--- what is after the > that ends a symbol
+-- the text after the > that ends a symbol
 abbrev pub after_close : List ℕ → List ℕ
 after_close [] = []
 after_close (x ∷ text) = if is_close (x ∷ text) then text else after_close text
@@ -76,19 +76,19 @@ abbrev pub after_address : ℕ → List ℕ → Option (ℕ × List ℕ)
 after_address at (x ∷ text) = if x == 58 then Some (at, text) else None
 after_address at [] = None
 
--- the address that gdb writes before a row, with a symbol or without, and what is after its :
+-- the address that gdb writes before a row, with or without a symbol, and the text after its :
 abbrev pub addressed : List ℕ → Option (ℕ × List ℕ)
 addressed (a ∷ b ∷ line) = if is_mark a b
     then (let read = offset_from Hexadecimal 0 line in after_address read.0 (after_symbol read.1)) else None
 addressed _ = None
 
--- the octet after a tab and 0x, and what is after it
+-- the octet after a tab and 0x, and the text after it
 abbrev pub tab_octet : List ℕ → Option (ℕ × List ℕ)
 tab_octet (t ∷ z ∷ m ∷ x ∷ y ∷ more) = if t == 9 && (z == 48 && (m == 120 && is_pair x y))
     then Some (octet_at x y, more) else None
 tab_octet _ = None
 
--- the octets in front of a text, each after a tab and 0x, and what is after them
+-- the octets in front of a text, each after a tab and 0x, and the text after them
 abbrev pub tabbed : List ℕ → List ℕ × List ℕ
 tabbed (t ∷ z ∷ m ∷ x ∷ y ∷ more) = if t == 9 && (z == 48 && (m == 120 && is_pair x y))
     then joined_to (octet_at x y ∷ []) (tabbed more) else ([], t ∷ z ∷ m ∷ x ∷ y ∷ more)

@@ -1,4 +1,4 @@
--- What may stand before the octets of a source, and after them: a label, or a declaration.
+-- The text that may come before the octets of a source, and after them: a label or a declaration.
 use Rattle.std.specs.Prelude.{ℕ, ◌==◌, ◌&&◌, ◌||◌, not, Bool, true, false, Option, Some, None, is_some, if◌then◌else◌}
 use Rattle.dumps.specs.Characters.{is_digit, is_within}
 use Rattle.dumps.specs.Turns.{is_letter, is_part, is_skipped, is_space, with_declaration, with_end, with_label, with_place, with_word, Turn}
@@ -10,11 +10,11 @@ use Rattle.dumps.specs.declared.turn.Place.TheVariants as place
 use Rattle.dumps.specs.declared.word.Word.{Word}
 use Rattle.dumps.specs.declared.word.Word.TheVariants.{Empty, Four}
 
--- what stands for a word that is no octet, however long
+-- the word that stands for any longer word that isn't an octet
 abbrev pub long : Word
 long = Four 95 95 95 95
 
--- a word of a head with one more character: from the fifth on only this counts, whether all are digits
+-- a word of a head with one more character; from the fifth on, only whether all are digits is kept
 abbrev pub or_long : Bool → Word → Option Word → Word
 or_long digits word (Some longer) = longer
 or_long digits word None = if digits then word else long
@@ -25,11 +25,11 @@ is_open Label = true
 is_open Typed = true
 is_open _ = false
 
--- a label or a declaration may begin: there is no octet so far, and no =
+-- a label or a declaration may begin: there is no octet yet, and no =
 abbrev pub may_name : Now → Bool
 may_name now = not (is_some now.writing) && is_open now.around
 
--- a word under way begins with a letter, and isn't hexadecimal digits alone
+-- the unfinished word begins a label or a declaration: it begins with a letter, and isn't only hexadecimal digits
 abbrev pub is_name : Now → Bool
 is_name now = may_name now && (is_letter (first_of now.word)
     && (not (is_some (octet_of now.word)) && (not (all_digits now.word) && not (is_skipped now now.word))))
@@ -38,7 +38,7 @@ abbrev pub named : Option Now → Turn
 named (Some now) = Some (now, None)
 named None = None
 
--- a character after a word of a head: what stands in it, [ ; or , before a size, and what ends it
+-- a character after a word of a head: one that is allowed in it, [ ; or , before a size, or one that ends it
 abbrev pub mark_in_head : ℕ → Bool → Now → Option Now
 mark_in_head x digits now =
     if is_space x || (x == 42 || (x == 38 || (x == 46 || (x == 60 || (x == 62 || x == 93))))) then Some now
@@ -52,7 +52,7 @@ mark_in_head x digits now =
 abbrev pub is_octets : Word → Bool
 is_octets word = is_some (octet_of word) || (all_digits word && not (is_one word))
 
--- no word of a head could be octets
+-- no word of a head may look like octets
 abbrev pub in_head : Now → ℕ → Turn
 in_head now x =
     if is_part x
@@ -60,7 +60,7 @@ in_head now x =
     else (if is_octets now.word then None
     else named (mark_in_head x (all_digits now.word) (with_word Empty now)))
 
--- a size, up to ] or >
+-- a character of a size, up to ] or >
 abbrev pub in_size : Now → ℕ → Turn
 in_size now x =
     if is_part x || (x == 95 || is_space x) then Some (now, None)
@@ -69,7 +69,7 @@ in_size now x =
 
 -- ---- after a declaration
 
--- blanks and comments, or another declaration, of a number
+-- a blank, a comment, or another declaration of a number
 abbrev pub after_declaration : Now → ℕ → Turn
 after_declaration now x =
     if is_space x || x == 59 then Some (now, None)

@@ -1,4 +1,4 @@
--- Octets as programs write them: what each character of a source says at its place.
+-- Octets as programs write them: what each character of a source changes.
 use Rattle.std.specs.Prelude.{ℕ, ◌==◌, ◌&&◌, ◌||◌, not, List, [], ◌∷◌, ◌++◌, Bool, true, false, Option, Some, None, is_some, Result, Ok, Err, if◌then◌else◌}
 use Rattle.dumps.specs.Characters.{is_digit}
 use Rattle.dumps.specs.Dump.{◌>>=◌}
@@ -37,7 +37,7 @@ abbrev pub is_done : Around → Bool
 is_done Done = true
 is_done _ = false
 
--- a character that is no part of a word, after a word
+-- a character that isn't part of a word, after a word
 abbrev pub mark_in_code : ℕ → Now → Option Now
 mark_in_code x now =
     if is_between x then Some now
@@ -51,7 +51,7 @@ mark_in_code x now =
     else (if x == 35 then Some (with_place place.Line now)
     else None))))))))
 
--- a word is longer by a character; one that gets longer than an octet may begin a head
+-- one more character of a word; a word longer than an octet may begin a head
 abbrev pub part_in_code : Now → ℕ → Option Word → Turn
 part_in_code now x (Some word) = Some (with_word word now, None)
 part_in_code now x None = if may_name now
@@ -128,8 +128,8 @@ may_end_at place.Code = true
 may_end_at place.Line = true
 may_end_at _ = false
 
--- a list of pairs without a letter could be decimal numbers, blanks between escapes are characters, and the characters
--- of a string of octets could be pairs
+-- the octets can be read in only one way: a list of pairs without a letter could be decimal numbers, blanks between
+-- escapes are characters, and the characters of a string of octets could be pairs
 abbrev pub is_one_way : Option Writing → Now → Bool
 is_one_way None now = true
 is_one_way (Some Plain) now = not (is_typed now.around) && (not now.prefixed && (not now.listed || now.lettered))
@@ -146,12 +146,12 @@ last_octets (Some (now, octet)) =
     if may_end_at now.place && is_one_way now.writing now then Ok (those octet) else Err Form
 last_octets None = Err Form
 
--- the octet that ended, and those that come
+-- the octet that ended, and those after it
 abbrev pub and_then : Turn → (Now → Result (List ℕ) DumpFault) → Result (List ℕ) DumpFault
 and_then (Some (now, octet)) rest = rest now >>= (λ more. Ok (those octet ++ more))
 and_then None rest = Err Form
 
--- what a text gives from a place on
+-- the octets of the rest of a text
 abbrev pub octets_from : Now → List ℕ → Result (List ℕ) DumpFault
 octets_from now [] = last_octets (ended now)
 octets_from now (x ∷ text) = and_then (turn_at now.place now x) (λ next. octets_from next text)

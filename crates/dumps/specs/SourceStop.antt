@@ -1,4 +1,4 @@
--- Where a text isn't a source any more, and what is wrong there.
+-- The first place where a text isn't a source, and what is wrong there.
 use Rattle.std.specs.Prelude.{◌≡◌, ℕ, ◌+◌, ◌-◌, ◌&&◌, ◌||◌, not, List, [], ◌∷◌, Bool, true, false, Option, Some, None, is_some, Result, Ok, Err, if◌then◌else◌}
 use Rattle.dumps.specs.Source.{at_first, ended, is_one_way, is_part, may_end_at, turn_at, Turn}
 use Rattle.dumps.specs.declared.fault.DumpFault.{DumpFault}
@@ -20,16 +20,16 @@ abbrev pub is_begun : Word → Bool
 is_begun Empty = false
 is_begun _ = true
 
--- a word is under way that is no octet, or is too long with this character
+-- the unfinished word isn't an octet, or is too long with this character
 abbrev pub is_wrong_word : Now → ℕ → Bool
 is_wrong_word now x = is_begun now.word && (is_part x || not (is_some (ended now)))
 
--- what is wrong where a character may not follow: the word under way, which begins before it, or the character
+-- what is wrong at a character that isn't allowed: the unfinished word before it, from its beginning, or the character
 abbrev pub stop_at : ℕ → Now → ℕ → ℕ × SourceWrong
 stop_at place now x =
     if is_wrong_word now x then (place - word_len now.word, wrong.Word) else (place, wrong.Character)
 
--- what is wrong at the end of a text, if anything
+-- what is wrong at the end of a text, if anything is
 abbrev pub stop_at_end : ℕ → Now → Turn → Option (ℕ × SourceWrong)
 stop_at_end place now None = Some (place - word_len now.word, wrong.Word)
 stop_at_end place now (Some (last, octet)) =
@@ -37,7 +37,7 @@ stop_at_end place now (Some (last, octet)) =
     else if not (is_one_way last.writing last) then Some (place, wrong.TwoWays)
     else None
 
--- a turn that failed stops the text, and after another one it goes on
+-- the text stops at a turn that failed, and continues after any other
 abbrev pub stopped_or : Turn → ℕ × SourceWrong → (Now → Option (ℕ × SourceWrong)) → Option (ℕ × SourceWrong)
 stopped_or None stop more = Some stop
 stopped_or (Some (next, octet)) stop more = more next
@@ -50,7 +50,7 @@ stop_from place now (x ∷ text) =
 abbrev pub source_stop : List ℕ → Option (ℕ × SourceWrong)
 source_stop text = stop_from 0 at_first text
 
--- a text stops somewhere where it gives no octets, and nowhere where it does
+-- a text has a wrong place if it gives no octets, and none if it does
 abbrev pub Agrees : Option (ℕ × SourceWrong) → Result (List ℕ) DumpFault → Type 0
 Agrees None octets = (b : List ℕ) × (octets ≡ Ok b)
 Agrees (Some stop) octets = octets ≡ Err Form

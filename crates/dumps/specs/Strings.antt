@@ -7,11 +7,11 @@ use Rattle.dumps.specs.declared.turn.Place.TheVariants as place
 use Rattle.dumps.specs.declared.word.Word.{Word}
 use Rattle.dumps.specs.declared.word.Word.TheVariants.{Empty, One, Two, Three}
 
--- a character that could stand in a text of pairs
+-- a character that could come in a text of pairs
 abbrev pub is_of_pairs : ℕ → Bool
 is_of_pairs x = is_digit x || (is_between x || is_listing x)
 
--- a character as it is, the end, or a \
+-- a plain character, the quote that ends the string, or a \
 abbrev pub plain_character : ℕ → Now → ℕ → Turn
 plain_character quote now x =
     if x == quote then Some (with_place place.Code now, None)
@@ -19,7 +19,7 @@ plain_character quote now x =
     else (if is_within 32 126 x then Some (with_character (not (is_of_pairs x)) now, Some x)
     else None))
 
--- the octet that one character after a \ stands for
+-- the octet of one character after a \
 abbrev pub escaped : ℕ → Option ℕ
 escaped x =
     if x == 110 then Some 10

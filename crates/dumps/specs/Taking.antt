@@ -1,4 +1,4 @@
--- What a dump that is read has taken.
+-- What a dump has taken while it is read.
 use Rattle.dumps.specs.Dump.{Taken}
 use Rattle.dumps.specs.declared.line.Dump.{Dump}
 

@@ -1,4 +1,4 @@
--- Where a source is, what it had so far, and what a word that ends there gives.
+-- The state of a source, and what a word that ends gives.
 use Rattle.std.specs.Prelude.{ℕ, ◌==◌, ◌&&◌, ◌||◌, Bool, true, false, Option, Some, None, is_some, if◌then◌else◌}
 use Rattle.dumps.specs.Characters.{is_digit, is_pair, is_within}
 use Rattle.dumps.specs.Words.{has_letter, is_suffix, is_type, octet_of}
@@ -17,15 +17,15 @@ use Rattle.dumps.specs.declared.word.Writing.TheVariants.{Plain, Marked, Suffixe
 abbrev pub is_part : ℕ → Bool
 is_part x = is_within 48 57 x || (is_within 65 90 x || is_within 97 122 x)
 
--- a blank, what ends a line, : - or _
+-- a blank, a line end, : - or _
 abbrev pub is_between : ℕ → Bool
 is_between x = x == 32 || (x == 9 || (x == 10 || (x == 13 || (x == 58 || (x == 45 || x == 95)))))
 
--- what lists are written with: , ; { } [ ] ( )
+-- a character that lists are written with: , ; { } [ ] ( )
 abbrev pub is_listing : ℕ → Bool
 is_listing x = x == 44 || (x == 59 || (x == 123 || (x == 125 || (x == 91 || (x == 93 || (x == 40 || x == 41))))))
 
--- a blank, or what ends a line
+-- a blank or a line end
 abbrev pub is_space : ℕ → Bool
 is_space x = x == 32 || (x == 9 || (x == 10 || x == 13))
 
@@ -35,7 +35,7 @@ is_letter x = is_within 65 90 x || is_within 97 122 x
 abbrev pub is_quote : ℕ → Bool
 is_quote x = x == 34 || x == 39
 
--- ---- where a text is, and what it had so far
+-- ---- the state after the text so far
 
 abbrev pub with_word : Word → Now → Now
 with_word word now = record {
@@ -98,7 +98,7 @@ with_prefix place now = record {
   around = now.around;
 }
 
--- a word was one octet
+-- a word was an octet
 abbrev pub with_octet : Writing → Now → Now
 with_octet writing now = record {
   word = Empty;
@@ -111,7 +111,7 @@ with_octet writing now = record {
   around = now.around;
 }
 
--- a character of a string of octets was one octet, which could be part of a pair or not
+-- a character of a string of octets was an octet; other: it couldn't be part of a pair
 abbrev pub with_character : Bool → Now → Now
 with_character other now = record {
   word = Empty;
@@ -124,7 +124,7 @@ with_character other now = record {
   around = now.around;
 }
 
--- a label ended, which `:` does; one that ends with a digit could be octets, and no octets come before a `=`
+-- a `:` ended a label; a label that ends with a digit could be octets, so no octets come before a `=`
 abbrev pub with_label : Bool → Now → Now
 with_label digits now = record {
   word = Empty;
@@ -137,7 +137,7 @@ with_label digits now = record {
   around = if digits then Typed else Label;
 }
 
--- octets come after a `=`, where decimal numbers may stand too
+-- octets come after a `=`, and decimal numbers are allowed too
 abbrev pub with_declaration : Now → Now
 with_declaration now = record {
   word = Empty;
@@ -177,7 +177,7 @@ abbrev pub fits : Option Writing → Writing → Bool
 fits (Some writing) other = is_same writing other
 fits None other = true
 
--- what a character makes of where a text is, and the octet that ended before it
+-- the state after a character, and the octet that ended before it
 abbrev pub Turn : Type 0
 Turn = Option (Now × Option ℕ)
 
@@ -186,7 +186,7 @@ taken_octet now (Some (writing, octet)) =
     if fits now.writing writing then Some (with_octet writing now, Some octet) else None
 taken_octet now None = None
 
--- Java's, C#'s and Go's byte and new give no octet, nor does Rust's u8 after one
+-- byte and new of Java, C# and Go give no octet, nor does Rust's u8 after an octet
 abbrev pub is_skipped : Now → Word → Bool
 is_skipped now word = is_type word || (is_suffix word && is_some now.writing)
 
@@ -198,22 +198,22 @@ ended_by now word = if is_skipped now word then Some (with_word Empty now, None)
 abbrev pub ended : Now → Turn
 ended now = ended_by now now.word
 
--- a word is longer by a character
+-- one more character of a word
 abbrev pub longer_by : Now → Option Word → Turn
 longer_by now (Some word) = Some (with_word word now, None)
 longer_by now None = None
 
--- in quotes pairs may follow one another
+-- in quotes, pairs may follow each other directly
 abbrev pub is_cut : Word → ℕ → Bool
 is_cut (Two a b) x = is_pair a b && is_digit x
 is_cut _ x = false
 
--- an octet, and what follows it
+-- an octet and the state after it
 abbrev pub and_octet : Option ℕ → Option Now → Turn
 and_octet octet (Some now) = Some (now, octet)
 and_octet octet None = None
 
--- where a word has ended, what follows
+-- the state after the end of a word
 abbrev pub then_now : Turn → (Now → Option Now) → Turn
 then_now (Some (now, octet)) f = and_octet octet (f now)
 then_now None f = None

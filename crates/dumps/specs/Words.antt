@@ -36,7 +36,7 @@ marked x = if digit x == 16 then None else Some (Marked, digit x)
 abbrev pub suffixed : ℕ → ℕ → ℕ → Option (Writing × ℕ)
 suffixed a b c = if c == 104 || c == 72 then written Suffixed (pair_of a b) else None
 
--- the octet that a word writes, and how: 3B, 3Bh, 0x0, 0x3B or \x3b
+-- the octet of a word, and how it is written: 3B, 3Bh, 0x0, 0x3B or \x3b
 abbrev pub octet_of : Word → Option (Writing × ℕ)
 octet_of (Two a b) = written Plain (pair_of a b)
 octet_of (Three a b c) = if is_mark a b then marked c else suffixed a b c
@@ -46,7 +46,7 @@ octet_of (Four a b c d) =
     else None)
 octet_of _ = None
 
--- a pair with a letter, or more than a pair
+-- a pair with a letter, or a word longer than a pair
 abbrev pub has_letter : Word → Bool
 has_letter (Two a b) = nat_le 58 a || nat_le 58 b
 has_letter (Three a b c) = true
@@ -58,7 +58,7 @@ abbrev pub is_prefix : Word → Bool
 is_prefix (One a) = a == 98 || a == 66
 is_prefix _ = false
 
--- the first character of a word, 0 of none
+-- the first character of a word, 0 for an empty word
 abbrev pub first_of : Word → ℕ
 first_of Empty = 0
 first_of (One a) = a
@@ -66,7 +66,7 @@ first_of (Two a b) = a
 first_of (Three a b c) = a
 first_of (Four a b c d) = a
 
--- hexadecimal digits alone
+-- only hexadecimal digits
 abbrev pub all_digits : Word → Bool
 all_digits Empty = false
 all_digits (One a) = is_digit a

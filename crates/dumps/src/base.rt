@@ -5,24 +5,24 @@ ghost use Rattle.dumps.specs.Bases.{counts, radix};
 
 use crate::row::Style;
 
-/// The fewest digits of an offset of `od` that is octal or decimal.
+/// The fewest digits of an octal or decimal offset of `od`.
 const DIGITS_OF_OTHERS: usize = 7;
 
-/// The base in which a dump's offsets are written.
+/// The base of a dump's offsets.
 #[derive(Clone, Copy)]
 pub(crate) enum Base {
-    /// As `od -Ax` and all others write them.
+    /// As `od -Ax` and all other programs write them.
     Hexadecimal,
     /// As `od -Ad` and `xxd -d` write them.
     Decimal,
-    /// As `od` writes them by itself.
+    /// As `od` writes them without an option.
     Octal,
-    /// Hexadecimal, under a heading that HxD or PowerShell writes.
+    /// Hexadecimal, under a heading of HxD or PowerShell.
     Headed,
 }
 
 impl Base {
-    /// How many digits there are.
+    /// Returns how many digits the base has.
     pub(crate) fn radix(self) -> u8
         ensures { result ≡ radix self }
     {
@@ -33,7 +33,7 @@ impl Base {
         }
     }
 
-    /// A number with a zero after its digits.
+    /// Returns a number with a zero after its digits.
     pub(crate) fn shifted(self, number: usize) -> usize
         requires { number ≤ 562949953421312 }
         ensures is { result ≡ number * radix self }
@@ -46,7 +46,7 @@ impl Base {
         }
     }
 
-    /// Whether such a row may have an offset of so many digits in this base.
+    /// Whether a row of this program may have an offset with this many digits in this base.
     pub(crate) fn counts(self, digits: usize, style: Style) -> bool
         ensures { result ≡ counts self digits style }
     {

@@ -5,7 +5,7 @@ ghost use Rattle.dumps.specs.Source.{after_slash, after_star, in_block, in_line}
 
 use crate::turn::Place;
 
-/// What follows a `/` outside of quotes and comments.
+/// Returns what a character after a `/` outside of quotes and comments begins.
 pub(crate) fn after_slash(x: u8) -> Option<Place>
     ensures { result ≡ after_slash x }
 {
@@ -16,7 +16,7 @@ pub(crate) fn after_slash(x: u8) -> Option<Place>
     }
 }
 
-/// The place after a character of a comment up to the end of the line.
+/// Returns the place after a character of a comment that the end of the line ends.
 pub(crate) fn in_line(x: u8) -> Place
     ensures { result ≡ in_line x }
 {
@@ -26,7 +26,7 @@ pub(crate) fn in_line(x: u8) -> Place
     }
 }
 
-/// The place after a character of a comment up to `*/`.
+/// Returns the place after a character of a comment that `*/` ends.
 pub(crate) fn in_block(x: u8) -> Place
     ensures { result ≡ in_block x }
 {
@@ -36,7 +36,7 @@ pub(crate) fn in_block(x: u8) -> Place
     }
 }
 
-/// The place after a character that follows a `*` there.
+/// Returns the place after a character that follows a `*` in such a comment.
 pub(crate) fn after_star(x: u8) -> Place
     ensures { result ≡ after_star x }
 {

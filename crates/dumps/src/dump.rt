@@ -12,13 +12,14 @@ use crate::text::offset;
 use octet_core::{Octets, after_blanks};
 use std::alloc::{AllocError, Global};
 
-/// The first offset of a dump is below this.
+/// The first offset of a dump must be below this.
 const STARTS_BELOW: usize = 281_474_976_710_656;
 
-/// The octets of a dump as `xxd`, `hexdump -C`, `od -tx1`, Wireshark, gdb, HxD or PowerShell writes it. The offsets of
-/// `od` may be hexadecimal, octal or decimal, or left out, and those of `xxd` hexadecimal or decimal, from any on; `od`
-/// may have `z`, and Wireshark may leave the characters out. A text that isn't such a dump, or not all of one, or whose
-/// offsets give other octets in another base, is `Form`.
+/// Returns the octets of a dump as `xxd`, `hexdump -C`, `od -tx1`, Wireshark, gdb, HxD or PowerShell writes it. The
+/// offsets of `od` may be hexadecimal, octal or decimal, or absent. Those of `xxd` may be hexadecimal or decimal, and
+/// may begin at any number. `od` may have `z`, and Wireshark may leave out the characters.
+///
+/// A text is `Form` if it isn't such a dump, or not all of it is, or if its offsets give other octets in another base.
 pub fn dump_octets(alloc: Global, text: &[u8]) -> Result<Octets, DumpFault>
     ensures { UnlessMemory result (dump_octets text.now) }
 {
@@ -32,7 +33,7 @@ pub fn dump_octets(alloc: Global, text: &[u8]) -> Result<Octets, DumpFault>
     all.ok_or(DumpFault::Form)
 }
 
-/// The octets of a text with offsets in a base, if it is one.
+/// Returns the octets of a text with offsets in this base, if it is a dump.
 fn reading(alloc: Global, base: Base, text: &[u8]) -> Result<Option<Octets>, AllocError>
     ensures { IfOk result (λ octets. octets ≡ given (octets_by base text.now)) }
 {
@@ -43,7 +44,7 @@ fn reading(alloc: Global, base: Base, text: &[u8]) -> Result<Option<Octets>, All
     }
 }
 
-/// The octets of a text with offsets in a base.
+/// Returns the octets of a text with offsets in this base.
 fn octets_by(alloc: Global, base: Base, text: &[u8]) -> Result<Octets, DumpFault>
     ensures { UnlessMemory result (octets_by base text.now) }
 {
@@ -54,7 +55,7 @@ fn octets_by(alloc: Global, base: Base, text: &[u8]) -> Result<Octets, DumpFault
     dump.end()
 }
 
-/// The offset from which those of a text count: that of its first row, if `xxd` or gdb writes it, and else 0.
+/// Returns the offset that the dump begins at: that of the first row if `xxd` or gdb writes it, else 0.
 pub(crate) fn start_of(base: Base, text: &[u8]) -> usize
     ensures { result ≡ start_of base text.now }
 {
@@ -65,7 +66,7 @@ pub(crate) fn start_of(base: Base, text: &[u8]) -> usize
     }
 }
 
-/// The offset of a row, if `xxd` writes it.
+/// Returns the offset of a row, if `xxd` writes it, else 0.
 fn first_of_row(base: Base, row: &[u8]) -> usize
     ensures { result ≡ first_of_row base row.now }
 {
@@ -82,7 +83,8 @@ fn or_from_zero(at: usize) -> usize
     if at < STARTS_BELOW { at } else { 0 }
 }
 
-/// The octets that two readings give, of those that give any.
+/// Returns the octets of two readings: those of the one that gives any, or of both if they agree. If both give octets
+/// and differ, the text is `Form`.
 fn agree(first: Option<Octets>, second: Option<Octets>) -> Result<Option<Octets>, DumpFault>
     ensures { result ≡ agree first second }
 {

@@ -8,7 +8,8 @@ use crate::base::Base;
 use crate::text::{offset, pair, shown};
 use std::alloc::AllocError;
 
-/// Whether a line is one of a heading, after its blanks: one of HxD or PowerShell, or what PowerShell read.
+/// Whether a line is one of a heading, after its blanks: one of HxD or PowerShell, or PowerShell's line about its
+/// input.
 pub(crate) fn is_title(line: &[u8]) -> bool
     ensures { result ≡ is_title line.now }
 {
@@ -43,7 +44,7 @@ fn begins_label(line: &[u8]) -> bool
     matches!(line, [b'L', b'a', b'b', b'e', b'l', b':', ..])
 }
 
-/// How many characters in UTF-8 a text has.
+/// Returns how many characters in UTF-8 a text has.
 pub(crate) fn characters(text: &[u8]) -> usize
     ensures count { result ≡ characters text.now }
     ensures most { result ≤ length text.now }
@@ -59,14 +60,14 @@ pub(crate) fn characters(text: &[u8]) -> usize
     count
 }
 
-/// Whether it is an octet of a character after its first one.
+/// Whether an octet of UTF-8 continues a character.
 fn is_more(x: u8) -> bool
     ensures { result ≡ is_more x }
 {
     matches!(x, 0x80..=0xBF)
 }
 
-/// What is after the octets that go on a character.
+/// Returns the text after the octets in front of it that continue a character.
 fn after_more(text: &[u8]) -> &[u8]
     ensures { result.now ≡ after_more text.now }
 {
@@ -80,14 +81,14 @@ fn after_more(text: &[u8]) -> &[u8]
     rest
 }
 
-/// Whether a character that begins so shows an octet: itself, a full stop, or any one beyond ASCII.
+/// Whether a character that begins with `x` shows an octet: itself, a full stop, or any character beyond ASCII.
 fn may_show(octet: u8, x: u8) -> bool
     ensures { result ≡ may_show octet x }
 {
     x == shown(octet) || (x >= 0xC0 && !matches!(octet, b' '..=b'~'))
 }
 
-/// What is after the characters of these octets, which the text has to begin with.
+/// Returns the text after the characters that show these octets, if it begins with them.
 pub(crate) fn after_column<'a>(octets: &[u8], text: &'a [u8]) -> Option<&'a [u8]>
     ensures { option_map (λ rest. rest.now) result ≡ after_column octets.now text.now }
 {
@@ -103,7 +104,7 @@ pub(crate) fn after_column<'a>(octets: &[u8], text: &'a [u8]) -> Option<&'a [u8]
     Some(rest)
 }
 
-/// The address that gdb writes before a row, with a symbol or without, and what is after its `:`.
+/// Returns the address that gdb writes before a row, with or without a symbol, and the text after its `:`.
 pub(crate) fn addressed(line: &[u8]) -> Option<(usize, &[u8])>
     ensures { option_map (λ row. (row.0, row.1.now)) result ≡ addressed line.now }
 {
@@ -116,7 +117,7 @@ pub(crate) fn addressed(line: &[u8]) -> Option<(usize, &[u8])>
     }
 }
 
-/// An address, and what is after the `:` that a text begins with.
+/// Returns an address and the text after the `:` that it begins with.
 fn after_address(at: usize, text: &[u8]) -> Option<(usize, &[u8])>
     ensures { option_map (λ row. (row.0, row.1.now)) result ≡ after_address at text.now }
 {
@@ -126,7 +127,7 @@ fn after_address(at: usize, text: &[u8]) -> Option<(usize, &[u8])>
     }
 }
 
-/// What is after a symbol between ` <` and `>`, if one is there.
+/// Returns the text after a symbol between ` <` and `>`, if it begins with one.
 fn after_symbol(text: &[u8]) -> &[u8]
     ensures { result.now ≡ after_symbol text.now }
 {
@@ -136,7 +137,7 @@ fn after_symbol(text: &[u8]) -> &[u8]
     }
 }
 
-/// What is after the `>` that ends a symbol; empty where there is none.
+/// Returns the text after the `>` that ends a symbol, empty if there is none.
 fn after_close(text: &[u8]) -> &[u8]
     ensures { result.now ≡ after_close text.now }
 {
@@ -150,14 +151,14 @@ fn after_close(text: &[u8]) -> &[u8]
     rest
 }
 
-/// Whether `>`, `:` and a tab are in front of a text.
+/// Whether a text begins with `>`, `:` and a tab.
 fn is_close(text: &[u8]) -> bool
     ensures { result ≡ is_close text.now }
 {
     matches!(text, [b'>', b':', b'\t', ..])
 }
 
-/// Adds the octets in front of a text, each after a tab and `0x`, and gives what is after them.
+/// Appends the octets in front of a text, each after a tab and `0x`. Returns the text after them.
 pub(crate) fn push_tabbed<'a>(octets: &mut Vec<u8>, text: &'a [u8]) -> Result<&'a [u8], AllocError>
     ensures { IfOk result (λ rest. (octets.new.items, rest.now)
         ≡ joined_to octets.old.items (tabbed text.now)) }
@@ -170,7 +171,7 @@ pub(crate) fn push_tabbed<'a>(octets: &mut Vec<u8>, text: &'a [u8]) -> Result<&'
     Ok(rest)
 }
 
-/// The octet after a tab and `0x`, and what is after it.
+/// Returns the octet after a tab and `0x`, and the text after it.
 fn tab_octet(text: &[u8]) -> Option<(u8, &[u8])>
     ensures { option_map (λ s. (s.0, s.1.now)) result ≡ tab_octet text.now }
 {
@@ -180,7 +181,7 @@ fn tab_octet(text: &[u8]) -> Option<(u8, &[u8])>
     }
 }
 
-/// An octet, if there is one, and what is after it.
+/// Returns an octet, if there is one, and the text after it.
 fn octet_and(octet: Option<u8>, after: &[u8]) -> Option<(u8, &[u8])>
     ensures { option_map (λ s. (s.0, s.1.now)) result
         ≡ option_map {U = ℕ × List ℕ} (λ o. (o, after.now)) octet }

@@ -1,4 +1,4 @@
-//! Why a text gives no octets.
+//! Why a text isn't octets.
 
 ghost use Rattle.std.specs.Prelude.{◌≡◌};
 
@@ -6,12 +6,12 @@ use std::alloc::AllocError;
 use std::error::Error;
 use std::fmt::{self, Display, Formatter, Write};
 
-/// Why a text gives no octets.
+/// Why a text isn't octets.
 #[derive(Clone, Copy, Debug, PartialEq, Eq)]
 pub enum DumpFault {
     /// The text isn't in the form.
     Form,
-    /// A growth of memory was refused.
+    /// Memory couldn't grow.
     Memory,
 }
 

@@ -1,4 +1,4 @@
-//! What may stand before the octets of a source, and after them: a label, or a declaration.
+//! The text that may come before the octets of a source, and after them: a label or a declaration.
 
 ghost use Rattle.std.specs.Prelude.{◌≡◌, ◌&&◌};
 ghost use Rattle.dumps.specs.Heads.{after_declaration, in_count, in_head, in_name, in_size, is_name, is_octets, long, mark_in_head, may_name, named, or_long};
@@ -10,11 +10,11 @@ use crate::marks::{is_digit, is_letter, is_part, is_space};
 use crate::turn::{Around, Now, Place, Turn};
 use crate::word::Word;
 
-/// What stands for a word that is no octet, however long.
+/// The word that stands for any longer word that isn't an octet.
 pub(crate) const LONG: Word = Word::Four(b'_', b'_', b'_', b'_');
 
 impl Now {
-    /// Whether a label or a declaration may begin: there is no octet so far, and no `=`.
+    /// Whether a label or a declaration may begin: there is no octet yet, and no `=`.
     pub(crate) fn may_name(self) -> bool
         ensures { result ≡ may_name self }
     {
@@ -22,7 +22,8 @@ impl Now {
             && matches!(self.around, Around::Nothing | Around::Label | Around::Typed)
     }
 
-    /// Whether the word under way begins one: it begins with a letter, and isn't hexadecimal digits alone.
+    /// Whether the unfinished word begins a label or a declaration. It begins with a letter, and isn't only hexadecimal
+    /// digits.
     pub(crate) fn is_name(self) -> bool
         ensures { result ≡ is_name self }
     {
@@ -33,7 +34,7 @@ impl Now {
             && !self.is_skipped(self.word)
     }
 
-    /// In a label or a declaration, in which no word could be octets.
+    /// Takes a character in a label or a declaration, in which no word may look like octets.
     pub(crate) fn in_head(self, x: u8) -> Turn
         ensures { result ≡ in_head self x }
     {
@@ -47,7 +48,8 @@ impl Now {
         named(self.with_word(Word::Empty).mark_in_head(x, digits))
     }
 
-    /// A character that is no part of a word, in a label or a declaration, after a word of digits or another one.
+    /// Takes a character that isn't part of a word, in a label or a declaration. `digits` is whether the word before it
+    /// is digits.
     fn mark_in_head(self, x: u8, digits: bool) -> Option<Now>
         ensures { result ≡ mark_in_head x digits self }
     {
@@ -61,7 +63,7 @@ impl Now {
         }
     }
 
-    /// In a size, up to `]` or `>`.
+    /// Takes a character in a size, up to `]` or `>`.
     pub(crate) fn in_size(self, x: u8) -> Turn
         ensures { result ≡ in_size self x }
     {
@@ -74,7 +76,7 @@ impl Now {
         }
     }
 
-    /// After a declaration: blanks and comments, or another declaration, of a number.
+    /// Takes a character after a declaration: a blank, a comment, or another declaration of a number.
     pub(crate) fn after_declaration(self, x: u8) -> Turn
         ensures { result ≡ after_declaration self x }
     {
@@ -91,7 +93,7 @@ impl Now {
         }
     }
 
-    /// In the name of another declaration, up to `=`.
+    /// Takes a character in the name of another declaration, up to `=`.
     pub(crate) fn in_name(self, x: u8) -> Turn
         ensures { result ≡ in_name self x }
     {
@@ -105,7 +107,7 @@ impl Now {
         }
     }
 
-    /// In the number of another declaration: decimal digits up to `;`.
+    /// Takes a character in the number of another declaration: decimal digits up to `;`.
     pub(crate) fn in_count(self, x: u8) -> Turn
         ensures { result ≡ in_count self x }
     {
@@ -119,7 +121,7 @@ impl Now {
         }
     }
 
-    /// The same after the `:` that ends a label. After a digit the label could be octets.
+    /// Returns the state after the `:` that ends a label. A label that ends with a digit could be octets.
     fn labelled(self, digits: bool) -> Now
         ensures { result ≡ with_label digits self }
     {
@@ -132,7 +134,7 @@ impl Now {
         }
     }
 
-    /// The same after the `=` of a declaration, after which decimal numbers may stand too.
+    /// Returns the state after the `=` of a declaration. Decimal numbers are allowed after it.
     pub(crate) fn declaring(self) -> Now
         ensures { result ≡ with_declaration self }
     {
@@ -145,7 +147,7 @@ impl Now {
         }
     }
 
-    /// The same after the `;` that ends a declaration.
+    /// Returns the state after the `;` that ends a declaration.
     pub(crate) fn ending(self) -> Now
         ensures { result ≡ with_end self }
     {
@@ -158,7 +160,8 @@ impl Now {
     }
 }
 
-/// A word of a head with one more character: from the fifth on only this counts, whether all are digits.
+/// Returns a word of a label or a declaration with one more character. From the fifth character on, only whether all
+/// are digits is kept.
 fn longer_or_long(word: Word, x: u8) -> Word
     ensures { result ≡ or_long (all_digits word && is_digit x) word (longer word x) }
 {

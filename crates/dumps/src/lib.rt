@@ -1,9 +1,9 @@
 //! Octets as other programs write them: dumps with offsets, and lists in sources.
 //!
-//! What a text gives is a function of the text, by its lines in `specs/Dump.antt` and by its characters in
-//! `specs/Source.antt`: octets, or that it isn't in the form. A text that could be read in two ways isn't. Of
-//! one that isn't [`dump_stop`] and [`source_stop`] tell the first place that is wrong. [`begins_with_offset`] says
-//! whether a text begins as a row of a dump does, and [`is_octal_words`] whether it is octal words of `od`.
+//! `specs/Dump.antt` defines by the lines of a text which octets it gives, and `specs/Source.antt` by its characters. A
+//! text that could be read in two ways isn't in the form. If a text isn't in the form, [`dump_stop`] and
+//! [`source_stop`] return its first wrong place. [`begins_with_offset`] says whether a text begins like a row of a
+//! dump. [`is_octal_words`] says whether it is octal words of `od`.
 #![tactic(auto)]
 
 mod base;

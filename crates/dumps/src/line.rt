@@ -1,4 +1,4 @@
-//! The lines of a dump, taken one after another.
+//! The lines of a dump, one after another.
 
 ghost use Rattle.std.specs.Prelude.{◌≡◌, ◌++◌, [], Some, Ok, Err, IfOk, IfSome, IfNone, option_map};
 ghost use Rattle.dumps.specs.Dump.{bare_row, copies, counted, ended, headed_row, is_heading, is_next, is_offset, line_of, nothing_taken, row_after, starred, style_of, up_to, with_address, with_line, with_octets, with_rest, with_row, Becomes, ComesTo};
@@ -15,10 +15,10 @@ use crate::text::{after_blanks, offset};
 use octet_core::Octets;
 use std::alloc::{AllocError, Global};
 
-/// The most octets of an input.
+/// The most octets that an input may have.
 const MOST: usize = 4_194_304;
 
-/// The octets of a row that a `*` may repeat.
+/// The length of a row that a `*` may repeat.
 const WHOLE: usize = 16;
 
 /// The fewest digits of an offset.
@@ -27,22 +27,22 @@ pub(crate) const FEWEST_DIGITS: usize = 4;
 /// The fewest digits of an offset under a heading.
 const DIGITS_OF_EDITORS: usize = 8;
 
-/// What the line before was, empty ones left out.
+/// What the line before was. Empty lines don't count.
 #[derive(Clone, Copy)]
 pub(crate) enum Before {
-    /// There was none.
+    /// There was no line.
     Nothing,
-    /// One of a heading.
+    /// A line of a heading.
     Heading,
     /// A row.
     Row(Style),
-    /// A `*`, for rows like the last one.
+    /// A `*`, which stands for rows like the last one.
     Star,
-    /// An offset alone, which ends the dump.
+    /// Only an offset, which ends the dump.
     End,
 }
 
-/// What the lines so far gave.
+/// The result of the lines so far.
 #[derive(Drop)]
 pub(crate) struct Dump {
     octets: Vec<u8>,
@@ -51,12 +51,12 @@ pub(crate) struct Dump {
     before: Before,
     /// The base of the offsets.
     base: Base,
-    /// The offset from which they count.
+    /// The offset at which the dump begins.
     start: usize,
 }
 
 impl Dump {
-    /// What no line gives, where offsets of a base count from `start`.
+    /// Returns a dump without lines, with offsets in this base from `start` on.
     pub(crate) fn new(alloc: Global, base: Base, start: usize) -> Self
         ensures { taken result ≡ nothing_taken base start }
     {
@@ -69,14 +69,15 @@ impl Dump {
         }
     }
 
-    /// The base in which its offsets are.
+    /// Returns the base of the offsets.
     pub(crate) fn base(&self) -> Base
         ensures { result ≡ self.now.base }
     {
         self.base
     }
 
-    /// Whether it goes on at this offset: the one of the octets so far, or after `*` one up to which rows are repeated.
+    /// Whether the dump may continue at this offset: the end of its octets, or after `*` an offset up to which rows
+    /// repeat.
     pub(crate) fn reaches(&self, at: usize) -> bool
         ensures { result ≡ is_reached (up_to at self.now.before (taken self.now)) }
     {
@@ -87,7 +88,7 @@ impl Dump {
         }
     }
 
-    /// Takes one more line, without its end. One that doesn't go on the dump is `Form`.
+    /// Takes one more line, without its line end. A line that can't continue the dump is `Form`.
     pub(crate) fn take(&mut self, line: &[u8]) -> Result<(), DumpFault>
         ensures { Becomes (with_line (taken self.old) line.now) (taken self.new) result }
     {
@@ -106,7 +107,7 @@ impl Dump {
         }
     }
 
-    /// The octets of all lines, where the dump is whole and there are no more than an input may have.
+    /// Returns the octets of all lines, if the dump is complete and has no more octets than an input may have.
     pub(crate) fn end(self) -> Result<Octets, DumpFault>
         ensures { result ≡ ended (taken self) }
     {
@@ -122,7 +123,7 @@ impl Dump {
         }
     }
 
-    /// Takes a `*`, which follows a row of 16 octets.
+    /// Takes a `*`, which must follow a row of 16 octets.
     fn star(&mut self) -> Result<(), DumpFault>
         ensures { Becomes (starred self.old.before (taken self.old)) (taken self.new) result }
     {
@@ -136,7 +137,7 @@ impl Dump {
         }
     }
 
-    /// Takes a line that has to begin with an offset.
+    /// Takes a line that must begin with an offset.
     fn take_offset(&mut self, line: &[u8]) -> Result<(), DumpFault>
         ensures { Becomes (line_of line.now (taken self.old)) (taken self.new) result }
     {
@@ -149,7 +150,7 @@ impl Dump {
         self.take_rest(digits, text)
     }
 
-    /// Takes what is after an offset of so many digits: a row, or nothing, which ends the dump.
+    /// Takes the text after an offset with this many digits: a row, or nothing, which ends the dump.
     fn take_rest(&mut self, digits: usize, text: &[u8]) -> Result<(), DumpFault>
         ensures { Becomes (with_rest (taken self.old) digits text.now) (taken self.new) result }
     {
@@ -161,7 +162,7 @@ impl Dump {
         self.take_row(style, row)
     }
 
-    /// Repeats the last row up to an offset, where a `*` asks for that. Else the offset is that of the octets.
+    /// Moves to an offset. After a `*` the last row is repeated up to it. Otherwise the octets so far must end there.
     fn come_to(&mut self, at: usize) -> Result<(), DumpFault>
         ensures { ComesTo (up_to at self.old.before (taken self.old)) (taken self.old)
             (taken self.new) result }
@@ -178,7 +179,7 @@ impl Dump {
         }
     }
 
-    /// Adds copies of the last row up to an offset, at least one.
+    /// Appends one or more copies of the last row, up to an offset.
     fn repeat(&mut self, at: usize) -> Result<(), DumpFault>
         ensures { ComesTo (up_to at before.Star (taken self.old)) (taken self.old) (taken self.new)
             result }
@@ -190,7 +191,8 @@ impl Dump {
         Ok(())
     }
 
-    /// How many copies of the last row are missing up to an offset, at least one; `None` where it is no such offset.
+    /// Returns how many copies of the last row are missing up to an offset, at least one. `None` if no number of copies
+    /// ends there.
     fn copies_to(&self, at: usize) -> Option<usize>
         ensures some { IfSome result (λ count. up_to at before.Star (taken self.now)
             ≡ Ok (self.now.octets.items ++ copies count self.now.row.items)) }
@@ -204,7 +206,7 @@ impl Dump {
         Some(more / WHOLE)
     }
 
-    /// Adds so many copies of the last row.
+    /// Appends this many copies of the last row.
     fn copy(&mut self, count: usize) -> Result<(), AllocError>
         ensures rest { taken self.new ≡ with_octets self.new.octets.items (taken self.old) }
         ensures octets { IfOk result
@@ -218,14 +220,14 @@ impl Dump {
         Ok(())
     }
 
-    /// Whether an offset is where the octets so far end.
+    /// Whether the octets so far end at this offset.
     fn is_next(&self, at: usize) -> bool
         ensures { result ≡ is_next at (taken self.now) }
     {
         at >= self.start && at - self.start == self.octets.len()
     }
 
-    /// Whether a line is one of a heading, before all rows.
+    /// Whether a line is one of a heading, which comes before all rows.
     fn is_heading(&self, line: &[u8]) -> bool
         ensures { result ≡ is_heading self.now.base self.now.before line.now }
     {
@@ -234,7 +236,8 @@ impl Dump {
             && is_title(after_blanks(line))
     }
 
-    /// Which program's row has this after an offset of so many digits, where the program writes it in this base.
+    /// Returns the program that writes this text after an offset with this many digits, if it writes offsets in this
+    /// base.
     fn row_of<'a>(&self, digits: usize, text: &'a [u8]) -> Option<(Style, &'a [u8])>
         ensures { option_map (λ row. (row.0, row.1.now)) result
             ≡ row_after self.now.base digits self.now.before text.now }
@@ -268,7 +271,7 @@ impl Dump {
         }
     }
 
-    /// Takes a row that is after the octets so far.
+    /// Takes a row that continues the octets so far.
     fn take_row(&mut self, style: Style, text: &[u8]) -> Result<(), DumpFault>
         ensures { Becomes (with_row (taken self.old) (Some (style, text.now)))
             (taken self.new) result }
@@ -280,7 +283,7 @@ impl Dump {
     }
 }
 
-/// Which program's row has this after an offset of so many digits in a base.
+/// Returns the program that writes this text after an offset with this many digits in this base.
 fn counted(base: Base, digits: usize, text: &[u8]) -> Option<(Style, &[u8])>
     ensures { option_map (λ row. (row.0, row.1.now)) result
         ≡ counted base digits (style_of digits text.now) }
@@ -291,7 +294,7 @@ fn counted(base: Base, digits: usize, text: &[u8]) -> Option<(Style, &[u8])>
     }
 }
 
-/// A row under a heading, after its offset and blanks.
+/// Returns a row under a heading, after its offset and blanks.
 fn headed_row(digits: usize, before: Before, text: &[u8]) -> Option<(Style, &[u8])>
     ensures { option_map (λ row. (row.0, row.1.now)) result ≡ headed_row digits before text.now }
 {
@@ -302,8 +305,8 @@ fn headed_row(digits: usize, before: Before, text: &[u8]) -> Option<(Style, &[u8
     }
 }
 
-/// Whether an offset of so many digits may be there, with this text after it. One alone ends a dump as `od` and
-/// `hexdump` do, and comes after no row of Wireshark.
+/// Whether an offset with this many digits is allowed before this text. An offset alone ends a dump of `od` and
+/// `hexdump`, and may not follow a row of Wireshark.
 fn is_offset(digits: usize, text: &[u8], before: Before) -> bool
     ensures { result ≡ is_offset digits text.now before }
 {

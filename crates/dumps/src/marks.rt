@@ -1,4 +1,4 @@
-//! Which characters of a source are of which kind.
+//! The kinds of characters in a source.
 
 ghost use Rattle.std.specs.Prelude.{◌≡◌};
 ghost use Rattle.dumps.specs.Characters.{is_digit};
@@ -12,21 +12,21 @@ pub(crate) fn is_digit(x: u8) -> bool
     digit(x) != NO_DIGIT
 }
 
-/// Whether it is a letter or a decimal digit.
+/// Whether the character is a letter or a decimal digit.
 pub(crate) fn is_part(x: u8) -> bool
     ensures { result ≡ is_part x }
 {
     matches!(x, b'0'..=b'9' | b'A'..=b'Z' | b'a'..=b'z')
 }
 
-/// Whether it may stand between octets: a blank, what ends a line, `:`, `-` or `_`.
+/// Whether the character is allowed between octets: a blank, a line end, `:`, `-` or `_`.
 pub(crate) fn is_between(x: u8) -> bool
     ensures { result ≡ is_between x }
 {
     matches!(x, b' ' | b'\t' | b'\n' | b'\r' | b':' | b'-' | b'_')
 }
 
-/// Whether lists are written with it.
+/// Whether the character is one that lists are written with.
 pub(crate) fn is_listing(x: u8) -> bool
     ensures { result ≡ is_listing x }
 {
@@ -39,7 +39,7 @@ pub(crate) fn is_quote(x: u8) -> bool
     matches!(x, b'"' | b'\'')
 }
 
-/// Whether it is a blank, or ends a line.
+/// Whether the character is a blank or a line end.
 pub(crate) fn is_space(x: u8) -> bool
     ensures { result ≡ is_space x }
 {

@@ -1,4 +1,4 @@
-//! Where a text isn't a dump any more.
+//! The first place where a text isn't a dump.
 
 ghost use Rattle.std.specs.Prelude.{◌≡◌, ◌≤◌, length, IfOk};
 ghost use Rattle.dumps.specs.Dump.{begins_with_offset, ended, is_gap, style_of};
@@ -14,25 +14,25 @@ use crate::text::offset;
 use octet_core::{after_blanks, is_blank};
 use std::alloc::{AllocError, Global};
 
-/// What is wrong at the first place at which a text isn't a dump any more.
+/// What is wrong at the first place where a text isn't a dump.
 #[derive(Clone, Copy, Debug, PartialEq, Eq)]
 pub enum DumpWrong {
-    /// The offset has fewer than four digits there.
+    /// The offset has fewer than four digits.
     Offset,
-    /// The offset that begins there isn't how many octets came before, or a line follows the end.
+    /// The offset isn't the number of octets before it, or a line follows the end.
     Place,
-    /// A `*` follows no row of 16 octets.
+    /// A `*` doesn't follow a row of 16 octets.
     Star,
-    /// There are no octets there, or not the column that shows those before.
+    /// Octets are missing, or the column that shows the octets before.
     Row,
-    /// The text ends there without the offset that ends a dump, or with too many octets.
+    /// The text ends without the offset that ends a dump, or with too many octets.
     End,
-    /// The text ends there, and its offsets give other octets in another base.
+    /// The text ends, and its offsets give other octets in another base.
     TwoWays,
 }
 
-/// The first place at which a text isn't a dump any more, and what is wrong there; `None` where it is one. Of several
-/// bases in which its offsets can be read it is the one that goes furthest.
+/// Returns the first place where a text isn't a dump, and what is wrong there; `None` if it is one. The place is that
+/// of the base in which the text can be read furthest.
 pub fn dump_stop(alloc: Global, text: &[u8]) -> Result<Option<(usize, DumpWrong)>, AllocError>
     ensures { IfOk result (λ stop. stop ≡ dump_stop text.now) }
 {
@@ -43,7 +43,7 @@ pub fn dump_stop(alloc: Global, text: &[u8]) -> Result<Option<(usize, DumpWrong)
     }
 }
 
-/// The same of a text that is no dump.
+/// Returns the first wrong place of a text that isn't a dump, in the base in which it can be read furthest.
 fn furthest_stop(alloc: Global, text: &[u8]) -> Result<(usize, DumpWrong), AllocError>
     ensures { IfOk result (λ stop. stop ≡ furthest_stop text.now) }
 {
@@ -56,8 +56,8 @@ fn furthest_stop(alloc: Global, text: &[u8]) -> Result<(usize, DumpWrong), Alloc
     Ok(further(of_three, headed))
 }
 
-/// The one of two places that is further on. An offset that is too short in another base counts for nothing, since the
-/// hexadecimal one tells of it.
+/// Returns the later of two places. An offset that is too short in another base doesn't count, since the hexadecimal
+/// reading reports it.
 fn further(first: (usize, DumpWrong), other: (usize, DumpWrong)) -> (usize, DumpWrong)
     ensures { result ≡ further first other }
 {
@@ -74,7 +74,7 @@ fn is_short(wrong: DumpWrong) -> bool
     matches!(wrong, DumpWrong::Offset)
 }
 
-/// The first place at which a text isn't a dump any more whose offsets are in a base, or its end.
+/// Returns the first wrong place of a text with offsets in this base, or its end.
 fn stop_or_end(alloc: Global, base: Base, text: &[u8]) -> Result<(usize, DumpWrong), AllocError>
     ensures { IfOk result (λ stop. stop ≡ stop_or_end base text.now) }
 {
@@ -84,7 +84,7 @@ fn stop_or_end(alloc: Global, base: Base, text: &[u8]) -> Result<(usize, DumpWro
     }
 }
 
-/// The first place at which a text isn't a dump any more whose offsets are in a base.
+/// Returns the first wrong place of a text with offsets in this base.
 fn stop_by(alloc: Global, base: Base, text: &[u8]) -> Result<Option<(usize, DumpWrong)>, AllocError>
     ensures { IfOk result (λ stop. stop ≡ stop_by base text.now) }
 {
@@ -99,7 +99,7 @@ fn stop_by(alloc: Global, base: Base, text: &[u8]) -> Result<Option<(usize, Dump
     Ok(stop_at_end(dump, text.len()))
 }
 
-/// Takes one more line, or says at which of its columns it is wrong, and what is wrong there.
+/// Takes one more line, or returns the column where it is wrong, and what is wrong there.
 fn stop_at(
     alloc: Global,
     dump: &mut Dump,
@@ -115,8 +115,8 @@ fn stop_at(
     }
 }
 
-/// Whether a text begins as a row does, after blanks and empty lines: with an offset, and a blank or a tab after it.
-/// Hexadecimal takes such an offset for octets.
+/// Whether a text begins like a row, after blanks and empty lines: with an offset, and a blank or a tab after it.
+/// Hexadecimal would read such an offset as octets.
 pub fn begins_with_offset(text: &[u8]) -> bool
     ensures { result ≡ begins_with_offset text.now }
 {
@@ -125,14 +125,14 @@ pub fn begins_with_offset(text: &[u8]) -> bool
     row.len().saturating_sub(rest.len()) >= FEWEST_DIGITS && is_gap(rest)
 }
 
-/// Whether a blank or a tab is in front of a text.
+/// Whether a text begins with a blank or a tab.
 fn is_gap(text: &[u8]) -> bool
     ensures { result ≡ is_gap text.now }
 {
     matches!(text, [x, ..] if is_blank(*x) && !is_line_end(*x))
 }
 
-/// What is wrong at the end of a text, if anything.
+/// Returns what is wrong at the end of a text, if anything is.
 fn stop_at_end(dump: Dump, place: usize) -> Option<(usize, DumpWrong)>
     ensures { result ≡ stop_at_end place (ended (taken dump)) }
 {
@@ -142,7 +142,7 @@ fn stop_at_end(dump: Dump, place: usize) -> Option<(usize, DumpWrong)>
     }
 }
 
-/// At which column of a line a dump doesn't take it, and what is wrong there.
+/// Returns the column of a line that can't continue a dump, and what is wrong there.
 fn stop_in(alloc: Global, dump: &Dump, line: &[u8]) -> Result<(usize, DumpWrong), AllocError>
     ensures column { IfOk result (λ stop. stop ≡ stop_in (taken dump.now) line.now) }
     ensures within { IfOk result (λ stop. stop.0 ≤ length line.now) }
@@ -158,7 +158,7 @@ fn stop_in(alloc: Global, dump: &Dump, line: &[u8]) -> Result<(usize, DumpWrong)
     stop_after(alloc, dump, line.len(), digits, at, text)
 }
 
-/// The same where an offset of so many digits is in front of a text.
+/// Returns what is wrong after an offset with this many digits, and the column.
 fn stop_after(
     alloc: Global,
     dump: &Dump,
@@ -179,14 +179,15 @@ fn stop_after(
     Ok((characters.saturating_sub(left), DumpWrong::Row))
 }
 
-/// Whether a line is `*` alone.
+/// Whether a line is only `*`.
 fn is_star(line: &[u8]) -> bool
     ensures { result ≡ is_star line.now }
 {
     matches!(line, [b'*'])
 }
 
-/// How many characters of a row are left after its octets, or all where no row has this after its offset.
+/// Returns how many characters are left after the octets of a row. If no program's row has this text after its offset,
+/// it is all of them.
 fn row_left(alloc: Global, digits: usize, text: &[u8]) -> Result<usize, AllocError>
     ensures { IfOk result (λ left. left ≡ row_left (length text.now) (style_of digits text.now)) }
 {

@@ -1,4 +1,4 @@
-//! Where a text isn't a source any more.
+//! The first place where a text isn't a source.
 
 ghost use Rattle.std.specs.Prelude.{◌≡◌, ◌&&◌, ◌||◌, not, is_some};
 ghost use Rattle.dumps.specs.SourceStop.{Agrees, is_begun, is_wrong_word, source_stop, stop_at, stop_at_end, stop_from, word_len};
@@ -8,20 +8,20 @@ use crate::marks::is_part;
 use crate::turn::Now;
 use crate::word::Word;
 
-/// What is wrong at the first place at which a text isn't a source any more.
+/// What is wrong at the first place where a text isn't a source.
 #[derive(Clone, Copy, Debug, PartialEq, Eq)]
 pub enum SourceWrong {
-    /// This character may not be there.
+    /// This character isn't allowed here.
     Character,
-    /// A word begins there that is no octet, or is written in another way than those before.
+    /// A word that isn't an octet begins here, or an octet that is written in another way than those before.
     Word,
-    /// The text ends there, in a string or a comment.
+    /// The text ends in a string or a comment.
     Open,
-    /// The text ends there, and its octets can be read in two ways.
+    /// The text ends, and its octets can be read in two ways.
     TwoWays,
 }
 
-/// The first place at which a text isn't a source any more, and what is wrong there; `None` where it is one.
+/// Returns the first place where a text isn't a source, and what is wrong there; `None` if it is one.
 pub fn source_stop(text: &[u8]) -> Option<(usize, SourceWrong)>
     ensures place { result ≡ source_stop text.now }
     ensures agrees { Agrees result (source_octets text.now) }
@@ -46,7 +46,8 @@ fn stop_of(text: &[u8]) -> Option<(usize, SourceWrong)>
     stop_at_end(place, now)
 }
 
-/// What is wrong where a character may not follow: the word under way, which begins before it, or the character.
+/// Returns what is wrong at a character that isn't allowed: the unfinished word before it, from its beginning, or the
+/// character.
 fn stop_at(place: usize, now: Now, x: u8) -> (usize, SourceWrong)
     ensures { result ≡ stop_at place now x }
 {
@@ -60,7 +61,7 @@ fn stop_at(place: usize, now: Now, x: u8) -> (usize, SourceWrong)
     }
 }
 
-/// Whether a word is under way that is no octet, or is too long with this character.
+/// Whether the unfinished word isn't an octet, or is too long with this character.
 fn is_wrong_word(now: Now, x: u8) -> bool
     ensures { result ≡ is_wrong_word now x }
 {
@@ -68,7 +69,7 @@ fn is_wrong_word(now: Now, x: u8) -> bool
     is_begun(now.word()) && (is_part(x) || !is_ended)
 }
 
-/// What is wrong at the end of a text, if anything.
+/// Returns what is wrong at the end of a text, if anything is.
 fn stop_at_end(place: usize, now: Now) -> Option<(usize, SourceWrong)>
     ensures { result ≡ stop_at_end place now (ended now) }
 {
@@ -83,7 +84,7 @@ fn stop_at_end(place: usize, now: Now) -> Option<(usize, SourceWrong)>
     }
 }
 
-/// How many characters a word has.
+/// Returns how many characters a word has.
 fn word_len(word: Word) -> usize
     ensures { result ≡ word_len word }
 {

@@ -1,4 +1,4 @@
-//! Words of two octets, as `od` writes them by itself.
+//! Words of two octets, as `od` writes them without an option.
 
 ghost use Rattle.std.specs.Prelude.{◌≡◌, ◌≤◌, IfSome};
 ghost use Rattle.dumps.specs.OctalWords.{is_octal_words, next_digit};
@@ -8,8 +8,8 @@ use octet_core::is_blank;
 /// The octal digits of two octets.
 const DIGITS: u8 = 6;
 
-/// Whether a text is groups of six octal digits between blanks, one or more, as `od -An` writes words of two octets.
-/// Hexadecimal takes each for three octets.
+/// Whether a text is one or more groups of six octal digits between blanks, as `od -An` writes words of two octets.
+/// Hexadecimal would read each group as three octets.
 pub fn is_octal_words(text: &[u8]) -> bool
     ensures { result ≡ is_octal_words text.now }
 {
@@ -26,7 +26,8 @@ pub fn is_octal_words(text: &[u8]) -> bool
     digits == DIGITS || (digits == 0 && whole)
 }
 
-/// So many digits of a group and whether a whole one came, after one more character.
+/// Returns how many digits the group has after one more character, and whether a whole group came. `None` if the
+/// character isn't allowed.
 fn next_digit(digits: u8, whole: bool, x: u8) -> Option<(u8, bool)>
     ensures { result ≡ next_digit digits whole x }
 {

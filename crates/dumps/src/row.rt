@@ -10,13 +10,13 @@ use crate::fault::DumpFault;
 use crate::text::{after_blanks, after_shown, push_groups};
 use std::alloc::AllocError;
 
-/// How many characters the columns of 16 octets have, and the blank after them.
+/// The length of the columns of 16 octets, with the blank after them, in characters.
 const FIELD: usize = 48;
 
 /// The fewest digits of an offset of `od`.
 pub(crate) const DIGITS_OF_OD: usize = 6;
 
-/// Which program's row it is.
+/// The program that writes a row.
 #[derive(Clone, Copy)]
 pub(crate) enum Style {
     /// `00000000: 3b80 8001 01                             ;....`, as xxd writes it.
@@ -32,11 +32,11 @@ pub(crate) enum Style {
     Bare,
     /// `00000000  3B 80 80 01 01                                   ;€€..`, as HxD and PowerShell write it.
     Editor,
-    /// `0x555555558010 <atr>:`, and `0x3b` and such after tabs, as `x/16xb` of gdb writes it.
+    /// `0x555555558010 <atr>:`, and octets such as `0x3b` after tabs, as `x/16xb` of gdb writes it.
     Gdb,
 }
 
-/// Which program's row has this after an offset of so many digits, and what is after the blanks there.
+/// Returns the program that writes this text after an offset with this many digits, and the text after its blanks.
 pub(crate) fn style_of(digits: usize, text: &[u8]) -> Option<(Style, &[u8])>
     ensures { option_map (λ row. (row.0, row.1.now)) result ≡ style_of digits text.now }
 {
@@ -49,7 +49,8 @@ pub(crate) fn style_of(digits: usize, text: &[u8]) -> Option<(Style, &[u8])>
     }
 }
 
-/// The same after two blanks, where a third one or fewer digits tell Wireshark's row from that of `hexdump`.
+/// Returns the program for a text after an offset and two blanks. A third blank, or an offset with fewer digits, makes
+/// it a row of Wireshark instead of `hexdump`.
 fn after_two_blanks(digits: usize, text: &[u8]) -> (Style, &[u8])
     ensures { (result.0, result.1.now) ≡ after_two_blanks digits text.now }
 {
@@ -60,7 +61,7 @@ fn after_two_blanks(digits: usize, text: &[u8]) -> (Style, &[u8])
     }
 }
 
-/// Puts the octets of a row in place of others.
+/// Replaces the octets by those of a row.
 pub(crate) fn read_row(row: &mut Vec<u8>, style: Style, text: &[u8]) -> Result<(), DumpFault>
     ensures { IsRow (row_of style text.now) row.new.items result }
 {
@@ -73,7 +74,7 @@ pub(crate) fn read_row(row: &mut Vec<u8>, style: Style, text: &[u8]) -> Result<(
     }
 }
 
-/// Adds the octets of a row to none, and gives what is after them and one blank.
+/// Appends the octets of a row to an empty vector. Returns the text after them and one blank.
 pub(crate) fn push_row<'a>(
     row: &mut Vec<u8>,
     style: Style,
@@ -91,7 +92,7 @@ pub(crate) fn push_row<'a>(
     }
 }
 
-/// The same of a row in two halves of eight octets.
+/// Appends the octets of a row in two halves of eight octets. Returns the text after them.
 fn push_halves<'a>(row: &mut Vec<u8>, text: &'a [u8]) -> Result<&'a [u8], AllocError>
     requires { row.old.items ≡ [] }
     ensures { IfOk result (λ rest.
@@ -104,7 +105,8 @@ fn push_halves<'a>(row: &mut Vec<u8>, text: &'a [u8]) -> Result<&'a [u8], AllocE
     Ok(rest)
 }
 
-/// The same of a row of 16 columns for octets, with blanks in those that it doesn't need.
+/// Appends the octets of a row with 16 columns for octets, of which the unused ones are blank. Returns the text after
+/// them.
 fn push_field<'a>(row: &mut Vec<u8>, text: &'a [u8]) -> Result<&'a [u8], AllocError>
     requires { row.old.items ≡ [] }
     ensures { IfOk result (λ rest. (row.new.items, rest.now)
@@ -119,7 +121,7 @@ fn push_field<'a>(row: &mut Vec<u8>, text: &'a [u8]) -> Result<&'a [u8], AllocEr
     Ok(text)
 }
 
-/// Whether there is an octet, and the column that shows them.
+/// Whether there are octets, and the column that shows them.
 fn is_row(style: Style, octets: &[u8], text: &[u8]) -> bool
     ensures { result ≡ is_row style (octets.now, text.now) }
 {
@@ -144,7 +146,7 @@ fn has_column(style: Style, octets: &[u8], text: &[u8]) -> bool
     }
 }
 
-/// Whether blanks are there, and then one character for each octet.
+/// Whether the text is blanks, and then one character for each octet.
 fn is_bare(octets: &[u8], text: &[u8]) -> bool
     ensures { result ≡ is_bare (length text.now - length octets.now) octets.now text.now }
 {
@@ -153,7 +155,7 @@ fn is_bare(octets: &[u8], text: &[u8]) -> bool
     pad >= 1 && after_blanks(blanks).is_empty() && matches!(after_shown(octets, column), Some([]))
 }
 
-/// Whether blanks are there, and then one character in UTF-8 for each octet.
+/// Whether the text is blanks, and then one character in UTF-8 for each octet.
 fn is_shown(octets: &[u8], text: &[u8]) -> bool
     ensures { result ≡ is_shown (characters text.now - length octets.now) octets.now text.now }
 {
@@ -162,7 +164,7 @@ fn is_shown(octets: &[u8], text: &[u8]) -> bool
     after_blanks(blanks).is_empty() && matches!(after_column(octets, column), Some([]))
 }
 
-/// Whether a mark, one character for each octet and a mark are there.
+/// Whether the text is a mark, one character for each octet, and a mark.
 fn is_marked(first: u8, last: u8, octets: &[u8], text: &[u8]) -> bool
     ensures { result ≡ is_marked first last octets.now text.now }
 {

@@ -9,8 +9,8 @@ use crate::turn::Now;
 use octet_core::Octets;
 use std::alloc::{AllocError, Global};
 
-/// The octets that a source gives: `0x3B`, `\x3b`, `3Bh` or `3B`, all written in one way, in brackets or quotes,
-/// with comments. A text that isn't such a source, or that could be read in two ways, is `Form`.
+/// Returns the octets of a source: `0x3B`, `\x3b`, `3Bh` or `3B`, all written in one way, in brackets or quotes, with
+/// comments. A text is `Form` if it isn't such a source, or if it could be read in two ways.
 pub fn source_octets(alloc: Global, text: &[u8]) -> Result<Octets, DumpFault>
     ensures { UnlessMemory result (source_octets text.now) }
 {
@@ -32,7 +32,7 @@ pub fn source_octets(alloc: Global, text: &[u8]) -> Result<Octets, DumpFault>
     }
 }
 
-/// Adds an octet, if there is one.
+/// Appends an octet, if there is one.
 fn push(octets: &mut Vec<u8>, octet: Option<u8>) -> Result<(), AllocError>
     ensures { IfOk result (λ _. octets.new.items ≡ octets.old.items ++ those octet) }
 {

@@ -12,7 +12,7 @@ use crate::turn::{Now, Place, Turn};
 use crate::word::{Word, Writing};
 
 impl Now {
-    /// In a string of octets.
+    /// Takes a character in a string of octets.
     pub(crate) fn in_string(self, quote: u8, x: u8) -> Turn
         ensures { result ≡ in_string quote self.word self x }
     {
@@ -25,7 +25,7 @@ impl Now {
         }
     }
 
-    /// A character as it is, the end, or a `\`.
+    /// Takes a plain character, the quote that ends the string, or a `\`.
     fn plain_character(self, quote: u8, x: u8) -> Turn
         ensures { result ≡ plain_character quote self x }
     {
@@ -39,7 +39,7 @@ impl Now {
         }
     }
 
-    /// The character after a `\`.
+    /// Takes the character after a `\`.
     fn after_backslash(self, x: u8) -> Turn
         ensures { result ≡ after_backslash self x }
     {
@@ -50,7 +50,7 @@ impl Now {
         }
     }
 
-    /// The first digit after `\x`.
+    /// Takes the first digit after `\x`.
     fn first_digit(self, x: u8) -> Turn
         ensures { result ≡ first_digit self x }
     {
@@ -61,7 +61,7 @@ impl Now {
         }
     }
 
-    /// The end of an escape, which gives an octet.
+    /// Ends an escape, which gives an octet.
     fn character(self, octet: Option<u8>) -> Turn
         ensures { result ≡ character self octet }
     {
@@ -71,7 +71,7 @@ impl Now {
         }
     }
 
-    /// The same after a character, which could be part of pairs or not.
+    /// Returns the state after a character. `other` is whether it couldn't be part of a pair.
     fn with_character(self, other: bool) -> Now
         ensures { result ≡ with_character other self }
     {
@@ -85,14 +85,14 @@ impl Now {
     }
 }
 
-/// Whether a character could stand in a text of pairs.
+/// Whether a character could come in a text of pairs.
 fn is_of_pairs(x: u8) -> bool
     ensures { result ≡ is_of_pairs x }
 {
     is_digit(x) || is_between(x) || is_listing(x)
 }
 
-/// The octet that one character after a `\` stands for.
+/// Returns the octet of one character after a `\`.
 fn escaped(x: u8) -> Option<u8>
     ensures { result ≡ escaped x }
 {
@@ -105,7 +105,7 @@ fn escaped(x: u8) -> Option<u8>
     }
 }
 
-/// The string of octets that a quote begins.
+/// Returns the string of octets that a quote begins.
 pub(crate) fn string_at(quote: u8) -> Place
     ensures { result ≡ string_at quote }
 {

@@ -1,4 +1,4 @@
-//! Characters of a text, from the front: digits, groups of them, blanks.
+//! The characters in front of a text: digits, groups of them, blanks.
 
 ghost use Rattle.std.specs.Prelude.{◌≡◌, ℕ, List, Option, Some, None, IfOk, option_map, if◌then◌else◌};
 ghost use Rattle.dumps.specs.Characters.{after_blanks, after_shown, digit, front_octet, groups, is_pair, joined_to, octet_at, shown, step};
@@ -7,13 +7,13 @@ ghost use Rattle.dumps.specs.Bases.{offset_from};
 use crate::base::Base;
 use std::alloc::AllocError;
 
-/// What stands for a character that is no digit.
+/// The value of a character that isn't a digit.
 pub(crate) const NO_DIGIT: u8 = 16;
 
-/// What stands for all offsets from here on, 2 ^ 49.
+/// The value of all offsets from 2 ^ 49 on, which is this number.
 const BEYOND: usize = 562_949_953_421_312;
 
-/// The value of a digit in either case, 16 for any other character.
+/// Returns the value of a digit in either case, 16 for any other character.
 pub(crate) fn digit(x: u8) -> u8
     ensures { result ≡ digit x }
 {
@@ -25,7 +25,7 @@ pub(crate) fn digit(x: u8) -> u8
     }
 }
 
-/// The octet that two digits write.
+/// Returns the octet of two digits.
 pub(crate) fn pair(x: u8, y: u8) -> Option<u8>
     ensures { result ≡ (if is_pair x y then Some (octet_at x y) else None) }
 {
@@ -38,8 +38,8 @@ pub(crate) fn pair(x: u8, y: u8) -> Option<u8>
     }
 }
 
-/// The number that the digits of a base in front of a text write, and what is after them. A number from 2 ^ 49 on
-/// counts as 2 ^ 49.
+/// Returns the number in front of a text in the digits of a base, and the text after it. A number from 2 ^ 49 on counts
+/// as 2 ^ 49.
 pub(crate) fn offset(base: Base, text: &[u8]) -> (usize, &[u8])
     ensures { (result.0, result.1.now) ≡ offset_from base 0 text.now }
 {
@@ -56,8 +56,8 @@ pub(crate) fn offset(base: Base, text: &[u8]) -> (usize, &[u8])
     (number, rest)
 }
 
-/// Adds the octets of the groups in front of a text, and gives what is after them. `joins` says whether a
-/// group may have more than one octet, `spaced` whether a blank is before the text.
+/// Appends the octets of the groups in front of a text. Returns the text after them. `joins` is whether a group may
+/// have more than one octet, `spaced` whether a blank comes before the text.
 pub(crate) fn push_groups<'a>(
     octets: &mut Vec<u8>,
     text: &'a [u8],
@@ -82,7 +82,7 @@ pub(crate) fn push_groups<'a>(
     Ok(rest)
 }
 
-/// The blank or the octet that a text of groups begins with, and what is after it.
+/// Returns the blank or the octet that a text of groups begins with, and the text after it.
 fn step(text: &[u8], joins: bool, spaced: bool) -> Option<(Option<u8>, &[u8])>
     ensures { option_map (λ s. (s.0, s.1.now)) result ≡ step joins spaced text.now }
 {
@@ -92,7 +92,7 @@ fn step(text: &[u8], joins: bool, spaced: bool) -> Option<(Option<u8>, &[u8])>
     }
 }
 
-/// The octet in front of a text, if it may be there, and what is after it.
+/// Returns the octet in front of a text, if it is allowed there, and the text after it.
 fn front_octet(text: &[u8], may_begin: bool) -> Option<(Option<u8>, &[u8])>
     ensures { option_map (λ s. (s.0, s.1.now)) result ≡ front_octet may_begin text.now }
 {
@@ -102,7 +102,7 @@ fn front_octet(text: &[u8], may_begin: bool) -> Option<(Option<u8>, &[u8])>
     }
 }
 
-/// An octet, if there is one, and what is after it.
+/// Returns an octet, if there is one, and the text after it.
 fn octet_and(octet: Option<u8>, after: &[u8]) -> Option<(Option<u8>, &[u8])>
     ensures { option_map (λ s. (s.0, s.1.now)) result
         ≡ option_map {U = Option ℕ × List ℕ} (λ o. (Some o, after.now)) octet }
@@ -113,7 +113,7 @@ fn octet_and(octet: Option<u8>, after: &[u8]) -> Option<(Option<u8>, &[u8])>
     }
 }
 
-/// What is after the blanks in front of a text.
+/// Returns the text after the blanks in front of it.
 pub(crate) fn after_blanks(text: &[u8]) -> &[u8]
     ensures { result.now ≡ after_blanks text.now }
 {
@@ -124,7 +124,7 @@ pub(crate) fn after_blanks(text: &[u8]) -> &[u8]
     rest
 }
 
-/// The character by which a column shows an octet.
+/// Returns the character that shows an octet in a column.
 pub(crate) fn shown(octet: u8) -> u8
     ensures { result ≡ shown octet }
 {
@@ -134,7 +134,7 @@ pub(crate) fn shown(octet: u8) -> u8
     }
 }
 
-/// What is after the characters of these octets, which the text has to begin with.
+/// Returns the text after the characters that show these octets, if it begins with them.
 pub(crate) fn after_shown<'a>(octets: &[u8], text: &'a [u8]) -> Option<&'a [u8]>
     ensures { option_map (λ rest. rest.now) result ≡ after_shown octets.now text.now }
 {

@@ -1,4 +1,4 @@
-//! What each character of a source says at its place.
+//! The state of a source, and what each character changes.
 
 ghost use Rattle.std.specs.Prelude.{◌≡◌, ◌&&◌};
 ghost use Rattle.dumps.specs.Source.{among_octets, at_first, in_code, in_quotes, is_one_way, mark_in_code, mark_in_quotes, may_end_at, part_in_code, placed, turn_at};
@@ -11,7 +11,7 @@ use crate::marks::{is_between, is_digit, is_letter, is_listing, is_part, is_quot
 use crate::strings::string_at;
 use crate::word::{Word, Writing};
 
-/// Where a text is.
+/// The place in a text.
 #[derive(Clone, Copy)]
 pub(crate) enum Place {
     /// Outside of quotes and comments.
@@ -28,60 +28,60 @@ pub(crate) enum Place {
     Head,
     /// In a size in such a head, up to `]` or `>`.
     Size,
-    /// In another declaration after that of the octets, before its `=`.
+    /// In the name of another declaration after that of the octets, before its `=`.
     Name,
-    /// In the number of such a one.
+    /// In the number of such a declaration.
     Count,
     /// After a `/` that begins a comment.
     Slash,
-    /// In a comment up to the end of the line.
+    /// In a comment that the end of the line ends.
     Line,
-    /// In a comment up to `*/`.
+    /// In a comment that `*/` ends.
     Block,
     /// After a `*` in such a comment.
     Star,
 }
 
-/// What stands around the octets.
+/// The label or the declaration around the octets.
 #[derive(Clone, Copy)]
 pub(crate) enum Around {
     /// Nothing so far.
     Nothing,
-    /// A label came, or what may be the front of a declaration, up to a `:`.
+    /// A label, or what may be the front of a declaration, up to a `:`.
     Label,
-    /// A `=` came, and the octets after it.
+    /// A `=`, and the octets after it.
     Declared,
-    /// A `:` came after a digit, which could be an octet: a `=` has to come before the octets.
+    /// A `:` after a digit, which could be an octet. So a `=` must come before the octets.
     Typed,
-    /// The `;` came that ends them.
+    /// The `;` that ends the octets.
     Done,
 }
 
-/// Where a text is, and what it had so far.
+/// The state after the text so far.
 #[derive(Clone, Copy)]
 pub(crate) struct Now {
-    /// The word under way.
+    /// The unfinished word.
     pub(crate) word: Word,
     pub(crate) place: Place,
-    /// How the octets so far are written.
+    /// How the octets so far are written, if there are any.
     pub(crate) writing: Option<Writing>,
-    /// There was a mark of a list.
+    /// Whether there was a mark of a list.
     pub(crate) listed: bool,
-    /// There was an octet with a letter.
+    /// Whether there was an octet with a letter.
     pub(crate) lettered: bool,
-    /// There was something between octets in quotes.
+    /// Whether there was something between octets in quotes.
     pub(crate) parted: bool,
-    /// There was a string of octets.
+    /// Whether there was a string of octets.
     pub(crate) prefixed: bool,
-    /// What stands around the octets.
+    /// What is around the octets.
     pub(crate) around: Around,
 }
 
-/// What a character makes of where a text is, and the octet that ended before it.
+/// The state after a character, and the octet that ended before it. `None` if the character isn't allowed.
 pub(crate) type Turn = Option<(Now, Option<u8>)>;
 
 impl Now {
-    /// At the front of a text.
+    /// Returns the state before a text.
     pub(crate) fn first() -> Self
         ensures { result ≡ at_first }
     {
@@ -97,7 +97,7 @@ impl Now {
         }
     }
 
-    /// What one more character makes of it. It has to go on the text.
+    /// Takes one more character of the text.
     pub(crate) fn turn(self, x: u8) -> Turn
         ensures { result ≡ turn_at self.place self x }
     {
@@ -118,7 +118,7 @@ impl Now {
         }
     }
 
-    /// What is so where the word under way ends, and its octet.
+    /// Ends the unfinished word. Returns the state then, and the octet of the word.
     pub(crate) fn ended(self) -> Turn
         ensures { result ≡ ended self }
     {
@@ -129,29 +129,29 @@ impl Now {
         }
     }
 
-    /// The word under way.
+    /// Returns the unfinished word.
     pub(crate) fn word(self) -> Word
         ensures { result ≡ self.word }
     {
         self.word
     }
 
-    /// Whether it is in no string, and in no comment that has to be closed.
+    /// Whether the place is outside of strings, and of comments that must be closed.
     pub(crate) fn is_outside(self) -> bool
         ensures { result ≡ may_end_at self.place }
     {
         matches!(self.place, Place::Code | Place::Line)
     }
 
-    /// Whether a text may end so.
+    /// Whether a text may end in this state.
     pub(crate) fn may_end(self) -> bool
         ensures { result ≡ (may_end_at self.place && is_one_way self.writing self) }
     {
         self.is_outside() && self.is_one_way()
     }
 
-    /// Whether the octets can be read in one way. A list of pairs without a letter could be decimal numbers, blanks
-    /// between escapes are characters, and the characters of a string of octets could be pairs.
+    /// Whether the octets can be read in only one way. A list of pairs without a letter could be decimal numbers.
+    /// Blanks between escapes are characters. The characters of a string of octets could be pairs.
     fn is_one_way(self) -> bool
         ensures { result ≡ is_one_way self.writing self }
     {
@@ -166,7 +166,7 @@ impl Now {
         }
     }
 
-    /// Outside of quotes and comments.
+    /// Takes a character outside of quotes and comments.
     fn in_code(self, x: u8) -> Turn
         ensures { result ≡ in_code self x }
     {
@@ -176,7 +176,7 @@ impl Now {
         }
     }
 
-    /// Outside of quotes and comments, before a declaration has ended.
+    /// Takes a character outside of quotes and comments, before a declaration has ended.
     fn among_octets(self, x: u8) -> Turn
         ensures { result ≡ among_octets self x }
     {
@@ -199,7 +199,8 @@ impl Now {
         and_octet(octet, now.mark_in_code(x))
     }
 
-    /// A letter or a digit there. A word that gets longer than an octet may begin a label or a declaration.
+    /// Takes a letter or a digit outside of quotes and comments. A word longer than an octet may begin a label or a
+    /// declaration.
     fn part_in_code(self, x: u8) -> Turn
         ensures { result ≡ part_in_code self x (longer self.word x) }
     {
@@ -215,7 +216,7 @@ impl Now {
         }
     }
 
-    /// A character that is no part of a word, outside of quotes and comments.
+    /// Takes a character that isn't part of a word, outside of quotes and comments.
     fn mark_in_code(self, x: u8) -> Option<Now>
         ensures { result ≡ mark_in_code x self }
     {
@@ -248,7 +249,7 @@ impl Now {
         }
     }
 
-    /// In quotes, where pairs may follow one another.
+    /// Takes a character in quotes, where pairs may follow each other directly.
     fn in_quotes(self, quote: u8, x: u8) -> Turn
         ensures { result ≡ in_quotes quote self x }
     {
@@ -269,7 +270,7 @@ impl Now {
         and_octet(octet, now.mark_in_quotes(quote, x))
     }
 
-    /// A character that is no part of a word, in quotes.
+    /// Takes a character that isn't part of a word, in quotes.
     fn mark_in_quotes(self, quote: u8, x: u8) -> Option<Now>
         ensures { result ≡ mark_in_quotes quote x self }
     {
@@ -298,7 +299,7 @@ impl Now {
         None
     }
 
-    /// The same with a longer word.
+    /// Returns the state with one more character in the word.
     fn longer(self, x: u8) -> Turn
         ensures { result ≡ longer_by self (longer self.word x) }
     {
@@ -308,7 +309,7 @@ impl Now {
         }
     }
 
-    /// The same after an octet, which has to be written as those before.
+    /// Returns the state after an octet, which must be written like those before.
     fn with_octet(self, written: Option<(Writing, u8)>) -> Turn
         ensures { result ≡ taken_octet self written }
     {
@@ -327,7 +328,7 @@ impl Now {
         }
     }
 
-    /// The same at a place, if there is one.
+    /// Returns the state at a place, if there is one.
     fn placed(self, place: Option<Place>) -> Turn
         ensures { result ≡ placed self place }
     {
@@ -337,21 +338,21 @@ impl Now {
         }
     }
 
-    /// Whether a word is there that gives no octet: `byte` or `new`, or Rust's `u8` after one.
+    /// Whether the word gives no octet: `byte` or `new`, or Rust's `u8` after an octet.
     pub(crate) fn is_skipped(self, word: Word) -> bool
         ensures { result ≡ is_skipped self word }
     {
         word.is_type() || (word.is_suffix() && self.writing.is_some())
     }
 
-    /// The same with this word under way.
+    /// Returns the state with this unfinished word.
     pub(crate) fn with_word(self, word: Word) -> Now
         ensures { result ≡ with_word word self }
     {
         Now { word, ..self }
     }
 
-    /// The same at a place.
+    /// Returns the state at a place.
     pub(crate) fn at(self, place: Place) -> Now
         ensures { result ≡ with_place place self }
     {
@@ -359,7 +360,7 @@ impl Now {
     }
 }
 
-/// An octet, and what follows it.
+/// Returns an octet and the state after it.
 fn and_octet(octet: Option<u8>, now: Option<Now>) -> Turn
     ensures { result ≡ and_octet octet now }
 {
@@ -369,7 +370,7 @@ fn and_octet(octet: Option<u8>, now: Option<Now>) -> Turn
     }
 }
 
-/// Whether an octet may be written so after those before.
+/// Whether an octet may be written in this way after those before.
 fn fits(before: Option<Writing>, writing: Writing) -> bool
     ensures { result ≡ fits before writing }
 {

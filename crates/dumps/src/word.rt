@@ -30,12 +30,12 @@ pub(crate) enum Word {
     Two(u8, u8),
     /// Three.
     Three(u8, u8, u8),
-    /// Four, the most that an octet has.
+    /// Four, the longest octet.
     Four(u8, u8, u8, u8),
 }
 
 impl Word {
-    /// The word with one more character.
+    /// Returns the word with one more character.
     pub(crate) fn longer(self, x: u8) -> Option<Word>
         ensures { result ≡ longer self x }
     {
@@ -48,7 +48,7 @@ impl Word {
         }
     }
 
-    /// The octet that the word writes, and how.
+    /// Returns the octet of the word, and how it is written.
     pub(crate) fn octet(self) -> Option<(Writing, u8)>
         ensures { result ≡ octet_of self }
     {
@@ -62,7 +62,7 @@ impl Word {
         }
     }
 
-    /// Whether it is a pair with a letter, or more than a pair.
+    /// Whether the word is a pair with a letter, or longer than a pair.
     pub(crate) fn has_letter(self) -> bool
         ensures { result ≡ has_letter self }
     {
@@ -73,14 +73,14 @@ impl Word {
         }
     }
 
-    /// Whether it is Python's mark of a string of octets.
+    /// Whether the word is Python's mark of a string of octets.
     pub(crate) fn is_prefix(self) -> bool
         ensures { result ≡ is_prefix self }
     {
         matches!(self, Word::One(b'b' | b'B'))
     }
 
-    /// Its first character, 0 of none.
+    /// Returns the first character, 0 for an empty word.
     pub(crate) fn first(self) -> u8
         ensures { result ≡ first_of self }
     {
@@ -90,7 +90,7 @@ impl Word {
         }
     }
 
-    /// Whether it is hexadecimal digits alone.
+    /// Whether the word is only hexadecimal digits.
     pub(crate) fn all_digits(self) -> bool
         ensures { result ≡ all_digits self }
     {
@@ -103,14 +103,14 @@ impl Word {
         }
     }
 
-    /// Whether it is one character.
+    /// Whether the word is one character.
     pub(crate) fn is_one(self) -> bool
         ensures { result ≡ is_one self }
     {
         matches!(self, Word::One(_))
     }
 
-    /// Whether it is `byte` or `new`, of which no octet is made.
+    /// Whether the word is `byte` or `new`, which give no octet.
     pub(crate) fn is_type(self) -> bool
         ensures { result ≡ is_type self }
     {
@@ -120,7 +120,7 @@ impl Word {
         )
     }
 
-    /// Whether it is `u8`, which Rust may write after a number.
+    /// Whether the word is `u8`, which Rust may write after a number.
     pub(crate) fn is_suffix(self) -> bool
         ensures { result ≡ is_suffix self }
     {
@@ -128,7 +128,7 @@ impl Word {
     }
 }
 
-/// An octet that is written so, if there is one.
+/// Returns an octet and how it is written, if there is one.
 fn written(writing: Writing, octet: Option<u8>) -> Option<(Writing, u8)>
     ensures { result ≡ written writing octet }
 {
@@ -138,7 +138,7 @@ fn written(writing: Writing, octet: Option<u8>) -> Option<(Writing, u8)>
     }
 }
 
-/// The octet that one digit writes after its mark.
+/// Returns the octet of one digit after its mark.
 fn marked(x: u8) -> Option<(Writing, u8)>
     ensures { result ≡ marked x }
 {
@@ -150,7 +150,7 @@ fn marked(x: u8) -> Option<(Writing, u8)>
     }
 }
 
-/// The octet that two digits write before an `h`.
+/// Returns the octet of two digits before an `h`.
 fn suffixed(a: u8, b: u8, c: u8) -> Option<(Writing, u8)>
     ensures { result ≡ suffixed a b c }
 {

@@ -28,7 +28,7 @@ fn main(rt: HostRuntime) -> io::Result<()> {
     }
 }
 
-/// The card's application, which takes every command as done.
+/// The card's application, which answers every command with 9000.
 #[derive(Drop)]
 struct Done;
 

@@ -1,4 +1,4 @@
--- The words of faults.
+-- The texts of faults.
 use Rattle.std.specs.Prelude.{ℕ, List, ◌++◌, codes}
 use Rattle.atr_core.specs.Names.{param_fault_name}
 use Rattle.t1_core.specs.Names.{terminal_fault_name, card_fault_name}

@@ -1,4 +1,4 @@
--- The code's view of an end: what a line does at it, and what a turn gives with the messages of the end lent.
+-- The code's view of an end: what a line does at it, and the line of a turn, with the messages of the end borrowed.
 use Rattle.std.specs.Prelude.{ℕ, List, Option, Some, Result, Ok, Err}
 use Rattle.block_core.specs.Block.{spelling}
 use Rattle.exchange_core.specs.declared.end.Effect.{Effect}
@@ -20,7 +20,8 @@ line_of given.IfsSet = IfsSet
 line_of given.GivenUp = GivenUp
 line_of given.Dead = Dead
 
--- What comes of a line that does this at an end, which is in state s after it; its refusals have these names.
+-- The result of a line with this effect at an end, whose state after it is s. The name function gives the names of its
+-- refusals.
 abbrev pub effect_of : {S T F : Type 0} → End S T → (F → List ℕ) → Line → S → Effect T F
     → Result (S × Option T) (List ℕ)
 effect_of end name line s (Passed pending) = by_role end s pending line passes

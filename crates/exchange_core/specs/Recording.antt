@@ -1,4 +1,4 @@
--- What a recorder holds: the lines that it wrote, and the link after the events that these lines tell.
+-- What a recorder holds: the lines that it wrote, and the link after the events of these lines.
 use Rattle.std.specs.Prelude.{◌≡◌, ℕ, ◌++◌, List, [], ◌∷◌, ◌==◌, true, if◌then◌else◌, slice_index, Option, Some, None, Result, Ok, Err, bit_xor, ◌<◌}
 use denote.Ref.{Bor}
 use Rattle.octet_core.specs.Octets.{AreOctets, xor_of}
@@ -46,7 +46,7 @@ event_of (HostReply octets) = link.host_replies octets.now
 event_of (MoreTime multiple) = link.host_asks_time multiple
 event_of (AskIfsc size) = link.host_asks_ifsc size
 
--- what a step of an end comes to: its turn, or why it refuses the call
+-- the result of a step of an end: its turn, or why it refuses the call
 abbrev pub terminal_outcome : TerminalStep → Result LastTurn EventFault
 terminal_outcome (Ok step) = Ok (Terminal step.0)
 terminal_outcome (Err fault) = Err (AtTerminal fault)
@@ -55,7 +55,7 @@ abbrev pub card_outcome : CardStep → Result LastTurn EventFault
 card_outcome (Ok step) = Ok (Card step.0)
 card_outcome (Err fault) = Err (AtCard fault)
 
--- the block under way comes to its receiver as this
+-- the result if the block on the line comes to its receiver as this
 abbrev pub arrival_outcome : Link → UnderWay → Came → Result LastTurn EventFault
 arrival_outcome l nothing came = Err NothingUnderWay
 arrival_outcome l (to_card block) came = card_outcome (card_turn l.card (card_takes came))
@@ -70,7 +70,7 @@ abbrev pub loss_outcome : Link → UnderWay → Result LastTurn EventFault
 loss_outcome l nothing = Err NothingUnderWay
 loss_outcome l under_way = terminal_outcome (terminal_turn l.terminal (takes quiet))
 
--- what an event comes to: the turn of the end that it calls, or why it changes nothing
+-- the result of an event: the turn of the end that it calls, or why it changes nothing
 abbrev pub outcome_of : Link → link.Event → Result LastTurn EventFault
 outcome_of l link.delivers = arrival_outcome l l.under_way (whole l.under_way)
 outcome_of l link.damages = arrival_outcome l l.under_way damaged
@@ -82,7 +82,7 @@ outcome_of l (link.host_replies octets) = card_outcome (card_turn l.card (replie
 outcome_of l (link.host_asks_time multiple) = card_outcome (card_turn l.card (more_time multiple))
 outcome_of l (link.host_asks_ifsc size) = card_outcome (card_turn l.card (ask_ifsc size))
 
--- this of why an event changes nothing; of being out of memory nothing is said
+-- P, unless memory ran out
 abbrev pub IfNotMemory : EventFault → Type 0 → Type 0
 IfNotMemory Memory P = Unit {0}
 IfNotMemory fault P = P
@@ -107,13 +107,13 @@ change_event Kept = link.delivers
 change_event Damaged = link.damages
 change_event Spoilt = link.spoils
 
--- what became of a block tells the event: the node address of a damaged one is still 0
+-- the event of a block with this arrival; a damaged block still has the node address 0
 abbrev pub arrival_event : Arrival → link.Event
 arrival_event Whole = link.delivers
 arrival_event Lost = link.loses
 arrival_event (Changed octets) = if slice_index octets 0 == 0 then link.damages else link.spoils
 
--- the event that a line tells, where it tells one
+-- the event of a line, if it has one
 abbrev pub line_events : Line → List link.Event
 line_events (Command octets) = link.transmits octets ∷ []
 line_events (Ifsd size) = link.asks_ifsd size ∷ []
@@ -130,46 +130,46 @@ events_of (line ∷ lines) = line_events line ++ events_of lines
 
 -- ---- the recorder
 
--- The answer to reset, the size of information fields that it gives the card, the lines so far, and the last turn,
--- which no line tells yet.
+-- The answer to reset; the size of information fields that it states for the card; the lines so far; and the last turn,
+-- which has no line yet.
 pub record Recording : Type 0 where
   pub atr : List ℕ
   pub ifsc : ℕ
   pub lines : List Line
   pub last : LastTurn
 
--- The link of the law, after the events that the lines tell.
+-- The link of the law, after the events of the lines.
 abbrev pub link_of : Recording → Link
 link_of r = run tables (events_of r.lines) (new_link r.ifsc)
 
--- the line of a turn, whose block is lost
+-- the line of a turn, with its block lost
 abbrev pub as_lost : Line → Line
 as_lost (FromTerminal sent arrival) = FromTerminal sent Lost
 as_lost (FromCard sent arrival) = FromCard sent Lost
 as_lost line = line
 
--- the line that tells the last turn
+-- the line of the last turn
 abbrev pub telling : TerminalState → CardState → LastTurn → List Line
 telling t c Nothing = []
 telling t c (Terminal turn) = as_lost (terminal_line t turn) ∷ []
 telling t c (Card turn) = as_lost (card_line c turn) ∷ []
 
--- the line of the last turn, which no line tells yet: a block that is under way counts as lost
+-- the line of the last turn, which has no line yet: a block that is still on the line counts as lost
 abbrev pub untold : Recording → List Line
 untold r = telling (link_of r).terminal (link_of r).card r.last
 
--- the lines of the exchange
+-- the lines of the exchange: those so far, and the line of the last turn
 abbrev pub closed : Recording → List Line
 closed r = r.lines ++ untold r
 
--- the line of the block under way, which comes to its receiver with this change
+-- the line of the block that is on the line and comes to its receiver with this change
 abbrev pub carried : UnderWay → Change → List Line
 carried nothing change = []
 carried (to_card block) change = FromTerminal (spelling block) (arrival_of change block) ∷ []
 carried (to_terminal block) change = FromCard (spelling block) (arrival_of change block) ∷ []
 
--- The lines that an event adds. The line of a block that is carried is the one that tells the last turn; a call comes
--- after that line.
+-- The lines that an event adds. If a block is carried, its line is the line of the last turn. A call comes after that
+-- line.
 abbrev pub added : Recording → link.Event → List Line
 added r link.delivers = carried (link_of r).under_way Kept
 added r link.damages = carried (link_of r).under_way Damaged
@@ -190,14 +190,14 @@ with_outcome r event (Err fault) = Err fault
 abbrev pub recorded : Recording → link.Event → Result Recording EventFault
 recorded r event = with_outcome r event (outcome_of (link_of r) event)
 
--- ---- what holds of a recorder
+-- ---- what holds for a recorder
 
 abbrev pub under_way_of : LastTurn → UnderWay
 under_way_of Nothing = nothing
 under_way_of (Terminal turn) = sent_by_terminal turn
 under_way_of (Card turn) = sent_by_card turn
 
--- the turn of an end that no line has met yet
+-- the turn of an end that no line has matched yet
 abbrev pub terminal_pending : LastTurn → Option TerminalTurn
 terminal_pending (Terminal turn) = Some turn
 terminal_pending last = None
@@ -210,13 +210,13 @@ abbrev pub onward : {A : Type 0} → (A → Result A (List ℕ)) → Result A (L
 onward next (Ok after) = next after
 onward next (Err text) = Err text
 
--- lines replayed one after another: the state, and the turn that no line has met yet
+-- lines replayed one after another: the state, and the turn that no line has matched yet
 abbrev pub runs : {S T : Type 0} → End S T → List Line → S × Option T → Result (S × Option T) (List ℕ)
 runs end [] at = Ok at
 runs end (line ∷ lines) at = onward (λ after. runs end lines after) (by_role end at.0 at.1 line (end.role at.0 line))
 
--- The ends are those of the link, and each replays the lines to the state that it is in, where the last turn has met no
--- line. The lines of the record tell what happened.
+-- The ends are those of the link. Each replays the lines to its present state, and no line has matched the last turn
+-- yet. The lines of the record say what happened.
 pub record IsRecording (r : Recording) (t : TerminalState) (c : CardState) : Type 0 where
   pub octets : AllHandOctets (events_of r.lines)
   pub terminal : (link_of r).terminal ≡ t
@@ -230,14 +230,14 @@ pub record IsRecording (r : Recording) (t : TerminalState) (c : CardState) : Typ
 
 -- ---- calls of the ends
 
--- what a line is to the terminal that is called with it; any other is quiet
+-- the call that a line is to the terminal; a line of another kind counts as quiet
 abbrev pub terminal_input : TerminalState → Line → TerminalInput
 terminal_input t (Command octets) = transmit octets
 terminal_input t (Ifsd size) = ask_ifs size
 terminal_input t (FromCard sent arrival) = takes (class_of t.ifsd (arrived sent arrival))
 terminal_input t line = takes quiet
 
--- what a line is to the card that is called with it; any other is a block of which nothing came
+-- the call that a line is to the card; a line of another kind counts as a block without octets
 abbrev pub card_input : CardState → Line → CardInput
 card_input c (Reply octets) = replies octets
 card_input c (Time multiple) = more_time multiple
@@ -253,12 +253,12 @@ abbrev pub as_list : Option Line → List Line
 as_list None = []
 as_list (Some line) = line ∷ []
 
--- a block is under way
+-- a block is on the line
 abbrev pub IsSent : UnderWay → Type 0
 IsSent nothing = ⊥
 IsSent under_way = Unit {0}
 
--- The terminal may be called with the line: a call of the application, or quiet after the loss of a block.
+-- The terminal may be called with the line: a call of the application, or quiet after a block was lost.
 abbrev pub MayCall : LastTurn → Line → Type 0
 MayCall last (Command octets) = AreOctets octets
 MayCall last (Ifsd size) = size < 256
@@ -281,14 +281,14 @@ call_event (Time multiple) = link.host_asks_time multiple
 call_event (Ifsc size) = link.host_asks_ifsc size
 call_event line = link.loses
 
--- the block under way, lent
+-- the block on the line, borrowed
 abbrev pub IsLent : Option (Bor Parts) → UnderWay → Type 0
 IsLent None nothing = Unit {0}
 IsLent (Some block) (to_card sent) = block.now ≡ sent
 IsLent (Some block) (to_terminal sent) = block.now ≡ sent
 IsLent lent under_way = ⊥
 
--- this of the name of a refused answer to reset; of being out of memory nothing is said
+-- P, of the name of the fault of a refused answer to reset; nothing if memory ran out
 abbrev pub IfRefused : RecorderFault → (List ℕ → Type 0) → Type 0
 IfRefused (Refused fault) P = P (atr_fault_name fault)
 IfRefused NoMemory P = Unit {0}

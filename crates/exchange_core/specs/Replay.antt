@@ -1,4 +1,4 @@
--- Replay: what an end gives that is called with the lines that go into it, against the lines that it is said to give.
+-- How replay calls an end with the lines that go into it, and compares its turns with the lines that it should give.
 use Rattle.std.specs.Prelude.{◌≡◌, ◌⊎◌, ℕ, ◌+◌, List, [], ◌∷◌, ◌++◌, codes, Bool, true, false, if◌then◌else◌, Option, Some, None, unwrap_or, Result, Ok, Err, bytes_eq}
 use Rattle.atr_core.specs.Atr.{AtrParts, IsAtr}
 use Rattle.atr_core.specs.T1.{T1Values, t1_params_of}
@@ -26,23 +26,23 @@ use Rattle.exchange_core.specs.declared.replaying.ReplayFault.TheVariants.{Diffe
 
 -- ---- any end
 
--- What a line is to an end with states S and turns T: a call, which gives a turn and the state after it or is refused
--- by a name; a line that the end itself is said to give; or nothing to it.
+-- What a line is to an end with states S and turns T: a call, which returns a turn and the state after it, or the name
+-- of a refusal; a line that the end itself should give; or nothing to this end.
 pub data Role (S T : Type 0) : Type 0 where
   calls : (given : Result (T × S) (List ℕ)) → Role S T
   gives : Role S T
   passes : Role S T
 
--- An end: what a line is to it in a state, and the line that its last turn gives.
+-- An end: what a line is to it in a state, and the line of its last turn.
 pub record End (S T : Type 0) : Type 0 where
   pub role : S → Line → Role S T
   pub line : S → T → Line
 
--- what a refused call gives
+-- the text of a refused call
 abbrev pub refused : List ℕ → List ℕ
 refused name = codes "refused " ++ name
 
--- Whether a line of the file is the one that the end gives. What becomes of a block on its way the end never sees.
+-- Whether a line of the file is the line of the end's turn. The end never sees what happened to its block on the way.
 abbrev pub is_met : Line → Line → Bool
 is_met (Answer octets) (Answer recorded) = bytes_eq octets recorded
 is_met (Asked octets) (Asked recorded) = bytes_eq octets recorded
@@ -53,12 +53,12 @@ is_met GivenUp GivenUp = true
 is_met Dead Dead = true
 is_met given line = false
 
--- after a call
+-- the result of a call
 abbrev pub called : {S T : Type 0} → Result (T × S) (List ℕ) → Result (S × Option T) (List ℕ)
 called (Ok step) = Ok (step.1, Some step.0)
 called (Err name) = Err (refused name)
 
--- a line with this role, where no line has met the turn yet
+-- the result of a line with this role; the turn, if any, is one that no line has matched yet
 abbrev pub by_role : {S T : Type 0} → End S T → S → Option T → Line → Role S T → Result (S × Option T) (List ℕ)
 by_role end s None line (calls given) = called given
 by_role end s (Some turn) line (calls given) = Err (line_text (end.line s turn))
@@ -69,7 +69,8 @@ by_role end s (Some turn) line gives =
     else Err (line_text (end.line s turn))
 by_role end s pending line passes = Ok (s, pending)
 
--- A line in a state: the state and the turn that no line has met yet after it, or what the end gives in its place.
+-- The result of a line in a state: the state after it, and the turn that no line has matched yet; or what the end gives
+-- instead.
 abbrev pub replay_line : {S T : Type 0} → End S T → S → Option T → Line → Result (S × Option T) (List ℕ)
 replay_line end s pending line = by_role end s pending line (end.role s line)
 
@@ -77,8 +78,8 @@ abbrev pub goes_on : {A : Type 0} → (A → Option (ℕ × List ℕ)) → ℕ �
 goes_on next number (Ok after) = next after
 goes_on next number (Err text) = Some (number, text)
 
--- The first line, counted from this number, at which the end gives something else, with the text of that. A turn that
--- no line has met makes the file differ after its last line.
+-- The first line, counted from this number, at which the end gives something else, and the text of that. If no line has
+-- matched the last turn, the file differs after its last line.
 abbrev pub replay_lines : {S T : Type 0} → End S T → List Line → ℕ → S → Option T → Option (ℕ × List ℕ)
 replay_lines end [] number s None = None
 replay_lines end [] number s (Some turn) = Some (number, line_text (end.line s turn))
@@ -87,7 +88,7 @@ replay_lines end (line ∷ lines) number s pending =
 
 -- ---- the two ends
 
--- a block that arrives is a call; a lost one is nothing to its receiver
+-- a block that arrives is a call; a lost block is nothing to its receiver
 abbrev pub arriving : {S T : Type 0} → (List ℕ → Role S T) → List ℕ → Arrival → Role S T
 arriving taking sent Whole = taking sent
 arriving taking sent Lost = passes
@@ -156,31 +157,31 @@ card_end = record { role = card_role; line = card_line }
 
 -- ---- the whole file
 
--- the size of information fields that the card takes at first, or the name of what is wrong
+-- the size of information fields that the card takes at first, or the name of the fault
 abbrev pub size_of : Result T1Values ParamFault → Result ℕ (List ℕ)
 size_of (Ok values) = Ok values.ifsc
 size_of (Err fault) = Err (param_fault_name fault)
 
--- What the octets of an answer to reset give an end: where they are one whole answer, what that says about T=1.
+-- What the octets of an answer to reset say about T=1, if they are one whole answer.
 abbrev pub IsFound : List ℕ → Result ℕ (List ℕ) → Type 0
 IsFound atr found =
     ((a : AtrParts) × IsAtr a atr × (found ≡ size_of (t1_params_of a)))
     ⊎ (((a : AtrParts) → IsAtr a atr → ⊥) × (found ≡ Err (codes "BadAtr")))
 
--- A new end runs over the lines, which begin at line 3: line 1 is the header, line 2 the answer to reset.
+-- The result of a new end over the lines, which begin at line 3. Line 1 is the header, line 2 the answer to reset.
 abbrev pub replay_from : Result ℕ (List ℕ) → List Line → Side → Option (ℕ × List ℕ)
 replay_from (Err name) lines side = Some (2, refused name)
 replay_from (Ok ifsc) lines Terminal = replay_lines terminal_end lines 3 (new_terminal ifsc) None
 replay_from (Ok ifsc) lines Card = replay_lines card_end lines 3 (new_card ifsc) None
 
--- The file with this answer to reset and these lines replays so for the side: it differs nowhere, or first at this
--- line, where the end gives this text.
+-- The result of replaying the file with this answer to reset and these lines at one side: it has no difference, or it
+-- differs first at this line, where the end gives this text.
 pub record Replays (atr : List ℕ) (lines : List Line) (side : Side) (difference : Option (ℕ × List ℕ)) : Type 0 where
   pub found : Result ℕ (List ℕ)
   pub is_found : IsFound atr found
   pub is : replay_from found lines side ≡ difference
 
--- this of the line and the text of a difference; of being out of memory nothing is said
+-- P, of the line and the text of a difference; nothing if memory ran out
 abbrev pub IfDiffers : ReplayFault → (ℕ → List ℕ → Type 0) → Type 0
 IfDiffers (Differs line text) P = P line text
 IfDiffers Memory P = Unit {0}

@@ -1,5 +1,5 @@
--- What the lines of an exchange tell at its two ends: the commands that the terminal took and how each ended, and the
--- commands that the card's host was asked about, with its replies.
+-- What the lines of an exchange say about its two ends: the commands that the terminal accepted and how each ended, and
+-- the commands that the card's host was asked about, with its replies.
 use Rattle.std.specs.Prelude.{◌≡◌, ℕ, List, [], ◌∷◌, Bool, true, false}
 use Rattle.t1_core.specs.Terminal.{Waits, idle, ack, answer, more, ifs, resynch, dead}
 use Rattle.t1_core.specs.Card.{Waits as CardWaits, asking}
@@ -9,9 +9,9 @@ use Rattle.exchange_text.specs.declared.line.Line.{Line}
 use Rattle.exchange_text.specs.declared.line.Line.TheVariants.{Command, Answer, GivenUp, Dead, Reply, Time, Ifsc, Asked}
 
 pub record Told : Type 0 where
-  -- each command line, with the answer line to it where there is one, or given up; the newest first
+  -- each command line, with its answer line if it has one, or given up; the newest first
   pub exchanges : List Exchange
-  -- each command that the host was asked about, with its reply line where there is one; the newest first
+  -- each command that the host was asked about, with its reply line if it has one; the newest first
   pub services : List Exchange
   -- the host asked for time or for a size: the next asked line is about the same command, unless a command comes first
   pub again : Bool
@@ -19,12 +19,12 @@ pub record Told : Type 0 where
 abbrev pub nothing_told : Told
 nothing_told = record { exchanges = []; services = []; again = false }
 
--- a command that the host is asked about, once more or for the first time
+-- the services after the host is asked about a command, again or for the first time
 abbrev pub asked_about : Bool → List ℕ → List Exchange → List Exchange
 asked_about true octets services = services
 asked_about false octets services = unanswered octets ∷ services
 
--- what is told with one more line
+-- what the lines say with one more line
 abbrev pub told_by : Told → Line → Told
 told_by h (Command octets) = record {
   exchanges = unanswered octets ∷ h.exchanges;
@@ -51,13 +51,13 @@ told_after h (line ∷ lines) = told_after (told_by h line) lines
 abbrev pub told : List Line → Told
 told lines = told_after nothing_told lines
 
--- The lines tell at each end what happened there at the link.
+-- The lines say at each end what happened there at the link.
 pub record Tells (lines : List Line) (l : Link) : Type 0 where
   pub exchanges : (told lines).exchanges ≡ l.exchanges
   pub services : (told lines).services ≡ l.services
 
--- Each answer line has the octets of the reply line to the same command, in order, and the host was asked about each
--- command line once, or not at all where no answer came.
+-- Each answer line has the octets of the reply line to the same command, in order. The host was asked about each
+-- command line once; if no answer came, once or not at all.
 abbrev pub AnswersAreReplies : List Line → Type 0
 AnswersAreReplies lines = Matches (told lines).exchanges (told lines).services
 
@@ -68,7 +68,7 @@ abbrev pub IfAsking : CardWaits → Type 0 → Type 0
 IfAsking (asking request) P = P
 IfAsking waits P = Unit {0}
 
--- no command is under way, or its exchange is about to be given up
+-- no command is in progress, or its exchange is about to be given up
 abbrev pub Pauses : Waits → Type 0
 Pauses idle = Unit {0}
 Pauses (ack field rest) = ⊥
@@ -78,7 +78,7 @@ Pauses (ifs size) = Unit {0}
 Pauses (resynch asked) = Unit {0}
 Pauses dead = Unit {0}
 
--- where the card doesn't wait for such a response, no asked line comes before the next command
+-- unless the card waits for such a response, no asked line comes before the next command
 abbrev pub MayAsk : CardWaits → Waits → Type 0
 MayAsk (asking request) waits = Unit {0}
 MayAsk card_waits waits = Pauses waits
@@ -87,8 +87,7 @@ abbrev pub IfAgain : Bool → Type 0 → Type 0
 IfAgain true P = P
 IfAgain false P = Unit {0}
 
--- What the lines tell is what happened, and they tell of a request of the host for as long as the card waits for the
--- response.
+-- What the lines say is what happened. They have a request of the host for as long as the card waits for the response.
 pub record Covers (h : Told) (l : Link) : Type 0 where
   pub exchanges : h.exchanges ≡ l.exchanges
   pub services : h.services ≡ l.services

@@ -1,4 +1,4 @@
--- What an end that is replayed waits for, before a line of the file.
+-- What a replayed end waits for before a line of the file.
 use Rattle.std.specs.Prelude.{◌≡◌, ℕ, ◌+◌, ◌-◌, List, [], ◌∷◌, Option, Some, None, Result, Ok, Err, take}
 use Rattle.t1_core.specs.Awaited.{awaited_by_terminal, awaited_by_card}
 use Rattle.t1_core.specs.Terminal.{TerminalState, new_terminal}
@@ -19,7 +19,8 @@ terminal_awaits t = awaits.Terminal (awaited_by_terminal t.waits)
 abbrev pub card_awaits : CardState → Awaits
 card_awaits c = awaits.Card (awaited_by_card c.waits)
 
--- A line by which an end that has no turn to give gets one is a call. Else the last call stays.
+-- The last call after a line. The line is a call if no turn was pending before it, and one is after it. Else the last
+-- call stays.
 abbrev pub call_after : {T : Type 0} → ℕ → Awaits → Option T → Option T → Option Call → Option Call
 call_after number waited None (Some turn) call = Some (record { line = number; awaits = waited })
 call_after number waited pending after call = call
@@ -28,7 +29,7 @@ abbrev pub onwards : {A : Type 0} → (A → Option Waiting) → Result A (List 
 onwards next (Ok after) = next after
 onwards next (Err text) = None
 
--- What an end waits for after lines, and its last call. There is none where the end gives something else at a line.
+-- What an end waits for after lines, and its last call. None if the end gives something else at a line.
 abbrev pub waiting_from : {S T : Type 0} → End S T → (S → Awaits) → List Line → ℕ → S → Option T → Option Call
     → Option Waiting
 waiting_from end waits [] number s pending call = Some (record { now = waits s; call = call })
@@ -41,12 +42,12 @@ abbrev pub waiting_after : ℕ → List Line → Side → Option Waiting
 waiting_after ifsc lines Terminal = waiting_from terminal_end terminal_awaits lines 3 (new_terminal ifsc) None None
 waiting_after ifsc lines Card = waiting_from card_end card_awaits lines 3 (new_card ifsc) None None
 
--- after the lines before the one with this number
+-- what an end waits for after the lines before the line with this number
 abbrev pub waiting_before : Result ℕ (List ℕ) → List Line → Side → ℕ → Option Waiting
 waiting_before (Ok ifsc) lines side line = waiting_after ifsc (take (line - 3) lines) side
 waiting_before (Err name) lines side line = None
 
--- The same with the parameters of the answer to reset, if it gives any.
+-- What an end waits for before a line, with the parameters of the answer to reset, if it has any.
 pub record IsWaiting (atr : List ℕ) (lines : List Line) (side : Side) (line : ℕ) (waiting : Option Waiting) : Type 0
   where
     pub found : Result ℕ (List ℕ)

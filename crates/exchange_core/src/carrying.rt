@@ -19,19 +19,19 @@ use t1_core::{Card, CardFault, CardTurn, Terminal, TerminalFault, TerminalTurn};
 /// The node address of a block that is invalid to both ends.
 const ANOTHER_NODE: u8 = 1;
 
-/// What changes in a block that arrives.
+/// How a block changes on its way to its receiver.
 #[derive(Clone, Copy)]
 pub(crate) enum Change {
-    /// Nothing.
+    /// Nothing changes.
     Kept,
-    /// Its last octet.
+    /// Its last octet changes.
     Damaged,
-    /// Its node address, with the check octet that fits.
+    /// Its node address changes, with a check octet that fits.
     Spoilt,
 }
 
 impl Change {
-    /// What becomes of a block with this change.
+    /// Returns how a block with this change arrives.
     pub fn arrival(self, alloc: Global, block: &Block) -> Result<Arrival, AllocError>
         ensures { IfOk result (λ arrival. arrival ≡ arrival_of self block.now) }
     {
@@ -43,7 +43,7 @@ impl Change {
     }
 }
 
-/// The octets of a block.
+/// Returns the octets of a block.
 pub fn spelled(alloc: Global, block: &Block) -> Result<Octets, AllocError>
     ensures { IfOk result (λ octets. octets ≡ spelling block.now) }
 {
@@ -57,7 +57,7 @@ pub fn is_spelled(block: &Block, octets: &[u8]) -> bool
     encode(block).as_slice() == octets
 }
 
-/// A copy of octets.
+/// Returns a copy of octets.
 pub fn copied(alloc: Global, octets: &[u8]) -> Result<Octets, AllocError>
     ensures copy { IfOk result (λ copy. copy ≡ octets.now) }
     ensures octets { IfOk result (λ copy. AreOctets copy) }
@@ -65,7 +65,7 @@ pub fn copied(alloc: Global, octets: &[u8]) -> Result<Octets, AllocError>
     Ok(Octets::of(Vec::from_slice(alloc, octets)?))
 }
 
-/// The octets of a block with the last one changed.
+/// Returns the octets of a block with the last one changed.
 fn damaged(alloc: Global, block: &Block) -> Result<Octets, AllocError>
     ensures { IfOk result (λ octets. octets ≡ damaged_octets block.now) }
 {
@@ -77,7 +77,7 @@ fn damaged(alloc: Global, block: &Block) -> Result<Octets, AllocError>
     Ok(Octets::of(damaged))
 }
 
-/// The same block with another node address.
+/// Returns the same block with another node address.
 fn elsewhere(block: &Block) -> Block
     ensures { result ≡ record { nad = 1; pcb = block.now.pcb; inf = block.now.inf } }
 {
@@ -91,7 +91,7 @@ fn elsewhere(block: &Block) -> Block
 }
 
 impl Output<'_> {
-    /// The line of what an end gives, where its block is lost.
+    /// Returns the line of this turn, with its block lost.
     pub fn lost(self, alloc: Global) -> Result<Line, AllocError>
         ensures { IfOk result (λ line. line ≡ as_lost (line_of self.entry)) }
     {
@@ -113,8 +113,9 @@ impl Output<'_> {
     }
 }
 
-/// Calls the terminal with a line, and writes that line after the one that tells the last turn. A refused
-/// call, or a lack of memory, leaves both as they were.
+/// Calls the terminal with a line, and writes the line after that of the last turn.
+///
+/// If the call is refused, or memory runs out, both stay as they were.
 pub(crate) fn terminal_takes(
     terminal: &mut Terminal,
     lines: &mut Vec<Line>,
@@ -149,8 +150,10 @@ fn terminal_turned(terminal: &mut Terminal, line: &Line) -> Result<TerminalTurn,
     }
 }
 
-/// Calls the card with a line that tells a call of its host or the arrival of a block, and writes that line
-/// after the one that tells the last turn. A refused call, or a lack of memory, leaves both as they were.
+/// Calls the card with a line, and writes the line after that of the last turn. The line is a call of the card's host,
+/// or a block that arrives.
+///
+/// If the call is refused, or memory runs out, both stay as they were.
 pub(crate) fn card_takes(
     card: &mut Card,
     lines: &mut Vec<Line>,
@@ -184,8 +187,7 @@ fn card_turned(card: &mut Card, line: &Line) -> Result<CardTurn, EventFault>
     }
 }
 
-/// Calls the terminal with a line: the call of it that the line is, where any other line counts as quiet. Nothing is
-/// written.
+/// Calls the terminal with the call that a line is; a line of another kind counts as quiet. Writes nothing.
 pub fn terminal_called(terminal: &mut Terminal, line: &Line) -> Result<TerminalTurn, TerminalFault>
     ensures turn { result ≡ turn_of
         (terminal_turn terminal.old (terminal_input terminal.old line.now)) }
@@ -200,8 +202,8 @@ pub fn terminal_called(terminal: &mut Terminal, line: &Line) -> Result<TerminalT
     }
 }
 
-/// Calls the card with a line: the call of it that the line is, where any other line counts as a block of which nothing
-/// came. Nothing is written.
+/// Calls the card with the call that a line is; a line of another kind counts as a block without octets. Writes
+/// nothing.
 pub fn card_called(card: &mut Card, line: &Line) -> Result<CardTurn, CardFault>
     ensures turn { result ≡ card_turn_of (card_turn card.old (card_input card.old line.now)) }
     ensures state { card.new
@@ -216,7 +218,7 @@ pub fn card_called(card: &mut Card, line: &Line) -> Result<CardTurn, CardFault>
     }
 }
 
-/// Writes the line of the last turn, where there is one, and a further line, for which there is room.
+/// Writes the line of the last turn, if there is one, and a further line. There is room for both.
 fn write(lines: &mut Vec<Line>, told: Option<Line>, line: Line)
     requires { vec_len lines.old + 2 ≤ vec_capacity lines.old }
     ensures { lines.new.items ≡ lines.old.items ++ (as_list told ++ line ∷ []) }

@@ -13,27 +13,27 @@ use exchange_text::{Arrival, Line};
 use octet_core::Named;
 use t1_core::{Card, CardFault, CardTurn, Terminal, TerminalFault, TerminalTurn};
 
-/// What a line does at an end; the turn in it is the last one, which no line has met yet.
+/// What a line does at an end. The turn in it is the last one, which no line has matched yet.
 pub(crate) enum Effect<T, F> {
-    /// It is nothing to the end.
+    /// The line is nothing to the end.
     Passed(Option<T>),
-    /// The end is said to give it.
+    /// The file says that the end gives this line.
     Said(Option<T>),
-    /// It is a call, which isn't made, since a line has to meet this turn first.
+    /// The line is a call that isn't made, since a line has to match this turn first.
     Early(T),
-    /// It is a call, which gave a turn or was refused.
+    /// The line is a call, which returned a turn or was refused.
     Called(Result<T, F>),
 }
 
-/// An end that a file is replayed for.
+/// An end at which a file is replayed.
 pub(crate) trait Replayed {
-    /// What it does next.
+    /// Its turn.
     type Turn: Drop;
 
     /// Why it refuses a call.
     type Fault: Copy;
 
-    /// What a line is to it, and the line that a turn gives.
+    /// What a line is to it, and the line of a turn.
     ghost end: { End Self Self.Turn };
 
     /// The name of a refusal.
@@ -42,20 +42,20 @@ pub(crate) trait Replayed {
     /// What it waits for in a state.
     ghost waits: { Self → AnyAwaits };
 
-    /// What a line does, where no line has met the turn `pending` yet.
+    /// Takes a line, with the turn `pending` that no line has matched yet, and returns what the line does.
     fn hears(&mut self, pending: Option<Self::Turn>, line: &Line) -> Effect<Self::Turn, Self::Fault>
         ensures { replay_line end self.old pending line.now
             ≡ effect_of end refusal line.now self.new result };
 
-    /// The name of a refusal.
+    /// Returns the name of a refusal.
     fn refusal(fault: Self::Fault) -> &'static str
         ensures { result.now ≡ refusal fault };
 
-    /// What a turn gives, while the end is in the state after it.
+    /// Returns what a turn gives. The end is in the state after the turn.
     fn given<'a>(&'a self, turn: &'a Self::Turn) -> Output<'a>
         ensures { line_of result ≡ end.line self.now turn.now };
 
-    /// What it waits for.
+    /// Returns what it waits for.
     fn waits(&self) -> Awaits
         ensures { result ≡ waits self.now };
 }

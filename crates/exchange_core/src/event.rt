@@ -1,4 +1,4 @@
-//! What may happen to two ends on a line, and what comes of it.
+//! What may happen to two ends on a line, and the results.
 
 ghost use Rattle.std.specs.Prelude.{◌≡◌};
 ghost use Rattle.exchange_core.specs.declared.event.EventFault.TheVariants.{Memory};
@@ -9,30 +9,30 @@ use std::error::Error;
 use std::fmt::{self, Debug, Display, Formatter, Write};
 use t1_core::{CardFault, CardTurn, TerminalFault, TerminalTurn};
 
-/// What may happen next on the line, or at an end of it. The octets are lent.
+/// What may happen next on the line or at an end of it. The octets are borrowed.
 #[derive(Clone, Copy)]
 pub enum Event<'a> {
-    /// The block under way arrives as it was sent.
+    /// The block on the line arrives as it was sent.
     Deliver,
-    /// It arrives with its last octet changed: damaged, to its receiver.
+    /// The block arrives with its last octet changed. To its receiver it is damaged.
     Damage,
-    /// It arrives with node address 01 and the check octet that fits: invalid, to its receiver.
+    /// The block arrives with node address 01 and a check octet that fits. To its receiver it is invalid.
     Spoil,
-    /// It is lost, and the terminal's waiting time ends.
+    /// The block is lost, and the terminal's waiting time ends.
     Lose,
-    /// The application hands the terminal this command.
+    /// The application passes the terminal this command.
     Transmit(&'a [u8]),
-    /// The application asks for information fields of up to so many octets from the card.
+    /// The application asks the card for information fields of up to so many octets.
     AskIfsd(u8),
-    /// The card's host gives this reply.
+    /// The card's host replies with these octets.
     Reply(&'a [u8]),
     /// The card's host asks for so many times the waiting time.
     MoreTime(u8),
-    /// The card's host asks for information fields of up to so many octets from the terminal.
+    /// The card's host asks the terminal for information fields of up to so many octets.
     AskIfsc(u8),
 }
 
-/// What happens, with the number of octets of a message: none of them is shown, since it may carry a PIN.
+/// Prints what happens, and how many octets a message has. It shows none of them, since a message may carry a PIN.
 impl Debug for Event<'_> {
     fn fmt<W: Write>(&self, f: &mut Formatter<W>) -> fmt::Result {
         match self {
@@ -58,17 +58,18 @@ impl Debug for Event<'_> {
 /// Why an event changed nothing and wrote nothing.
 #[derive(Clone, Copy, Debug, PartialEq, Eq)]
 pub enum EventFault {
-    /// No block is under way.
+    /// No block is on the line.
     NothingUnderWay,
     /// The terminal refused the call.
     Terminal(TerminalFault),
     /// The card refused the call.
     Card(CardFault),
-    /// Out of memory for the record.
+    /// Memory for the record ran out.
     Memory,
 }
 
-/// The name of the fault, and that of the end's after it, as in `Terminal: Busy`; `memory` out of memory.
+/// The fault's name. After that of an end comes the name of the end's fault, as in `Terminal: Busy`. Out of memory it
+/// is `memory`.
 impl Display for EventFault {
     ghost use Rattle.std.specs.Prelude.{Some};
     ghost use Rattle.exchange_core.specs.Faults.{event_fault_text};
@@ -98,13 +99,13 @@ impl From<AllocError> for EventFault {
 /// Why there is no recorder.
 #[derive(Clone, Copy, Debug, PartialEq, Eq)]
 pub enum RecorderFault {
-    /// The answer to reset can't be used, for what replay names.
+    /// The answer to reset can't be used, with the fault that replay names.
     Refused(AtrFault),
     /// Out of memory.
     Memory,
 }
 
-/// `Refused: ` and the name that replay gives, or `memory`.
+/// `Refused: ` and the name that replay uses, or `memory`.
 impl Display for RecorderFault {
     ghost use Rattle.std.specs.Prelude.{Some};
     ghost use Rattle.exchange_core.specs.Faults.{recorder_fault_text};
@@ -131,7 +132,7 @@ impl From<AllocError> for RecorderFault {
     }
 }
 
-/// What the last event came to: the turn of the end that it called.
+/// The result of the last event: the turn of the end that it called.
 #[derive(Debug, PartialEq, Eq, Drop)]
 pub enum LastTurn {
     /// Nothing has happened yet.

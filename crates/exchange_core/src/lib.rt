@@ -1,8 +1,8 @@
-//! Recorded exchanges, replayed and recorded by both ends.
+//! Recorded exchanges: replays them, and records them with both ends.
 //!
-//! [`replay`] runs one end over the lines of an [`Exchange`] and names the first at which the end gives something
-//! else. A [`Recorder`] has both ends on one line and writes the lines of what happens to them. The value and its text
-//! are those of the crate exchange_text.
+//! [`replay`] runs one end over the lines of an [`Exchange`], and names the first line at which the end gives something
+//! else. A [`Recorder`] has both ends on one line, and writes the lines of what happens to them. The crate
+//! exchange_text has the value of an exchange and its text.
 #![tactic(auto)]
 
 mod carrying;

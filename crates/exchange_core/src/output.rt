@@ -10,27 +10,27 @@ use block_core::{Block, encode};
 use exchange_text::{Line, Name, push_message};
 use std::alloc::{AllocError, Global};
 
-/// What an end gives: a turn as its line, with the message of the end lent.
+/// What an end gives: its turn as a line, with the end's message borrowed.
 #[derive(Clone, Copy)]
 pub(crate) enum Output<'a> {
     /// The terminal sends this block.
     FromTerminal(&'a Block),
     /// The card sends this block.
     FromCard(&'a Block),
-    /// The terminal gives the application this answer.
+    /// The terminal returns this answer to the application.
     Answer(&'a [u8]),
-    /// The card gives its host this command.
+    /// The card passes its host this command.
     Asked(&'a [u8]),
-    /// The card took the information size that was asked for.
+    /// The card accepted the information size that the terminal asked for.
     IfsSet,
-    /// The terminal gave up what was under way.
+    /// The terminal gave up its exchange or its question.
     GivenUp,
     /// The terminal found the card dead.
     Dead,
 }
 
 impl Output<'_> {
-    /// Whether a line is this one, whatever became of its block on the way.
+    /// Whether a line is this one, whatever happened to its block on the way.
     pub fn is_met_by(self, line: &Line) -> bool
         ensures { result ≡ is_met (line_of self.entry) line.now }
     {
@@ -57,7 +57,7 @@ impl Output<'_> {
         }
     }
 
-    /// The text of the line.
+    /// Returns the text of the line.
     pub fn text(self, alloc: Global) -> Result<String, AllocError>
         ensures { IfOk result (λ text. string_bytes text ≡ line_text (line_of self.entry)) }
     {

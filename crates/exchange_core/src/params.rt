@@ -1,4 +1,4 @@
-//! The parameters of T=1 that the octets of an answer to reset give.
+//! The parameters of T=1 in the octets of an answer to reset.
 
 ghost use Rattle.std.specs.Prelude.{Ok, Err, IfOk, IfErr};
 ghost use Rattle.exchange_core.specs.Faults.{atr_fault_name};
@@ -14,11 +14,11 @@ use std::fmt::{self, Display, Formatter, Write};
 pub enum AtrFault {
     /// They aren't one whole answer to reset.
     BadAtr,
-    /// The answer gives no parameters of T=1.
+    /// The answer has no parameters of T=1 that can be used.
     Params(ParamFault),
 }
 
-/// `BadAtr`, or the name of what is wrong with the parameters.
+/// `BadAtr`, or the name of the fault of the parameters.
 impl Named for AtrFault {
     ghost use Rattle.exchange_core.specs.Faults.{atr_fault_name};
 
@@ -46,8 +46,9 @@ impl Display for AtrFault {
 
 impl Error for AtrFault {}
 
-/// The parameters of T=1 of octets that are one whole answer to reset, or what is wrong, by whose name replay and a
-/// recorder tell it: `BadAtr`, `NoT1`, `ReservedIfsc` or `Crc`.
+/// Returns the parameters of T=1 from octets that are one whole answer to reset.
+///
+/// Else it returns the fault. Replay and a recorder use its name: `BadAtr`, `NoT1`, `ReservedIfsc` or `Crc`.
 pub fn params_of(octets: &[u8]) -> Result<T1Params, AtrFault>
     ensures found { IfOk result (λ params. IsFound octets.now (Ok params.ifsc)) }
     ensures refused { IfErr result (λ fault. IsFound octets.now (Err (atr_fault_name fault))) }

@@ -26,9 +26,11 @@ use std::marker::Model;
 use t1_core::laws::matched;
 use t1_core::{Card, CardTurn, Terminal, TerminalTurn};
 
-/// A new terminal and a new card on one line, with at most one block under way, and the record of what
-/// happens to them. Contracts see the record and the link of `t1_core` after the events that it tells
-/// (`link_of` in `specs/Recording.antt`), so that the law of the link speaks of both ends.
+/// A new terminal and a new card on one line, and the record of what happens to them. The line has at most one block on
+/// it.
+///
+/// Contracts see the record, and the link of `t1_core` after the events of the record (`link_of` in
+/// `specs/Recording.antt`). So the law of the link is about both ends.
 #[derive(Debug, Drop)]
 pub struct Recorder {
     alloc: Global,
@@ -58,9 +60,10 @@ impl Model for Recorder {
 }
 
 impl Recorder {
-    /// Both ends of a card with this answer to reset, new, with nothing under way and no line written.
+    /// Returns a recorder with both ends new, for a card with this answer to reset. No block is on the line, and no
+    /// line is written.
     ///
-    /// Refused where the octets aren't one whole answer that gives parameters of T=1.
+    /// Refused unless the octets are one whole answer with parameters of T=1.
     pub fn new(alloc: Global, atr: &[u8]) -> Result<Recorder, RecorderFault>
         ensures empty { IfOk result (λ r. (r.atr ≡ atr.now) × (r.lines ≡ []) × (r.last ≡ Nothing)) }
         ensures found { IfOk result (λ r. IsFound atr.now (Ok r.ifsc)) }
@@ -83,28 +86,28 @@ impl Recorder {
         })
     }
 
-    /// The terminal as it is now.
+    /// Returns the terminal in its present state.
     pub fn terminal(&self) -> &Terminal
         ensures { result.now ≡ (link_of self.now).terminal }
     {
         &self.terminal
     }
 
-    /// The card as it is now.
+    /// Returns the card in its present state.
     pub fn card(&self) -> &Card
         ensures { result.now ≡ (link_of self.now).card }
     {
         &self.card
     }
 
-    /// What the last event that wasn't refused came to.
+    /// Returns the result of the last event that wasn't refused.
     pub fn last(&self) -> &LastTurn
         ensures { result.now ≡ self.now.last }
     {
         &self.last
     }
 
-    /// The block under way, `None` where there is none.
+    /// Returns the block on the line, or `None` if there is none.
     pub fn under_way(&self) -> Option<&Block>
         ensures link { IsLent result (link_of self.now).under_way }
         ensures last { IsLent result (under_way_of self.now.last) }
@@ -116,10 +119,10 @@ impl Recorder {
         }
     }
 
-    /// An event happens, as on the link, and is written down.
+    /// Makes an event happen, as on the link, and writes it down.
     ///
-    /// An event of the line is refused where no block is under way, a call as the end refuses it. Then, and
-    /// where memory runs out, nothing has changed and nothing is written.
+    /// An event of the line is refused if no block is on the line. A call is refused as its end refuses it. After a
+    /// refusal, and if memory runs out, nothing has changed and nothing is written.
     pub fn happens(&mut self, event: Event<'_>) -> Result<(), EventFault>
         ensures recorded { OnOk result (recorded self.old (event_of event.entry) ≡ Ok self.new) }
         ensures link { OnOk result
@@ -147,10 +150,10 @@ impl Recorder {
         }
     }
 
-    /// The record, in version 1. A block that is still under way is written as lost.
+    /// Returns the record, in version 1. A block that is still on the line is written as lost.
     ///
-    /// It replays at both ends, and tells what happened at each: an `answer` line has the octets of the `reply`
-    /// line to the same command. Out of memory for its last line the record is gone.
+    /// The record replays at both ends, and says what happened at each: an `answer` line has the octets of the `reply`
+    /// line to the same command. If memory for its last line runs out, the record is gone.
     pub fn exchange(self) -> Result<Exchange, AllocError>
         ensures is { IfOk result (λ e.
             e ≡ record { version = One; atr = self.atr; lines = closed self }) }
@@ -164,7 +167,7 @@ impl Recorder {
         Ok(Exchange::proper(Version::One, self.atr, lines))
     }
 
-    /// The block under way is lost, and the terminal's waiting time ends.
+    /// Loses the block on the line, and ends the terminal's waiting time.
     fn loses(&mut self) -> Result<(), EventFault>
         ensures recorded { OnOk result (recorded self.old (event_of Lose) ≡ Ok self.new) }
         ensures link { OnOk result
@@ -179,7 +182,7 @@ impl Recorder {
         self.calls_terminal(Line::Quiet)
     }
 
-    /// The terminal is called with a line; a block that is under way counts as lost.
+    /// Calls the terminal with a line. A block that is still on the line counts as lost.
     fn calls_terminal(&mut self, line: Line) -> Result<(), EventFault>
         requires { MayCall self.old.last line }
         ensures recorded { OnOk result (recorded self.old (call_event line) ≡ Ok self.new) }
@@ -195,7 +198,7 @@ impl Recorder {
         Ok(())
     }
 
-    /// The card's host calls it with a line.
+    /// Calls the card with a line, for its host.
     fn calls_card(&mut self, line: Line) -> Result<(), EventFault>
         requires { MayReply line }
         ensures recorded { OnOk result (recorded self.old (call_event line) ≡ Ok self.new) }
@@ -211,7 +214,7 @@ impl Recorder {
         Ok(())
     }
 
-    /// The block under way comes to its receiver with this change.
+    /// Carries the block on the line to its receiver, with this change.
     fn carries(&mut self, change: Change) -> Result<(), EventFault>
         ensures recorded { OnOk result (recorded self.old (change_event change) ≡ Ok self.new) }
         ensures link { OnOk result
@@ -242,7 +245,7 @@ impl Recorder {
     }
 }
 
-/// The line that tells the last turn, where there was one; a block that it sends is lost.
+/// Returns the line of the last turn, if there was one. If it sends a block, the block is lost.
 pub fn told(
     alloc: Global,
     terminal: &Terminal,
@@ -258,7 +261,7 @@ pub fn told(
     }
 }
 
-/// The lines, and one more after them, where there is one.
+/// Returns the lines, and one more line after them if there is one.
 fn with_line(mut lines: Vec<Line>, told: Option<Line>) -> Result<Vec<Line>, AllocError>
     ensures { IfOk result (λ longer. longer.items ≡ lines.items ++ as_list told) }
 {
@@ -268,14 +271,14 @@ fn with_line(mut lines: Vec<Line>, told: Option<Line>) -> Result<Vec<Line>, Allo
     Ok(lines)
 }
 
-/// An event that is refused changes nothing at the link either.
+/// A refused event changes nothing at the link either.
 pub fn refused_event_changes_nothing()
     ensures { (r : Recording) (event : t1_link.Event) (fault : EventFault)
         → recorded r event ≡ Err fault → happens tables (link_of r) event ≡ link_of r }
 {}
 
-/// Whatever happens, each answer that the terminal gave is the reply of the card's host to that command, in
-/// order, and no command was given to the host twice.
+/// Whatever happens, each answer of the terminal is the reply of the card's host to that command, in order. The host
+/// gets no command twice.
 pub fn answers_are_replies()
     ensures { (r : Recording) → Matches (link_of r).exchanges (link_of r).services }
 {

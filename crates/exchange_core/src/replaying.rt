@@ -16,23 +16,23 @@ use std::error::Error;
 use std::fmt::{self, Display, Formatter, Write};
 use t1_core::{Card, Terminal};
 
-/// The line of the answer to reset; line 1 is the header.
+/// The number of the line with the answer to reset. Line 1 is the header.
 const ATR_LINE: usize = 2;
 
-/// The first line after that of the answer to reset.
+/// The number of the first line after the answer to reset.
 pub(crate) const FIRST_LINE: usize = 3;
 
 /// Why a replay failed.
 #[derive(Debug, PartialEq, Eq, Drop)]
 pub enum ReplayFault {
-    /// At this line of the text, counted from 1, the end gives something else: its turn as a line, `refused`
-    /// and a name, or `nothing`.
+    /// At this line of the text, counted from 1, the end gives something else: its turn as a line, `refused` and a
+    /// name, or `nothing`.
     Differs { line: usize, gives: Text },
     /// Out of memory.
     Memory,
 }
 
-/// `line N: Differs`, or `memory`. What the end gives isn't written, since it may be a message.
+/// `line N: Differs`, or `memory`. The text of what the end gives is left out, since it may be a message.
 impl Display for ReplayFault {
     ghost use Rattle.std.specs.Prelude.{Some};
     ghost use Rattle.exchange_core.specs.Faults.{replay_fault_text};
@@ -57,15 +57,20 @@ impl From<AllocError> for ReplayFault {
     }
 }
 
-/// Replays one end of an exchange: a new end, with the parameters of the answer to reset, is called with
-/// each line that goes into it, and each line that it is said to give must be its last turn. The lines that go into a
-/// terminal are what the application asks, what the card sends, and `quiet`; into a card, what its host says and what
-/// the terminal sends.
+/// Replays one end of an exchange: a new end, with the parameters of the answer to reset.
 ///
-/// `Differs` at the first line where the end gives something else, or at the line after the last where no
-/// line has met its last turn; at line 2 where the octets aren't one whole answer to reset or it gives no
-/// parameters of T=1. A turn is met once, and before the next call; what became of a block that the end
-/// sends isn't compared. `Memory` where memory runs out.
+/// The end is called with each line that goes into it, and each line that it should give has to be its last turn. Into
+/// a terminal go the application's calls, the card's blocks, and `quiet`. Into a card go its host's calls and the
+/// terminal's blocks.
+///
+/// A line has to match each turn once, before the next call. What happened to a block that the end sends isn't
+/// compared. `Differs` has the number of a line:
+///
+/// - the first line where the end gives something else;
+/// - the line after the last, if no line has matched the end's last turn;
+/// - line 2, if the octets aren't one whole answer to reset, or if that has no parameters of T=1.
+///
+/// `Memory` if memory runs out.
 pub fn replay(alloc: Global, exchange: &Exchange, side: Side) -> Result<(), ReplayFault>
     ensures agrees { OnOk result (Replays exchange.now.atr exchange.now.lines side None) }
     ensures run { OnOk result (IsRun exchange.now.atr exchange.now.lines side) }
@@ -119,7 +124,7 @@ fn replay_lines<E: Replayed + Drop>(
     }
 }
 
-/// Replays a line: the turn that no line has met after it.
+/// Replays a line, and returns the turn that no line has matched after it.
 pub(crate) fn replay_line<E: Replayed>(
     alloc: Global,
     end: &mut E,
@@ -149,14 +154,14 @@ pub(crate) fn replay_line<E: Replayed>(
     }
 }
 
-/// What a refused call gives.
+/// Returns the text of a refused call.
 fn refused(alloc: Global, name: &str) -> Result<String, AllocError>
     ensures { IfOk result (λ text. string_bytes text ≡ refused name.now) }
 {
     format!(in alloc; "refused {name}")
 }
 
-/// The file differs at a line, where the end gives this text.
+/// Returns that the file differs at a line, where the end gives this text.
 fn differs<T>(line: usize, gives: String) -> Result<T, ReplayFault>
     ensures { result ≡ Err (Differs line (string_bytes gives)) }
 {

@@ -1,4 +1,4 @@
-//! What an end waits for, before a line of the file that it is replayed over.
+//! What a replayed end waits for before a line of the file.
 
 ghost use Rattle.std.specs.Prelude.{◌≡◌, ◌-◌, None, IfOk, take};
 ghost use Rattle.exchange_core.specs.Waiting.{IsWaiting, waiting_after, waiting_from};
@@ -21,7 +21,7 @@ pub enum Awaits {
     Card(CardAwaits),
 }
 
-/// A line by which the end was called, and what it waited for before.
+/// A line with which the end was called, and what it waited for before.
 #[derive(Clone, Copy, PartialEq, Eq)]
 pub struct Call {
     /// The line of the text, counted from 1.
@@ -39,10 +39,9 @@ pub struct Waiting {
     pub call: Option<Call>,
 }
 
-/// What a replayed end waits for right before this line of the text, counted from 1, and its last call before.
+/// Returns what a replayed end waits for right before this line of the text, counted from 1, and its last call before.
 ///
-/// `None` where the octets of the answer to reset give no parameters of T=1, and where the end gives something else at
-/// an earlier line.
+/// `None` if the answer to reset has no parameters of T=1, or if the end gives something else at an earlier line.
 pub fn waiting_at(
     alloc: Global,
     exchange: &Exchange,
@@ -60,7 +59,7 @@ pub fn waiting_at(
     }
 }
 
-/// The lines before the one with this number, or all where there are fewer.
+/// Returns the lines before the line with this number, or all if there are fewer.
 fn lines_before(lines: &[Line], line: usize) -> &[Line]
     ensures { result.now ≡ take (line - 3) lines.now }
 {
@@ -72,7 +71,7 @@ fn lines_before(lines: &[Line], line: usize) -> &[Line]
     }
 }
 
-/// The same of a new end with these parameters, after these lines.
+/// Returns what a new end with these parameters waits for after these lines, and its last call.
 fn waiting_of_side(
     alloc: Global,
     params: T1Params,
@@ -87,7 +86,7 @@ fn waiting_of_side(
     }
 }
 
-/// The same of an end, after these lines.
+/// Returns what an end waits for after these lines, and its last call.
 fn waiting_after<E: Replayed + Drop>(
     alloc: Global,
     mut end: E,

@@ -1,4 +1,4 @@
-//! What notes say of some octets of each kind, and how one comes into a line.
+//! What notes say about some octets of each kind, and how a note comes into a line.
 
 use apdu_core::{CommandRef, ResponseRef};
 use block_core::BlockRef;
@@ -12,7 +12,7 @@ use std::process::Abort;
 use test_support::{of_hex, same};
 use tlv_core::FlatForest;
 
-/// Octets and the notes on them, each of which a bar ends.
+/// Octets and the notes on them. A bar ends each note.
 const RESPONSES: [[&str; 2]; 7] = [
     ["9000", "|  # no further qualification|"],
     ["6100", "|  # 256 octets available|"],
@@ -77,23 +77,23 @@ const ANSWERS: [[&str; 2]; 2] = [
     ["3B024142", "  # \"AB\"||  # offers only T=0|"],
 ];
 
-/// The octets of a hexadecimal text.
+/// Returns the octets of a hexadecimal text.
 fn octets(rt: &impl Abort, alloc: Global, hex: &str) -> Vec<u8> {
     of_hex(alloc, hex).expect(rt, "octets")
 }
 
-/// Adds a bar.
+/// Appends a bar.
 fn bar(rt: &impl Abort, text: &mut String) {
     text.push('|').expect(rt, "a bar");
 }
 
-/// Adds a note and a bar.
+/// Appends a note and a bar.
 fn add(rt: &impl Abort, text: &mut String, note: Note) {
     push_note(text, true, note).expect(rt, "a note");
     bar(rt, text);
 }
 
-/// The notes on a response.
+/// Returns the notes on a response.
 fn on_response(rt: &impl Abort, alloc: Global, octets: &[u8]) -> String {
     let response = ResponseRef::decode(octets).expect(rt, "a response");
     let mut text = String::new(alloc);
@@ -115,7 +115,7 @@ fn of_responses(rt: HostRuntime) {
     }
 }
 
-/// The notes on a command.
+/// Returns the notes on a command.
 fn on_command(rt: &impl Abort, alloc: Global, octets: &[u8]) -> String {
     let command = CommandRef::decode(octets).expect(rt, "a command");
     let [class, instruction, ..] = command.header();
@@ -141,7 +141,7 @@ fn of_commands(rt: HostRuntime) {
     }
 }
 
-/// The notes on a block.
+/// Returns the notes on a block.
 fn on_block(rt: &impl Abort, alloc: Global, octets: &[u8]) -> String {
     let (block, _) = BlockRef::decode(octets, 254).expect(rt, "a block");
     let first = block.inf().first().copied().unwrap_or(0);
@@ -166,7 +166,7 @@ fn of_blocks(rt: HostRuntime) {
     }
 }
 
-/// The notes on data objects.
+/// Returns the notes on data objects.
 fn on_objects(rt: &impl Abort, alloc: Global, octets: &[u8]) -> String {
     let forest = FlatForest::read(alloc, octets, 100).expect(rt, "data objects");
     let mut text = String::new(alloc);
@@ -190,7 +190,7 @@ fn of_data_objects(rt: HostRuntime) {
     }
 }
 
-/// The notes on an answer to reset.
+/// Returns the notes on an answer to reset.
 fn on_answer(rt: &impl Abort, alloc: Global, octets: &[u8]) -> String {
     let (atr, _) = atr_core::decode(octets).expect(rt, "an answer to reset");
     let mut text = String::new(alloc);

@@ -1,9 +1,9 @@
--- The words of faults.
+-- The texts of faults.
 use Rattle.std.specs.Prelude.{ℕ, List, ◌++◌, codes, decimal}
 use Rattle.exchange_text.specs.declared.fault.ExchangeFault.{ExchangeFault}
 use Rattle.exchange_text.specs.declared.fault.ExchangeFault.TheVariants.{Header, End, Word, Hex, Falls, Memory}
 
--- a fault of a line, by its number
+-- the text of a fault of a line, with its number
 abbrev pub at_line : ℕ → List ℕ → List ℕ
 at_line line name = codes "line " ++ (decimal line ++ (codes ": " ++ name))
 

@@ -1,8 +1,8 @@
--- to be believed: what the standards, or this project, say
+-- to be believed: what the standards or this project say
 pub mod Exchange
 pub mod Text
 pub mod Reading
 pub mod Words
--- what calls answer, and what is printed
+-- what calls return, and what is printed
 pub mod Faults
 pub mod Names

@@ -21,7 +21,7 @@ name_text FromCard = codes "c"
 name_text Moment = codes "at"
 name_text Note = codes "note"
 
--- all names, in the order in which they are looked for
+-- all names, in the order of the search
 abbrev pub names : List Name
 names =
     FromTerminal ∷ FromCard ∷ Moment ∷ Note ∷ Command ∷ Ifsd ∷ Quiet ∷ Answer
@@ -31,6 +31,6 @@ abbrev pub named_in : List Name → List ℕ → Option Name
 named_in [] word = None
 named_in (name ∷ names) word = if bytes_eq word (name_text name) then Some name else named_in names word
 
--- what a word names
+-- the name of a word
 abbrev pub name_of : List ℕ → Option Name
 name_of word = named_in names word

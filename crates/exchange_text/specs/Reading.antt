@@ -1,5 +1,5 @@
--- What a text says: an exchange, or its first fault. A line goes up to its line feed, and each space parts two
--- words of it, which may be empty.
+-- What a text says: an exchange, or its first fault. A line ends at its line feed. Each space separates two words of
+-- it, and a word may be empty.
 use Rattle.std.specs.Prelude.{◌≡◌, ◌⊎◌, ◌&&◌, ◌||◌, ◌==◌, ◌+◌, ℕ, nat_le, nat_lt, List, [], ◌∷◌, length, codes, Bool, false, Option, Some, None, Result, Ok, Err, if◌then◌else◌}
 use Rattle.std.specs.Str.{bytes_eq}
 use Rattle.std.specs.List.{list_all, slice_split, after_first}
@@ -21,7 +21,7 @@ use Rattle.exchange_text.specs.declared.line.Line.TheVariants.{Command, Ifsd, Qu
 use Rattle.exchange_text.specs.declared.name.Name.{Name}
 use Rattle.exchange_text.specs.declared.name.Name.TheVariants as name
 
--- the first fault counts
+-- the first error is the result
 infixl 10 ◌>>=◌
 abbrev pub ◌>>=◌ : {A B E : Type 0} → Result A E → (A → Result B E) → Result B E
 (Ok x) >>= f = f x
@@ -39,7 +39,7 @@ words_of line = slice_split is_space line
 
 -- ---- words
 
--- a digit of hexadecimal in upper case
+-- a hexadecimal digit in upper case
 abbrev pub is_upper_digit : ℕ → Bool
 is_upper_digit c = (nat_le 48 c && nat_le c 57) || (nat_le 65 c && nat_le c 70)
 
@@ -50,7 +50,7 @@ abbrev pub octets_of : Result (List ℕ) FromHexError → Result (List ℕ) Line
 octets_of (Ok octets) = Ok octets
 octets_of (Err e) = Err Hex
 
--- OCTETS: none, or digits in upper case, an even number of at least 2
+-- OCTETS: the word none, or hexadecimal digits in upper case, an even number and at least 2
 abbrev pub octets_said : List ℕ → Result (List ℕ) LineFault
 octets_said word =
     if bytes_eq word (codes "none") then Ok []
@@ -61,31 +61,31 @@ octet_of (Ok (octet ∷ octets)) = Ok octet
 octet_of (Ok []) = Err Hex
 octet_of (Err e) = Err Hex
 
--- HH: two digits in upper case
+-- HH: two hexadecimal digits in upper case
 abbrev pub octet_said : List ℕ → Result ℕ LineFault
 octet_said word = if are_upper_digits word then octet_of (decode_sized word 1) else Err Hex
 
 -- ---- lines
 
--- the word of a list of one
+-- the one word of a list
 abbrev pub only_word : List (List ℕ) → Result (List ℕ) LineFault
 only_word (word ∷ []) = Ok word
 only_word words = Err Word
 
--- no more words
+-- no word is left
 abbrev pub no_word : List (List ℕ) → Result (Unit {0}) LineFault
 no_word [] = Ok tt
 no_word (word ∷ words) = Err Word
 
--- one more word, which is OCTETS
+-- the one word that is left, as OCTETS
 abbrev pub one_octets : List (List ℕ) → Result (List ℕ) LineFault
 one_octets words = only_word words >>= octets_said
 
--- one more word, which is HH
+-- the one word that is left, as HH
 abbrev pub one_octet : List (List ℕ) → Result ℕ LineFault
 one_octet words = only_word words >>= octet_said
 
--- what became of a block, by the words after its octets
+-- how a block arrived, from the words after its octets
 abbrev pub arrival_said : List (List ℕ) → Result Arrival LineFault
 arrival_said [] = Ok Whole
 arrival_said (way ∷ words) =
@@ -93,7 +93,7 @@ arrival_said (way ∷ words) =
     else (if bytes_eq way (codes "as") then one_octets words >>= (λ octets. Ok (Changed octets))
     else Err Word)
 
--- a block's octets, and what became of it; what is wrong with the words counts before what is wrong with octets
+-- a block's octets, and how it arrived; a fault of the words comes before a fault of the octets
 abbrev pub block_said : List (List ℕ) → Result (List ℕ × Arrival) LineFault
 block_said [] = Err Word
 block_said (word ∷ words) = arrival_said words >>= (λ arrival. octets_said word >>= (λ sent. Ok (sent, arrival)))
@@ -102,25 +102,25 @@ abbrev pub moment_by : Option ℕ → Result Line LineFault
 moment_by (Some moment) = Ok (Moment moment)
 moment_by None = Err Word
 
--- what version 1 doesn't have
+-- what only version 2 has
 abbrev pub in_two : Version → Result Line LineFault → Result Line LineFault
 in_two One said = Err Word
 in_two Two said = said
 
--- one more word, which is a moment
+-- the one word that is left, as a moment
 abbrev pub moment_said : Version → List (List ℕ) → Result Line LineFault
 moment_said version words = in_two version (only_word words >>= (λ word. moment_by (decimal_number word)))
 
--- the note that a text is
+-- the note with this text
 abbrev pub note_said : Version → List ℕ → Result Line LineFault
 note_said version text = in_two version (if is_note text then Ok (Note text) else Err Word)
 
--- all that follows the first space, where there is one
+-- the note with everything after the first space, if there is a space
 abbrev pub note_by : Version → List ℕ → List (List ℕ) → Result Line LineFault
 note_by version rest [] = Err Word
 note_by version rest (word ∷ words) = note_said version rest
 
--- a line by what its first word names, all that follows it, and the words of that
+-- a line, from the name of its first word, everything after that word, and the words in that
 abbrev pub line_by : Version → List ℕ → List (List ℕ) → Name → Result Line LineFault
 line_by version rest words name.Command = one_octets words >>= (λ octets. Ok (Command octets))
 line_by version rest words name.Ifsd = one_octet words >>= (λ size. Ok (Ifsd size))
@@ -146,7 +146,7 @@ abbrev pub line_of : Version → List ℕ → List (List ℕ) → Result Line Li
 line_of version rest [] = Err Word
 line_of version rest (word ∷ words) = known (name_of word) >>= line_by version rest words
 
--- what a line says in a text of this version, or what is wrong with it
+-- what a line says in a text of this version, or its fault
 abbrev pub line_said : Version → List ℕ → Result Line LineFault
 line_said version line = line_of version (after_first is_space line) (words_of line)
 
@@ -154,7 +154,7 @@ abbrev pub atr_by : List (List ℕ) → Result (List ℕ) LineFault
 atr_by (word ∷ octets ∷ []) = if bytes_eq word (codes "atr") then octets_said octets else Err Word
 atr_by words = Err Word
 
--- the answer to reset that the second line says
+-- the answer to reset in the second line
 abbrev pub atr_said : List ℕ → Result (List ℕ) LineFault
 atr_said line = atr_by (words_of line)
 
@@ -170,16 +170,16 @@ abbrev pub at : {A : Type 0} → ℕ → Result A LineFault → Result A Exchang
 at number (Ok x) = Ok x
 at number (Err e) = Err (fault_at number e)
 
--- a moment below one that came before
+-- a moment that is below an earlier one
 abbrev pub falls : ℕ → Line → Bool
 falls least (Moment moment) = nat_lt moment least
 falls least line = false
 
--- a line after a moment
+-- a line, refused if it is a moment below an earlier one
 abbrev pub rising : ℕ → ℕ → Line → Result Line ExchangeFault
 rising number least line = if falls least line then Err (fault.Falls number) else Ok line
 
--- the line with this number, after a moment
+-- the line with this number, after this moment
 abbrev pub line_at : Version → ℕ → ℕ → List ℕ → Result Line ExchangeFault
 line_at version number least line = at number (line_said version line) >>= rising number least
 
@@ -188,7 +188,7 @@ abbrev pub ended : ℕ → List ℕ → Result (List Line) ExchangeFault
 ended number [] = Ok []
 ended number (octet ∷ octets) = Err (fault.End number)
 
--- the lines from the one with this number on, after a moment, of a text parted at its line feeds
+-- the lines from the line with this number, after this moment; the text is split at its line feeds
 abbrev pub lines_said : Version → ℕ → ℕ → List (List ℕ) → Result (List Line) ExchangeFault
 lines_said version number least [] = Ok []
 lines_said version number least (rest ∷ []) = ended number rest
@@ -203,7 +203,7 @@ version_said line =
     else (if bytes_eq line (codes "scard-exchange 2") then Ok Two
     else Err fault.Header)
 
--- what follows the header
+-- what a text says after its header
 abbrev pub parts_said : Version → List (List ℕ) → Result ExchangeParts ExchangeFault
 parts_said version (line ∷ next ∷ parts) =
     at 2 (atr_said line) >>= (λ atr.
@@ -219,7 +219,7 @@ exchange_by parts = Err fault.Header
 abbrev pub exchange_said : List ℕ → Result ExchangeParts ExchangeFault
 exchange_said text = exchange_by (slice_split is_line_feed text)
 
--- a result that is the expected one, or out of memory
+-- the result is the expected one, or out of memory
 abbrev pub LineUnlessMemory : {X : Type 0} → Result X LineFault → Result X LineFault → Type 0
 LineUnlessMemory result expected = (result ≡ Err Memory) ⊎ (result ≡ expected)
 

@@ -1,4 +1,4 @@
--- The text of an exchange: a header, the answer to reset, and the lines, each ended by a line feed.
+-- The text of an exchange: a header, the answer to reset, and the lines. A line feed ends each.
 use Rattle.std.specs.Prelude.{ℕ, List, [], ◌∷◌, ◌++◌, codes, decimal}
 use Rattle.hex.specs.Hex.{encode_upper}
 use Rattle.exchange_text.specs.Exchange.{ExchangeParts}
@@ -9,22 +9,22 @@ use Rattle.exchange_text.specs.declared.line.Arrival.TheVariants.{Whole, Lost, C
 use Rattle.exchange_text.specs.declared.line.Line.{Line}
 use Rattle.exchange_text.specs.declared.line.Line.TheVariants.{Command, Ifsd, Quiet, Answer, IfsSet, GivenUp, Dead, Reply, Time, Ifsc, Asked, FromTerminal, FromCard, Moment, Note}
 
--- OCTETS: two digits each in upper case, or the word none
+-- OCTETS: two hexadecimal digits in upper case for each octet, or the word none
 abbrev pub octets_text : List ℕ → List ℕ
 octets_text [] = codes "none"
 octets_text (octet ∷ octets) = encode_upper (octet ∷ octets)
 
--- HH: an octet
+-- HH: an octet as two hexadecimal digits in upper case
 abbrev pub octet_text : ℕ → List ℕ
 octet_text octet = encode_upper (octet ∷ [])
 
--- what became of a block, after its octets
+-- how a block arrived, after its octets
 abbrev pub arrival_text : Arrival → List ℕ
 arrival_text Whole = []
 arrival_text Lost = codes " lost"
 arrival_text (Changed octets) = codes " as " ++ octets_text octets
 
--- a line, without its end
+-- a line, without its line feed
 abbrev pub line_text : Line → List ℕ
 line_text (Command octets) = codes "command " ++ octets_text octets
 line_text (Ifsd size) = codes "ifsd " ++ octet_text size

@@ -4,7 +4,7 @@ use Rattle.std.specs.List.{slice_split}
 use Rattle.std.specs.Borrow.{Bor}
 use Rattle.exchange_text.specs.Reading.{is_space}
 
--- the octets that a reference lends, if there is one
+-- the octets of a reference, if there is one
 abbrev pub words_in : Option (Bor (List ℕ)) → Option (List ℕ)
 words_in rest = option_map (λ (r : Bor (List ℕ)). r.now) rest
 

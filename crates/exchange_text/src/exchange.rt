@@ -9,17 +9,17 @@ use crate::proper::are_proper;
 use octet_core::Octets;
 use std::marker::Model;
 
-/// The version of the text of an exchange.
+/// The version of an exchange's text.
 #[derive(Clone, Copy, Debug, PartialEq, Eq)]
 pub enum Version {
-    /// No moments and no notes.
+    /// The lines have no moments and no notes.
     One,
-    /// Moments and notes may be among the lines.
+    /// The lines may have moments and notes.
     Two,
 }
 
 impl Version {
-    /// The first line of a text of the version.
+    /// Returns the first line of a text of the version.
     pub(crate) fn header(self) -> &'static str
         ensures { result.now ≡ header_text self }
     {
@@ -30,10 +30,10 @@ impl Version {
     }
 }
 
-/// What went over the line: the octets of the answer to reset, and the lines that follow it.
+/// What went over the line: the octets of the answer to reset, and the lines after it.
 ///
-/// In version 1 there is no moment and no note. Moments are at most 999,999,999,999,999 and never below an
-/// earlier one. A note has 1 to 200 characters 20 to 7E.
+/// Version 1 has no moments and no notes. A moment is at most 999,999,999,999,999 and not below an earlier one. A note
+/// has 1 to 200 characters from 20 to 7E.
 #[derive(Debug, Drop)]
 pub struct Exchange {
     version: Version,
@@ -53,8 +53,10 @@ impl Model for Exchange {
 }
 
 impl Exchange {
-    /// The exchange of these parts. Both lists come back where the lines don't fit the version, a moment
-    /// falls or is too late, or a note has no or more than 200 characters or one outside 20 to 7E.
+    /// Makes an exchange of these parts.
+    ///
+    /// Returns both parts as `Err` if a line doesn't fit the version, or if a moment is below an earlier one or too
+    /// late. It does so too if a note is empty, has more than 200 characters, or has one outside 20 to 7E.
     pub fn of(version: Version, atr: Octets, lines: Lines) -> Result<Exchange, (Octets, Lines)>
         ensures made { MatchResult result
             (λ exchange. exchange ≡ record { version = version; atr = atr; lines = lines })
@@ -71,7 +73,7 @@ impl Exchange {
         }
     }
 
-    /// The exchange of parts that are proper.
+    /// Makes an exchange of proper parts.
     pub fn proper(version: Version, atr: Octets, lines: Lines) -> Exchange
         requires { are_proper version 0 lines ≡ true }
         ensures { result ≡ record { version = version; atr = atr; lines = lines } }
@@ -83,21 +85,21 @@ impl Exchange {
         }
     }
 
-    /// The version of its text.
+    /// Returns the version of its text.
     pub fn version(&self) -> Version
         ensures { result ≡ self.now.version }
     {
         self.version
     }
 
-    /// The octets of the answer to reset, as they were recorded.
+    /// Returns the octets of the answer to reset, as they were recorded.
     pub fn atr(&self) -> &[u8]
         ensures { result.now ≡ self.now.atr }
     {
         self.atr.get()
     }
 
-    /// The lines after that of the answer to reset.
+    /// Returns the lines after the answer to reset.
     pub fn lines(&self) -> &Lines
         ensures lines { result.now ≡ self.now.lines }
         ensures proper { are_proper self.now.version 0 self.now.lines ≡ true }
@@ -106,7 +108,7 @@ impl Exchange {
     }
 }
 
-/// The same answer to reset and lines in version 2.
+/// Returns the exchange in version 2, with the same answer to reset and lines.
 pub fn migrate(exchange: Exchange) -> Exchange
     ensures { result ≡ migrated exchange }
 {

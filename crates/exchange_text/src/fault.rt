@@ -1,4 +1,4 @@
-//! Why a text is no exchange.
+//! Why a text isn't an exchange.
 
 ghost use Rattle.std.specs.Prelude.{◌≡◌};
 ghost use Rattle.exchange_text.specs.Reading.{fault_at};
@@ -7,25 +7,25 @@ use std::alloc::AllocError;
 use std::fmt::{self, Display, Formatter, Write};
 use thiserror::Error;
 
-/// Why a text is no exchange: the first fault in it. Lines are counted from 1.
+/// Why a text isn't an exchange: its first fault. Lines are counted from 1.
 #[derive(Clone, Copy, Debug, PartialEq, Eq, Error)]
 pub enum ExchangeFault {
     /// The text doesn't begin with the header of a version and a line feed.
     Header,
-    /// The text ends before the line's line feed, or after line 1.
+    /// The text ends before the line feed of this line, or after line 1.
     End { line: usize },
-    /// The line's first word is unknown, it has too few or too many words, or another one is none of the
-    /// grammar's; also a moment or a note that isn't one, or that version 1 doesn't have.
+    /// The line's first word is unknown, it has too few or too many words, or another word isn't in the grammar. Or it
+    /// is a moment or a note that isn't valid, or that version 1 doesn't have.
     Word { line: usize },
-    /// The line has octets or an octet that aren't spelled in upper-case hexadecimal.
+    /// The line has octets, or an octet, that aren't in upper-case hexadecimal.
     Hex { line: usize },
     /// The line's moment is below an earlier one.
     Falls { line: usize },
-    /// A growth of memory was refused.
+    /// Memory ran out.
     Memory,
 }
 
-/// The name of the fault, with its line before it, as in `line 3: Word`.
+/// The fault's name, after its line, as in `line 3: Word`.
 impl Display for ExchangeFault {
     ghost use Rattle.std.specs.Prelude.{Some};
     ghost use Rattle.exchange_text.specs.Faults.{exchange_fault_text};
@@ -54,19 +54,19 @@ impl From<AllocError> for ExchangeFault {
     }
 }
 
-/// What is wrong with one line.
+/// The fault of one line.
 #[derive(Clone, Copy)]
 pub(crate) enum LineFault {
-    /// Its words.
+    /// Its words are wrong.
     Word,
-    /// Its octets.
+    /// Its octets are wrong.
     Hex,
-    /// A growth of memory was refused.
+    /// Memory ran out.
     Memory,
 }
 
 impl LineFault {
-    /// The same of the line with this number.
+    /// Returns the fault with the line's number.
     pub(crate) fn at(self, line: usize) -> ExchangeFault
         ensures { result ≡ fault_at line self }
     {

@@ -1,4 +1,4 @@
-//! What holds of texts and of migration, as contracts of functions that a caller may call to know it.
+//! What holds for texts and for migration, as contracts of functions. Call one to use its law in a proof.
 
 ghost use Rattle.std.specs.Prelude.{◌≡◌, ◌≢◌, ◌⊎◌, ℕ, List, Ok, Err};
 ghost use Rattle.exchange_text.specs.Exchange.{ExchangeParts, IsExchange, migrated};
@@ -6,7 +6,7 @@ ghost use Rattle.exchange_text.specs.Text.{exchange_text};
 ghost use Rattle.exchange_text.specs.Reading.{exchange_said};
 ghost use Rattle.exchange_text.specs.declared.fault.ExchangeFault.{ExchangeFault};
 
-/// What is written is read again, and what is read has the text that was read.
+/// A text that is written reads as the same exchange, and an exchange that is read is written as the same text.
 pub fn written_is_read()
     ensures written { (e : ExchangeParts) → IsExchange e → exchange_said (exchange_text e) ≡ Ok e }
     ensures read { (text : List ℕ) (e : ExchangeParts) → exchange_said text ≡ Ok e
@@ -19,7 +19,7 @@ pub fn one_exchange()
         → exchange_text e ≡ exchange_text f → e ≡ f }
 {}
 
-/// Every text is that of an exchange or has one first fault, never both; no fault of a text is `Memory`.
+/// A text is that of an exchange or has one first fault, and never both. No fault of a text is `Memory`.
 pub fn exchange_or_fault()
     ensures some { (text : List ℕ)
         → ((e : ExchangeParts) × IsExchange e × (exchange_text e ≡ text))
@@ -29,7 +29,7 @@ pub fn exchange_or_fault()
     ensures no_memory { (text : List ℕ) → exchange_said text ≢ Err ExchangeFault.Memory }
 {}
 
-/// A migrated exchange has the same answer to reset and the same lines, and migrating twice is once.
+/// A migrated exchange has the same answer to reset and the same lines. Migrating twice is the same as once.
 pub fn migration_keeps()
     ensures atr { (e : ExchangeParts) → (migrated e).atr ≡ e.atr }
     ensures lines { (e : ExchangeParts) → (migrated e).lines ≡ e.lines }

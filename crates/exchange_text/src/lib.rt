@@ -1,9 +1,9 @@
 //! Recorded exchanges: what went over the line between a terminal and a card, as a value and as a text.
 //!
-//! An [`Exchange`] is the answer to reset and the lines that follow it: what the application and the card's
-//! host called, which blocks were sent and what became of them, and what came of it. `specs/Text.antt` has
-//! its text, an equation for each line. [`read_exchange`] gives the value of a text or the first fault of it,
-//! [`write_exchange`] the text of a value, and [`migrate`] raises it to version 2.
+//! An [`Exchange`] has the answer to reset and the lines after it: the calls of the application and of the card's host,
+//! the blocks that were sent, how each arrived, and the results. [`read_exchange`] parses a text and returns its
+//! exchange or its first fault. [`write_exchange`] returns the text of an exchange. [`migrate`] raises it to version 2.
+//! `specs/Text.antt` has the text, with an equation for each line.
 #![tactic(auto)]
 
 pub mod exchange;

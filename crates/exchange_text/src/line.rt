@@ -7,22 +7,22 @@ ghost use Rattle.exchange_text.specs.Exchange.{added_note, arrived};
 use octet_core::{Listed, Octets, Text};
 use std::alloc::{AllocError, Global};
 
-/// The text of the note before a line that tells what nobody saw.
+/// The text of the note before a line that says what nobody saw.
 const ADDED: &str = "added";
 
-/// What became of a block on its way.
+/// How a block arrived.
 #[derive(Debug, PartialEq, Eq, Drop)]
 pub enum Arrival {
-    /// It arrived as it was sent.
+    /// As it was sent.
     Whole,
     /// It didn't arrive.
     Lost,
-    /// These octets arrived in its place.
+    /// As these octets instead.
     Changed(Octets),
 }
 
 impl Arrival {
-    /// The octets that arrive of those that were sent, none of a lost block.
+    /// Returns the octets that arrive if these were sent; none for a lost block.
     pub fn octets<'a>(&'a self, sent: &'a Octets) -> &'a [u8]
         ensures { result.now ≡ arrived sent.now self.now }
     {
@@ -37,40 +37,40 @@ impl Arrival {
 /// One line of an exchange.
 #[derive(Debug, PartialEq, Eq, Drop)]
 pub enum Line {
-    /// The application hands the terminal a command.
+    /// The application passes the terminal a command.
     Command(Octets),
-    /// The application asks for information fields of up to so many octets from the card.
+    /// The application asks the card for information fields of up to so many octets.
     Ifsd(u8),
     /// Nothing came to the terminal within its waiting time.
     Quiet,
-    /// The terminal gives the application this answer.
+    /// The terminal returns this answer to the application.
     Answer(Octets),
-    /// The card took the information size that the application asked for.
+    /// The card accepted the information size that the application asked for.
     IfsSet,
-    /// The terminal gave up what was under way, after RESYNCH.
+    /// The terminal gave up its exchange or its question, after RESYNCH.
     GivenUp,
     /// The terminal found the card dead.
     Dead,
-    /// The card's host gives this reply.
+    /// The card's host replies with these octets.
     Reply(Octets),
     /// The card's host asks for so many times the waiting time.
     Time(u8),
-    /// The card's host asks for information fields of up to so many octets from the terminal.
+    /// The card's host asks the terminal for information fields of up to so many octets.
     Ifsc(u8),
-    /// The card gives its host this command.
+    /// The card passes its host this command.
     Asked(Octets),
     /// The terminal sends a block.
     FromTerminal { sent: Octets, arrival: Arrival },
     /// The card sends a block.
     FromCard { sent: Octets, arrival: Arrival },
-    /// So many microseconds after the start; in version 2 alone.
+    /// So many microseconds have passed since the start. Only version 2 has this line.
     Moment(u64),
-    /// A remark, 1 to 200 characters 20 to 7E; in version 2 alone.
+    /// A remark, 1 to 200 characters from 20 to 7E. Only version 2 has this line.
     Note(Text),
 }
 
 impl Line {
-    /// The line `note added`, which comes before a line that tells what nobody saw.
+    /// Returns the line `note added`, which comes before a line that says what nobody saw.
     pub fn added(alloc: Global) -> Result<Line, AllocError>
         ensures { IfOk result (λ line. line ≡ added_note) }
     {
@@ -88,5 +88,5 @@ impl Line {
     }
 }
 
-/// Lines in their order, which contracts see as a list.
+/// Lines in order, which contracts see as a list.
 pub type Lines = Listed<Line>;

@@ -23,7 +23,7 @@ pub enum Name {
     Note,
 }
 
-/// All names, those that come most often first.
+/// All names, the most frequent first.
 const NAMES: [Name; 15] = [
     Name::FromTerminal,
     Name::FromCard,
@@ -43,7 +43,7 @@ const NAMES: [Name; 15] = [
 ];
 
 impl Name {
-    /// The word.
+    /// Returns the name's word.
     pub fn word(self) -> &'static str
         ensures { result.now ≡ name_text self }
     {
@@ -66,7 +66,7 @@ impl Name {
         }
     }
 
-    /// What a word names.
+    /// Returns the name of a word.
     pub(crate) fn of(word: &[u8]) -> Option<Name>
         ensures { result ≡ name_of word.now }
     {
@@ -74,7 +74,7 @@ impl Name {
     }
 }
 
-/// The first of these names with this word.
+/// Returns the first of these names with this word.
 fn named_in(names: &[Name], word: &[u8]) -> Option<Name>
     ensures { result ≡ named_in names.now word.now }
 {

@@ -8,13 +8,13 @@ ghost use Rattle.exchange_text.specs.Exchange.{is_note, is_printable, may_follow
 use crate::exchange::Version;
 use crate::line::Line;
 
-/// The latest moment that an exchange may name, in microseconds.
+/// The latest moment of an exchange, in microseconds.
 pub const LATEST_MOMENT: u64 = 999_999_999_999_999;
 
-/// The most characters of a note.
+/// The most characters that a note has.
 pub(crate) const LONGEST_NOTE: usize = 200;
 
-/// Whether the lines may follow one another in an exchange of the version.
+/// Whether an exchange of the version may have these lines, in this order.
 pub(crate) fn are_proper(version: Version, lines: &[Line]) -> bool
     ensures { result ≡ exchange.are_proper version 0 lines.now }
 {
@@ -30,7 +30,7 @@ pub(crate) fn are_proper(version: Version, lines: &[Line]) -> bool
     true
 }
 
-/// Whether a line may come in an exchange of the version after the moment `least`.
+/// Whether an exchange of the version may have this line after the moment `least`.
 pub(crate) fn may_follow(version: Version, least: u64, line: &Line) -> bool
     ensures { result ≡ may_follow version least line.now }
 {
@@ -43,7 +43,7 @@ pub(crate) fn may_follow(version: Version, least: u64, line: &Line) -> bool
     }
 }
 
-/// The moment to which a line brings an exchange that has come to the moment `least`.
+/// Returns the moment after a line; `least` is the moment before it.
 pub(crate) fn moment_after(least: u64, line: &Line) -> u64
     ensures { result ≡ moment_after least line.now }
 {
@@ -53,7 +53,7 @@ pub(crate) fn moment_after(least: u64, line: &Line) -> u64
     }
 }
 
-/// Whether a text is a note: 1 to 200 characters 20 to 7E.
+/// Whether a text is a note: 1 to 200 characters from 20 to 7E.
 pub(crate) fn is_note(text: &[u8]) -> bool
     ensures { result ≡ is_note text.now }
 {

@@ -16,10 +16,10 @@ use crate::words::{ATR, LINE_FEED, cut_at, first_word, the_word};
 use octet_core::Octets;
 use std::alloc::{AllocError, Global};
 
-/// The exchange that has this text, or the first fault of a text that no exchange has.
+/// Parses a text, and returns its exchange or its first fault.
 ///
-/// Faults are looked for line by line; at one line `End` comes first, then `Word`, `Hex` and `Falls`.
-/// `Memory` may be answered in place of any other answer. `laws` says that what is written is read again.
+/// It looks for faults line by line. At one line `End` comes first, then `Word`, `Hex` and `Falls`. `Memory` can
+/// replace any result. `laws` says that a text that was written reads as the same exchange.
 pub fn read_exchange(alloc: Global, text: &[u8]) -> Result<Exchange, ExchangeFault>
     ensures said { UnlessMemory result (exchange_said text.now) }
     ensures found { IfOk result (λ exchange. exchange_text exchange ≡ text.now) }
@@ -30,7 +30,7 @@ pub fn read_exchange(alloc: Global, text: &[u8]) -> Result<Exchange, ExchangeFau
     rest_said(alloc, version, rest)
 }
 
-/// The exchange of a text after its header.
+/// Returns the exchange of a text, from what follows its header.
 fn rest_said(alloc: Global, version: Version, text: &[u8]) -> Result<Exchange, ExchangeFault>
     requires { length text.now + 1 < 2 ^ 64 }
     ensures { UnlessMemory result (parts_said version (slice_split is_line_feed text.now)) }
@@ -41,14 +41,14 @@ fn rest_said(alloc: Global, version: Version, text: &[u8]) -> Result<Exchange, E
     Ok(Exchange::proper(version, atr, lines))
 }
 
-/// The answer to reset that the second line says, or its fault.
+/// Returns the answer to reset in the second line, or its fault with the line's number.
 fn second_line(alloc: Global, line: &[u8]) -> Result<Octets, ExchangeFault>
     ensures { UnlessMemory result (reading.at 2 (reading.atr_said line.now)) }
 {
     atr_said(alloc, line).map_err(|fault| fault.at(2))
 }
 
-/// The version that a header names.
+/// Returns the version of a header.
 fn version_said(line: &[u8]) -> Result<Version, ExchangeFault>
     ensures { result ≡ reading.version_said line.now }
 {
@@ -61,7 +61,7 @@ fn version_said(line: &[u8]) -> Result<Version, ExchangeFault>
     }
 }
 
-/// The answer to reset that the second line says.
+/// Returns the answer to reset in the second line.
 fn atr_said(alloc: Global, line: &[u8]) -> Result<Octets, LineFault>
     ensures { LineUnlessMemory result (reading.atr_said line.now) }
 {
@@ -74,7 +74,7 @@ fn atr_said(alloc: Global, line: &[u8]) -> Result<Octets, LineFault>
     }
 }
 
-/// The lines of a text from the third on.
+/// Returns the lines of a text, from the third on.
 fn lines_said(alloc: Global, version: Version, text: &[u8]) -> Result<Lines, ExchangeFault>
     requires { length text.now + 3 < 2 ^ 64 }
     ensures said { UnlessMemory result
@@ -99,7 +99,7 @@ fn lines_said(alloc: Global, version: Version, text: &[u8]) -> Result<Lines, Exc
     }
 }
 
-/// The line with this number, which comes after the moment `least`.
+/// Returns the line with this number, after the moment `least`.
 fn line_at(
     alloc: Global,
     version: Version,

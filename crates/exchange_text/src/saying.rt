@@ -16,7 +16,7 @@ use hex::FromHexError;
 use octet_core::{Octets, Text, decimal_of};
 use std::alloc::Global;
 
-/// The line that octets say in a text of the version.
+/// Parses a line in a text of the version.
 pub(crate) fn line_said(alloc: Global, version: Version, line: &[u8]) -> Result<Line, LineFault>
     ensures { LineUnlessMemory result (reading.line_said version line.now) }
 {
@@ -61,7 +61,7 @@ pub(crate) fn line_said(alloc: Global, version: Version, line: &[u8]) -> Result<
     }
 }
 
-/// One more word, which gives octets.
+/// Takes the one word that is left, as octets.
 fn one_octets(alloc: Global, rest: Option<&[u8]>) -> Result<Octets, LineFault>
     ensures { LineUnlessMemory result (reading.one_octets (words_after (words_in rest.entry))) }
 {
@@ -69,7 +69,7 @@ fn one_octets(alloc: Global, rest: Option<&[u8]>) -> Result<Octets, LineFault>
     octets_said(alloc, word)
 }
 
-/// One more word, which gives one octet.
+/// Takes the one word that is left, as one octet.
 fn one_octet(rest: Option<&[u8]>) -> Result<u8, LineFault>
     ensures { result ≡ reading.one_octet (words_after (words_in rest.entry)) }
 {
@@ -77,7 +77,7 @@ fn one_octet(rest: Option<&[u8]>) -> Result<u8, LineFault>
     octet_said(word)
 }
 
-/// The octets of a block, and what became of it.
+/// Returns the octets of a block, and how it arrived.
 fn block(alloc: Global, rest: Option<&[u8]>) -> Result<(Octets, Arrival), LineFault>
     ensures { LineUnlessMemory result (block_said (words_after (words_in rest.entry))) }
 {
@@ -90,7 +90,7 @@ fn block(alloc: Global, rest: Option<&[u8]>) -> Result<(Octets, Arrival), LineFa
     Ok((sent, arrival))
 }
 
-/// What became of a block, by the words after its octets.
+/// Returns how a block arrived, from the words after its octets.
 fn arrival(alloc: Global, rest: Option<&[u8]>) -> Result<Arrival, LineFault>
     ensures { LineUnlessMemory result (arrival_said (words_after (words_in rest.entry))) }
 {
@@ -108,7 +108,7 @@ fn arrival(alloc: Global, rest: Option<&[u8]>) -> Result<Arrival, LineFault>
     }
 }
 
-/// The moment of one more word.
+/// Takes the one word that is left, as a moment.
 fn moment(version: Version, rest: Option<&[u8]>) -> Result<Line, LineFault>
     ensures { result ≡ moment_said version (words_after (words_in rest.entry)) }
 {
@@ -119,7 +119,7 @@ fn moment(version: Version, rest: Option<&[u8]>) -> Result<Line, LineFault>
     Ok(Line::Moment(moment))
 }
 
-/// The note that follows the first space.
+/// Returns the note that follows the first space.
 fn note(alloc: Global, version: Version, text: &[u8]) -> Result<Line, LineFault>
     ensures { LineUnlessMemory result (note_said version text.now) }
 {
@@ -132,7 +132,7 @@ fn note(alloc: Global, version: Version, text: &[u8]) -> Result<Line, LineFault>
     }
 }
 
-/// The octets that a word gives in upper-case hexadecimal, none where it is `none`.
+/// Returns the octets of a word in upper-case hexadecimal; none if the word is `none`.
 pub(crate) fn octets_said(alloc: Global, word: &[u8]) -> Result<Octets, LineFault>
     ensures { LineUnlessMemory result (reading.octets_said word.now) }
 {
@@ -149,7 +149,7 @@ pub(crate) fn octets_said(alloc: Global, word: &[u8]) -> Result<Octets, LineFaul
     }
 }
 
-/// The octet that a word gives in two digits of upper-case hexadecimal.
+/// Returns the octet of a word of two digits in upper-case hexadecimal.
 fn octet_said(word: &[u8]) -> Result<u8, LineFault>
     ensures { result ≡ reading.octet_said word.now }
 {
@@ -163,7 +163,7 @@ fn octet_said(word: &[u8]) -> Result<u8, LineFault>
     }
 }
 
-/// Whether a word is one or more digits of upper-case hexadecimal.
+/// Whether a word is one or more upper-case hexadecimal digits.
 fn are_upper_digits(word: &[u8]) -> bool
     ensures { result ≡ reading.are_upper_digits word.now }
 {

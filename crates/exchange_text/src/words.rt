@@ -1,4 +1,4 @@
-//! Texts that come apart at an octet: lines at line feeds, words at spaces.
+//! Texts that are split at an octet: into lines at line feeds, and into words at spaces.
 
 ghost use Rattle.std.specs.Prelude.{◌≡◌, ◌==◌, ◌+◌, ◌<◌, [], ◌∷◌, length, IfSome, MatchOption};
 ghost use Rattle.std.specs.List.{after_first, slice_split, position_from};
@@ -11,7 +11,7 @@ use crate::fault::LineFault;
 /// What ends a line.
 pub(crate) const LINE_FEED: u8 = b'\n';
 
-/// What parts two words.
+/// What separates two words.
 const SPACE: u8 = b' ';
 
 /// The first word of the second line.
@@ -23,10 +23,10 @@ pub(crate) const NONE: &str = "none";
 /// The word for a lost block, after its octets.
 pub(crate) const LOST: &str = "lost";
 
-/// The word for a changed block, between its octets and those that arrived.
+/// The word for a changed block, between the octets that were sent and those that arrived.
 pub(crate) const AS: &str = "as";
 
-/// The octets before the first `mark` and those after it; `None` where there is none.
+/// Returns the octets before the first `mark` and those after it, or `None` if there is no `mark`.
 pub(crate) fn cut_at(octets: &[u8], mark: u8) -> Option<(&[u8], &[u8])>
     ensures parts { MatchOption result
         (slice_split (λ octet. octet == mark) octets.now ≡ octets.now ∷ [])
@@ -41,7 +41,7 @@ pub(crate) fn cut_at(octets: &[u8], mark: u8) -> Option<(&[u8], &[u8])>
     }
 }
 
-/// The place of the first `mark`.
+/// Returns the place of the first `mark`.
 fn place_of(octets: &[u8], mark: u8) -> Option<usize>
     ensures place { result ≡ position_from (λ octet. octet == mark) 0 octets.now }
     ensures inside { IfSome result (λ place. place < length octets.now) }
@@ -49,7 +49,7 @@ fn place_of(octets: &[u8], mark: u8) -> Option<usize>
     octets.iter().position(|&octet| octet == mark)
 }
 
-/// The first word of a line, and what follows the space after it, if there is one.
+/// Returns the first word of a line, and what follows the space after it, if there is one.
 pub(crate) fn first_word(line: &[u8]) -> (&[u8], Option<&[u8]>)
     ensures words { slice_split is_space line.now ≡ result.0.now ∷ words_after (words_in result.1) }
     ensures after { IfSome result.1 (λ rest. rest.now ≡ after_first is_space line.now) }
@@ -60,7 +60,7 @@ pub(crate) fn first_word(line: &[u8]) -> (&[u8], Option<&[u8]>)
     }
 }
 
-/// The one word of what follows a space.
+/// Returns the one word after a space.
 pub(crate) fn the_word(rest: Option<&[u8]>) -> Result<&[u8], LineFault>
     ensures { result_map_both (λ word. word.now) (λ fault. fault) result
         ≡ only_word (words_after (words_in rest.entry)) }
@@ -74,7 +74,7 @@ pub(crate) fn the_word(rest: Option<&[u8]>) -> Result<&[u8], LineFault>
     }
 }
 
-/// Whether no space and no further word comes.
+/// Returns `Ok` if no space and no further word follows.
 pub(crate) fn no_word(rest: Option<&[u8]>) -> Result<(), LineFault>
     ensures { result ≡ no_word (words_after (words_in rest.entry)) }
 {

@@ -15,7 +15,7 @@ use crate::words::{AS, ATR, LOST, NONE};
 use octet_core::hex_upper;
 use std::alloc::{AllocError, Global};
 
-/// The text of an exchange, or out of memory.
+/// Returns the text of an exchange, or `Err` if memory runs out.
 pub fn write_exchange(alloc: Global, exchange: &Exchange) -> Result<Vec<u8>, AllocError>
     ensures text { IfOk result (λ text. text.items ≡ exchange_text exchange.now) }
     ensures back { IfOk result (λ text. exchange_said text.items ≡ Ok exchange.now) }
@@ -25,7 +25,7 @@ pub fn write_exchange(alloc: Global, exchange: &Exchange) -> Result<Vec<u8>, All
     Ok(text.into_bytes())
 }
 
-/// Adds the text of an exchange.
+/// Appends the text of an exchange.
 fn push_exchange(alloc: Global, text: &mut String, exchange: &Exchange) -> Result<(), AllocError>
     ensures text { OnOk result (string_bytes text.new
         ≡ string_bytes text.old ++ exchange_text exchange.now) }
@@ -39,7 +39,7 @@ fn push_exchange(alloc: Global, text: &mut String, exchange: &Exchange) -> Resul
     push_lines(alloc, text, exchange.lines())
 }
 
-/// Adds lines, each with its line feed.
+/// Appends lines, each with its line feed.
 fn push_lines(alloc: Global, text: &mut String, lines: &Lines) -> Result<(), AllocError>
     ensures text { OnOk result (string_bytes text.new
         ≡ string_bytes text.old ++ lines_text lines.now) }
@@ -52,7 +52,7 @@ fn push_lines(alloc: Global, text: &mut String, lines: &Lines) -> Result<(), All
     Ok(())
 }
 
-/// Adds a line without its line feed.
+/// Appends a line without its line feed.
 fn push_line(alloc: Global, text: &mut String, line: &Line) -> Result<(), AllocError>
     ensures text { OnOk result (string_bytes text.new
         ≡ string_bytes text.old ++ line_text line.now) }
@@ -86,7 +86,7 @@ fn push_line(alloc: Global, text: &mut String, line: &Line) -> Result<(), AllocE
     }
 }
 
-/// Adds a word and a space.
+/// Appends a word and a space.
 fn push_word(text: &mut String, word: &str) -> Result<(), AllocError>
     ensures { OnOk result (string_bytes text.new
         ≡ string_bytes text.old ++ (word.now ++ codes " ")) }
@@ -95,7 +95,7 @@ fn push_word(text: &mut String, word: &str) -> Result<(), AllocError>
     text.push_str(" ")
 }
 
-/// Adds octets, or `none` for no octets.
+/// Appends octets, or `none` for no octets.
 fn push_octets(alloc: Global, text: &mut String, octets: &[u8]) -> Result<(), AllocError>
     ensures text { OnOk result (string_bytes text.new
         ≡ string_bytes text.old ++ octets_text octets.now) }
@@ -108,7 +108,7 @@ fn push_octets(alloc: Global, text: &mut String, octets: &[u8]) -> Result<(), Al
     }
 }
 
-/// Adds the word of a name, and octets.
+/// Appends the word of a name, and octets.
 pub fn push_message(
     alloc: Global,
     text: &mut String,
@@ -123,7 +123,7 @@ pub fn push_message(
     push_octets(alloc, text, octets)
 }
 
-/// Adds the word of a name, and one octet.
+/// Appends the word of a name, and one octet.
 fn push_number(alloc: Global, text: &mut String, name: Name, octet: u8) -> Result<(), AllocError>
     ensures text { OnOk result (string_bytes text.new
         ≡ string_bytes text.old ++ (name_text name ++ (codes " " ++ octet_text octet))) }
@@ -133,7 +133,7 @@ fn push_number(alloc: Global, text: &mut String, name: Name, octet: u8) -> Resul
     text.push_str(hex_upper(alloc, &[octet])?.as_str())
 }
 
-/// Adds what became of a block.
+/// Appends how a block arrived.
 fn push_arrival(alloc: Global, text: &mut String, arrival: &Arrival) -> Result<(), AllocError>
     ensures text { OnOk result (string_bytes text.new
         ≡ string_bytes text.old ++ arrival_text arrival.now) }
@@ -153,7 +153,7 @@ fn push_arrival(alloc: Global, text: &mut String, arrival: &Arrival) -> Result<(
     }
 }
 
-/// Adds a moment.
+/// Appends a moment.
 fn push_moment(alloc: Global, text: &mut String, moment: u64) -> Result<(), AllocError>
     ensures { OnOk result (string_bytes text.new
         ≡ string_bytes text.old ++ line_text (Line.Moment moment)) }

@@ -1,4 +1,4 @@
--- What is said of words of `build fill` that say no known values, or two values of one tag.
+-- The notes on words of `build fill` that aren't known values, and on two values of one tag.
 use Rattle.std.specs.Prelude.{◌≡◌, ℕ, not, ◌+◌, ◌<◌, List, [], ◌++◌, codes, decimal, drop, is_ok, length, slice_get, take, Some, Result, Ok, Err, if◌then◌else◌}
 use Rattle.hex.specs.Hex.{encode_upper}
 use Rattle.tlv_core.specs.Fill.{HasDuplicate}
@@ -10,11 +10,11 @@ use Rattle.explainer.specs.Notes.{word_note}
 use Rattle.explainer.specs.Places.{place_of, places}
 use Rattle.explainer.specs.Words.{digits_note, first_note, hex_note, or_note}
 
--- what is built and the list come before the known values
+-- `fill` and the list come before the known values
 abbrev pub before_values : ℕ
 before_values = 2
 
--- ---- a word that says no known value
+-- ---- a word that isn't a known value
 
 abbrev pub tag_note : ℕ → List ℕ → List ℕ
 tag_note number tag = or_note (digits_note number tag)
@@ -40,13 +40,13 @@ parts_note number (Err fault) = whole_note number
 abbrev pub value_note : ℕ → List ℕ → List ℕ
 value_note number word = parts_note number (parted word)
 
--- the first word that says no known value
+-- the note on the first word that isn't a known value
 abbrev pub known_note : List (List ℕ) → List ℕ
 known_note words = first_note value_note words (drop before_values (places words))
 
 -- ---- two values of one tag
 
--- the first value of a tag that an earlier one has, and that one, by their places
+-- the first value whose tag an earlier one has, and that one, by their places
 pub record IsFirstTwice (known : List Known) (first second : ℕ) : Type 0 where
   pub one : Known
   pub other : Known
@@ -57,14 +57,14 @@ pub record IsFirstTwice (known : List Known) (first second : ℕ) : Type 0 where
   pub same : one.tag ≡ other.tag
   pub apart : HasDuplicate (take second known) → ⊥
 
--- the words that say them, and their tag
+-- the words of both values, and their tag
 abbrev pub twice_note : List (List ℕ) → ℕ → ℕ → List ℕ → List ℕ
 twice_note words first second tag =
     codes "words " ++ (decimal (place_of words (first + before_values)) ++ (codes " and "
     ++ (decimal (place_of words (second + before_values)) ++ (codes ": both give a value for tag "
     ++ (encode_upper tag ++ codes "\n")))))
 
--- The note on known values: none where each has another tag, else on the first two of one tag.
+-- The note on known values: empty if each has another tag, else on the first two of one tag.
 pub data IsTwiceNote (words : List (List ℕ)) (known : List Known) (note : List ℕ) : Type 0 where
   all_apart : (HasDuplicate known → ⊥) → note ≡ [] → IsTwiceNote words known note
   twice : (first second : ℕ) (pair : IsFirstTwice known first second)

@@ -1,4 +1,4 @@
--- What is said of octets after the line of their verdict.
+-- The notes on octets, after the line of their verdict.
 use Rattle.std.specs.Prelude.{◌≡◌, ℕ, nat_le, nat_lt, true, false, ◌+◌, ◌-◌, ◌*◌, List, ◌++◌, [], ◌∷◌, codes, decimal, drop, encode_utf8, length, take, ◌==◌, Option, Some, None, if◌then◌else◌, Result, Ok, Err}
 use Rattle.std.specs.List.{list_any, repeat}
 use Rattle.hex.specs.Hex.{encode_upper}
@@ -15,7 +15,7 @@ use Rattle.card_words.specs.declared.request.Kind.TheVariants as kind
 use Rattle.card_words.specs.declared.session.Session.{Session}
 use Rattle.explainer.specs.Sentences.{atr_sentence, lack_sentence}
 
--- the place of the first octet that is shown: at most 16 octets stand before the one that is marked
+-- the place of the first octet that is shown: at most 16 octets come before the marked one
 abbrev pub first_shown : ℕ → ℕ
 first_shown place = place - 16
 
@@ -27,7 +27,7 @@ shown b place = take 24 (drop (first_shown place) b)
 abbrev pub mark_text : ℕ → List ℕ
 mark_text place = repeat (place - first_shown place) (codes "  ") ++ codes "^^\n"
 
--- the octet at a place and what was expected there, the octets around it, and the mark
+-- the octet at a place, what was expected there, the octets around it, and the mark
 abbrev pub refused_note : List ℕ → ℕ → List ℕ → List ℕ
 refused_note b place sentence =
     codes "octet " ++ (decimal place ++ (codes " is "
@@ -35,18 +35,18 @@ refused_note b place sentence =
     ++ (codes ": " ++ (sentence ++ (codes "\noctets from place " ++ (decimal (first_shown place)
     ++ (codes ":\n" ++ (encode_upper (shown b place) ++ (codes "\n" ++ mark_text place))))))))))
 
--- how many octets are there, and at least how many must come, where that is known
+-- how many octets there are, and how many more are needed at least, if that is known
 abbrev pub short_note : ℕ → Option ℕ → List ℕ
 short_note count None = codes "octets so far: " ++ (decimal count ++ codes "; more must come\n")
 short_note count (Some least) = codes "octets so far: "
     ++ (decimal count ++ (codes "; at least " ++ (decimal least ++ codes " more must come\n")))
 
--- how many octets a block has by its LEN, or at least without one (ISO/IEC 7816-3, 11.3)
+-- how many octets a block has by its LEN, or at least if LEN is missing (ISO/IEC 7816-3, 11.3)
 abbrev pub block_has : List ℕ → ℕ
 block_has (nad ∷ pcb ∷ len ∷ more) = len + 4
 block_has octets = 4
 
--- how many a command has at least by its length fields (ISO/IEC 7816-4, 5.1)
+-- how many octets a command has at least by its length fields (ISO/IEC 7816-4, 5.1)
 abbrev pub extended_has : List ℕ → ℕ
 extended_has (high ∷ low ∷ x ∷ more) = 7 + high * 256 + low
 extended_has more = 7
@@ -55,17 +55,17 @@ abbrev pub command_has : List ℕ → ℕ
 command_has (cla ∷ ins ∷ p1 ∷ p2 ∷ lc ∷ more) = if lc == 0 then extended_has more else 5 + lc
 command_has octets = 4
 
--- the octets of a tag under way after others of a data object list, or a whole one whose length comes next
+-- the octets of the tag that is being read at the end of a data object list; a whole tag if its length comes next
 abbrev pub begun_after : List ℕ → List ℕ → List ℕ
 begun_after tag [] = tag
 begun_after tag (x ∷ more) = begun_after (if is_tag tag then [] else tag ++ x ∷ []) more
 
--- how many octets a list that is short wants at least: the length after a whole tag, else one more octet of the tag as
+-- how many more octets a short list needs at least: the length after a whole tag, else one more octet of the tag as
 -- well (EMV 4.3 Book 3, 5.4)
 abbrev pub list_wants : List ℕ → ℕ
 list_wants b = if is_tag (begun_after [] b) then 1 else 2
 
--- how many octets must still come at least, where octets are short that are taken for this kind, and it is known
+-- how many more octets are needed at least if octets of this kind are short, and if that is known
 abbrev pub least_of : Kind → List ℕ → Option ℕ
 least_of kind.Block b = Some (block_has b - length b)
 least_of kind.Command b = Some (command_has b - length b)
@@ -77,12 +77,12 @@ least_of _ b = None
 abbrev pub left_note : ℕ → List ℕ
 left_note count = if count == 0 then [] else (codes "octets after the value: " ++ (decimal count ++ codes "\n"))
 
--- the note of a refusal, by the sentence of each reason, and by how many octets are known to be wanting
+-- the note on a refusal, by the sentence of each reason, and by how many more octets are needed, if known
 abbrev pub stop_text : {R : Type 0} → (R → List ℕ) → List ℕ → Option ℕ → Stop R → List ℕ
 stop_text says b least (At place reason) = refused_note b place (says reason)
 stop_text says b least (Short place) = short_note (length b) least
 
--- that on a verdict: of a value that takes so many octets it tells how many are left
+-- the note on a verdict: for a value of n octets it is how many are left
 abbrev pub verdict_text : {R : Type 0} → (R → List ℕ) → List ℕ → Option ℕ → Result ℕ (Stop R) → List ℕ
 verdict_text says b least (Ok n) = left_note (length b - n)
 verdict_text says b least (Err stop) = stop_text says b least stop
@@ -98,14 +98,14 @@ abbrev pub longer_note : ℕ → ℕ → List ℕ
 longer_note taken left = codes "octets of the answer to reset: "
     ++ (decimal taken ++ (codes "; octets after it: " ++ (decimal left ++ codes "\n")))
 
--- The note on an answer to reset by its parameters of T=1: none where it has them, else what it lacks.
+-- The note on an answer to reset by its parameters of T=1: empty if it has them, else what it lacks.
 pub data IsLackNote (a : AtrParts) (note : List ℕ) : Type 0 where
   has_all : (values : T1Values) → t1_params_of a ≡ Ok values → note ≡ [] → IsLackNote a note
   lacks : (fault : ParamFault) → t1_params_of a ≡ Err fault → note ≡ lack_note (lack_sentence fault)
       → IsLackNote a note
 
--- The note on the octets that a session is to begin from: that on the answer to reset which they all are, how many are
--- left after one, or the note of the refusal.
+-- The note on the octets from which a session should begin. All of them are an answer to reset, and the note is on
+-- that; or octets are left after one; or they are refused.
 pub data IsSessionNote (b note : List ℕ) : Type 0 where
   whole : (a : AtrParts) → Accepts self_ended IsAtr b a (length b) → IsLackNote a note → IsSessionNote b note
   longer : (a : AtrParts) (n : ℕ) → Accepts self_ended IsAtr b a n → (n ≡ length b → ⊥)
@@ -113,13 +113,13 @@ pub data IsSessionNote (b note : List ℕ) : Type 0 where
   no_atr : (stop : Stop AtrReason) → Refuses self_ended IsAtr IsReason b stop
       → note ≡ stop_text atr_sentence b None stop → IsSessionNote b note
 
--- a list that names blocks which were never sent, which these are, and how many were sent
+-- a list that names blocks that were never sent, the numbers of these blocks, and how many were sent
 abbrev pub unsent_line : List ℕ → List ℕ → ℕ → List ℕ
 unsent_line option shown sent =
     option ++ (codes " names blocks that were never sent: " ++ (shown ++ (codes "; blocks sent: "
     ++ (decimal sent ++ codes "\n"))))
 
--- numbers that follow one another are a range
+-- consecutive numbers as a range
 abbrev pub run_text : ℕ → ℕ → List ℕ
 run_text first last = if first == last then decimal first else decimal first ++ (codes "-" ++ decimal last)
 
@@ -130,15 +130,15 @@ abbrev pub with_last : List ℕ → Option (ℕ × ℕ) → List ℕ
 with_last text None = text
 with_last text (Some run) = with_run text run.0 run.1
 
--- one number more: it goes on with the range before it, or that one is written
+-- one more number: it extends the range before it, or that range is written
 abbrev pub next_shown : ℕ → List ℕ → Option (ℕ × ℕ) → List ℕ × Option (ℕ × ℕ)
 next_shown number text None = (text, Some (number, number))
 next_shown number text (Some run) = if number == run.1 + 1
     then (text, Some (run.0, number))
     else (with_run text run.0 run.1, Some (number, number))
 
--- The numbers of a list above this one, in their order, after the text so far and the range that isn't written yet. The
--- rest is left out after 60 characters.
+-- The numbers of a list above this one, in their order, after the text so far and the range that isn't written yet.
+-- After 60 characters the rest is left out.
 abbrev pub unsent_shown : ℕ → List ℕ → List ℕ → Option (ℕ × ℕ) → List ℕ
 unsent_shown sent [] text run = with_last text run
 unsent_shown sent (number ∷ numbers) text run = if nat_le number sent then unsent_shown sent numbers text run
@@ -146,13 +146,13 @@ unsent_shown sent (number ∷ numbers) text run = if nat_le number sent then uns
     then (next_shown number text run).0 ++ codes ",.."
     else unsent_shown sent numbers (next_shown number text run).0 (next_shown number text run).1)
 
--- The note on a list by how many blocks were sent: none where it names none above that number, else these.
+-- The note on a list by how many blocks were sent: empty if it names none above that number, else these numbers.
 pub data IsUnsentNote (option blocks : List ℕ) (sent : ℕ) (note : List ℕ) : Type 0 where
   all_sent : list_any (λ number. nat_lt sent number) blocks ≡ false → note ≡ [] → IsUnsentNote option blocks sent note
   some_unsent : list_any (λ number. nat_lt sent number) blocks ≡ true
       → note ≡ unsent_line option (unsent_shown sent blocks [] None) sent → IsUnsentNote option blocks sent note
 
--- the same of all lists of a session
+-- the notes on all lists of a session
 pub record AreUnsentNotes (s : Session) (sent : ℕ) (note : List ℕ) : Type 0 where
   pub lost : List ℕ
   pub damaged : List ℕ
@@ -164,11 +164,11 @@ pub record AreUnsentNotes (s : Session) (sent : ℕ) (note : List ℕ) : Type 0 
 
 -- ---- words
 
--- a word by its number, and what is wrong with it
+-- the number of a word, and what is wrong with it
 abbrev pub word_note : ℕ → List ℕ → List ℕ
 word_note number what = codes "word " ++ (decimal number ++ (codes ": " ++ (what ++ codes "\n")))
 
--- a character at a place of the word that is no hexadecimal digit
+-- a character at a place of the word that isn't a hexadecimal digit
 abbrev pub digit_note : ℕ → ℕ → ℕ → List ℕ
 digit_note number character place = codes "word "
     ++ (decimal number ++ (codes ": the character '"
@@ -180,12 +180,12 @@ odd_note number count = codes "word " ++ (decimal number
 
 -- ---- files
 
--- a line of a file by its number, with its text, and what is to be said of it
+-- the number of a line of a file, its text, and what there is to say about it
 abbrev pub line_note : ℕ → List ℕ → List ℕ → List ℕ
 line_note number line what = codes "line "
     ++ (decimal number ++ (codes " of the file: " ++ (line ++ (codes "\n" ++ (what ++ codes "\n")))))
 
--- how many octets standard input or a session's text may have, and how a longer session is split
+-- how many octets standard input or the text of a session may have, and how to split a longer session
 abbrev pub large_note : ℕ → List ℕ
 large_note most = codes "standard input and the text of a session have at most " ++ (decimal most
     ++ codes " octets each\nto split a session, cut it after an answered exchange, where both ends send block 0 next\n")

@@ -1,4 +1,4 @@
--- What is said of a text whose lines are to be pairs of a session, and one isn't.
+-- The note on a text whose lines should be pairs of a session, and one isn't.
 use Rattle.std.specs.Prelude.{ℕ, Bool, ◌+◌, ◌-◌, ◌%◌, List, ◌++◌, [], ◌∷◌, bytes_eq, codes, is_some, length, ◌==◌, Option, Some, None, if◌then◌else◌}
 use Rattle.std.specs.Char.{is_ascii_hexdigit}
 use Rattle.std.specs.List.{slice_split}
@@ -8,9 +8,9 @@ use Rattle.explainer.specs.Texts.{wrong_note}
 use Rattle.explainer.specs.declared.hexadecimal.Wrong.{Wrong}
 use Rattle.explainer.specs.declared.hexadecimal.Wrong.TheVariants.{Digit, Odd, NoReply, Third}
 
--- ---- a word that gives octets, in hexadecimal or none
+-- ---- a word of octets, in hexadecimal or `none`
 
--- the first octet that is no digit
+-- the first octet that isn't a digit
 abbrev pub digit_from : ℕ → List ℕ → Option (ℕ × Wrong)
 digit_from place [] = None
 digit_from place (x ∷ word) = if is_ascii_hexdigit x then digit_from (place + 1) word else Some (place, Digit x)
@@ -27,7 +27,7 @@ wrong_word word = if is_none word then None else or_odd (digit_from 0 word) word
 
 -- ---- a line
 
--- a place after so many octets
+-- a place, moved by this many octets
 abbrev pub placed : ℕ → Option (ℕ × Wrong) → Option (ℕ × Wrong)
 placed start (Some (place, wrong)) = Some (start + place, wrong)
 placed start None = None
@@ -40,18 +40,18 @@ or_later None later = later
 abbrev pub word_place : List ℕ → List ℕ × List ℕ → ℕ
 word_place text w = length text - length w.1 - length w.0
 
--- no word comes after the reply
+-- no word may come after the reply
 abbrev pub third_stop : List ℕ → Option (ℕ × Wrong)
 third_stop text = let w = first_word text in
     if length w.0 == 0 then None else Some (word_place text w, Third)
 
--- a reply comes after the command
+-- a reply must come after the command
 abbrev pub reply_stop : List ℕ → Option (ℕ × Wrong)
 reply_stop text = let w = first_word text in
     if length w.0 == 0 then Some (0, NoReply)
     else or_later (placed (word_place text w) (wrong_word w.0)) (placed (length text - length w.1) (third_stop w.1))
 
--- the first place of a line that is wrong; one without a word says no pair
+-- the first wrong place of a line; a line without a word has none
 abbrev pub pair_stop : List ℕ → Option (ℕ × Wrong)
 pair_stop line = let w = first_word line in
     if length w.0 == 0 then None
@@ -59,7 +59,7 @@ pair_stop line = let w = first_word line in
 
 -- ---- a text
 
--- the first place of lines that is wrong, which begin here
+-- the first wrong place of lines that begin at this place
 abbrev pub lines_stop : ℕ → List (List ℕ) → Option (ℕ × Wrong)
 lines_stop start [] = None
 lines_stop start (line ∷ lines) = if is_some (pair_stop line) then placed start (pair_stop line)

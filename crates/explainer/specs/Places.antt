@@ -1,9 +1,9 @@
--- Where the words of a command line are: its words after the subcommand that are neither options nor their values, and
--- its options. A word has a number, and that of the program's name is 0.
+-- The places of the words of a command line: those after the subcommand that aren't options or their values, and the
+-- options. Words are numbered from 0, the program's name.
 use Rattle.std.specs.Prelude.{ℕ, nat_lt, not, Bool, false, ◌&&◌, ◌||◌, ◌+◌, List, [], ◌∷◌, bytes_eq, codes, drop, length, slice_index_or, ◌==◌, if◌then◌else◌}
 use Rattle.std.specs.List.{after_first, before_first, position_or_len, range_with_len, starts_with}
 
--- the word with this number, or the empty one where there is none
+-- the word with this number, or an empty word if there is none
 abbrev pub word_at : List (List ℕ) → ℕ → List ℕ
 word_at words number = slice_index_or words number []
 
@@ -14,7 +14,7 @@ subcommand_place words = if bytes_eq (word_at words 1) (codes "--explain") then 
 abbrev pub subcommand : List (List ℕ) → List ℕ
 subcommand words = word_at words (subcommand_place words)
 
--- the number of the first word after it
+-- the number of the first word after the subcommand
 abbrev pub first_place : List (List ℕ) → ℕ
 first_place words = subcommand_place words + 1
 
@@ -29,7 +29,7 @@ has_equals word = nat_lt (position_or_len is_equals word) (length word)
 abbrev pub is_option : List ℕ → Bool
 is_option word = starts_with (λ x y. x == y) word (codes "--")
 
--- an option that has no value
+-- an option without a value
 abbrev pub is_flag : List ℕ → Bool
 is_flag word =
     bytes_eq word (codes "--explain")
@@ -46,8 +46,8 @@ has_next word = not (is_flag word) && not (has_equals word)
 abbrev pub is_given_in : List ℕ → List ℕ → Bool
 is_given_in word name = has_equals word && bytes_eq (before_first is_equals word) name
 
--- Of words that begin with this number, the number of the one that has the value of an option. Options end before --.
--- Where no word has the value it is the number past all words.
+-- Of words that begin with this number, the number of the one with the value of an option. Options end before --. If no
+-- word has the value, it is the number past all words.
 abbrev pub option_from : List ℕ → ℕ → ℕ → List (List ℕ) → ℕ
 option_from name past number [] = past
 option_from name past number (word ∷ words) =
@@ -71,8 +71,8 @@ option_value words name = value_in name (word_at words (option_place words name)
 
 -- ---- other words
 
--- The numbers of words that are neither options nor their values, of words that begin with this number. The first of them
--- is the value of an option or not. After -- no word is an option.
+-- The numbers of the words that aren't options or their values, of words that begin with this number. is_value: the
+-- first of them is the value of an option. After -- no word is an option.
 abbrev pub places_from : ℕ → Bool → List (List ℕ) → List ℕ
 places_from number is_value [] = []
 places_from number is_value (word ∷ words) =
@@ -81,17 +81,17 @@ places_from number is_value (word ∷ words) =
     else (if is_option word then places_from (number + 1) (has_next word) words
     else number ∷ places_from (number + 1) false words))
 
--- those after the subcommand
+-- the numbers of these words after the subcommand
 abbrev pub places : List (List ℕ) → List ℕ
 places words = places_from (first_place words) false (drop (first_place words) words)
 
--- the number of the one that comes after so many others; where there is none, the number past all words
+-- the number of the word with this index among them; if there is none, the number past all words
 abbrev pub place_of : List (List ℕ) → ℕ → ℕ
 place_of words nth = slice_index_or (places words) nth (length words)
 
 abbrev pub has_place : List (List ℕ) → ℕ → Bool
 has_place words nth = nat_lt (place_of words nth) (length words)
 
--- that word, or the empty one
+-- the word with this index among them, or an empty word
 abbrev pub nth_word : List (List ℕ) → ℕ → List ℕ
 nth_word words nth = word_at words (place_of words nth)

@@ -1,4 +1,4 @@
--- The sentence of an explanation for each reason: what was expected in place of what is refused.
+-- The sentence of an explanation for each reason: what was expected in place of the refused octet.
 use Rattle.std.specs.Prelude.{ℕ, List, [], codes}
 use Rattle.atr_core.specs.declared.reason.AtrReason.{AtrReason}
 use Rattle.atr_core.specs.declared.reason.AtrReason.TheVariants as atr
@@ -71,7 +71,7 @@ dol_sentence dol.TagZero = codes "a tag must not begin with 00"
 dol_sentence dol.TagSecond = codes "in the second octet of a tag the low seven bits must not all be 0"
 dol_sentence dol.TagLong = codes "a tag has at most three octets, so the third must be at most 7F"
 
--- of a text that is no dump
+-- of a text that isn't a dump
 abbrev pub dump_sentence : DumpWrong → List ℕ
 dump_sentence dump.Offset = codes "an offset must have at least four hexadecimal digits"
 dump_sentence dump.Place = codes "this offset must be the number of octets before it"
@@ -81,13 +81,13 @@ dump_sentence dump.End = codes "the last offset is missing, or the dump has too 
 dump_sentence dump.TwoWays =
     codes "these offsets fit two bases, which give different numbers of octets; od -v writes no *"
 
--- of an answer to reset from which no session begins: what it lacks
+-- of an answer to reset from which no session can begin: what it lacks
 abbrev pub lack_sentence : ParamFault → List ℕ
 lack_sentence param.NoT1 = codes "has no TD that offers T=1"
 lack_sentence param.ReservedIfsc = codes "gives the reserved value 00 or FF for IFSC, in the first TA for T=1"
 lack_sentence param.Crc = codes "asks for the CRC, in the first TC for T=1, and scard has only the LRC"
 
--- what a text in a form of standard input is, as a line; nothing of octets, which any text is
+-- how to write octets in a form of standard input, as a line; empty for the form octets, which any text has
 abbrev pub form_text : Form → List ℕ
 form_text form.Hex = codes "standard input: an octet is two hexadecimal digits, and blanks separate groups of octets\n"
 form_text form.Octets = []

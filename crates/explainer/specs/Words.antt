@@ -1,4 +1,4 @@
--- What is said of words that are no request: the first word that is wrong, by its number, and what it should be.
+-- The notes on words that aren't a request: the number of the first wrong word, and what it must be.
 use Rattle.std.specs.Prelude.{◌≡◌, ◌≢◌, ℕ, nat_le, nat_lt, not, Bool, true, false, ◌&&◌, ◌||◌, ◌+◌, ◌*◌, ◌%◌, List, ◌++◌, [], ◌∷◌, bytes_eq, chars, codes, drop, encode_utf8, is_ok, length, map, ◌==◌, Option, Some, None, Result, Ok, Err, if◌then◌else◌}
 use Rattle.std.specs.Char.{is_ascii_hexdigit}
 use Rattle.std.specs.List.{list_any}
@@ -16,7 +16,7 @@ use Rattle.explainer.specs.Texts.{is_mark}
 
 -- ---- words as they are shown
 
--- a question mark for a character that controls a terminal
+-- a question mark for a control character
 abbrev pub shown_character : ℕ → ℕ
 shown_character c = if nat_le c 31 || (nat_le 127 c && nat_le c 159) then 63 else c
 
@@ -32,7 +32,7 @@ shown_words = map shown_word
 
 -- ---- octets as a word
 
--- the first character that is no digit, and its place in characters
+-- the first character that isn't a digit, and its place in characters
 abbrev pub stray_from : ℕ → List ℕ → Option (ℕ × ℕ)
 stray_from place [] = None
 stray_from place (c ∷ word) = if is_ascii_hexdigit c then stray_from (place + 1) word else Some (place, c)
@@ -41,21 +41,21 @@ abbrev pub or_odd : ℕ → List ℕ → Option (ℕ × ℕ) → List ℕ
 or_odd number word (Some (place, c)) = digit_note number (shown_character c) place
 or_odd number word None = if length word % 2 == 1 then odd_note number (length word) else []
 
--- what is wrong with octets in hexadecimal, in the word with this number; nothing where they are right
+-- what is wrong with octets in hexadecimal, in the word with this number; empty if they are right
 abbrev pub digits_note : ℕ → List ℕ → List ℕ
 digits_note number word = or_odd number word (stray_from 0 (chars word))
 
--- and with a word that may be none
+-- what is wrong with octets in hexadecimal or `none`
 abbrev pub hex_note : ℕ → List ℕ → List ℕ
 hex_note number word = if bytes_eq word (codes "none") then [] else digits_note number word
 
--- two characters of a word that come one after the other are a 0x
+-- two adjacent characters of a word are a 0x
 abbrev pub has_mark_after : ℕ → List ℕ → Bool
 has_mark_after last [] = false
 has_mark_after last (x ∷ word) = is_mark last x || has_mark_after x word
 
--- how standard input takes what a word looks like: octets with blanks or 0x, octets with colons, dashes or commas, or
--- the name of a file
+-- which form of standard input reads what a word looks like: octets with blanks or 0x, octets with colons, dashes or
+-- commas, or the name of a file
 abbrev pub way_in : List ℕ → List ℕ
 way_in word =
     if list_any is_blank word || has_mark_after 32 word
@@ -71,22 +71,22 @@ octets_note number word =
 
 -- ---- one word or another
 
--- the first of two notes that isn't empty
+-- the first of two notes, or the other if it is empty
 abbrev pub or_note : List ℕ → List ℕ → List ℕ
 or_note note other = if length note == 0 then other else note
 
--- the first note on the words with these numbers that isn't empty
+-- the first note that isn't empty on the words with these numbers
 abbrev pub first_note : (ℕ → List ℕ → List ℕ) → List (List ℕ) → List ℕ → List ℕ
 first_note said words [] = []
 first_note said words (number ∷ numbers) =
     or_note (said number (word_at words number)) (first_note said words numbers)
 
--- the word that has the value of an option
+-- a note on the word with the value of an option
 abbrev pub option_note : List (List ℕ) → List ℕ → List ℕ → List ℕ
 option_note words name what = word_note (option_place words name) what
 
--- octets as the word HEX, which is the one with this place after the subcommand, or on standard input, where a wrong
--- form gets this sentence
+-- the note on octets as the word HEX, which has this index after the subcommand, or on standard input; `forms` is the
+-- sentence for a wrong form
 abbrev pub given_note : List (List ℕ) → ℕ → List ℕ → List ℕ
 given_note words nth forms =
     if has_option words (codes "--stdin") then
@@ -110,11 +110,11 @@ tidy_note words =
     if has_place words 2 then word_note (place_of words 2) (codes "build tidy takes one word: HEX")
     else given_note words 1 (codes "FORM must be hex, octets, dump or source")
 
--- octets as a word alone
+-- octets only as a word
 abbrev pub nth_note : List (List ℕ) → ℕ → List ℕ
 nth_note words nth = hex_note (place_of words nth) (nth_word words nth)
 
--- HEX, which a chain carries
+-- HEX, the message of a chain
 abbrev pub message_note : List (List ℕ) → List ℕ
 message_note words =
     if nat_lt (longest_message * 2) (length (nth_word words 3))
@@ -130,7 +130,7 @@ numbers_note words =
     then word_note (place_of words 2) (codes "NUMBER must be 0 or 1")
     else message_note words)
 
--- only what is tidied is taken from standard input
+-- only a forest to tidy can come from standard input
 abbrev pub unless_read : List (List ℕ) → List ℕ → List ℕ
 unless_read words note =
     if has_option words (codes "--stdin")
@@ -163,7 +163,7 @@ is_wrong_end words = is_wrong (λ word. is_ok (one_end word)) words (codes "--en
 abbrev pub is_wrong_clock : List (List ℕ) → Bool
 is_wrong_clock words = is_wrong (λ word. is_ok (clock_of (Some word))) words (codes "--clock")
 
--- the end that is judged, the clock, and an answer to reset
+-- the end to judge, the clock, and an answer to reset
 abbrev pub judge_note : List (List ℕ) → List ℕ
 judge_note words =
     if is_wrong_end words then option_note words (codes "--end") (codes "END must be terminal or card")
@@ -188,31 +188,31 @@ is_list word = is_ok (blocks_of (Some word))
 abbrev pub is_wrong_list : List (List ℕ) → List ℕ → Bool
 is_wrong_list words name = is_wrong is_list words name
 
--- the first option that names blocks, and whose value is no list
+-- the first option that names blocks and whose value isn't a list
 abbrev pub wrong_list : List (List ℕ) → Option (List ℕ)
 wrong_list words =
     if is_wrong_list words (codes "--lose") then Some (codes "--lose")
     else (if is_wrong_list words (codes "--damage") then Some (codes "--damage")
     else (if is_wrong_list words (codes "--spoil") then Some (codes "--spoil") else None))
 
--- the first pair that is none
+-- the first word that should be a pair and isn't
 abbrev pub pairs_note : List (List ℕ) → List ℕ
 pairs_note words = first_note pair_note words (drop 1 (places words))
 
--- after the options, the answer to reset and the pairs
+-- the options, and then the answer to reset and the pairs
 abbrev pub listed_note : List (List ℕ) → Option (List ℕ) → List ℕ
 listed_note words (Some name) = option_note words name (codes
     "LIST must be numbers from 1 and ranges such as 2-5, with commas between; ranges name at most 1000000 blocks")
 listed_note words None = or_note (nth_note words 0) (pairs_note words)
 
--- pairs are given, and a form of standard input for them
+-- both pairs and a form of standard input for them are given
 abbrev pub has_both : List (List ℕ) → Bool
 has_both words = has_option words (codes "--stdin") && has_place words 1
 
 abbrev pub is_wrong_form : List (List ℕ) → Bool
 is_wrong_form words = is_wrong (λ word. bytes_eq word (codes "lines")) words (codes "--stdin")
 
--- where the pairs are comes first
+-- where the pairs come from is checked first
 abbrev pub session_note : List (List ℕ) → List ℕ
 session_note words =
     if has_both words
@@ -222,7 +222,7 @@ session_note words =
 
 -- ---- all words
 
--- the first word that is wrong, of words that the parser of command lines takes
+-- the first wrong word, for words that the parser of command lines accepts
 abbrev pub taken_note : List (List ℕ) → List ℕ → List ℕ
 taken_note words name =
     if bytes_eq name (codes "check") || bytes_eq name (codes "show") then input_note words
@@ -243,7 +243,7 @@ version_said = codes "--version takes no other word: scard --version\n"
 abbrev pub has_version : List (List ℕ) → Bool
 has_version words = list_any (λ word. bytes_eq word (codes "--version")) words
 
--- a subcommand that reads a file from standard input, and takes no word for it
+-- a subcommand that reads a file from standard input and takes no word for it
 abbrev pub reads_a_file : List ℕ → Bool
 reads_a_file word = bytes_eq word (codes "replay") || (bytes_eq word (codes "migrate") || (bytes_eq word (codes "apdus")
     || (bytes_eq word (codes "draw") || (bytes_eq word (codes "record") || bytes_eq word (codes "judge")))))
@@ -252,7 +252,7 @@ abbrev pub is_subcommand : List ℕ → Bool
 is_subcommand word = reads_a_file word || (bytes_eq word (codes "check") || (bytes_eq word (codes "show")
     || (bytes_eq word (codes "build") || bytes_eq word (codes "simulate"))))
 
--- what the word help takes, with this subcommand as the example, or check
+-- what the word help takes: the example is this subcommand, or check
 abbrev pub topic : List ℕ → List ℕ
 topic word = if is_subcommand word then word else codes "check"
 
@@ -263,8 +263,8 @@ help_note words = codes "help takes one subcommand and no other word: scard help
 abbrev pub is_help : List (List ℕ) → Bool
 is_help words = bytes_eq (subcommand words) (codes "help")
 
--- The note on words as they are shown. Of words that the parser refuses it is what the parser says, of which no clause
--- says anything, unless they have --version or their first word is help.
+-- The note on words as they are shown. For words that the parser refuses it is the parser's message, which no clause
+-- defines, unless they have --version or their first word is help.
 pub data IsShownNote (words : List (List ℕ)) (note : List ℕ) : Type 0 where
   taken : fault_of scard words ≡ [] → note ≡ taken_note words (subcommand words) → IsShownNote words note
   version : fault_of scard words ≢ [] → has_version words ≡ true → note ≡ version_said → IsShownNote words note

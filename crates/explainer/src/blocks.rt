@@ -1,4 +1,4 @@
-//! The note on blocks that the lists of a session name, and that were never sent.
+//! The note on blocks that the lists of a session name and that were never sent.
 
 ghost use Rattle.std.specs.Prelude.{◌≡◌, [], None, Some, nat_lt, IfOk, OnOk, string_bytes};
 ghost use Rattle.std.specs.List.{list_any};
@@ -10,11 +10,11 @@ use std::alloc::{AllocError, Global};
 /// The first and the last number of a range.
 type Run = (u64, u64);
 
-/// How many characters the numbers of blocks take, at most, before the rest is left out.
+/// The most characters of block numbers that are shown. The rest is left out.
 const SHOWN: usize = 60;
 
-/// The explanation of a session in which so many blocks were sent: for each list that names blocks above
-/// that number, which these are; nothing where none does.
+/// Returns the explanation of a session in which this many blocks were sent. For each list that names blocks above that
+/// number, it gives these. It is empty if no list does.
 pub fn unsent_note(alloc: Global, session: &Session, sent: usize) -> Result<String, AllocError>
     ensures { IfOk result (λ note. AreUnsentNotes session.now sent (string_bytes note)) }
 {
@@ -24,7 +24,7 @@ pub fn unsent_note(alloc: Global, session: &Session, sent: usize) -> Result<Stri
     format!(in alloc; "{lost}{damaged}{spoilt}")
 }
 
-/// The blocks of a list that were never sent, where it names some.
+/// Returns the note on the blocks of a list that were never sent, if it names any.
 fn list_note(
     alloc: Global,
     option: &str,
@@ -42,14 +42,14 @@ fn list_note(
     )
 }
 
-/// Whether a list names a block above so many.
+/// Whether a list names a block above this number.
 fn names_unsent(blocks: &[u64], sent: usize) -> bool
     ensures { result ≡ list_any (λ number. nat_lt sent number) blocks.now }
 {
     blocks.iter().any(|number| (sent as u64) < *number)
 }
 
-/// The numbers above so many, in their order, those that follow one another as a range.
+/// Returns the numbers above this one, in their order. Consecutive numbers become a range.
 fn unsent_numbers(alloc: Global, blocks: &[u64], sent: usize) -> Result<String, AllocError>
     ensures { IfOk result (λ text. string_bytes text ≡ unsent_shown sent blocks.now [] None) }
 {
@@ -71,7 +71,7 @@ fn unsent_numbers(alloc: Global, blocks: &[u64], sent: usize) -> Result<String, 
     Ok(text)
 }
 
-/// The range with one number more; one that it doesn't follow is written before it.
+/// Extends the range by a number that follows it. Otherwise writes the range, and begins another.
 fn next_run(
     alloc: Global,
     text: &mut String,
@@ -91,7 +91,7 @@ fn next_run(
     Ok((number, number))
 }
 
-/// Adds one number, or a range.
+/// Appends one number or a range.
 fn push_run(alloc: Global, text: &mut String, first: u64, last: u64) -> Result<(), AllocError>
     ensures { OnOk result (string_bytes text.new ≡ with_run (string_bytes text.old) first last) }
 {

@@ -13,10 +13,10 @@ use card_words::numerals::{number, size};
 use chain_core::LONGEST_MESSAGE;
 use std::alloc::{AllocError, Global};
 
-/// What is said of a form of standard input where words give the octets.
+/// The note on a form of standard input if words give the octets.
 const ONLY_TIDY: &str = "only build tidy takes --stdin";
 
-/// What is built, and of which words.
+/// Returns the note on what is built, and on its words.
 pub(crate) fn build_note(alloc: Global, words: &[String]) -> Result<String, AllocError>
     ensures { IfOk result (λ note. string_bytes note ≡ build_note (texts words.now)) }
 {
@@ -29,7 +29,7 @@ pub(crate) fn build_note(alloc: Global, words: &[String]) -> Result<String, Allo
     }
 }
 
-/// HEX, or a form of standard input.
+/// Returns the note on HEX, or on a form of standard input.
 fn tidy_note(alloc: Global, words: &[String]) -> Result<String, AllocError>
     ensures { IfOk result (λ note. string_bytes note ≡ tidy_note (texts words.now)) }
 {
@@ -40,7 +40,7 @@ fn tidy_note(alloc: Global, words: &[String]) -> Result<String, AllocError>
     given_note(alloc, words, 1, "FORM must be hex, octets, dump or source")
 }
 
-/// IFS NUMBER HEX.
+/// Returns the note on IFS NUMBER HEX.
 fn chain_note(alloc: Global, words: &[String]) -> Result<String, AllocError>
     ensures { IfOk result (λ note. string_bytes note ≡ chain_note (texts words.now)) }
 {
@@ -54,7 +54,7 @@ fn chain_note(alloc: Global, words: &[String]) -> Result<String, AllocError>
     numbers_note(alloc, words)
 }
 
-/// IFS and NUMBER, and then HEX.
+/// Returns the note on IFS and NUMBER, and then on HEX.
 fn numbers_note(alloc: Global, words: &[String]) -> Result<String, AllocError>
     ensures { IfOk result (λ note. string_bytes note ≡ numbers_note (texts words.now)) }
 {
@@ -81,7 +81,7 @@ fn is_number(word: &str) -> bool
     number(word).is_ok()
 }
 
-/// HEX, which the chain carries.
+/// Returns the note on HEX, the message of a chain.
 fn message_note(alloc: Global, words: &[String]) -> Result<String, AllocError>
     ensures { IfOk result (λ note. string_bytes note ≡ message_note (texts words.now)) }
 {
@@ -92,7 +92,7 @@ fn message_note(alloc: Global, words: &[String]) -> Result<String, AllocError>
     nth_note(alloc, words, 3)
 }
 
-/// A data object list as a word.
+/// Returns the note on a data object list as a word.
 fn list_note(alloc: Global, words: &[String]) -> Result<String, AllocError>
     ensures { IfOk result (λ note. string_bytes note ≡ list_note (texts words.now)) }
 {

@@ -1,4 +1,4 @@
-//! Notes on octets that a word or standard input is to give.
+//! Notes on octets from a word or from standard input.
 
 ghost use Rattle.std.specs.Prelude.{◌≡◌, ◌==◌, ◌||◌, IfOk, string_bytes};
 ghost use Rattle.std.specs.List.{list_any};
@@ -12,8 +12,8 @@ use crate::word::{hex_note, said};
 use octet_core::is_blank;
 use std::alloc::{AllocError, Global};
 
-/// Octets as a word, the one that is no option and comes after so many others, or on standard input, of whose forms
-/// `forms` says which there are.
+/// Returns the note on octets that are a word or on standard input. The word is the one with this index among the words
+/// that aren't options. `forms` names the forms of standard input.
 pub(crate) fn given_note(
     alloc: Global,
     words: &[String],
@@ -36,7 +36,7 @@ pub(crate) fn given_note(
     String::from_str(alloc, "give the octets as HEX, or by --stdin FORM\n")
 }
 
-/// What is wrong with a word HEX, and how standard input takes what it looks like.
+/// Returns what is wrong with a word HEX, and which form of standard input reads what it looks like.
 fn octets_note(alloc: Global, number: usize, word: &str) -> Result<String, AllocError>
     ensures { IfOk result (λ note. string_bytes note ≡ octets_note number word.now) }
 {
@@ -47,8 +47,8 @@ fn octets_note(alloc: Global, number: usize, word: &str) -> Result<String, Alloc
     Ok(note)
 }
 
-/// How standard input takes what a word looks like that isn't hexadecimal: octets with blanks or `0x`, octets with
-/// colons, dashes or commas, or the name of a file.
+/// Returns which form of standard input reads what a word looks like that isn't hexadecimal: octets with blanks or
+/// `0x`, octets with colons, dashes or commas, or the name of a file.
 fn way_in(word: &str) -> &'static str
     ensures { result.now ≡ way_in word.now }
 {
@@ -70,7 +70,7 @@ fn has_blank(octets: &[u8]) -> bool
     octets.iter().any(|octet| is_blank(*octet))
 }
 
-/// Whether a colon, a dash or a comma is in these octets.
+/// Whether these octets have a colon, a dash or a comma.
 fn has_separator(octets: &[u8]) -> bool
     ensures { result ≡ list_any (λ x. x == 58 || (x == 45 || x == 44)) octets.now }
 {
@@ -79,14 +79,14 @@ fn has_separator(octets: &[u8]) -> bool
         .any(|octet| *octet == b':' || *octet == b'-' || *octet == b',')
 }
 
-/// Whether a point or a slash is in these octets.
+/// Whether these octets have a point or a slash.
 fn is_path(octets: &[u8]) -> bool
     ensures { result ≡ list_any (λ x. x == 46 || x == 47) octets.now }
 {
     octets.iter().any(|octet| *octet == b'.' || *octet == b'/')
 }
 
-/// Whether a `0x` or a `0X` is in these octets.
+/// Whether these octets have a `0x` or a `0X`.
 fn has_mark(octets: &[u8]) -> bool
     ensures { result ≡ has_mark_after 32 octets.now }
 {

@@ -1,4 +1,4 @@
-//! The notes on texts in hexadecimal: the first place that is wrong, and what is wrong there.
+//! The notes on texts in hexadecimal: the first wrong place, and what is wrong there.
 
 ghost use Rattle.std.specs.Prelude.{◌≡◌, ◌+◌, ◌<◌, ◌^◌, IfOk, string_bytes};
 ghost use Rattle.explainer.specs.Texts.{column_note, count_after, group_end, group_from, hex_stop, is_mark, may_stand, stray_from, wrong_note, wrong_said};
@@ -10,11 +10,11 @@ use std::alloc::{AllocError, Global};
 /// What is wrong at a place of a text in hexadecimal.
 #[derive(Clone, Copy)]
 pub(crate) enum Wrong {
-    /// This octet is no digit.
+    /// This octet isn't a digit.
     Digit(u8),
-    /// A group begins here that has an odd number of digits.
+    /// A group with an odd number of digits begins here.
     Odd,
-    /// A `0x` begins here that has nothing after it.
+    /// A `0x` with nothing after it begins here.
     Mark,
     /// The line of a pair has no second word.
     NoReply,
@@ -22,14 +22,14 @@ pub(crate) enum Wrong {
     Third,
 }
 
-/// The first place of a text in hexadecimal that is wrong.
+/// Returns the note on the first wrong place of a text in hexadecimal.
 pub(crate) fn hexadecimal_note(alloc: Global, text: &[u8]) -> Result<String, AllocError>
     ensures { IfOk result (λ note. string_bytes note ≡ wrong_note text.now (hex_stop text.now)) }
 {
     wrong_note(alloc, text, hex_stop(text))
 }
 
-/// A place of a text with what is wrong there, where something is.
+/// Returns the note on a place of a text with what is wrong there, if there is such a place.
 pub(crate) fn wrong_note(
     alloc: Global,
     text: &[u8],
@@ -46,8 +46,8 @@ pub(crate) fn wrong_note(
     }
 }
 
-/// The explanation of a line that isn't in hexadecimal: the column of the first place that is wrong,
-/// counted from 1.
+/// Returns the explanation of a line that isn't in hexadecimal: the column of the first wrong place, counted from 1,
+/// and what is wrong there.
 pub fn digits_note(alloc: Global, line: &[u8]) -> Result<String, AllocError>
     ensures { IfOk result (λ note. string_bytes note ≡ column_note (hex_stop line.now)) }
 {
@@ -61,7 +61,7 @@ pub fn digits_note(alloc: Global, line: &[u8]) -> Result<String, AllocError>
     }
 }
 
-/// The first place of a text in hexadecimal that is wrong: an octet, or else a group.
+/// Returns the first wrong place of a text in hexadecimal: a wrong octet, or else a wrong group.
 fn hex_stop(text: &[u8]) -> Option<(usize, Wrong)>
     ensures { result ≡ hex_stop text.now }
 {
@@ -71,7 +71,7 @@ fn hex_stop(text: &[u8]) -> Option<(usize, Wrong)>
     }
 }
 
-/// The first octet that is no digit, no blank and not in a `0x` that begins a group.
+/// Returns the first octet that isn't a digit, a blank or in a `0x` that begins a group.
 fn stray(text: &[u8]) -> Option<(usize, Wrong)>
     ensures { result ≡ stray_from 0 32 32 text.now }
 {
@@ -89,7 +89,7 @@ fn stray(text: &[u8]) -> Option<(usize, Wrong)>
     None
 }
 
-/// Whether an octet may stand after these two.
+/// Whether an octet is allowed after these two.
 fn may_stand(ahead: u8, last: u8, octet: u8) -> bool
     ensures { result ≡ may_stand ahead last octet }
 {
@@ -103,7 +103,7 @@ pub(crate) fn is_mark(last: u8, octet: u8) -> bool
     last == b'0' && matches!(octet, b'x' | b'X')
 }
 
-/// The first group that isn't pairs of digits.
+/// Returns the first group that isn't pairs of digits.
 fn wrong_group(text: &[u8]) -> Option<(usize, Wrong)>
     ensures { result ≡ group_from 0 0 32 32 text.now }
 {
@@ -124,7 +124,7 @@ fn wrong_group(text: &[u8]) -> Option<(usize, Wrong)>
     group_end(place, count, ahead, last)
 }
 
-/// What is wrong with a group of so many octets that ends here, after these two.
+/// Returns what is wrong with a group of this many octets that ends here, after these two.
 fn group_end(place: usize, count: usize, ahead: u8, last: u8) -> Option<(usize, Wrong)>
     ensures { result ≡ group_end place count ahead last }
 {
@@ -138,7 +138,7 @@ fn group_end(place: usize, count: usize, ahead: u8, last: u8) -> Option<(usize, 
     }
 }
 
-/// How many octets the group has that goes on after this one.
+/// Returns how many octets the group has after one more octet.
 fn count_after(count: usize, octet: u8) -> usize
     requires { count + 1 < 2 ^ 64 }
     ensures { result ≡ count_after count octet }
@@ -146,7 +146,7 @@ fn count_after(count: usize, octet: u8) -> usize
     if is_blank(octet) { 0 } else { count + 1 }
 }
 
-/// What is wrong, in words.
+/// Returns in words what is wrong.
 fn sentence(alloc: Global, wrong: Wrong) -> Result<String, AllocError>
     ensures { IfOk result (λ what. string_bytes what ≡ wrong_said wrong) }
 {

@@ -18,13 +18,13 @@ use std::alloc::{AllocError, Global};
 use std::collections::BTreeMap;
 use tlv_core::{Known, Tag};
 
-/// How many words of `build fill` come before the known values: what is built, and the list.
+/// The number of words of `build fill` before the known values: `fill` and the list.
 const BEFORE: usize = 2;
 
-/// What is said of a word that isn't parted by two colons.
+/// The note on a word that isn't separated by two colons.
 const WHOLE: &str = "a known value must have the form F:TAG:VALUE";
 
-/// What is wrong with the first word of `build fill` that says no known value; empty where each says one.
+/// Returns what is wrong with the first word of `build fill` that isn't a known value. Empty if all are.
 pub fn known_note(alloc: Global, words: &[String]) -> Result<String, AllocError>
     ensures { IfOk result (λ note. string_bytes note ≡ known_note (texts words.now)) }
 {
@@ -41,7 +41,7 @@ pub fn known_note(alloc: Global, words: &[String]) -> Result<String, AllocError>
     Ok(String::new(alloc))
 }
 
-/// What is wrong with a word F:TAG:VALUE.
+/// Returns what is wrong with a word F:TAG:VALUE.
 fn value_note(alloc: Global, number: usize, word: &str) -> Result<String, AllocError>
     ensures { IfOk result (λ note. string_bytes note ≡ value_note number word.now) }
 {
@@ -54,7 +54,7 @@ fn value_note(alloc: Global, number: usize, word: &str) -> Result<String, AllocE
     tagged_note(alloc, number, format_word, tag_word, value)
 }
 
-/// What is wrong with its parts.
+/// Returns what is wrong with the parts of a word F:TAG:VALUE.
 fn tagged_note(
     alloc: Global,
     number: usize,
@@ -76,7 +76,7 @@ fn tagged_note(
     hex_note(alloc, number, value)
 }
 
-/// What is wrong with a tag.
+/// Returns what is wrong with a tag.
 fn tag_note(alloc: Global, number: usize, word: &str) -> Result<String, AllocError>
     ensures { IfOk result (λ note. string_bytes note ≡ tag_note number word.now) }
 {
@@ -98,7 +98,7 @@ fn is_tag(alloc: Global, word: &str) -> Result<bool, AllocError>
     }
 }
 
-/// Which two words of `build fill` say values of one tag, the first that do; empty where no two do.
+/// Returns which two words of `build fill` have values of one tag, the first two that do. Empty if no two do.
 pub fn duplicate_note(
     alloc: Global,
     words: &[String],
@@ -113,7 +113,7 @@ pub fn duplicate_note(
     }
 }
 
-/// The first value of a tag that an earlier one has, after that one, by their places.
+/// Returns the first value whose tag an earlier one has, after that one, by their places.
 fn first_twice(alloc: Global, known: &[Known]) -> Result<Option<(usize, usize)>, AllocError>
     ensures { IfOk result (λ found. MatchOption found (HasDuplicate known.now → ⊥)
         (λ places. IsFirstTwice known.now places.0 places.1)) }
@@ -129,7 +129,7 @@ fn first_twice(alloc: Global, known: &[Known]) -> Result<Option<(usize, usize)>,
     Ok(None)
 }
 
-/// The place of the first value with this tag; past all where none has it.
+/// Returns the place of the first value with this tag; past all of them if none has it.
 fn place_with(known: &[Known], tag: &Tag) -> usize
     ensures { result ≡ position_or_len (λ one. bytes_eq tag.now one.tag) known.now }
 {
@@ -139,7 +139,7 @@ fn place_with(known: &[Known], tag: &Tag) -> usize
         .unwrap_or(known.len())
 }
 
-/// Two known values by the numbers of their words, and their tag.
+/// Returns the note on two known values: the numbers of their words, and their tag.
 fn twice_note(
     alloc: Global,
     words: &[String],

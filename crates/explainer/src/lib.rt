@@ -1,13 +1,21 @@
-//! The explanation of a fault or a refusal: which word is wrong, or which octet, and what was expected
-//! there.
+//! Explanations of faults and refusals: which word or octet is wrong, and what was expected there.
 //!
-//! `verdict_note` says it of octets by the verdict on them, which the caller has, `words_note` of words that are no
-//! request, `known_note` of words that say no known value, `duplicate_note` of two that say values of one tag,
-//! `text_note` of a text that isn't in its form, `digits_note` of a line that isn't in hexadecimal, `offsets_note` of
-//! one in hexadecimal that is a dump too, `pairs_note` of one whose lines are no pairs, `session_note` of an answer to
-//! reset from which no session begins, `unsent_note` of blocks that were never sent, and `large_note` of what is too
-//! large. The texts are defined in `specs/Notes.antt`, those of words in `specs/Words.antt` and `specs/Known.antt`, and
-//! the sentence of each reason in `specs/Sentences.antt`.
+//! Each function explains one thing:
+//!
+//! - `verdict_note`: octets, by the verdict on them, which the caller has
+//! - `words_note`: words that aren't a request
+//! - `known_note`: words that aren't known values
+//! - `duplicate_note`: two words with values of one tag
+//! - `text_note`: a text that isn't in its form
+//! - `digits_note`: a line that isn't in hexadecimal
+//! - `offsets_note`: a hexadecimal text that is also a dump
+//! - `pairs_note`: a text whose lines aren't pairs
+//! - `session_note`: an answer to reset from which no session can begin
+//! - `unsent_note`: blocks that were never sent
+//! - `large_note`: an input or a text that is too large
+//!
+//! `specs/Notes.antt` defines the texts, `specs/Words.antt` and `specs/Known.antt` those on words, and
+//! `specs/Sentences.antt` the sentence of each reason.
 #![tactic(auto)]
 
 pub mod blocks;

@@ -1,4 +1,4 @@
-//! A place of a text, shown by its line with a mark under it.
+//! A place of a text, as its line with a mark under it.
 
 ghost use Rattle.std.specs.Prelude.{◌≡◌, ◌+◌, IfOk, slice_get, string_bytes, unwrap_or, if◌then◌else◌};
 ghost use Rattle.explainer.specs.Texts.{character, is_printable, line_from, line_shown, marked_text, octet_named, place_note, shown_place};
@@ -7,13 +7,14 @@ use crate::mark::part;
 use octet_core::hex_upper;
 use std::alloc::{AllocError, Global};
 
-/// How many characters are shown before the one that is marked, at most.
+/// The most characters that are shown before the marked one.
 const BEFORE: usize = 40;
 
-/// How many characters are shown, at most.
+/// The most characters that are shown.
 const SHOWN: usize = 60;
 
-/// A place of a text by its line and column, what is wrong there, the line, and a mark under the place.
+/// Returns the note on a place of a text: its line and column, what is wrong there, the line, and a mark under the
+/// place.
 pub(crate) fn marked_place(
     alloc: Global,
     text: &[u8],
@@ -31,7 +32,8 @@ pub(crate) fn marked_place(
     placed(alloc, number, column, what, line.as_str(), before)
 }
 
-/// A line and a column, what is wrong there, the characters of the line, and a mark after so many of them.
+/// Returns a line number and a column, what is wrong there, the characters of the line, and a mark after this many of
+/// them.
 fn placed(
     alloc: Global,
     number: usize,
@@ -47,7 +49,7 @@ fn placed(
     format!(in alloc; "line {number}, column {column}: {what}\n{line}\n{blanks}^\n")
 }
 
-/// The number of the line that has a place, from 1, and where it begins.
+/// Returns the number of the line that has a place, from 1, and where the line begins.
 fn line_of(text: &[u8], place: usize) -> Result<(usize, usize), AllocError>
     ensures { IfOk result (λ line. line ≡ line_from 0 (1, 0) place text.now) }
 {
@@ -60,7 +62,7 @@ fn line_of(text: &[u8], place: usize) -> Result<(usize, usize), AllocError>
     Ok(line)
 }
 
-/// The line after an octet at this place, which ends the line before or not.
+/// Returns the line after an octet at this place. `is_end` is whether the octet ends the line before.
 fn line_after(line: (usize, usize), at: usize, is_end: bool) -> Result<(usize, usize), AllocError>
     ensures { IfOk result (λ next. next ≡ (if is_end then (line.0 + 1, at + 1) else line)) }
 {
@@ -71,14 +73,14 @@ fn line_after(line: (usize, usize), at: usize, is_end: bool) -> Result<(usize, u
     }
 }
 
-/// One more; no text in memory has so many characters that there is none.
+/// Returns the next number. It can't overflow, since no text in memory has so many characters.
 pub(crate) fn one_more(count: usize) -> Result<usize, AllocError>
     ensures { IfOk result (λ next. next ≡ count + 1) }
 {
     count.checked_add(1).ok_or(AllocError)
 }
 
-/// The characters of a line up to its end, a question mark for each that isn't printable.
+/// Returns the characters of a line up to its end, with a question mark for each that isn't printable.
 fn shown(alloc: Global, octets: &[u8]) -> Result<String, AllocError>
     ensures { IfOk result (λ line. string_bytes line ≡ line_shown octets.now) }
 {
@@ -92,7 +94,7 @@ fn shown(alloc: Global, octets: &[u8]) -> Result<String, AllocError>
     Ok(line)
 }
 
-/// An octet as a character, a question mark where it isn't printable.
+/// Returns an octet as a character, or a question mark if it isn't printable.
 pub fn character(octet: u8) -> char
     ensures { result ≡ character octet }
 {
@@ -109,7 +111,7 @@ fn is_printable(octet: u8) -> bool
     0x20 <= octet && octet <= 0x7E
 }
 
-/// An octet by its character, or by its digits where it isn't printable.
+/// Returns the name of an octet: its character, or its digits if it isn't printable.
 pub(crate) fn octet_named(alloc: Global, octet: u8) -> Result<String, AllocError>
     ensures { IfOk result (λ text. string_bytes text ≡ octet_named octet) }
 {
@@ -120,7 +122,7 @@ pub(crate) fn octet_named(alloc: Global, octet: u8) -> Result<String, AllocError
     format!(in alloc; "the octet {digits}")
 }
 
-/// The octet at a place of a text, 0 where there is none.
+/// Returns the octet at a place of a text, 0 if there is none.
 pub(crate) fn octet_at(text: &[u8], place: usize) -> u8
     ensures { result ≡ unwrap_or (slice_get text.now place) 0 }
 {
@@ -130,7 +132,7 @@ pub(crate) fn octet_at(text: &[u8], place: usize) -> u8
     }
 }
 
-/// A place of a text, or for its end the one after its last character that isn't blank.
+/// Returns a place of a text. For the end of the text it is the place after the last character that isn't blank.
 pub(crate) fn shown_place(text: &[u8], place: usize) -> usize
     ensures { result ≡ shown_place text.now place }
 {

@@ -1,4 +1,4 @@
-//! The notes on octets: a refused octet with a mark under it, how many are wanting, how many are left.
+//! The notes on octets: a refused octet with a mark under it, how many are missing, how many are left.
 
 ghost use Rattle.std.specs.Prelude.{◌≡◌, ◌++◌, IfOk, drop, length, string_bytes, take};
 ghost use Rattle.explainer.specs.Notes.{left_note, mark_text, refused_note, short_note, stop_text};
@@ -7,13 +7,13 @@ use crate::reason::Explained;
 use octet_core::{Stop, hex_upper};
 use std::alloc::{AllocError, Global};
 
-/// How many octets are shown before the one that is marked, at most.
+/// The most octets that are shown before the marked one.
 const BEFORE: usize = 16;
 
-/// How many octets are shown, at most.
+/// The most octets that are shown.
 const SHOWN: usize = 24;
 
-/// The note of a refusal. `least` is how many octets must still come at least, where that is known.
+/// Returns the note on a refusal. `least` is how many more octets are needed at least, if that is known.
 pub(crate) fn stop_note<R: Explained>(
     alloc: Global,
     octets: &[u8],
@@ -29,7 +29,7 @@ pub(crate) fn stop_note<R: Explained>(
     }
 }
 
-/// The octet at a place and what was expected there, the octets around it, and a mark under it.
+/// Returns the octet at a place, what was expected there, the octets around it, and a mark under it.
 fn refused(alloc: Global, octets: &[u8], place: usize, sentence: &str) -> Result<String, AllocError>
     ensures { IfOk result (λ text. string_bytes text ≡ refused_note octets.now place sentence.now) }
 {
@@ -42,7 +42,7 @@ fn refused(alloc: Global, octets: &[u8], place: usize, sentence: &str) -> Result
     )
 }
 
-/// A mark under the octet at a place.
+/// Returns a mark under the octet at a place.
 fn mark(alloc: Global, place: usize) -> Result<String, AllocError>
     ensures { IfOk result (λ text. string_bytes text ≡ mark_text place) }
 {
@@ -51,7 +51,7 @@ fn mark(alloc: Global, place: usize) -> Result<String, AllocError>
     format!(in alloc; "{blanks}^^\n")
 }
 
-/// So many octets from a place on, or as many as there are.
+/// Returns this many octets from a place on, or as many as there are.
 pub(crate) fn part(octets: &[u8], from: usize, count: usize) -> &[u8]
     ensures { result.now ≡ take count (drop from octets.now) }
 {
@@ -59,7 +59,7 @@ pub(crate) fn part(octets: &[u8], from: usize, count: usize) -> &[u8]
     &rest[..count.min(rest.len())]
 }
 
-/// How many octets are there, and at least how many must come.
+/// Returns how many octets there are, and how many more are needed at least.
 fn short(alloc: Global, count: usize, least: Option<usize>) -> Result<String, AllocError>
     ensures { IfOk result (λ text. string_bytes text ≡ short_note count least) }
 {
@@ -71,7 +71,7 @@ fn short(alloc: Global, count: usize, least: Option<usize>) -> Result<String, Al
     }
 }
 
-/// How many octets are left after a value.
+/// Returns how many octets are left after a value.
 pub(crate) fn left(alloc: Global, count: usize) -> Result<String, AllocError>
     ensures { IfOk result (λ text. string_bytes text ≡ left_note count) }
 {

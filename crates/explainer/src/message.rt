@@ -1,4 +1,4 @@
-//! What the parser of command lines says, as it is shown.
+//! The messages of the parser of command lines, as they are shown.
 
 ghost use Rattle.std.specs.Prelude.{◌≡◌, IfOk, string_bytes};
 ghost use Rattle.command_line.specs.Form.{texts};
@@ -6,11 +6,11 @@ ghost use Rattle.explainer.specs.Words.{shown_character, shown_word, shown_words
 
 use std::alloc::{AllocError, Global};
 
-/// What comes before the word that the parser would take as a value after `--`. No value here begins with a dash, so
-/// its advice doesn't help.
+/// The text before the word that the parser would take as a value after `--`. No value here begins with a dash, so this
+/// advice of the parser doesn't help.
 const ADVICE: &str = "\n  tip: to pass '";
 
-/// The words as they are shown: a question mark for each control character.
+/// Returns the words as they are shown, with a question mark for each control character.
 pub(crate) fn shown_words(alloc: Global, words: &[String]) -> Result<Vec<String>, AllocError>
     ensures { IfOk result (λ shown. texts shown.items ≡ shown_words (texts words.now)) }
 {
@@ -31,7 +31,7 @@ fn shown_word(alloc: Global, word: &str) -> Result<String, AllocError>
     Ok(shown)
 }
 
-/// A character as it is shown: a question mark for one that controls a terminal.
+/// Returns a character as it is shown: a question mark for a control character.
 pub(crate) fn shown_character(character: char) -> char
     ensures { result ≡ shown_character character }
 {
@@ -41,7 +41,7 @@ pub(crate) fn shown_character(character: char) -> char
     }
 }
 
-/// What the parser says, without its advice on how a word is passed as a value.
+/// Returns the parser's message without its advice on how to pass a word as a value.
 pub(crate) fn without_advice(alloc: Global, message: &str) -> Result<String, AllocError> {
     let Some((before, advice)) = message.split_once(ADVICE) else {
         return String::from_str(alloc, message);

@@ -1,4 +1,4 @@
-//! The notes on texts that are no dump, or no source.
+//! The notes on texts that aren't a dump, or aren't a source.
 
 ghost use Rattle.std.specs.Prelude.{◌≡◌, IfOk, string_bytes};
 ghost use Rattle.dumps.specs.DumpStop.{dump_stop};
@@ -10,7 +10,7 @@ use crate::line::{marked_place, octet_at, octet_named, shown_place};
 use dumps::{DumpWrong, SourceWrong, dump_stop, source_stop};
 use std::alloc::{AllocError, Global};
 
-/// The first place of a text that is wrong in a dump.
+/// Returns the note on the first wrong place of a text in a dump.
 pub(crate) fn dump_note(alloc: Global, text: &[u8]) -> Result<String, AllocError>
     ensures { IfOk result (λ note. string_bytes note ≡ dump_note text.now (dump_stop text.now)) }
 {
@@ -37,7 +37,7 @@ fn dump_sentence(wrong: DumpWrong) -> &'static str
     }
 }
 
-/// The first place of a text that is wrong in a source.
+/// Returns the note on the first wrong place of a text in a source.
 pub(crate) fn source_note(alloc: Global, text: &[u8]) -> Result<String, AllocError>
     ensures { IfOk result (λ note.
         string_bytes note ≡ source_note text.now (source_stop text.now)) }

@@ -12,9 +12,9 @@ use octet_core::Stop;
 use std::alloc::{AllocError, Global};
 use tlv_core::Tag;
 
-/// The explanation of octets, by the verdict on them: where they are refused and why, how many are
-/// wanting, or how many are left after the value, which takes so many; else nothing. `least` is how many octets must
-/// still come at least, where that is known of octets that are short.
+/// Returns the explanation of octets by the verdict on them: where they are refused and why, how many are missing, or
+/// how many are left after the value of this length. Otherwise it is empty. `least` is how many more octets are needed
+/// at least, if octets are short and that is known.
 pub fn verdict_note<R: Explained>(
     alloc: Global,
     octets: &[u8],
@@ -30,7 +30,7 @@ pub fn verdict_note<R: Explained>(
     }
 }
 
-/// How many octets must still come at least, where octets are short that are taken for this kind, and it is known.
+/// Returns how many more octets are needed at least if octets of this kind are short, and if that is known.
 pub fn least_wanting(kind: Kind, octets: &[u8]) -> Option<usize>
     ensures { result ≡ least_of kind octets.now }
 {
@@ -43,7 +43,7 @@ pub fn least_wanting(kind: Kind, octets: &[u8]) -> Option<usize>
     }
 }
 
-/// How many octets a block that is short wants at least.
+/// Returns how many more octets a short block needs at least.
 fn wanting_of_block(octets: &[u8]) -> usize
     ensures { result ≡ block_has octets.now - length octets.now }
 {
@@ -53,7 +53,7 @@ fn wanting_of_block(octets: &[u8]) -> usize
     }
 }
 
-/// How many octets a command that is short wants at least.
+/// Returns how many more octets a short command needs at least.
 fn wanting_of_command(octets: &[u8]) -> usize
     ensures { result ≡ command_has octets.now - length octets.now }
 {
@@ -66,8 +66,8 @@ fn wanting_of_command(octets: &[u8]) -> usize
     least.saturating_sub(octets.len())
 }
 
-/// How many octets a data object list that is short wants at least: after a whole tag its length, else one more octet
-/// of the tag as well.
+/// Returns how many more octets a short data object list needs at least: a length after a whole tag, else one more
+/// octet of the tag as well.
 fn wanting_of_list(octets: &[u8]) -> usize
     ensures { result ≡ list_wants octets.now }
 {

@@ -1,4 +1,4 @@
-//! The note on a text whose lines are to be pairs of a session.
+//! The note on a text whose lines should be pairs of a session.
 
 ghost use Rattle.std.specs.Prelude.{◌≡◌, ◌+◌, ◌-◌, IfOk, bytes_eq, codes, length, string_bytes};
 ghost use Rattle.std.specs.List.{slice_split};
@@ -9,11 +9,11 @@ use crate::hexadecimal::{Wrong, wrong_note};
 use octet_core::first_word;
 use std::alloc::{AllocError, Global};
 
-/// A place, and what is wrong there, if anything is.
+/// A wrong place and what is wrong there, if there is such a place.
 type Stop = Option<(usize, Wrong)>;
 
-/// The explanation of a text whose lines are to be pairs of a session, and one isn't: the first place that
-/// is wrong, by its line and column, counted from 1, with its line and a mark under it, and what a line is.
+/// Returns the explanation of a text with a line that should be a pair and isn't. It gives the line and the column of
+/// the first wrong place, counted from 1. Then come the line with a mark under the place, and the form of a line.
 pub fn pairs_note(alloc: Global, text: &[u8]) -> Result<String, AllocError>
     ensures { IfOk result (λ note. string_bytes note ≡ pairs_note text.now) }
 {
@@ -24,7 +24,7 @@ pub fn pairs_note(alloc: Global, text: &[u8]) -> Result<String, AllocError>
     Ok(note)
 }
 
-/// The first place of a text that is wrong where its lines are pairs.
+/// Returns the first wrong place of a text whose lines are pairs.
 fn lines_stop(text: &[u8]) -> Result<Stop, AllocError>
     ensures { IfOk result (λ stop. stop ≡ lines_stop 0 (slice_split is_line_end text.now)) }
 {
@@ -39,7 +39,7 @@ fn lines_stop(text: &[u8]) -> Result<Stop, AllocError>
     Ok(None)
 }
 
-/// The first place of a line that is wrong where it is a command and its reply; a line without a word is neither.
+/// Returns the first wrong place of a line with a command and its reply. A line without a word has none.
 fn pair_stop(line: &[u8]) -> Result<Stop, AllocError>
     ensures { IfOk result (λ stop. stop ≡ pair_stop line.now) }
 {
@@ -53,7 +53,7 @@ fn pair_stop(line: &[u8]) -> Result<Stop, AllocError>
     }
 }
 
-/// The same of what comes after the command.
+/// Returns the first wrong place of the text after the command.
 fn reply_stop(text: &[u8]) -> Result<Stop, AllocError>
     ensures { IfOk result (λ stop. stop ≡ reply_stop text.now) }
 {
@@ -67,7 +67,7 @@ fn reply_stop(text: &[u8]) -> Result<Stop, AllocError>
     }
 }
 
-/// The same of what comes after the reply: no word may.
+/// Returns the first wrong place of the text after the reply, in which no word is allowed.
 fn third_stop(text: &[u8]) -> Stop
     ensures { result ≡ third_stop text.now }
 {
@@ -78,7 +78,7 @@ fn third_stop(text: &[u8]) -> Stop
     Some((word_place(text, word, rest), Wrong::Third))
 }
 
-/// The place of a word in a text, before which there are only blanks, and after which this is left.
+/// Returns the place of a word in a text, by the word, which only blanks precede, and by what is left after it.
 fn word_place(text: &[u8], word: &[u8], rest: &[u8]) -> usize
     ensures { result ≡ word_place text.now (word.now, rest.now) }
 {
@@ -87,7 +87,7 @@ fn word_place(text: &[u8], word: &[u8], rest: &[u8]) -> usize
         .saturating_sub(word.len())
 }
 
-/// The same place after so many octets.
+/// Returns a wrong place, moved by this many octets.
 fn placed(start: usize, stop: Stop) -> Result<Stop, AllocError>
     ensures { IfOk result (λ moved. moved ≡ placed start stop) }
 {
@@ -97,14 +97,14 @@ fn placed(start: usize, stop: Stop) -> Result<Stop, AllocError>
     }
 }
 
-/// A sum; no text in memory has so many characters that there is none.
+/// Returns a sum. It can't overflow, since no text in memory has so many characters.
 pub(crate) fn sum(count: usize, more: usize) -> Result<usize, AllocError>
     ensures { IfOk result (λ sum. sum ≡ count + more) }
 {
     count.checked_add(more).ok_or(AllocError)
 }
 
-/// The first place of a word that is wrong where it gives octets, in hexadecimal or `none`.
+/// Returns the first wrong place of a word that should be octets, in hexadecimal or `none`.
 fn wrong_word(word: &[u8]) -> Stop
     ensures { result ≡ wrong_word word.now }
 {
@@ -124,7 +124,7 @@ fn is_none(word: &[u8]) -> bool
     word == "none".as_bytes()
 }
 
-/// The first octet of a word that is no digit.
+/// Returns the first octet of a word that isn't a digit.
 fn wrong_digit(word: &[u8]) -> Stop
     ensures { result ≡ digit_from 0 word.now }
 {

@@ -1,14 +1,14 @@
-//! Where the words of a command line are: its words after the subcommand that are no options, and its options.
+//! The places of the words of a command line: those after the subcommand that aren't options, and its options.
 //!
-//! The words are those that the parser takes, so an option is a word that begins with two dashes, and its value is in
-//! it, after an equals sign, or is the next word. `--explain`, `--notes` and `--svg` alone have none. Before the
-//! subcommand may be one `--explain`.
+//! The parser accepts these words. So an option is a word that begins with two dashes. Its value comes in that word
+//! after an equals sign, or is the next word. `--explain`, `--json`, `--notes`, `--rules` and `--svg` have no value. One
+//! `--explain` may come before the subcommand.
 
 ghost use Rattle.std.specs.Prelude.{◌≡◌, ◌<◌, ◌≤◌, ◌+◌, min};
 ghost use Rattle.command_line.specs.Form.{texts};
 ghost use Rattle.explainer.specs.Places.{first_place, has_next, is_flag, is_given_in, is_option, has_option, option_place, option_value, place_of, subcommand_place, value_in, word_at};
 
-/// The word with this number, or the empty one where there is none.
+/// Returns the word with this number, or an empty word if there is none.
 pub(crate) fn word_at(words: &[String], number: usize) -> &str
     ensures { result.now ≡ word_at (texts words.now) number }
 {
@@ -18,7 +18,7 @@ pub(crate) fn word_at(words: &[String], number: usize) -> &str
     }
 }
 
-/// The number of the subcommand: 1, or 2 where `--explain` comes before it.
+/// Returns the number of the subcommand: 1, or 2 if `--explain` comes before it.
 pub(crate) fn subcommand_place(words: &[String]) -> usize
     ensures few { result ≤ 2 }
     ensures place { result ≡ subcommand_place (texts words.now) }
@@ -30,7 +30,7 @@ pub(crate) fn subcommand_place(words: &[String]) -> usize
     }
 }
 
-/// The number of the first word after the subcommand.
+/// Returns the number of the first word after the subcommand.
 fn first_place(words: &[String]) -> usize
     ensures few { result ≤ 3 }
     ensures place { result ≡ first_place (texts words.now) }
@@ -38,7 +38,7 @@ fn first_place(words: &[String]) -> usize
     subcommand_place(words) + 1
 }
 
-/// The number of the word that is no option, so many after the first of them; past the end where there is none.
+/// Returns the number of the word with this index among those that aren't options; past the end if there is none.
 pub(crate) fn place_of(words: &[String], nth: usize) -> usize
     ensures { result ≡ place_of (texts words.now) nth }
 {
@@ -62,7 +62,7 @@ pub(crate) fn place_of(words: &[String], nth: usize) -> usize
     words.len()
 }
 
-/// The number that is so many after the next one, or that past all words where those are fewer.
+/// Returns the number that comes this many after the next one, or the number past all words if that is smaller.
 fn place_after(number: usize, left: usize, past: usize) -> usize
     requires { number < past }
     ensures { result ≡ min (number + 1 + left) past }
@@ -83,7 +83,7 @@ fn has_next(word: &str) -> bool
     !is_flag(word) && !word.contains('=')
 }
 
-/// Whether a word is an option that has no value.
+/// Whether a word is an option without a value.
 fn is_flag(word: &str) -> bool
     ensures { result ≡ is_flag word.now }
 {
@@ -93,7 +93,7 @@ fn is_flag(word: &str) -> bool
     )
 }
 
-/// The number of the word that has the value of an option; past the end where the option isn't given.
+/// Returns the number of the word with the value of an option; past the end if the option isn't given.
 pub(crate) fn option_place(words: &[String], name: &str) -> usize
     ensures { result ≡ option_place (texts words.now) name.now }
 {
@@ -119,7 +119,7 @@ pub(crate) fn has_option(words: &[String], name: &str) -> bool
     option_place(words, name) < words.len()
 }
 
-/// Whether a word is the option with its value.
+/// Whether a word is this option with its value.
 fn is_given_in(word: &str, name: &str) -> bool
     ensures { result ≡ is_given_in word.now name.now }
 {
@@ -129,14 +129,14 @@ fn is_given_in(word: &str, name: &str) -> bool
     }
 }
 
-/// The value of an option, empty where it isn't given.
+/// Returns the value of an option, empty if it isn't given.
 pub(crate) fn option_value<'a>(words: &'a [String], name: &str) -> &'a str
     ensures { result.now ≡ option_value (texts words.now) name.now }
 {
     value_in(name, word_at(words, option_place(words, name)))
 }
 
-/// The value of an option in the word that has it.
+/// Returns the value of an option in the word that has it.
 fn value_in<'a>(name: &str, word: &'a str) -> &'a str
     ensures { result.now ≡ value_in name.now word.now }
 {

@@ -1,4 +1,4 @@
-//! What was expected where octets are refused: the sentence that `specs/Sentences.antt` has for each reason.
+//! What was expected in place of a refused octet: a sentence for each reason, from `specs/Sentences.antt`.
 
 ghost use Rattle.std.specs.Prelude.{◌≡◌, ℕ, List};
 
@@ -8,12 +8,12 @@ use block_core::BlockReason;
 use chain_core::ChainReason;
 use tlv_core::{DolReason, TlvReason};
 
-/// A reason why octets are refused, with what was expected in their place.
+/// A reason for a refusal, with what was expected in place of the octet.
 pub trait Explained {
     /// The sentence of each reason.
     ghost says: { Self → List ℕ };
 
-    /// What was expected.
+    /// Returns what was expected.
     fn sentence(self) -> &'static str
         ensures { result.now ≡ says self };
 }

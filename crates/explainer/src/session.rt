@@ -1,4 +1,4 @@
-//! Notes on simulated sessions, and on answers to reset from which none begins.
+//! Notes on simulated sessions, and on answers to reset from which none can begin.
 
 ghost use Rattle.std.specs.Prelude.{◌≡◌, IfOk, string_bytes};
 ghost use Rattle.explainer.specs.Notes.{lack_note, large_note, longer_note, IsLackNote, IsSessionNote};
@@ -8,8 +8,8 @@ use crate::mark::stop_note;
 use atr_core::{Atr, ParamFault, t1_params};
 use std::alloc::{AllocError, Global};
 
-/// The explanation of an answer to reset from which no session begins: where it is refused, how many
-/// octets come after it, or what it lacks; nothing of one from which a session begins.
+/// Returns the explanation of an answer to reset from which no session can begin: where it is refused, how many octets
+/// come after it, or what it lacks. Empty if a session can begin.
 pub fn session_note(alloc: Global, atr: &[u8]) -> Result<String, AllocError>
     ensures { IfOk result (λ note. IsSessionNote atr.now (string_bytes note)) }
 {
@@ -24,7 +24,7 @@ pub fn session_note(alloc: Global, atr: &[u8]) -> Result<String, AllocError>
     }
 }
 
-/// What an answer to reset lacks, if anything.
+/// Returns the note on what an answer to reset lacks. Empty if it lacks nothing.
 fn lack_of(alloc: Global, atr: &Atr) -> Result<String, AllocError>
     ensures { IfOk result (λ note. IsLackNote atr.now (string_bytes note)) }
 {
@@ -34,21 +34,21 @@ fn lack_of(alloc: Global, atr: &Atr) -> Result<String, AllocError>
     }
 }
 
-/// What an answer to reset lacks, in words.
+/// Returns what an answer to reset lacks, in words.
 fn lack(alloc: Global, what: &str) -> Result<String, AllocError>
     ensures { IfOk result (λ text. string_bytes text ≡ lack_note what.now) }
 {
     format!(in alloc; "the answer to reset {what}\n")
 }
 
-/// How many octets an answer to reset takes, and how many are left after it.
+/// Returns the length of an answer to reset, and how many octets are left after it.
 fn longer(alloc: Global, taken: usize, count: usize) -> Result<String, AllocError>
     ensures { IfOk result (λ text. string_bytes text ≡ longer_note taken count) }
 {
     format!(in alloc; "octets of the answer to reset: {taken}; octets after it: {count}\n")
 }
 
-/// What an answer to reset lacks, as what follows its name.
+/// Returns what an answer to reset lacks, as the end of a sentence about it.
 fn sentence(fault: ParamFault) -> &'static str
     ensures { result.now ≡ lack_sentence fault }
 {
@@ -60,8 +60,8 @@ fn sentence(fault: ParamFault) -> &'static str
     }
 }
 
-/// How many octets standard input or a session's text may have, and how a longer session is split: the ends of each part
-/// begin with block number 0.
+/// Returns how many octets standard input or the text of a session may have, and how to split a longer session: both
+/// ends of each part begin with block number 0.
 pub fn large_note(alloc: Global, most: usize) -> Result<String, AllocError>
     ensures { IfOk result (λ text. string_bytes text ≡ large_note most) }
 {

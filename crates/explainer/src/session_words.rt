@@ -12,7 +12,7 @@ use card_words::words::{clock, one_end};
 use card_words::{Fault, read_blocks};
 use std::alloc::{AllocError, Global};
 
-/// The end that is judged, the clock, and an answer to reset.
+/// Returns the note on the end that is judged, the clock, and an answer to reset.
 pub(crate) fn judge_note(alloc: Global, words: &[String]) -> Result<String, AllocError>
     ensures { IfOk result (λ note. string_bytes note ≡ judge_note (texts words.now)) }
 {
@@ -42,7 +42,7 @@ fn is_wrong_clock(words: &[String]) -> bool
     has_option(words, "--clock") && clock(Some(option_value(words, "--clock"))).is_err()
 }
 
-/// Whether pairs are given, and a form of standard input for them.
+/// Whether both pairs and a form of standard input for them are given.
 fn has_both(words: &[String]) -> bool
     ensures { result ≡ has_both (texts words.now) }
 {
@@ -55,7 +55,7 @@ fn is_wrong_form(words: &[String]) -> bool
     has_option(words, "--stdin") && option_value(words, "--stdin") != "lines"
 }
 
-/// A session: where its pairs are, its other options, its answer to reset and its pairs.
+/// Returns the note on a session: where its pairs are, its other options, its answer to reset and its pairs.
 pub(crate) fn session_note(alloc: Global, words: &[String]) -> Result<String, AllocError>
     ensures { IfOk result (λ note. string_bytes note ≡ session_note (texts words.now)) }
 {
@@ -70,7 +70,8 @@ pub(crate) fn session_note(alloc: Global, words: &[String]) -> Result<String, Al
     listed_note(alloc, words, wrong)
 }
 
-/// The options that name blocks, of which the first that is wrong has this name, the answer to reset and the pairs.
+/// Returns the note on the options that name blocks, then on the answer to reset and the pairs. `wrong` is the first of
+/// these options that is wrong.
 fn listed_note(alloc: Global, words: &[String], wrong: Option<&str>) -> Result<String, AllocError>
     ensures { IfOk result (λ note. string_bytes note
         ≡ listed_note (texts words.now) (option_map (λ name. name.now) wrong.entry)) }
@@ -90,7 +91,7 @@ fn listed_note(alloc: Global, words: &[String], wrong: Option<&str>) -> Result<S
     pairs_note(alloc, words)
 }
 
-/// The first option that names blocks, and whose value is no list.
+/// Returns the first option that names blocks and whose value isn't a list.
 fn wrong_list(alloc: Global, words: &[String]) -> Result<Option<&'static str>, AllocError>
     ensures { IfOk result (λ wrong.
         option_map (λ name. name.now) wrong ≡ wrong_list (texts words.now)) }
@@ -127,7 +128,7 @@ fn is_list(alloc: Global, word: &str) -> Result<bool, AllocError>
     }
 }
 
-/// The first pair that is none.
+/// Returns the note on the first word that should be a pair and isn't.
 fn pairs_note(alloc: Global, words: &[String]) -> Result<String, AllocError>
     ensures { IfOk result (λ note. string_bytes note ≡ pairs_note (texts words.now)) }
 {
@@ -144,7 +145,7 @@ fn pairs_note(alloc: Global, words: &[String]) -> Result<String, AllocError>
     Ok(String::new(alloc))
 }
 
-/// COMMAND:REPLY.
+/// Returns the note on COMMAND:REPLY.
 fn pair_note(alloc: Global, number: usize, word: &str) -> Result<String, AllocError>
     ensures { IfOk result (λ note. string_bytes note ≡ pair_note number word.now) }
 {

@@ -1,4 +1,4 @@
-//! The notes on a text of standard input: that it isn't in its form, or that it is a dump too.
+//! The notes on a text of standard input: that it isn't in its form, or that it is also a dump.
 
 ghost use Rattle.std.specs.Prelude.{◌≡◌, IfOk, string_bytes};
 ghost use Rattle.explainer.specs.Sentences.{form_text};
@@ -11,21 +11,21 @@ use dumps::{begins_with_offset, is_octal_words};
 use octet_core::Octets;
 use std::alloc::{AllocError, Global};
 
-/// What is said of a dump that is taken for hexadecimal.
+/// The note on a dump that is read as hexadecimal.
 const OFFSETS: &str =
     "standard input: this text is also a dump, and --stdin hex reads its offsets as octets; --stdin dump skips them\n";
 
-/// What is said of words of `od` that are taken for hexadecimal.
+/// The note on words of `od` that are read as hexadecimal.
 const WORDS: &str =
     "standard input: od wrote two octets as six octal digits, which --stdin hex reads as three octets; use od -tx1\n";
 
-/// What is said of a byte order mark, which is in no form.
+/// The note on a byte order mark, which no form allows.
 const ORDER_MARK: &str =
     "standard input: this text begins with a byte order mark, which no form allows\n";
 
-/// The explanation of a text that isn't in its form: the first place that is wrong, by its line and column,
-/// counted from 1, with its line and a mark under it; what the form is; and the option for another form that takes the
-/// text, where one does.
+/// Returns the explanation of a text that isn't in its form. It gives the first wrong place by its line and column,
+/// counted from 1, and the line with a mark under the place. Then come how to write octets in the form, and the option
+/// for another form that reads the text, if there is one.
 pub fn text_note(alloc: Global, form: Form, text: &[u8]) -> Result<String, AllocError>
     ensures { IfOk result (λ note. string_bytes note ≡ text_note form text.now) }
 {
@@ -36,7 +36,7 @@ pub fn text_note(alloc: Global, form: Form, text: &[u8]) -> Result<String, Alloc
     Ok(note)
 }
 
-/// The first place of a text that is wrong in its form.
+/// Returns the note on the first wrong place of a text in its form.
 fn first_note(alloc: Global, form: Form, text: &[u8]) -> Result<String, AllocError>
     ensures { IfOk result (λ note. string_bytes note ≡ first_note form text.now) }
 {
@@ -48,7 +48,7 @@ fn first_note(alloc: Global, form: Form, text: &[u8]) -> Result<String, AllocErr
     }
 }
 
-/// What a text in a form is, as a line; nothing of octets, which any text is.
+/// Returns a line on how to write octets in a form. Empty for the form octets, which any text has.
 fn what_form(form: Form) -> &'static str
     ensures { result.now ≡ form_text form }
 {
@@ -64,7 +64,7 @@ fn what_form(form: Form) -> &'static str
     }
 }
 
-/// What is said of a text that begins with a byte order mark.
+/// Returns the note on a text that begins with a byte order mark.
 fn mark_said(text: &[u8]) -> &'static str
     ensures { result.now ≡ mark_said text.now }
 {
@@ -85,15 +85,15 @@ fn begins_with_mark(text: &[u8]) -> bool
     )
 }
 
-/// Whether the offsets or the words of a text would be taken for other octets in hexadecimal.
+/// Whether hexadecimal would read the offsets or the words of a text as other octets.
 fn has_other_octets(text: &[u8]) -> bool
     ensures { result ≡ has_other_octets text.now }
 {
     begins_with_offset(text) || is_octal_words(text)
 }
 
-/// The option for another form that takes the text, as a line. Hexadecimal has no offsets, nor octal words: it would
-/// take them for other octets.
+/// Returns the option for another form that reads the text, as a line. It is never hexadecimal for a text with offsets
+/// or octal words, since hexadecimal would read them as other octets.
 fn other_form(alloc: Global, form: Form, text: &[u8]) -> Result<&'static str, AllocError>
     ensures { IfOk result (λ other. other.now ≡ other_text form text.now) }
 {
@@ -133,8 +133,8 @@ fn takes(alloc: Global, form: Form, text: &[u8]) -> Result<bool, AllocError>
     }
 }
 
-/// The explanation of a text in hexadecimal that means other octets: that it begins with an offset and is a dump of
-/// some octets too, so that its offsets are taken for octets, or that it is octal words of `od`. Nothing of any other.
+/// Returns the explanation of a hexadecimal text that means other octets. It begins with an offset and is also a dump
+/// of some octets, so its offsets are read as octets; or it is octal words of `od`. Empty for any other text.
 pub fn offsets_note(alloc: Global, text: Octets) -> Result<String, AllocError>
     ensures { IfOk result (λ note. string_bytes note ≡ offsets_note text) }
 {

@@ -8,14 +8,14 @@ use crate::line::one_more;
 use crate::message::shown_character;
 use std::alloc::{AllocError, Global};
 
-/// A word by its number, and what is wrong with it.
+/// Returns a note: the number of a word, and what is wrong with it.
 pub(crate) fn said(alloc: Global, number: usize, what: &str) -> Result<String, AllocError>
     ensures { IfOk result (λ text. string_bytes text ≡ word_note number what.now) }
 {
     format!(in alloc; "word {number}: {what}\n")
 }
 
-/// What is wrong with a word that stands for octets, in hexadecimal or `none`, empty where nothing is.
+/// Returns what is wrong with a word that should be octets, in hexadecimal or `none`. Empty if nothing is.
 pub(crate) fn hex_note(alloc: Global, number: usize, word: &str) -> Result<String, AllocError>
     ensures { IfOk result (λ text. string_bytes text ≡ hex_note number word.now) }
 {
@@ -25,8 +25,8 @@ pub(crate) fn hex_note(alloc: Global, number: usize, word: &str) -> Result<Strin
     digits_note(alloc, number, word)
 }
 
-/// What is wrong with octets in hexadecimal, empty where nothing is: the first character that is no hexadecimal digit,
-/// at its place, or an odd number of digits.
+/// Returns what is wrong with octets in hexadecimal: the first character that isn't a hexadecimal digit, with its
+/// place, or an odd number of digits. Empty if nothing is.
 pub(crate) fn digits_note(alloc: Global, number: usize, word: &str) -> Result<String, AllocError>
     ensures { IfOk result (λ text. string_bytes text ≡ digits_note number word.now) }
 {
@@ -39,7 +39,7 @@ pub(crate) fn digits_note(alloc: Global, number: usize, word: &str) -> Result<St
     Ok(String::new(alloc))
 }
 
-/// The first character that is no hexadecimal digit, and its place in characters.
+/// Returns the first character that isn't a hexadecimal digit, and its place in characters.
 fn stray(word: &str) -> Result<Option<(usize, char)>, AllocError>
     ensures { IfOk result (λ found. found ≡ stray_from 0 (chars word.now)) }
 {

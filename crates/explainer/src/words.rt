@@ -1,4 +1,4 @@
-//! Notes on words that are no request.
+//! Notes on words that aren't a request.
 
 ghost use Rattle.std.specs.Prelude.{◌≡◌, ◌≢◌, [], IfOk, string_bytes};
 ghost use Rattle.clap.specs.Words.{fault_of};
@@ -16,10 +16,10 @@ use card_words::words::kind;
 use command_line::parser_message;
 use std::alloc::{AllocError, Global};
 
-/// The explanation of words, of which the first is the program's name: what the parser of command lines
-/// says where it refuses them, with the form that it takes, and else the first word that is wrong, by its number, and
-/// what it should be. The subcommand is word 1, or word 2 after `--explain`. A control character of a word is shown as
-/// a question mark.
+/// Returns the explanation of words, the first of which is the program's name. If the parser of command lines refuses
+/// them, this is its message, with the form of the command line. Otherwise it is the number of the first wrong word,
+/// and what the word must be. The subcommand is word 1, or word 2 after `--explain`. A control character of a word is
+/// shown as a question mark.
 pub fn words_note(alloc: Global, words: &[String]) -> Result<String, AllocError>
     ensures { IfOk result (λ note. IsWordsNote (texts words.now) (string_bytes note)) }
 {
@@ -30,7 +30,7 @@ pub fn words_note(alloc: Global, words: &[String]) -> Result<String, AllocError>
     }
 }
 
-/// What the parser says of words that it refuses, and how to write what they may mean.
+/// Returns the parser's message on words that it refuses, and how to write what they may mean.
 fn parser_note(alloc: Global, words: &[String], message: &str) -> Result<String, AllocError>
     requires { fault_of scard (texts words.now) ≢ [] }
     ensures { IfOk result (λ note. IsShownNote (texts words.now) (string_bytes note)) }
@@ -55,7 +55,7 @@ fn has_version(words: &[String]) -> bool
     false
 }
 
-/// What the parser says, and that a file is read from standard input where one more word may name it.
+/// Returns the parser's message. If one more word may name a file, adds that a file is read from standard input.
 fn refused_note(alloc: Global, words: &[String], message: &str) -> Result<String, AllocError> {
     if message.is_empty() {
         return help_note(alloc, words);
@@ -68,7 +68,7 @@ fn refused_note(alloc: Global, words: &[String], message: &str) -> Result<String
     Ok(note)
 }
 
-/// What the word `help` takes, with the subcommand after it as the example, or `check` where none is there.
+/// Returns what the word `help` takes. The example is the subcommand after it, or `check` if there is none.
 fn help_note(alloc: Global, words: &[String]) -> Result<String, AllocError>
     ensures { IfOk result (λ note. string_bytes note ≡ help_note (texts words.now)) }
 {
@@ -83,7 +83,7 @@ fn is_subcommand(word: &str) -> bool
     reads_a_file(word) || matches!(word, "check" | "show" | "build" | "simulate")
 }
 
-/// Whether a subcommand reads a file from standard input, and takes no word for it.
+/// Whether a subcommand reads a file from standard input and takes no word for it.
 fn reads_a_file(subcommand: &str) -> bool
     ensures { result ≡ reads_a_file subcommand.now }
 {
@@ -93,7 +93,7 @@ fn reads_a_file(subcommand: &str) -> bool
     )
 }
 
-/// The first word that is wrong, of words that the parser takes.
+/// Returns the note on the first wrong word, for words that the parser accepts.
 fn taken_note(alloc: Global, words: &[String]) -> Result<String, AllocError>
     ensures { IfOk result (λ note.
         string_bytes note ≡ taken_note (texts words.now) (subcommand (texts words.now))) }
@@ -112,7 +112,7 @@ fn taken_note(alloc: Global, words: &[String]) -> Result<String, AllocError>
     }
 }
 
-/// A kind, and octets.
+/// Returns the note on a kind and on octets.
 fn input_note(alloc: Global, words: &[String]) -> Result<String, AllocError>
     ensures { IfOk result (λ note. string_bytes note ≡ input_note (texts words.now)) }
 {
@@ -129,7 +129,7 @@ fn input_note(alloc: Global, words: &[String]) -> Result<String, AllocError>
     )
 }
 
-/// The word that is no option and comes after so many others, where it is to give octets.
+/// Returns the note on the word with this index among those that aren't options, which should be octets.
 pub(crate) fn nth_note(alloc: Global, words: &[String], nth: usize) -> Result<String, AllocError>
     ensures { IfOk result (λ note. string_bytes note ≡ nth_note (texts words.now) nth) }
 {
@@ -137,7 +137,7 @@ pub(crate) fn nth_note(alloc: Global, words: &[String], nth: usize) -> Result<St
     hex_note(alloc, place, word_at(words, place))
 }
 
-/// The word that has the value of an option, by its number.
+/// Returns a note on the word with the value of an option, by its number.
 pub(crate) fn option_note(
     alloc: Global,
     words: &[String],

@@ -26,7 +26,7 @@ const RESPONSE: [u8; 4] = [0xAA, 0xBB, 0x90, 0x00];
 /// The chain of the response.
 const ANSWER: [u8; 8] = [0x00, 0x00, 0x04, 0xAA, 0xBB, 0x90, 0x00, 0x85];
 
-/// A command is decoded and encoded.
+/// Decodes and encodes a command.
 pub(crate) fn commands(alloc: Global) -> Outcome {
     Outcome::of(is_command_kept(alloc))
 }
@@ -39,7 +39,7 @@ fn is_command_kept(alloc: Global) -> Result<bool, AllocError> {
     }
 }
 
-/// A response is decoded and encoded.
+/// Decodes and encodes a response.
 pub(crate) fn responses(alloc: Global) -> Outcome {
     Outcome::of(is_response_kept(alloc))
 }
@@ -52,7 +52,7 @@ fn is_response_kept(alloc: Global) -> Result<bool, AllocError> {
     }
 }
 
-/// A command is sent whole, or nothing of it.
+/// Sends a command: all of it, or nothing.
 pub(crate) fn sent(alloc: Global) -> Outcome {
     match decode_command(alloc, &COMMAND) {
         Ok(command) => sent_by(alloc, &command),
@@ -61,7 +61,7 @@ pub(crate) fn sent(alloc: Global) -> Outcome {
     }
 }
 
-/// A command and a response are received, or nothing or exactly their chain was read.
+/// Receives a command. If it can't, it has read nothing or exactly the command's chain.
 pub(crate) fn received(alloc: Global) -> Outcome {
     let mut reader = Counted::new(Feeder::new(&CHAIN, 3, After::Fails));
     let outcome = match receive_command(alloc, &mut reader, 254, Number::Zero) {
@@ -79,7 +79,7 @@ fn is_encoded(alloc: Global, command: &Command) -> Result<bool, AllocError> {
     Ok(encode_command(alloc, command)?.as_slice() == COMMAND.as_slice())
 }
 
-/// A response is sent and received, or nothing or exactly its chain.
+/// Receives a response and sends it. If it can't, it has read nothing or exactly the response's chain.
 pub(crate) fn answered(alloc: Global) -> Outcome {
     let mut reader = Counted::new(Feeder::new(&ANSWER, 8, After::Fails));
     let outcome = match receive_response(alloc, &mut reader, 254, Number::Zero) {

@@ -6,7 +6,7 @@ use chain_core::{Receiver, cut};
 use octet_core::{HexFault, hex_upper, octets_of};
 use std::alloc::{AllocError, Global};
 
-/// A text is read and written.
+/// Reads and writes a text.
 pub(crate) fn hexadecimal(alloc: Global) -> Outcome {
     Outcome::of(is_read_and_written(alloc))
 }
@@ -21,7 +21,7 @@ fn is_read_and_written(alloc: Global) -> Result<bool, AllocError> {
     Ok(text.as_str() == "00A4")
 }
 
-/// The longest message arrives whatever is refused after `Receiver::new`.
+/// Receives the longest message. It arrives whatever is refused after `Receiver::new`.
 pub(crate) fn receiver(alloc: Global) -> Outcome {
     let message = [0xA5; 131_072];
     match Receiver::new(alloc, 254, Number::Zero, message.len()) {

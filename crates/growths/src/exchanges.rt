@@ -14,7 +14,7 @@ const SELECT: [u8; 5] = [0x00, 0xA4, 0x04, 0x00, 0x00];
 
 const DONE: [u8; 2] = [0x90, 0x00];
 
-/// One of each kind of event; the last block is still under way.
+/// One event of each kind. The last block is still on the line.
 const EVENTS: [Event<'static>; 17] = [
     Event::AskIfsd(254),
     Event::Deliver,
@@ -38,7 +38,7 @@ const EVENTS: [Event<'static>; 17] = [
 /// The first line of version 1.
 const FIRST: &str = "scard-exchange 1";
 
-/// The text of their record.
+/// The text of the record of these events.
 const TEXT: &str = "scard-exchange 1
 atr 3B808131204555
 ifsd FE
@@ -66,7 +66,7 @@ quiet
 t 00800080 lost
 ";
 
-/// The record of the events is written.
+/// Writes the record of the events.
 pub(crate) fn recorded(alloc: Global) -> Outcome {
     match record(alloc) {
         Ok(exchange) => written(alloc, &exchange),
@@ -96,7 +96,7 @@ fn are_told(recorder: &mut Recorder) -> bool {
     true
 }
 
-/// An event for whose lines memory was refused happens when it is tried again.
+/// Makes an event happen. If memory for its lines was refused, it happens at a second try.
 fn told(recorder: &mut Recorder, event: Event<'static>) -> Result<(), EventFault> {
     match recorder.happens(event) {
         Err(EventFault::Memory) => recorder.happens(event),
@@ -111,7 +111,7 @@ fn written(alloc: Global, exchange: &Exchange) -> Outcome {
     }
 }
 
-/// The text is read, replays at both ends, and is migrated.
+/// Reads the text, replays it at both ends, and migrates it.
 pub(crate) fn replayed(alloc: Global) -> Outcome {
     match read_exchange(alloc, TEXT.as_bytes()) {
         Ok(exchange) => match replays(alloc, &exchange) {
@@ -123,7 +123,7 @@ pub(crate) fn replayed(alloc: Global) -> Outcome {
     }
 }
 
-/// An exchange replays at both ends.
+/// Replays an exchange at both ends.
 fn replays(alloc: Global, exchange: &Exchange) -> Outcome {
     for side in [Side::Terminal, Side::Card] {
         match replay(alloc, exchange, side) {
@@ -141,7 +141,7 @@ fn is_migrated(alloc: Global, exchange: Exchange) -> Result<bool, AllocError> {
     is_newer(alloc, text.as_slice())
 }
 
-/// Whether a text is the one of version 2.
+/// Whether a text is the text in version 2.
 fn is_newer(alloc: Global, text: &[u8]) -> Result<bool, AllocError> {
     let wanted = format!(in alloc;
         "scard-exchange 2{}",

@@ -1,8 +1,8 @@
-//! Every call that takes memory, once each, with its answer compared.
+//! Makes every call that allocates once, and compares its result.
 //!
-//! It is meant to be run with one growth of memory refused, each in turn, as `refuse-growths` does. It ends
-//! with status 2 where a call answered that it was out of memory, and else with 0. It writes a line for each
-//! call whose answer was wrong, and for each one after the first that was out of memory.
+//! It is meant to run with one growth of memory refused, each in turn, as `refuse-growths` does. It ends with status 2
+//! if a call returned that memory was out, and else with 0. It writes a line for each call with a wrong result, and for
+//! each call after the first that was out of memory.
 #![tactic(auto)]
 
 mod apdus;
@@ -57,8 +57,8 @@ fn of_sessions(alloc: Global) -> [(&'static str, Outcome); 4] {
     ]
 }
 
-/// Prints each outcome that is wrong, and each but the first call that was out of memory. Whether there was one, these
-/// or one before.
+/// Prints each outcome that is wrong, and each call after the first that was out of memory. Returns whether there was
+/// such a call, among these or before.
 fn tell_each(
     rt: &HostRuntime,
     outcomes: &[(&'static str, Outcome)],

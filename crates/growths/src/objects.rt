@@ -14,7 +14,7 @@ const FOREST: [u8; 24] = [
     0x02, 0x50, 0x00, 0x5A, 0x81, 0x01, 0x12, 0x00,
 ];
 
-/// What it says, in the fewest octets.
+/// The same objects, in the fewest octets.
 const TIDY: [u8; 21] = [
     0x6F, 0x10, 0x84, 0x07, 0xA0, 0x00, 0x00, 0x00, 0x04, 0x10, 0x10, 0xA5, 0x05, 0xBF, 0x0C, 0x02,
     0x50, 0x00, 0x5A, 0x01, 0x12,
@@ -23,10 +23,10 @@ const TIDY: [u8; 21] = [
 /// A list of three entries.
 const LIST: [u8; 8] = [0x9F, 0x02, 0x06, 0x5F, 0x2A, 0x02, 0x9A, 0x03];
 
-/// What fills it where 9A is known.
+/// The data for the list, if 9A is known.
 const FILLED: [u8; 11] = [0, 0, 0, 0, 0, 0, 0, 0, 0x00, 0x12, 0x34];
 
-/// A forest is decoded, encoded and tidied.
+/// Decodes and encodes a forest, and makes it tidy.
 pub(crate) fn forests(alloc: Global) -> Outcome {
     Outcome::of(is_forest_kept(alloc))
 }
@@ -49,7 +49,7 @@ fn is_tidied(alloc: Global, forest: &Forest) -> Result<bool, AllocError> {
     Ok(encode(alloc, &tidied)?.as_slice() == TIDY.as_slice())
 }
 
-/// A forest is read in pieces, and the rest of a piece is fed again where it was out of memory.
+/// Reads a forest in pieces. If memory was out, it feeds the rest of the piece again.
 pub(crate) fn pieces(alloc: Global) -> Outcome {
     let Ok(mut reader) = ForestReader::new(alloc, FOREST.len()) else {
         return Outcome::Memory;
@@ -81,7 +81,7 @@ fn is_spelled(alloc: Global, forest: &Forest) -> Result<bool, AllocError> {
     Ok(encode(alloc, forest)?.as_slice() == FOREST.as_slice())
 }
 
-/// The parts of a forest are lent.
+/// Borrows the parts of a forest.
 pub(crate) fn parts(alloc: Global) -> Outcome {
     match FlatForest::read(alloc, &FOREST, FOREST.len()) {
         Ok(forest) if forest.parts().len() == 6 => Outcome::Right,
@@ -90,7 +90,7 @@ pub(crate) fn parts(alloc: Global) -> Outcome {
     }
 }
 
-/// The parts of a forest are placed.
+/// Returns the parts of a forest with their places.
 pub(crate) fn places(alloc: Global) -> Outcome {
     match placed_parts(alloc, &FOREST, FOREST.len()) {
         Ok(parts) if parts.len() == 6 => Outcome::Right,
@@ -99,7 +99,7 @@ pub(crate) fn places(alloc: Global) -> Outcome {
     }
 }
 
-/// A list is decoded, encoded and filled.
+/// Decodes, encodes and fills a list.
 pub(crate) fn lists(alloc: Global) -> Outcome {
     Outcome::of(is_list_filled(alloc))
 }

@@ -1,20 +1,20 @@
-//! What came of a call.
+//! The outcome of a call.
 
 use std::alloc::AllocError;
 
-/// What came of a call.
+/// The outcome of a call.
 #[derive(Clone, Copy)]
 pub(crate) enum Outcome {
-    /// It gave the answer that it should.
+    /// It returned what it should.
     Right,
-    /// It said that it was out of memory.
+    /// It returned that memory was out.
     Memory,
-    /// It gave another answer.
+    /// It returned something else.
     Wrong,
 }
 
 impl Outcome {
-    /// Of an answer that is right or not, or out of memory.
+    /// Returns the outcome of a result that is right or wrong, or out of memory.
     pub(crate) fn of(answer: Result<bool, AllocError>) -> Outcome {
         match answer {
             Ok(true) => Outcome::Right,
@@ -23,7 +23,7 @@ impl Outcome {
         }
     }
 
-    /// Of this call and one more: at most one of them may be out of memory.
+    /// Returns the outcome of this call and one more. At most one of them may be out of memory.
     pub(crate) fn and(self, next: Outcome) -> Outcome {
         match (self, next) {
             (Outcome::Right, next) => next,

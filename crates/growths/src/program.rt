@@ -59,7 +59,7 @@ const ROWS: [(&str, &str); 17] = [
     ("simulate 3B808131204555 00A4040000:9000 --lose 7-9", FILE),
 ];
 
-/// Words that ask for octets of standard input, what it has, and the text that the program writes.
+/// Words that read octets from standard input, what it has, and the text that the program writes.
 const READ_ROWS: [(&str, &str, &str); 5] = [
     ("check atr --stdin hex", "3B 80 80\n01 01", "ok 5 octets\n"),
     (
@@ -81,7 +81,7 @@ const READ_ROWS: [(&str, &str, &str); 5] = [
     ),
 ];
 
-/// What the program says of each row's words. At most one of them is out of memory.
+/// Runs the program on the words of each row. At most one run may be out of memory.
 pub(crate) fn lines(alloc: Global) -> Outcome {
     let mut outcome = Outcome::Right;
     for &(line, text) in &ROWS {
@@ -98,7 +98,7 @@ fn said(alloc: Global, line: &str, read: &str, text: &str) -> Result<Outcome, Al
     Ok(answered(alloc, words, read, text))
 }
 
-/// The words of a command line, after the program's name.
+/// Returns the words of a command line, after the program's name.
 fn words(alloc: Global, line: &str) -> Result<Vec<String>, AllocError> {
     let mut words = Vec::new(alloc);
     words.push(String::from_str(alloc, "scard")?)?;
@@ -108,7 +108,7 @@ fn words(alloc: Global, line: &str) -> Result<Vec<String>, AllocError> {
     Ok(words)
 }
 
-/// What the program says to words.
+/// Runs the program on words, and returns the outcome.
 fn answered(alloc: Global, words: Vec<String>, read: &str, text: &str) -> Outcome {
     let mut reader = Counted::new(Feeder::new(read.as_bytes(), 64, After::End));
     let mut writer = Counted::new(Taker::new(4096, 4096, After::End));

@@ -1,4 +1,4 @@
-//! A session between the bare ends of T=1, which ask for memory in their constructors alone.
+//! A session between the ends of T=1 without a line. They allocate only in their constructors.
 
 use crate::outcome::Outcome;
 use atr_core::T1Params;
@@ -6,7 +6,7 @@ use block_core::{Block, encode};
 use std::alloc::{AllocError, Global};
 use t1_core::{Card, CardTurn, Terminal, TerminalTurn};
 
-/// The longest command and response pass whatever is refused after the constructors.
+/// The longest command and response pass, whatever is refused after the constructors.
 pub(crate) fn longest(alloc: Global) -> Outcome {
     let Some(params) = T1Params::new(254, 4, 5) else {
         return Outcome::Wrong;
@@ -21,7 +21,7 @@ pub(crate) fn longest(alloc: Global) -> Outcome {
     }
 }
 
-/// Whether an exchange over a line without faults is answered.
+/// Whether an exchange gets its answer over a line without faults.
 fn is_exchanged(terminal: &mut Terminal, card: &mut Card, command: &[u8], reply: &[u8]) -> bool {
     let mut turn = terminal.transmit(command);
     for _ in 0..140_000usize {
@@ -39,7 +39,7 @@ fn is_exchanged(terminal: &mut Terminal, card: &mut Card, command: &[u8], reply:
     false
 }
 
-/// What the card sends for a block, where its host replies at once.
+/// Returns what the card sends for a block. Its host replies at once.
 fn served(card: &mut Card, block: &Block, command: &[u8], reply: &[u8]) -> Option<Block> {
     let turn = match card.received(encode(block).as_slice()) {
         Ok(CardTurn::Asked) if card.command() == Some(command) => card.reply(reply),

@@ -1,4 +1,4 @@
-//! That every call and every reader says the same of octets.
+//! Checks that every call and every reader returns the same for octets.
 
 use crate::answers::{answer, is_said_again};
 use crate::feeding::{is_fed_so, is_read_so};
@@ -6,16 +6,15 @@ use crate::kind::{Answer, Chain, Kind};
 use std::alloc::Global;
 use test_support::{Case, Fault};
 
-/// The answer to octets, where each call on the whole list gives it, and the readers of the kind
-/// give it too where they are fed whole and octet by octet, and a chain also where it is read from
-/// a source.
+/// Returns the answer to octets, if every call and every reader of the kind returns it. The readers
+/// are fed at once and octet by octet. A chain is also read from a source.
 pub(crate) fn agreed(alloc: Global, kind: Kind, octets: &[u8]) -> Result<Answer, Fault> {
     let answer = answer(alloc, kind, octets)?;
     all_agree(alloc, kind, octets, &answer)?;
     Ok(answer)
 }
 
-/// The other calls on the whole list, and the readers of the kind.
+/// Checks the other calls on the whole list, and the readers of the kind.
 fn all_agree(alloc: Global, kind: Kind, octets: &[u8], answer: &Answer) -> Result<(), Fault> {
     let case = Case {
         what: "another call on the whole list",
@@ -28,7 +27,7 @@ fn all_agree(alloc: Global, kind: Kind, octets: &[u8], answer: &Answer) -> Resul
     readers_agree(alloc, kind, octets, answer)
 }
 
-/// The readers of the kind.
+/// Checks the readers of the kind.
 fn readers_agree(alloc: Global, kind: Kind, octets: &[u8], answer: &Answer) -> Result<(), Fault> {
     if kind.is_fed() {
         is_fed(alloc, kind, octets, answer)?;
@@ -39,7 +38,7 @@ fn readers_agree(alloc: Global, kind: Kind, octets: &[u8], answer: &Answer) -> R
     }
 }
 
-/// A chain read from a source, by octets, by two octets and whole.
+/// Checks a chain that is read from a source by one octet, by two octets, and at once.
 fn is_read(alloc: Global, chain: Chain, octets: &[u8], answer: &Answer) -> Result<(), Fault> {
     for step in [1, 2, octets.len().max(1)] {
         let case = Case {
@@ -53,7 +52,7 @@ fn is_read(alloc: Global, chain: Chain, octets: &[u8], answer: &Answer) -> Resul
     Ok(())
 }
 
-/// The readers, fed whole and octet by octet.
+/// Checks the readers, fed at once and octet by octet.
 fn is_fed(alloc: Global, kind: Kind, octets: &[u8], answer: &Answer) -> Result<(), Fault> {
     let case = Case {
         what: "fed whole",
@@ -70,7 +69,7 @@ fn is_fed(alloc: Global, kind: Kind, octets: &[u8], answer: &Answer) -> Result<(
     case.expect(alloc, is_fed_by_octets(alloc, kind, octets, answer)?)
 }
 
-/// Whether the readers of a kind say it of octets that come one by one.
+/// Whether the readers of a kind return this answer for octets that come one by one.
 fn is_fed_by_octets(
     alloc: Global,
     kind: Kind,
@@ -81,7 +80,7 @@ fn is_fed_by_octets(
     Ok(is_fed_so(alloc, kind, each.as_slice(), answer)?)
 }
 
-/// The readers, fed in two pieces, cut at each place.
+/// Checks the readers, fed in two pieces, with a cut at each place.
 pub(crate) fn agrees_in_two(
     alloc: Global,
     kind: Kind,
@@ -101,7 +100,8 @@ pub(crate) fn agrees_in_two(
     Ok(())
 }
 
-/// The readers, fed in three pieces, cut at each two places: how many such cuts.
+/// Checks the readers, fed in three pieces, with cuts at each two places. Returns the number of
+/// such pairs of cuts.
 pub(crate) fn agrees_in_three(
     alloc: Global,
     kind: Kind,
@@ -126,7 +126,7 @@ pub(crate) fn agrees_in_three(
     Ok(cuts)
 }
 
-/// The readers, fed these pieces, in a case of such cuts.
+/// Checks the readers, fed these pieces. `case` is the case of these cuts.
 fn agrees(
     alloc: Global,
     kind: Kind,

@@ -1,4 +1,4 @@
-//! What the calls on a whole list say of octets.
+//! The results of the calls on a whole list of octets.
 
 ghost use Rattle.std.specs.Prelude.{◌≤◌};
 
@@ -14,10 +14,10 @@ use std::alloc::{AllocError, Global};
 use test_support::{Size, same};
 use tlv_core::{Dol, FlatForest, Forest};
 
-/// How many octets a forest has at most here.
+/// The greatest number of octets of a forest here.
 pub(crate) const FOREST: usize = 65_536;
 
-/// What the first call on a whole list says.
+/// Returns the result of the first call on a whole list.
 pub(crate) fn answer(alloc: Global, kind: Kind, octets: &[u8]) -> Result<Answer, AllocError> {
     match kind {
         Kind::Atr => Ok(atr_answer(octets)),
@@ -44,7 +44,7 @@ fn block_answer(size: Size, octets: &[u8]) -> Answer {
     }
 }
 
-/// A receiver of such a chain.
+/// Makes a receiver of such a chain.
 pub(crate) fn receiver(alloc: Global, chain: Chain) -> Result<Receiver, AllocError> {
     let max = chain.max.min(LONGEST_MESSAGE);
     Receiver::new(alloc, chain.size.octets(), chain.number, max)
@@ -59,7 +59,7 @@ fn chain_answer(alloc: Global, chain: Chain, octets: &[u8]) -> Result<Answer, Al
     }
 }
 
-/// The message of a receiver that took so many octets.
+/// Returns the message of a receiver that took `taken` octets.
 fn message_answer(alloc: Global, receiver: &Receiver, taken: usize) -> Result<Answer, AllocError> {
     let message = receiver.message().unwrap_or(&[]);
     let message = Octets::of(Vec::from_slice(alloc, message)?);
@@ -90,7 +90,7 @@ fn forest_answer(alloc: Global, octets: &[u8]) -> Result<Answer, AllocError> {
     }
 }
 
-/// A forest of so many octets, by those that its encoder gives.
+/// Returns a forest of `taken` octets as its encoder encodes it.
 fn spelled_forest(alloc: Global, forest: &Forest, taken: usize) -> Result<Answer, AllocError> {
     let spelled = Octets::of(tlv_core::encode(alloc, forest)?);
     Ok(Ok((Value::Forest(spelled), taken)))
@@ -104,14 +104,14 @@ fn list_answer(alloc: Global, octets: &[u8]) -> Result<Answer, AllocError> {
     }
 }
 
-/// A list of so many octets, by those that its encoder gives.
+/// Returns a list of `taken` octets as its encoder encodes it.
 fn spelled_list(alloc: Global, list: &Dol, taken: usize) -> Result<Answer, AllocError> {
     let spelled = Octets::of(list.encode(alloc)?);
     Ok(Ok((Value::List(spelled), taken)))
 }
 
-/// Whether the other calls on a whole list say the same: what the encoder makes of the value, the
-/// value that is lent, and the flat parts of a forest.
+/// Whether the other calls on a whole list agree: the encoder on the value, the decoder that
+/// borrows, and the flat parts of a forest.
 pub(crate) fn is_said_again(
     alloc: Global,
     kind: Kind,

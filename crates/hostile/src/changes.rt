@@ -7,7 +7,7 @@ use octet_core::Stop;
 use std::alloc::Global;
 use test_support::{Case, Fault, Share, with_octet};
 
-/// What was said of changed octets.
+/// The answers to changed octets, counted.
 #[derive(Clone, Copy, Default)]
 struct Changed {
     accepted: u64,
@@ -21,8 +21,9 @@ struct Changed {
 /// The place of a block's length.
 const LENGTH: usize = 2;
 
-/// Each octet of each list is set to each other value. All calls and readers agree, in every two
-/// pieces too. A block is refused at a place unless its length was changed.
+/// Sets each octet of each list to each other value. All calls and readers must agree, and so must
+/// the readers for every cut into two pieces. A block must be refused at a place unless its length
+/// was changed.
 pub(crate) fn change_each(
     alloc: Global,
     vectors: &[Vector],
@@ -35,7 +36,7 @@ pub(crate) fn change_each(
     changed.line(alloc)
 }
 
-/// Each octet of a list is set to each other value.
+/// Sets each octet of a list to each other value.
 fn change_at_each(
     alloc: Global,
     vector: &Vector,
@@ -49,7 +50,7 @@ fn change_at_each(
     Ok(changed)
 }
 
-/// An octet is set to each other value.
+/// Sets an octet to each other value.
 fn change(
     alloc: Global,
     vector: &Vector,
@@ -67,7 +68,7 @@ fn change(
     Ok(changed)
 }
 
-/// Octets of which the one at a place was changed are judged.
+/// Checks octets of which the one at `place` was changed.
 fn judge(
     alloc: Global,
     kind: Kind,
@@ -79,7 +80,7 @@ fn judge(
     judge_answer(alloc, kind, octets, place, &answer, changed)
 }
 
-/// They are answered so in every two pieces too, and a block is kept out.
+/// Checks the answer for every cut into two pieces, and that a changed block is refused.
 fn judge_answer(
     alloc: Global,
     kind: Kind,
@@ -95,7 +96,7 @@ fn judge_answer(
     Ok(changed.and(kind, place, answer))
 }
 
-/// A block with a change outside its length is refused at a place.
+/// Checks that a block with a change outside its length is refused at a place.
 fn is_kept_out(
     alloc: Global,
     kind: Kind,
@@ -117,7 +118,7 @@ fn is_kept_out(
 }
 
 impl Changed {
-    /// The line of what was said.
+    /// Returns the line with these counts.
     fn line(self, alloc: Global) -> Result<String, Fault> {
         let Changed {
             accepted,
@@ -132,7 +133,7 @@ impl Changed {
         )?)
     }
 
-    /// With one answer more.
+    /// Returns the counts with one more answer.
     fn and(self, kind: Kind, place: usize, answer: &Answer) -> Changed {
         let mut changed = self;
         match answer {

@@ -7,15 +7,15 @@ use octet_core::Stop;
 use std::alloc::Global;
 use test_support::{Case, Fault};
 
-/// What was said of fronts.
+/// The answers to fronts, counted.
 #[derive(Clone, Copy, Default)]
 struct Fronts {
     short: u64,
     accepted: u64,
 }
 
-/// Each front of each list but the whole is short at its length, or accepted where the end of a
-/// value is known by the end of the input alone.
+/// Checks each front of each list, except the whole list. It must be short at its length. A kind
+/// whose values end only with the input may accept it.
 pub(crate) fn cut_each(alloc: Global, vectors: &[Vector]) -> Result<String, Fault> {
     let mut fronts = Fronts::default();
     for vector in vectors {
@@ -25,7 +25,7 @@ pub(crate) fn cut_each(alloc: Global, vectors: &[Vector]) -> Result<String, Faul
 }
 
 impl Fronts {
-    /// The line of these fronts.
+    /// Returns the line with these counts.
     fn line(self, alloc: Global) -> Result<String, Fault> {
         let Fronts { short, accepted } = self;
         Ok(format!(in alloc;
@@ -34,7 +34,7 @@ impl Fronts {
     }
 }
 
-/// Each front of octets but the whole.
+/// Checks each front of octets, except all of them.
 fn cut_at_each(alloc: Global, kind: Kind, octets: &[u8], fronts: Fronts) -> Result<Fronts, Fault> {
     let mut fronts = fronts;
     for place in 0..octets.len() {
@@ -44,13 +44,13 @@ fn cut_at_each(alloc: Global, kind: Kind, octets: &[u8], fronts: Fronts) -> Resu
     Ok(fronts)
 }
 
-/// One front more.
+/// Checks one front, and counts its answer.
 fn cut(alloc: Global, kind: Kind, front: &[u8], fronts: Fronts) -> Result<Fronts, Fault> {
     let answer = agreed(alloc, kind, front)?;
     counted(alloc, kind, front, &answer, fronts)
 }
 
-/// One answer to a front more.
+/// Checks the answer to one front, and counts it.
 fn counted(
     alloc: Global,
     kind: Kind,

@@ -13,20 +13,20 @@ use std::alloc::{AllocError, Global};
 use test_support::{Case, Fault, Share};
 use tlv_core::{ForestCheck, TlvReason};
 
-/// Two empty blocks after each of which more follows, with the numbers 0 and 1.
+/// Two empty blocks, with the numbers 0 and 1, after each of which more follow.
 const BLOCKS: [u8; 8] = [0x00, 0x20, 0x00, 0x20, 0x00, 0x60, 0x00, 0x60];
 
-/// How a recorded exchange may begin and never end.
+/// Possible beginnings of a recorded exchange that never ends.
 const TEXTS: [&str; 3] = [
     "quiet\n",
     "scard-exchange 1\natr 3B808131204555\n",
     "no line at all",
 ];
 
-/// How many octets are read of a file at most.
+/// The greatest number of octets that are read of a file.
 const LARGEST: u64 = 4_194_305;
 
-/// Every reader gives up at its limit.
+/// Checks that every reader gives up at its limit.
 pub(crate) fn end_each(alloc: Global, share: Share) -> Result<String, Fault> {
     let given = chain(alloc)?;
     let mut most = 0u64;
@@ -38,7 +38,7 @@ pub(crate) fn end_each(alloc: Global, share: Share) -> Result<String, Fault> {
     line_of(alloc, given, most, pieces)
 }
 
-/// The line of so many octets.
+/// Returns the line with these numbers.
 fn line_of(alloc: Global, given: u64, most: u64, pieces: usize) -> Result<String, Fault> {
     Ok(format!(in alloc;
         "endless: {given} octets of a chain, {most} of a file, {pieces} of a forest, \
@@ -56,7 +56,8 @@ const LINES: [&str; 6] = [
     "judge 3B808131204555",
 ];
 
-/// A file that begins so is too large for each of them: how many octets were read at most.
+/// Checks that a file with this beginning is too large for each command line. Returns the greatest number of
+/// octets that one read.
 fn files(alloc: Global, text: &str) -> Result<u64, Fault> {
     let mut most = 0u64;
     for &line in &LINES {
@@ -65,21 +66,22 @@ fn files(alloc: Global, text: &str) -> Result<u64, Fault> {
     Ok(most)
 }
 
-/// A chain of empty blocks is refused at its last block: how many octets were read. The first three
-/// octets of a block are asked for by one call, so one octet after the refused one is read where
-/// they come by one call.
+/// Checks that a chain of empty blocks is refused at its last block, and returns how many octets were read.
+/// One call asks for the first three octets of a block. So one octet after the refused one is read if one call
+/// reads them all.
 fn chain(alloc: Global) -> Result<u64, Fault> {
     chain_by(alloc, 1, 524_286)?;
     chain_by(alloc, 8, 524_287)
 }
 
-/// Where and why a chain of empty blocks is refused.
+/// The place and the reason of the refusal of a chain of empty blocks.
 const TOO_MANY_BLOCKS: Stop<ChainReason> = Stop::At {
     place: 524_285,
     reason: ChainReason::TooManyBlocks,
 };
 
-/// A chain of empty blocks that come by so many octets is refused once so many were read.
+/// Checks that a chain of empty blocks, read by at most `step` octets in a call, is refused after `read`
+/// octets were read.
 fn chain_by(alloc: Global, step: usize, read: u64) -> Result<u64, Fault>
     requires { 1 ≤ step }
 {
@@ -95,7 +97,8 @@ fn chain_by(alloc: Global, step: usize, read: u64) -> Result<u64, Fault>
     Ok(given)
 }
 
-/// What reading a chain of empty blocks gives that come by so many octets, and how many were read.
+/// Reads a chain of empty blocks by at most `step` octets in a call. Returns the result, and how many octets
+/// were read.
 fn chain_read(alloc: Global, step: usize) -> Result<(Result<(), ReadRefusal>, u64), AllocError>
     requires { 1 ≤ step }
 {
@@ -105,7 +108,7 @@ fn chain_read(alloc: Global, step: usize) -> Result<(Result<(), ReadRefusal>, u6
     Ok((said, reader.into_inner().given()))
 }
 
-/// A file without an end is too large: how many octets were read.
+/// Checks that a file without an end is too large, and returns how many octets were read.
 fn file(alloc: Global, line: &str, text: &str) -> Result<u64, Fault> {
     let octets = text.as_bytes();
     if octets.is_empty() {
@@ -122,7 +125,8 @@ fn file(alloc: Global, line: &str, text: &str) -> Result<u64, Fault> {
     Ok(given)
 }
 
-/// Whether the program says of octets that come again and again that they are too large, and how many it read.
+/// Runs the program on octets that repeat without an end. Returns whether it says that they are too large, and
+/// how many it read.
 fn file_read(alloc: Global, words: Vec<String>, octets: &[u8]) -> (bool, u64)
     requires { 1 ≤ length octets.now }
 {
@@ -136,7 +140,7 @@ fn file_read(alloc: Global, words: Vec<String>, octets: &[u8]) -> (bool, u64)
     )
 }
 
-/// Fillers without an end are refused at the limit: how many were taken.
+/// Checks that fillers without an end are refused at the limit, and returns how many were taken.
 fn forest(alloc: Global) -> Result<usize, Fault> {
     let max = 65_536;
     let mut check = ForestCheck::new(max);
@@ -159,13 +163,13 @@ fn forest(alloc: Global) -> Result<usize, Fault> {
     Ok(max)
 }
 
-/// The refusal of the octet after the last that may come.
+/// Returns the refusal of the octet after the last one that may come.
 fn past(place: usize) -> Stop<TlvReason> {
     let reason = TlvReason::TooLong;
     Stop::At { place, reason }
 }
 
-/// An answer to reset and a block end by themselves, and take nothing after that.
+/// Checks that an answer to reset and a block end by themselves, and that nothing is taken after them.
 fn fixed(alloc: Global) -> Result<(), Fault> {
     let mut atr = AtrReader::new();
     let mut block = BlockReader::new(254);

@@ -1,4 +1,4 @@
-//! What the readers say of octets that come in pieces.
+//! The results of readers for octets that come in pieces.
 
 ghost use Rattle.std.specs.Prelude.{◌≤◌};
 
@@ -14,10 +14,10 @@ use tlv_core::{Forest, ForestCheck, ForestReader, TlvReason, encode};
 
 /// A reader that is fed in pieces.
 trait Reader {
-    /// How many octets of a piece it takes, and whether the value is complete.
+    /// Takes octets of a piece. Returns how many, and whether the value is complete.
     fn takes(&mut self, piece: &[u8]) -> Result<(usize, bool), Stop<Reason>>;
 
-    /// What it says where no more comes.
+    /// Ends the octets.
     fn ends(&self) -> Result<(), Stop<Reason>>;
 }
 
@@ -66,9 +66,9 @@ impl Reader for ForestCheck {
     }
 }
 
-/// How many octets a reader takes of the pieces, or where and why it stops. None where it doesn't
-/// do as a reader does: it takes a piece whole unless the value ends in it, and nothing after that;
-/// it keeps its refusal.
+/// Feeds the pieces to a reader. Returns how many octets it takes, or its stop. The result is `None` if the
+/// reader doesn't behave like one. It must take a piece whole unless the value ends in it, take nothing after
+/// that, and keep its refusal.
 fn fed<R: Reader>(reader: &mut R, pieces: &[&[u8]]) -> Option<Result<usize, Stop<Reason>>> {
     let mut total = 0usize;
     let mut is_done = false;
@@ -93,7 +93,7 @@ fn fed<R: Reader>(reader: &mut R, pieces: &[&[u8]]) -> Option<Result<usize, Stop
     }
 }
 
-/// Whether a reader said what the whole list's answer says, its value apart.
+/// Whether a reader's result agrees with the answer to the whole list, without its value.
 fn is_same(said: Option<Result<usize, Stop<Reason>>>, answer: &Answer) -> bool {
     match (said, answer) {
         (Some(Ok(taken)), Ok((_, whole))) => taken == *whole,
@@ -102,7 +102,7 @@ fn is_same(said: Option<Result<usize, Stop<Reason>>>, answer: &Answer) -> bool {
     }
 }
 
-/// Whether the readers of a kind say of the pieces what the call on the whole list said.
+/// Whether the readers of a kind agree on the pieces with the call on the whole list.
 pub(crate) fn is_fed_so(
     alloc: Global,
     kind: Kind,
@@ -155,7 +155,7 @@ fn is_chain_so(
     Ok(is_same(said, answer) && is_message_so(&reader, answer))
 }
 
-/// Whether a receiver has the message of an answer, and none where that is no value.
+/// Whether a receiver has the message of an answer, or none if the answer isn't a value.
 fn is_message_so(receiver: &Receiver, answer: &Answer) -> bool {
     match answer {
         Ok((Value::Message(message), _)) => same(receiver.message(), Some(message.get())),
@@ -163,8 +163,8 @@ fn is_message_so(receiver: &Receiver, answer: &Answer) -> bool {
     }
 }
 
-/// Whether a chain that is read from a source, so many octets a call, says what the whole list's
-/// answer says, and leaves what follows the chain unread.
+/// Whether a chain that is read from a source gives the answer to the whole list, and what follows the chain
+/// stays unread. The source has at most `step` octets in a call.
 pub(crate) fn is_read_so(
     alloc: Global,
     chain: Chain,
@@ -186,7 +186,7 @@ pub(crate) fn is_read_so(
     Ok(is_said && is_message_so(&receiver, answer))
 }
 
-/// Whether the tree that is read in pieces is the one of the whole list.
+/// Whether the tree that is read in pieces is that of the whole list.
 fn is_tree_so(alloc: Global, pieces: &[&[u8]], answer: &Answer) -> Result<bool, AllocError> {
     let mut reader = ForestReader::new(alloc, FOREST)?;
     let grown = grown(&mut reader, pieces);
@@ -196,7 +196,8 @@ fn is_tree_so(alloc: Global, pieces: &[&[u8]], answer: &Answer) -> Result<bool, 
     }
 }
 
-/// Whether what a forest's reader says in the end, after such a refusal, is what the whole list's answer says.
+/// Whether the final result of a forest's reader, after this refusal or none, agrees with the answer to the
+/// whole list.
 fn is_forest_so(
     alloc: Global,
     said: Result<Forest, Stop<TlvReason>>,
@@ -216,13 +217,13 @@ fn is_forest_so(
     }
 }
 
-/// Whether a forest is spelled by these octets.
+/// Whether a forest encodes as these octets.
 fn is_spelled(alloc: Global, forest: &Forest, octets: &[u8]) -> Result<bool, AllocError> {
     Ok(same(encode(alloc, forest)?.as_slice(), octets))
 }
 
-/// The refusal of a forest's reader that was fed the pieces, where there was one; none at all where
-/// it doesn't keep it.
+/// Feeds the pieces to a forest's reader, and returns its refusal, if there is one. The outer result is `None`
+/// if the reader doesn't keep its refusal.
 fn grown(
     reader: &mut ForestReader,
     pieces: &[&[u8]],

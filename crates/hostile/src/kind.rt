@@ -1,4 +1,4 @@
-//! Kinds of octets, and what is said of octets of any kind.
+//! Kinds of octets, and answers for octets of any kind.
 
 use apdu_core::{Command, CommandReason, Response, ResponseReason};
 use atr_core::{Atr, AtrReason};
@@ -8,8 +8,8 @@ use octet_core::{Octets, Stop};
 use test_support::Size;
 use tlv_core::{DolReason, TlvReason};
 
-/// How a chain is read: its information size, its first number, and the octets of its message at
-/// most.
+/// How a chain is read: its information field size, its first number, and the greatest number of
+/// octets of its message.
 #[derive(Clone, Copy)]
 pub(crate) struct Chain {
     pub(crate) size: Size,
@@ -17,7 +17,7 @@ pub(crate) struct Chain {
     pub(crate) max: usize,
 }
 
-/// A kind of octets, with what its decoder is told.
+/// A kind of octets, with the parameters of its decoder.
 #[derive(Clone, Copy)]
 pub(crate) enum Kind {
     Atr,
@@ -41,7 +41,7 @@ impl Kind {
     }
 }
 
-/// A value of any kind; a forest and a list by the octets that their encoders give.
+/// A value of any kind. A forest or a list is kept as the octets of its encoder.
 #[derive(PartialEq, Drop)]
 pub(crate) enum Value {
     Atr(Atr),
@@ -65,10 +65,10 @@ pub(crate) enum Reason {
     List(DolReason),
 }
 
-/// The value and how many octets it takes, or where and why there is none.
+/// The value and how many octets it takes, or the stop.
 pub(crate) type Answer = Result<(Value, usize), Stop<Reason>>;
 
-/// A stop whose reason is named by its kind.
+/// Returns a stop whose reason has its kind.
 pub(crate) fn stop_of<R: Drop, F: FnOnce(R) -> Reason + Drop>(
     stop: Stop<R>,
     name: F,

@@ -1,8 +1,8 @@
-//! Hostile use of octets and streams: octets that end early or were changed, readers and writers that fail, input
+//! Hostile use of octets and streams: octets that end early or were changed, readers and writers that fail, and input
 //! without an end.
 //!
-//! It writes a line for each list of cases, with how many there were. The first case that goes wrong is printed, and the
-//! program ends with status 1. On the word few it tries a few cases of the long lists.
+//! It writes a line for each list of cases, with their number. It prints the first case that goes wrong, and then ends
+//! with status 1. With the word `few` it tries only a few cases of the long lists.
 #![tactic(auto)]
 
 mod agreeing;
@@ -34,8 +34,8 @@ fn main(rt: HostRuntime) -> io::Result<ExitCode> {
     }
 }
 
-/// The status of the program on these words. It is called here alone, since it takes long to be proved where much else
-/// is known.
+/// Runs the program on these words, and returns its status. Only this function calls it, since the call takes long to
+/// prove if much else is known.
 fn act(
     alloc: Global,
     words: Vec<String>,

@@ -13,8 +13,8 @@ struct Cuts {
     threes: u64,
 }
 
-/// Each list is accepted whole, in every pieces, and what follows a value that ends by itself is
-/// left.
+/// Checks that each list is accepted at once and in all pieces, and that what follows a value that
+/// ends by itself is left.
 pub(crate) fn feed_each(alloc: Global, vectors: &[Vector]) -> Result<String, Fault> {
     let mut cuts = Cuts::default();
     for vector in vectors {
@@ -27,13 +27,13 @@ pub(crate) fn feed_each(alloc: Global, vectors: &[Vector]) -> Result<String, Fau
     )?)
 }
 
-/// One list more.
+/// Checks one list, and counts its cuts.
 fn feed(alloc: Global, vector: &Vector, cuts: Cuts) -> Result<Cuts, Fault> {
     let answer = agreed(alloc, vector.kind, vector.octets.as_slice())?;
     is_fed(alloc, vector, &answer, cuts)
 }
 
-/// The list whose answer this is, whole, in pieces, and with an octet after it.
+/// Checks the list with this answer: at once, in pieces, and with an octet after it.
 fn is_fed(alloc: Global, vector: &Vector, answer: &Answer, cuts: Cuts) -> Result<Cuts, Fault> {
     is_whole(alloc, vector.octets.as_slice(), answer)?;
     if vector.kind.ends_by_itself() {
@@ -46,7 +46,7 @@ fn is_fed(alloc: Global, vector: &Vector, answer: &Answer, cuts: Cuts) -> Result
     }
 }
 
-/// In every two pieces and in every three.
+/// Checks a list in every two and every three pieces.
 fn cut(alloc: Global, vector: &Vector, answer: &Answer, cuts: Cuts) -> Result<Cuts, Fault> {
     let octets = vector.octets.as_slice();
     agrees_in_two(alloc, vector.kind, octets, answer)?;
@@ -57,7 +57,7 @@ fn cut(alloc: Global, vector: &Vector, answer: &Answer, cuts: Cuts) -> Result<Cu
     })
 }
 
-/// A list is accepted to its end.
+/// Checks that a list is accepted to its end.
 fn is_whole(alloc: Global, octets: &[u8], answer: &Answer) -> Result<(), Fault> {
     let case = Case {
         what: "accepted whole",
@@ -72,26 +72,26 @@ fn is_whole(alloc: Global, octets: &[u8], answer: &Answer) -> Result<(), Fault> 
     case.expect(alloc, is_right)
 }
 
-/// An octet after the value is left, and changes nothing.
+/// Checks that an octet after the value is left, and changes nothing.
 fn is_left(alloc: Global, vector: &Vector, answer: &Answer) -> Result<(), Fault> {
     let longer = longer(alloc, vector.octets.as_slice())?;
     is_answered_so(alloc, vector.kind, longer.as_slice(), answer)
 }
 
-/// The octets with one more.
+/// Returns the octets with one more.
 fn longer(alloc: Global, octets: &[u8]) -> Result<Vec<u8>, AllocError> {
     let mut longer = Vec::from_slice(alloc, octets)?;
     longer.push(0xFF)?;
     Ok(longer)
 }
 
-/// Octets are answered as those without the last were.
+/// Checks that octets have the same answer as those without the last.
 fn is_answered_so(alloc: Global, kind: Kind, octets: &[u8], answer: &Answer) -> Result<(), Fault> {
     let again = agreed(alloc, kind, octets)?;
     is_same(alloc, kind, octets, &again, answer)
 }
 
-/// The answer to octets is this one, in every two pieces too.
+/// Checks that the answer to octets is this one, for every cut into two pieces too.
 fn is_same(
     alloc: Global,
     kind: Kind,

@@ -1,4 +1,4 @@
-//! The program, over writers that fail.
+//! The program with writers that fail.
 
 use crate::act;
 use card_tool::Status;
@@ -6,12 +6,12 @@ use octet_core::{After, Counted, Feeder, Taker};
 use std::alloc::{AllocError, Global};
 use test_support::{Case, Fault, Share};
 
-/// A file of a session of one exchange.
+/// A file with a session of one exchange.
 pub(crate) const FILE: &str =
     "scard-exchange 1\natr 3B808131204555\ncommand 00A4040000\nt 00000500A4040000A5\n\
 asked 00A4040000\nreply 9000\nc 000002900092\nanswer 9000\n";
 
-/// Words of each subcommand and kind, of those that are refused too, and of faults.
+/// Words of each subcommand and kind, including some that are refused, and some that are faults.
 const LINES: [&str; 39] = [
     "check atr 3B808131204555",
     "check atr 3A",
@@ -54,12 +54,12 @@ const LINES: [&str; 39] = [
     "simulate 3B808131204555 00A4040000",
 ];
 
-/// Each text is cut short by a writer that fails after each number of its octets.
+/// Checks that each text is cut short by a writer that fails after each number of its octets.
 pub(crate) fn fail_each(alloc: Global, share: Share) -> Result<String, Fault> {
     fail_in_each(alloc, &LINES, share)
 }
 
-/// The text of each of these lines is cut short.
+/// Checks that the text of each of these lines is cut short.
 fn fail_in_each(alloc: Global, lines: &[&str], share: Share) -> Result<String, Fault> {
     let mut writers = 0u64;
     for &line in lines {
@@ -68,20 +68,21 @@ fn fail_in_each(alloc: Global, lines: &[&str], share: Share) -> Result<String, F
     told_line(alloc, writers, lines.len())
 }
 
-/// The line of so many writers.
+/// Returns the line with these numbers.
 fn told_line(alloc: Global, writers: u64, count: usize) -> Result<String, Fault> {
     Ok(format!(in alloc;
         "program: {writers} writers failed within the texts of {count} command lines"
     )?)
 }
 
-/// The text of a command line is cut short after each number of octets: how many writers failed.
+/// Checks that the text of a command line is cut short after each number of octets. Returns how
+/// many writers failed.
 fn fail_in(alloc: Global, line: &str, share: Share) -> Result<u64, Fault> {
     let (text, _) = told(alloc, line, 4096, 4096, Failing::Fails)?;
     fail_at_each(alloc, line, text.as_slice(), share)
 }
 
-/// The same of this text.
+/// Checks that this text is cut short after each number of octets. Returns how many writers failed.
 fn fail_at_each(alloc: Global, line: &str, text: &[u8], share: Share) -> Result<u64, Fault> {
     let mut writers = 0u64;
     for place in 0..text.len() {
@@ -92,7 +93,7 @@ fn fail_at_each(alloc: Global, line: &str, text: &[u8], share: Share) -> Result<
     Ok(writers)
 }
 
-/// How many octets each writer takes by a call at most, and how it fails.
+/// How many octets each writer takes in one call at most, and how it fails.
 const WRITERS: [(usize, Failing); 4] = [
     (4096, Failing::Fails),
     (1, Failing::Fails),
@@ -100,7 +101,8 @@ const WRITERS: [(usize, Failing); 4] = [
     (7, Failing::TakesNothing),
 ];
 
-/// The text of a command line is cut short after so many octets by writers of each kind: how many.
+/// Checks that the text of a command line is cut short after `place` octets by writers of each
+/// kind. Returns how many writers these are.
 fn fail_at(alloc: Global, line: &str, text: &[u8], place: usize) -> Result<u64, Fault> {
     let mut writers = 0u64;
     for &(step, failing) in &WRITERS {
@@ -111,7 +113,7 @@ fn fail_at(alloc: Global, line: &str, text: &[u8], place: usize) -> Result<u64, 
     Ok(writers)
 }
 
-/// The case of a command line whose writer fails after so many octets.
+/// Returns the case of a command line whose writer fails after `place` octets.
 fn case_of(line: &str, place: usize, step: usize) -> Case<'_> {
     Case {
         what: "the program over a writer that fails",
@@ -121,7 +123,7 @@ fn case_of(line: &str, place: usize, step: usize) -> Case<'_> {
     }
 }
 
-/// Whether the text of a command line is cut short after so many octets, and the status says so.
+/// Whether the text of a command line is cut short after `place` octets, and the status says so.
 fn is_cut(
     alloc: Global,
     line: &str,
@@ -142,7 +144,8 @@ enum Failing {
     TakesNothing,
 }
 
-/// What a writer with so much room holds after a command line, and the program's status.
+/// Returns what a writer with `room` octets of room holds after a command line, and the program's
+/// status.
 fn told(
     alloc: Global,
     line: &str,
@@ -154,7 +157,7 @@ fn told(
     Ok(told_of(alloc, words, taker(room, step, failing))?)
 }
 
-/// A writer with so much room, which takes so many octets by a call at most.
+/// Makes a writer with `room` octets of room, which takes at most `step` octets in one call.
 fn taker(room: usize, step: usize, failing: Failing) -> Taker {
     let room = room.min(4096);
     let step = step.max(1);
@@ -165,7 +168,7 @@ fn taker(room: usize, step: usize, failing: Failing) -> Taker {
     }
 }
 
-/// What a writer holds after these words, and the program's status.
+/// Returns what a writer holds after these words, and the program's status.
 fn told_of(
     alloc: Global,
     words: Vec<String>,
@@ -178,7 +181,7 @@ fn told_of(
     Ok((kept, status))
 }
 
-/// The words of a command line, after the program's name.
+/// Returns the words of a command line, after the program's name.
 pub(crate) fn words(alloc: Global, line: &str) -> Result<Vec<String>, AllocError> {
     let mut words = Vec::new(alloc);
     words.push(String::from_str(alloc, "scard")?)?;

@@ -12,10 +12,10 @@ use octet_core::{After, Counted, FailsOnce, Feeder, Octets, Sink, Source, Stop, 
 use std::alloc::Global;
 use test_support::{Case, Fault, of_hex};
 
-/// What is carried.
+/// What a chain carries.
 #[derive(Clone, Copy)]
 enum Message {
-    /// The octets of a chain, by the calls of chains alone.
+    /// Any message, sent and received by the calls for chains alone.
     Plain,
     Command,
     Response,
@@ -29,7 +29,7 @@ struct Carried {
     chain: Vec<u8>,
 }
 
-/// What is carried over the streams.
+/// The messages that are carried over the streams.
 const ROWS: [(Message, &str, &str); 3] = [
     (
         Message::Plain,
@@ -44,10 +44,11 @@ const ROWS: [(Message, &str, &str); 3] = [
     (Message::Response, "AABB9000", "002002AABB330040029000D2"),
 ];
 
-/// The largest size of a field here.
+/// The greatest size of a field here.
 const SIZE: u8 = 2;
 
-/// Each message is written and read over streams that fail after each number of octets.
+/// Checks that each message is written and read correctly over streams that fail after each number
+/// of octets.
 pub(crate) fn fail_each(alloc: Global) -> Result<String, Fault> {
     let mut writers = 0u64;
     let mut readers = 0u64;
@@ -61,7 +62,7 @@ pub(crate) fn fail_each(alloc: Global) -> Result<String, Fault> {
     )?)
 }
 
-/// What a row says.
+/// Returns what a row says.
 fn of_row(alloc: Global, row: (Message, &str, &str)) -> Result<Carried, Fault> {
     let (message, octets, chain) = row;
     let octets = of_hex(alloc, octets)?;
@@ -72,7 +73,7 @@ fn of_row(alloc: Global, row: (Message, &str, &str)) -> Result<Carried, Fault> {
     })
 }
 
-/// Writers that fail at each place of the chain: how many.
+/// Checks writers that fail at each place of the chain, and returns how many.
 fn each_writer_fails(alloc: Global, carried: &Carried) -> Result<u64, Fault> {
     let mut writers = 0u64;
     for place in 0..carried.chain.len() {
@@ -81,7 +82,7 @@ fn each_writer_fails(alloc: Global, carried: &Carried) -> Result<u64, Fault> {
     Ok(writers)
 }
 
-/// Readers that fail at each place of the chain: how many.
+/// Checks readers that fail at each place of the chain, and returns how many.
 fn each_reader_fails(alloc: Global, carried: &Carried) -> Result<u64, Fault> {
     let mut readers = 0u64;
     for place in 0..carried.chain.len() {
@@ -90,7 +91,8 @@ fn each_reader_fails(alloc: Global, carried: &Carried) -> Result<u64, Fault> {
     Ok(readers)
 }
 
-/// Writers that fail, are interrupted, or take nothing more, after so many octets: how many.
+/// Checks writers that fail, are interrupted, or take nothing more, after `place` octets, and
+/// returns how many.
 fn writers_fail(alloc: Global, carried: &Carried, place: usize) -> Result<u64, Fault> {
     let mut writers = 0u64;
     for &(step, after) in &FAILING {
@@ -102,7 +104,7 @@ fn writers_fail(alloc: Global, carried: &Carried, place: usize) -> Result<u64, F
     Ok(writers)
 }
 
-/// The case of a stream that fails after so many octets.
+/// Returns the case of a stream that fails after `place` octets.
 fn case_of<'a>(what: &'static str, carried: &'a Carried, place: usize, step: usize) -> Case<'a> {
     Case {
         what,
@@ -112,7 +114,7 @@ fn case_of<'a>(what: &'static str, carried: &'a Carried, place: usize, step: usi
     }
 }
 
-/// Whether a writer that fails does so as it should, for good and once.
+/// Whether a writer behaves as it should if it fails for good, and if it fails once.
 fn does_writer(
     alloc: Global,
     carried: &Carried,
@@ -127,7 +129,7 @@ fn does_writer(
     Ok(is_left && is_once)
 }
 
-/// How many octets a device gives or takes by a call at most.
+/// How many octets a device reads or takes in one call at most.
 #[derive(Clone, Copy)]
 enum Step {
     One,
@@ -147,7 +149,7 @@ impl Step {
     }
 }
 
-/// Each way to give or take octets, and to fail.
+/// Each way to read or take octets, and to fail.
 const FAILING: [(Step, Failing); 9] = [
     (Step::One, Failing::Fails),
     (Step::One, Failing::Interrupted),
@@ -179,7 +181,7 @@ impl Failing {
         }
     }
 
-    /// What reading comes to where the reader fails so after so many octets.
+    /// Returns the result of reading if the reader fails in this way after `place` octets.
     fn at(self, place: usize) -> Came {
         match self {
             Failing::End => Came::Ended(place),
@@ -188,7 +190,7 @@ impl Failing {
     }
 }
 
-/// Whether a writer that fails for good after `place` octets holds them and no more, and the fault
+/// Whether a writer that fails for good after `place` octets has taken exactly these, and the fault
 /// says so.
 fn is_left_at(
     alloc: Global,
@@ -205,7 +207,7 @@ fn is_left_at(
     Ok(written == Some(place) && Some(taker.kept()) == carried.chain.as_slice().get(..place))
 }
 
-/// The same of a writer of which one call alone fails.
+/// Whether the same holds for a writer that fails in one call only.
 fn is_not_tried_again(
     alloc: Global,
     carried: &Carried,
@@ -222,7 +224,7 @@ fn is_not_tried_again(
     Ok(written == Some(place) && Some(taker.kept()) == carried.chain.as_slice().get(..place))
 }
 
-/// After how many octets writing failed, none where it didn't.
+/// Writes the message. Returns after how many octets writing failed, or `None` if it didn't.
 fn written<W: Sink>(
     alloc: Global,
     writer: &mut W,
@@ -258,7 +260,7 @@ fn response(alloc: Global) -> Result<Response, Fault> {
     Response::new(part, 0x90, 0x00).map_err(|_| Fault::Stream)
 }
 
-/// Readers that fail, are interrupted, or end, after so many octets: how many.
+/// Checks readers that fail, are interrupted, or end, after `place` octets, and returns how many.
 fn readers_fail(alloc: Global, carried: &Carried, place: usize) -> Result<u64, Fault> {
     let mut readers = 0u64;
     for &(step, after) in &FAILING {
@@ -270,7 +272,8 @@ fn readers_fail(alloc: Global, carried: &Carried, place: usize) -> Result<u64, F
     Ok(readers)
 }
 
-/// Whether a reader that fails does so as it should, for good and once, and is gone on with.
+/// Whether a reader behaves as it should if it fails for good, and if it fails once and reading
+/// continues.
 fn does_reader(
     alloc: Global,
     carried: &Carried,
@@ -286,7 +289,8 @@ fn does_reader(
     Ok(is_until && is_left && is_gone_on)
 }
 
-/// What reading came to: all was read, it failed after so many octets, or the input ended there.
+/// The result of reading: all was read, reading failed after some octets, or the input ended after
+/// some octets.
 #[derive(PartialEq, Drop)]
 enum Came {
     All,
@@ -294,7 +298,7 @@ enum Came {
     Ended(usize),
 }
 
-/// Whether a reader that fails for good after `place` octets is said to.
+/// Whether the result says that a reader that fails for good did so after `place` octets.
 fn is_read_until(
     alloc: Global,
     carried: &Carried,
@@ -313,7 +317,8 @@ fn is_read_until(
     Ok(read == after.at(place) && given == place as u64)
 }
 
-/// Whether a reader of which one call alone fails is said to, and gives the next octet after that.
+/// Whether the result says that a reader that fails in one call only did so, and it reads the next
+/// octet after that.
 fn is_left_to_read(
     alloc: Global,
     carried: &Carried,
@@ -332,8 +337,8 @@ fn is_left_to_read(
     Ok(read == after.at(place) && count == 1 && is_next)
 }
 
-/// Whether a reader of which one call alone fails is said to, and a receiver of it can go on after
-/// that.
+/// Whether the result says that a reader that fails in one call only did so, and its receiver can
+/// continue after that.
 fn is_gone_on_with(
     alloc: Global,
     carried: &Carried,
@@ -355,7 +360,7 @@ fn is_gone_on_with(
     Ok(is_said && is_whole && receiver.message() == Some(carried.octets.as_slice()))
 }
 
-/// What reading by the calls of a message came to.
+/// Reads by the calls for a message, and returns the result.
 fn read<R: Source>(alloc: Global, reader: &mut R, message: Message) -> Result<Came, Fault> {
     match message {
         Message::Plain => {
@@ -373,7 +378,7 @@ fn read<R: Source>(alloc: Global, reader: &mut R, message: Message) -> Result<Ca
     }
 }
 
-/// What a call that receives came to, by its fault.
+/// Returns the result of a call that receives, by its fault.
 fn read_of<R: Drop>(fault: Option<ReceiveFault<R>>) -> Result<Came, Fault> {
     match fault {
         None => Ok(Came::All),

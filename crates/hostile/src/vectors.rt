@@ -5,7 +5,7 @@ use block_core::Number;
 use std::alloc::Global;
 use test_support::{Fault, Size, of_hex};
 
-/// Octets of a kind, the whole of one value.
+/// Octets of a kind that are exactly one value.
 #[derive(Drop)]
 pub(crate) struct Vector {
     pub(crate) kind: Kind,
@@ -50,7 +50,7 @@ const FROM_ONE: Kind = Kind::Chain(Chain {
     max: 131_072,
 });
 
-/// The octets in hexadecimal.
+/// The kinds, and the octets in hexadecimal.
 const ROWS: [(Kind, &str); 73] = [
     (Kind::Atr, "3B00"),
     (Kind::Atr, "3F00"),
@@ -136,7 +136,7 @@ const ROWS: [(Kind, &str); 73] = [
     (Kind::List, "9A03"),
 ];
 
-/// All lists of octets.
+/// Returns all lists of octets.
 pub(crate) fn vectors(alloc: Global) -> Result<Vec<Vector>, Fault> {
     let mut vectors = Vec::new(alloc);
     for &(kind, text) in &ROWS {

@@ -14,7 +14,7 @@ use std::alloc::{AllocError, Global};
 use t1_core::{Card, Terminal};
 use test_support::{Case, Fault, Share, Size, of_hex, with_octet};
 
-/// What an exchange begins with whose card takes fields of 2 octets.
+/// The beginning of an exchange whose card takes fields of 2 octets.
 const HEAD: &str = "scard-exchange 1\natr 3B808131024577\n";
 
 /// The blocks that are delivered, in hexadecimal.
@@ -50,7 +50,7 @@ struct Delivered {
 }
 
 impl Delivered {
-    /// With one more.
+    /// Counts one more delivery.
     fn and(self, class: Class) -> Delivered {
         let mut delivered = self;
         match class {
@@ -61,7 +61,7 @@ impl Delivered {
         delivered
     }
 
-    /// The line of deliveries in so many states.
+    /// Returns the line about deliveries in so many states.
     fn line(self, alloc: Global, count: usize) -> Result<String, Fault> {
         let Delivered {
             blocks,
@@ -75,7 +75,7 @@ impl Delivered {
     }
 }
 
-/// A state, and how it is reached.
+/// A state, and how the ends reach it.
 #[derive(Drop)]
 struct Reached {
     state: &'static State,
@@ -83,9 +83,10 @@ struct Reached {
     params: T1Params,
 }
 
-/// Each block is delivered to each end in each state, whole and with each octet set to each other
-/// value: its turn is the one for that block, for damaged or for invalid octets, and after it a
-/// whole exchange passes.
+/// Delivers each block to each end in each state, whole and with each octet set to each other value.
+///
+/// The end's turn has to be that for the block, or for damaged or invalid octets. After it a whole exchange has to
+/// pass.
 pub(crate) fn deliver_each(alloc: Global, share: Share) -> Result<String, Fault> {
     let mut delivered = Delivered::default();
     let states: &'static [State] = &STATES;
@@ -96,7 +97,7 @@ pub(crate) fn deliver_each(alloc: Global, share: Share) -> Result<String, Fault>
     delivered.line(alloc, count)
 }
 
-/// Each block is delivered in a state.
+/// Delivers each block in a state.
 fn deliver_in(
     alloc: Global,
     state: &'static State,
@@ -107,7 +108,7 @@ fn deliver_in(
     deliver_blocks(alloc, &reached, &BLOCKS, share, delivered)
 }
 
-/// Each of these blocks is delivered in a state that is reached so.
+/// Delivers each of these blocks in a state that is reached in this way.
 fn deliver_blocks(
     alloc: Global,
     reached: &Reached,
@@ -122,7 +123,7 @@ fn deliver_blocks(
     Ok(delivered)
 }
 
-/// How a state is reached.
+/// Returns how a state is reached.
 fn way_to(alloc: Global, state: &'static State) -> Result<Reached, Fault> {
     let exchange = exchange_of(alloc, state.text)?;
     let params = params(&exchange)?;
@@ -133,18 +134,18 @@ fn way_to(alloc: Global, state: &'static State) -> Result<Reached, Fault> {
     })
 }
 
-/// The exchange with these lines after the answer to reset.
+/// Returns the exchange with these lines after the answer to reset.
 fn exchange_of(alloc: Global, lines: &str) -> Result<Exchange, Fault> {
     let text = joined(alloc, HEAD, lines)?;
     as_exchange(alloc, text.as_bytes())
 }
 
-/// Two texts as one.
+/// Returns two texts as one.
 fn joined(alloc: Global, head: &str, rest: &str) -> Result<String, Fault> {
     Ok(format!(in alloc; "{head}{rest}")?)
 }
 
-/// A block in hexadecimal is delivered in a state.
+/// Delivers a block in hexadecimal in a state.
 fn deliver_text(
     alloc: Global,
     reached: &Reached,
@@ -156,7 +157,7 @@ fn deliver_text(
     deliver(alloc, reached, block.as_slice(), share, delivered)
 }
 
-/// A block is delivered in a state, whole, and with each of its octets set to each other value.
+/// Delivers a block in a state, whole, and with each of its octets set to each other value.
 fn deliver(
     alloc: Global,
     reached: &Reached,
@@ -173,7 +174,7 @@ fn deliver(
     Ok(delivered)
 }
 
-/// A block is delivered in a state, with the octet at a place set to each other value.
+/// Delivers a block in a state, with the octet at a place set to each other value.
 fn deliver_changed(
     alloc: Global,
     reached: &Reached,
@@ -192,7 +193,7 @@ fn deliver_changed(
     Ok(delivered)
 }
 
-/// The octets come to each end.
+/// Delivers the octets to each end.
 fn to_both(
     alloc: Global,
     reached: &Reached,
@@ -206,7 +207,7 @@ fn to_both(
 }
 
 impl Reached {
-    /// Both ends in the state.
+    /// Returns both ends in the state.
     fn ends(&self, alloc: Global) -> Result<Ends, Fault> {
         let mut ends = Ends::new(alloc, self.params)?;
         if ends.follow(self.exchange.lines().get()) {
@@ -217,7 +218,7 @@ impl Reached {
     }
 }
 
-/// What octets are to an end that takes fields of this size.
+/// Returns what octets are to an end that takes fields of this size.
 fn class_of(octets: &[u8], size: Size) -> Class {
     match decode(octets, size.octets()) {
         Ok((block, taken)) if taken == octets.len() && block.nad() == 0 => Class::Block,
@@ -231,7 +232,7 @@ fn class_of(octets: &[u8], size: Size) -> Class {
     }
 }
 
-/// The octets come to the terminal.
+/// Delivers the octets to the terminal.
 fn to_terminal(
     alloc: Global,
     reached: &Reached,
@@ -245,7 +246,7 @@ fn to_terminal(
     Ok(class)
 }
 
-/// The case of octets that come to an end, which has a number.
+/// Returns the case of octets that come to an end. The end has a number.
 fn case_of<'a>(reached: &Reached, octets: &'a [u8], place: usize, end: usize) -> Case<'a> {
     Case {
         what: reached.state.name,
@@ -255,7 +256,7 @@ fn case_of<'a>(reached: &Reached, octets: &'a [u8], place: usize, end: usize) ->
     }
 }
 
-/// Whether the terminal does what is wanted with octets, and is usable after that.
+/// Whether the terminal takes octets as it should, and is usable after that.
 fn does_terminal(
     alloc: Global,
     reached: &Reached,
@@ -266,7 +267,7 @@ fn does_terminal(
     is_terminal_right(alloc, &mut ends.terminal, reached.params, octets, wanted)
 }
 
-/// Whether a terminal does what is wanted with octets, and is usable after that.
+/// Whether a terminal takes octets as it should, and is usable after that.
 fn is_terminal_right(
     alloc: Global,
     terminal: &mut Terminal,
@@ -279,7 +280,7 @@ fn is_terminal_right(
     Ok(is_right && is_usable)
 }
 
-/// Whether the turn of a terminal to which octets come is the one that is wanted.
+/// Whether a terminal's turn after octets is the right one.
 fn is_terminals_turn(
     alloc: Global,
     terminal: &mut Terminal,
@@ -299,7 +300,7 @@ fn is_terminal_usable_after(
     Ok(is_terminal_usable(terminal, &mut card))
 }
 
-/// The octets come to the card.
+/// Delivers the octets to the card.
 fn to_card(alloc: Global, reached: &Reached, octets: &[u8], place: usize) -> Result<Class, Fault> {
     let class = class_of(octets, Size::Two);
     let wanted = wanted(alloc, &reached.state.card, class, octets)?;
@@ -308,7 +309,7 @@ fn to_card(alloc: Global, reached: &Reached, octets: &[u8], place: usize) -> Res
     Ok(class)
 }
 
-/// Whether the card does what is wanted with octets, and is usable after that.
+/// Whether the card takes octets as it should, and is usable after that.
 fn does_card(
     alloc: Global,
     reached: &Reached,
@@ -319,7 +320,7 @@ fn does_card(
     is_card_right(alloc, &mut ends.card, reached.params, octets, wanted)
 }
 
-/// Whether a card does what is wanted with octets, and is usable after that.
+/// Whether a card takes octets as it should, and is usable after that.
 fn is_card_right(
     alloc: Global,
     card: &mut Card,
@@ -332,7 +333,7 @@ fn is_card_right(
     Ok(is_right && is_usable)
 }
 
-/// Whether the turn of a card to which octets come is the one that is wanted.
+/// Whether a card's turn after octets is the right one.
 fn is_cards_turn(
     alloc: Global,
     card: &mut Card,

@@ -1,4 +1,4 @@
-//! Sessions drawn by a generator: every record replays at both ends, and every answer is the reply.
+//! Random sessions: every record replays at both ends, and every answer is the reply.
 
 ghost use Rattle.std.specs.Prelude.{◌<◌};
 
@@ -26,7 +26,7 @@ const LONGEST_MESSAGE: u32 = 300;
 /// The most events of a session.
 const MOST_EVENTS: u32 = 100_000;
 
-/// Sessions with blocks that are lost or changed one time in four.
+/// Records sessions in which one block in four is lost or changed.
 pub(crate) fn draw_each(alloc: Global, share: Share) -> Result<String, Fault> {
     let mut generator = Pcg32::new(1, 2);
     let mut sessions = 0u64;
@@ -40,20 +40,20 @@ pub(crate) fn draw_each(alloc: Global, share: Share) -> Result<String, Fault> {
     line(alloc, sessions, answers)
 }
 
-/// The line of so many sessions.
+/// Returns the line about so many sessions.
 fn line(alloc: Global, sessions: u64, answers: u64) -> Result<String, Fault> {
     Ok(format!(in alloc;
         "drawn: {sessions} sessions replay at both ends, with {answers} answers, each the reply"
     )?)
 }
 
-/// A session more, which has this number: how many answers.
+/// Records the session with this number, and returns how many answers it has.
 fn draw(alloc: Global, generator: &mut Pcg32, number: u32) -> Result<u64, Fault> {
     let exchange = record(alloc, generator)?;
     answers_of(alloc, &exchange, number)
 }
 
-/// A session replays, and each answer is the reply: how many answers.
+/// Checks that a session replays and each answer is the reply, and returns how many answers it has.
 fn answers_of(alloc: Global, exchange: &Exchange, number: u32) -> Result<u64, Fault> {
     let answers = answers(exchange.lines().get());
     let case = Case {
@@ -67,7 +67,7 @@ fn answers_of(alloc: Global, exchange: &Exchange, number: u32) -> Result<u64, Fa
     Ok(answers.unwrap_or(0))
 }
 
-/// A number below a bound.
+/// Draws a number below a bound.
 fn below(generator: &mut Pcg32, bound: u32) -> u32
     requires { 0 < bound }
     ensures { result < bound }
@@ -75,12 +75,12 @@ fn below(generator: &mut Pcg32, bound: u32) -> u32
     generator.next_word() % bound
 }
 
-/// A size that isn't reserved.
+/// Draws a size that isn't reserved.
 fn size(generator: &mut Pcg32) -> u8 {
     1 + below(generator, 254) as u8
 }
 
-/// A command or a reply.
+/// Draws a command or a reply.
 fn message(alloc: Global, generator: &mut Pcg32) -> Result<Vec<u8>, Fault> {
     let mut octets = Vec::new(alloc);
     for _ in 0..below(generator, LONGEST_MESSAGE + 1) {
@@ -89,7 +89,7 @@ fn message(alloc: Global, generator: &mut Pcg32) -> Result<Vec<u8>, Fault> {
     Ok(octets)
 }
 
-/// What happens to a block: one in four is disturbed.
+/// Draws what happens to a block: one in four is disturbed.
 fn fate(generator: &mut Pcg32) -> Event<'static> {
     match below(generator, 12) {
         0 => Event::Lose,
@@ -99,7 +99,7 @@ fn fate(generator: &mut Pcg32) -> Event<'static> {
     }
 }
 
-/// The card's host calls.
+/// Makes a call of the card's host.
 fn host_calls(alloc: Global, generator: &mut Pcg32, recorder: &mut Recorder) -> Result<(), Fault> {
     let reply = message(alloc, generator)?;
     let event = match below(generator, 8) {
@@ -110,7 +110,7 @@ fn host_calls(alloc: Global, generator: &mut Pcg32, recorder: &mut Recorder) -> 
     happens(recorder, event)
 }
 
-/// The application calls.
+/// Makes a call of the application.
 fn application_calls(
     alloc: Global,
     generator: &mut Pcg32,
@@ -124,14 +124,14 @@ fn application_calls(
     happens(recorder, event)
 }
 
-/// The record of a session.
+/// Returns the record of a session.
 fn record(alloc: Global, generator: &mut Pcg32) -> Result<Exchange, Fault> {
     let mut recorder = recorder(alloc, &ATR)?;
     go_through(alloc, generator, &mut recorder)?;
     Ok(recorder.exchange()?)
 }
 
-/// All that happens in a session.
+/// Runs a session.
 fn go_through(alloc: Global, generator: &mut Pcg32, recorder: &mut Recorder) -> Result<(), Fault> {
     let mut exchanges = 1 + below(generator, MOST_EXCHANGES);
     for _ in 0..MOST_EVENTS {
@@ -150,7 +150,7 @@ fn go_through(alloc: Global, generator: &mut Pcg32, recorder: &mut Recorder) -> 
     Ok(())
 }
 
-/// How many answers there are, `None` where one isn't the last reply to the last command.
+/// Returns how many answers there are, or `None` if one isn't the last reply to the last command.
 fn answers(lines: &[Line]) -> Option<u64> {
     let mut count = 0u64;
     let mut command: Option<&Octets> = None;

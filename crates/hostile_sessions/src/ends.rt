@@ -7,7 +7,7 @@ use std::alloc::{AllocError, Global};
 use t1_core::{Card, CardFault, CardTurn, Terminal, TerminalFault, TerminalTurn};
 use test_support::{Fault, same};
 
-/// Both ends, and the last turn of each.
+/// Both ends, and the last turn of each end.
 #[derive(Drop)]
 pub(crate) struct Ends {
     pub(crate) terminal: Terminal,
@@ -19,11 +19,11 @@ pub(crate) struct Ends {
 /// What a terminal waits for.
 #[derive(Drop)]
 pub(crate) enum Waits {
-    /// For a call of its application.
+    /// A call of its application.
     Idle,
-    /// For the card.
+    /// The card.
     Card,
-    /// For nothing: the card is dead.
+    /// Nothing: the card is dead.
     Dead,
 }
 
@@ -39,7 +39,7 @@ pub(crate) fn is_replayed(alloc: Global, exchange: &Exchange) -> Result<bool, Fa
     Ok(true)
 }
 
-/// The parameters of T=1 that the answer to reset of an exchange gives.
+/// Returns the parameters of T=1 in the answer to reset of an exchange.
 pub(crate) fn params(exchange: &Exchange) -> Result<T1Params, Fault> {
     match decode(exchange.atr()) {
         Ok((atr, _)) => t1_params(&atr).map_err(|_| Fault::Stream),
@@ -48,7 +48,7 @@ pub(crate) fn params(exchange: &Exchange) -> Result<T1Params, Fault> {
 }
 
 impl Ends {
-    /// Both ends, new.
+    /// Returns both ends, new.
     pub(crate) fn new(alloc: Global, params: T1Params) -> Result<Ends, AllocError> {
         Ok(Ends {
             terminal: Terminal::new(alloc, params)?,
@@ -58,7 +58,7 @@ impl Ends {
         })
     }
 
-    /// What the terminal waits for.
+    /// Returns what the terminal waits for.
     pub(crate) fn waits(&self) -> Waits {
         match &self.terminal_turn {
             Some(TerminalTurn::Send(_)) => Waits::Card,
@@ -82,8 +82,8 @@ impl Ends {
         true
     }
 
-    /// Makes the call of a line, and says whether it is taken, or whether the last turn is as a
-    /// line says.
+    /// Makes the call of a line and says whether the end accepts it; for another line, says whether it is the last
+    /// turn.
     fn follows(&mut self, line: &Line) -> bool {
         match line {
             Line::FromTerminal { sent, arrival } => {
@@ -101,7 +101,7 @@ impl Ends {
         }
     }
 
-    /// Whether the last turn is the word to a host that a line says.
+    /// Whether the last turn is the result that a line has for an application.
     fn has_given(&self, line: &Line) -> bool {
         match line {
             Line::Answer(answer) => {
@@ -155,7 +155,7 @@ impl Ends {
         self.terminal_takes(turn)
     }
 
-    /// Keeps a turn, and says whether the call was taken.
+    /// Keeps a turn, and says whether the call was accepted.
     fn terminal_takes(&mut self, turn: Result<TerminalTurn, TerminalFault>) -> bool {
         match turn {
             Ok(turn) => {

@@ -1,21 +1,21 @@
-//! Files of recorded exchanges with an octet cut, changed, or all after it gone.
+//! Files of recorded exchanges without an octet, with a changed octet, or cut off before one.
 
 use crate::{as_exchange, as_replayed};
 use exchange_core::{Exchange, Side, write_exchange};
 use std::alloc::{AllocError, Global};
 use test_support::{Case, Fault, Share, with_octet};
 
-/// What was said of files.
+/// How many files were read, and how many had faults.
 #[derive(Clone, Copy, Default)]
 struct Said {
     read: u64,
     faults: u64,
-    /// How many that were read replay at both ends.
+    /// How many of those that were read replay at both ends.
     replayed: u64,
 }
 
-/// Each file with each octet cut, changed, and with all from it on gone, is an exchange with this
-/// text or a fault.
+/// Changes each file at each octet: without the octet, with another value, and cut off before it. Each result has to be
+/// an exchange with this text, or a fault.
 pub(crate) fn spoil_each(alloc: Global, files: &[Vec<u8>], share: Share) -> Result<String, Fault> {
     let mut said = Said::default();
     for file in files.iter().take(share.most(files.len())) {
@@ -25,7 +25,7 @@ pub(crate) fn spoil_each(alloc: Global, files: &[Vec<u8>], share: Share) -> Resu
 }
 
 impl Said {
-    /// With one text more that is read, and replays at both ends or not.
+    /// Counts one more text that is read, and whether it replays at both ends.
     fn and(self, replays: bool) -> Said {
         Said {
             read: self.read.saturating_add(1),
@@ -34,7 +34,7 @@ impl Said {
         }
     }
 
-    /// The line of what was said.
+    /// Returns the line of these counts.
     fn line(self, alloc: Global) -> Result<String, Fault> {
         let Said {
             read,
@@ -48,7 +48,7 @@ impl Said {
     }
 }
 
-/// A file as it is, and spoilt at each place.
+/// Takes a file unchanged, and changed at each place.
 fn spoil(alloc: Global, file: &[u8], share: Share, said: Said) -> Result<Said, Fault> {
     let mut said = judged(alloc, file, file.len(), said)?;
     for place in 0..file.len() {
@@ -59,7 +59,7 @@ fn spoil(alloc: Global, file: &[u8], share: Share, said: Said) -> Result<Said, F
     Ok(said)
 }
 
-/// A file with all from a place on gone, without the octet there, and with that octet changed.
+/// Takes a file cut off at a place, without the octet there, and with that octet changed.
 fn spoil_at(
     alloc: Global,
     file: &[u8],
@@ -73,7 +73,7 @@ fn spoil_at(
     changed(alloc, file, place, share, said)
 }
 
-/// A file without the first octet of its rest.
+/// Takes a file without the first octet of its rest.
 fn without_first(alloc: Global, front: &[u8], rest: &[u8], said: Said) -> Result<Said, Fault> {
     let mut octets = Vec::from_slice(alloc, front)?;
     if let Some((_, back)) = rest.split_first() {
@@ -82,7 +82,7 @@ fn without_first(alloc: Global, front: &[u8], rest: &[u8], said: Said) -> Result
     judged(alloc, octets.as_slice(), front.len(), said)
 }
 
-/// A file of which one octet is set to each other value.
+/// Takes a file with one octet set to each other value.
 fn changed(
     alloc: Global,
     file: &[u8],
@@ -100,7 +100,8 @@ fn changed(
     Ok(said)
 }
 
-/// With one text more: it is read, written as it was, and replays the same twice, or has a fault.
+/// Counts one more text. Either it is read, written unchanged, and replays twice with the same outcome, or it has a
+/// fault.
 fn judged(alloc: Global, text: &[u8], place: usize, said: Said) -> Result<Said, Fault> {
     match as_exchange(alloc, text) {
         Ok(exchange) => judged_as(alloc, &exchange, text, place, said),
@@ -112,7 +113,7 @@ fn judged(alloc: Global, text: &[u8], place: usize, said: Said) -> Result<Said, 
     }
 }
 
-/// With one text more that is this exchange.
+/// Counts one more text, which is this exchange.
 fn judged_as(
     alloc: Global,
     exchange: &Exchange,
@@ -124,7 +125,7 @@ fn judged_as(
     Ok(said.and(replays))
 }
 
-/// An exchange is written as it was read. Whether it replays at both ends.
+/// Checks that an exchange is written as it was read, and returns whether it replays at both ends.
 fn is_written_again(
     alloc: Global,
     exchange: &Exchange,
@@ -152,7 +153,7 @@ fn is_text(alloc: Global, exchange: &Exchange, text: &[u8]) -> Result<bool, Allo
     Ok(written.as_slice() == text)
 }
 
-/// Whether an exchange replays at both ends, twice alike, or this case went wrong.
+/// Returns whether an exchange replays at both ends. Two replays with different outcomes are a case that went wrong.
 fn replays(alloc: Global, exchange: &Exchange, case: Case<'_>) -> Result<bool, Fault> {
     let mut replays = true;
     for side in [Side::Terminal, Side::Card] {

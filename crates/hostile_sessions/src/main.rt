@@ -1,9 +1,11 @@
-//! Hostile use of sessions: calls and events that are refused, damaged blocks in each state of both ends, blocks that are
-//! lost or changed in turn, sessions drawn by a generator, exchanges over a line that harms bursts, and files of sessions
-//! that were changed.
+//! Hostile use of sessions.
 //!
-//! It writes a line for each list of cases, with how many there were. The first case that goes wrong is printed, and the
-//! program ends with status 1. On the word few it tries a few cases of the long lists.
+//! It makes calls and events that are refused, delivers damaged blocks in each state of both ends, and loses or changes
+//! blocks one after another. It also runs random sessions and exchanges over a line that harms bursts, and reads files
+//! of sessions that were changed.
+//!
+//! It writes a line for each list of cases, with how many there were. The first case that goes wrong is printed, and
+//! the program ends with status 1. With the word `few` it tries only some cases of the long lists.
 #![tactic(auto)]
 
 mod deliveries;
@@ -36,7 +38,7 @@ fn main(rt: HostRuntime) -> io::Result<ExitCode> {
     }
 }
 
-/// An exchange that is read from a text of this program.
+/// Returns the exchange of a text in this program.
 pub(crate) fn as_exchange(alloc: Global, text: &[u8]) -> Result<Exchange, Fault> {
     match read_exchange(alloc, text) {
         Ok(exchange) => Ok(exchange),
@@ -45,8 +47,8 @@ pub(crate) fn as_exchange(alloc: Global, text: &[u8]) -> Result<Exchange, Fault>
     }
 }
 
-/// Whether an exchange replays at an end; nothing where a second replay has another outcome: it agrees, or another line
-/// differs, or the end gives something else there.
+/// Returns whether an exchange replays at an end; `None` if a second replay has another outcome. The outcomes are that
+/// it agrees, which line differs, and what the end gives there.
 pub(crate) fn as_replayed(
     alloc: Global,
     exchange: &Exchange,
@@ -68,7 +70,7 @@ fn tell_each(rt: &HostRuntime) -> Result<(), Fault> {
     tell_of(rt, files.as_slice(), sessions.as_slice())
 }
 
-/// Prints the line of each list, where the files are these.
+/// Prints the line of each list, with these files.
 fn tell_of(rt: &HostRuntime, files: &[Vec<u8>], sessions: &[Exchange]) -> Result<(), Fault> {
     let alloc = rt.alloc();
     let share = asked(rt)?;

@@ -1,4 +1,4 @@
-//! What an end is to make of octets that come to it, and whether its turn is that.
+//! What an end should do with octets, and whether its turn is that.
 
 use crate::states::Turns;
 use crate::turns::{Fits, ROWS, Wanted};
@@ -16,12 +16,12 @@ pub(crate) enum Class {
     Invalid,
 }
 
-/// Octets in hexadecimal. It has no contract, so that its callers carry none.
+/// Returns octets in hexadecimal. It has no contract, so that its callers carry none.
 fn text_of(alloc: Global, octets: &[u8]) -> Result<String, AllocError> {
     hex_upper(alloc, octets)
 }
 
-/// What an end is to make of octets.
+/// Returns what an end should do with octets.
 pub(crate) fn wanted(
     alloc: Global,
     turns: &Turns,
@@ -35,7 +35,7 @@ pub(crate) fn wanted(
     }
 }
 
-/// What an end is to make of a whole block, in hexadecimal.
+/// Returns what an end should do with a whole block, in hexadecimal.
 fn fitting(turns: &Turns, block: &str) -> Wanted {
     let (first, second) = turns.fits;
     match (found(first, block), found(second, block)) {
@@ -44,7 +44,7 @@ fn fitting(turns: &Turns, block: &str) -> Wanted {
     }
 }
 
-/// What comes of a block among those that fit.
+/// Returns the result for a block among those that fit.
 fn found(fits: Fits, block: &str) -> Option<Wanted> {
     for &(of, fitting, wanted) in &ROWS {
         if of == fits && fitting == block {
@@ -59,7 +59,7 @@ fn is_block(alloc: Global, block: &Block, text: &str) -> Result<bool, AllocError
     Ok(same(text_of(alloc, encode(block).as_slice())?.as_str(), text))
 }
 
-/// Whether a turn of the terminal is the one that is wanted.
+/// Whether a turn of the terminal is the right one.
 pub(crate) fn is_terminal(
     alloc: Global,
     turn: &Result<TerminalTurn, TerminalFault>,
@@ -76,7 +76,7 @@ pub(crate) fn is_terminal(
     }
 }
 
-/// Whether a turn of the card is the one that is wanted.
+/// Whether a turn of the card is the right one.
 pub(crate) fn is_card(
     alloc: Global,
     turn: &Result<CardTurn, CardFault>,

@@ -1,4 +1,4 @@
-//! A chain each way of which each block, and each two blocks, are lost or changed.
+//! A chain in each direction, with each block, and each two blocks, lost or changed.
 
 use crate::ends::is_replayed;
 use crate::records::{happens, recorder};
@@ -20,10 +20,11 @@ const ANSWER: [u8; 16] = [
     0x11, 0x12, 0x13, 0x14, 0x15, 0x16, 0x17, 0x18, 0x19, 0x1A, 0x1B, 0x1C, 0x1D, 0x1E, 0x90, 0x00,
 ];
 
-/// What the application calls.
+/// The calls of the application.
 const CALLS: [Event<'static>; 2] = [Event::AskIfsd(2), Event::Transmit(&COMMAND)];
 
-/// A question about the size with its answer, and both chains, each of whose blocks but the last is acknowledged.
+/// How many blocks a session has: a question about the size with its answer, and both chains. Each block of a chain
+/// except the last has an acknowledgment.
 const BLOCKS: u32 = 32;
 
 /// The most events of a session.
@@ -39,15 +40,16 @@ struct Disturbance {
     event: Event<'static>,
 }
 
-/// How many sessions there were, and how many of them came to the answer.
+/// How many sessions there were, and how many of them got the answer.
 #[derive(Clone, Copy, Default)]
 struct Disturbed {
     sessions: u64,
     answered: u64,
 }
 
-/// Each block is disturbed in each way, and with it, in each way, each block after it. A session with one disturbed
-/// block is answered; one with two is answered or given up.
+/// Disturbs each block in each way, and with it each later block in each way.
+///
+/// A session with one disturbed block is answered. A session with two is answered or given up.
 pub(crate) fn disturb_each(alloc: Global, share: Share) -> Result<String, Fault> {
     let mut disturbed = Disturbed::default();
     for number in 1..BLOCKS + 1 {
@@ -71,7 +73,7 @@ fn disturb_in_each_way(
     Ok(disturbed)
 }
 
-/// Disturbs one block, and each one after it.
+/// Disturbs one block, and then also each block after it.
 fn disturb(alloc: Global, first: Disturbance, disturbed: Disturbed) -> Result<Disturbed, Fault> {
     let blocks = disturb_first(alloc, first)?;
     let mut disturbed = disturbed.and(true);
@@ -84,7 +86,7 @@ fn disturb(alloc: Global, first: Disturbance, disturbed: Disturbed) -> Result<Di
     Ok(disturbed)
 }
 
-/// Disturbs two blocks: whether the session is answered.
+/// Disturbs two blocks, and returns whether the session is answered.
 fn disturb_both(alloc: Global, first: Disturbance, second: Disturbance) -> Result<bool, Fault> {
     let exchange = record(alloc, &[first, second])?;
     let is_answered = is_answered(&exchange);
@@ -93,14 +95,14 @@ fn disturb_both(alloc: Global, first: Disturbance, second: Disturbance) -> Resul
     Ok(is_answered)
 }
 
-/// Disturbs one block: how many blocks the session has.
+/// Disturbs one block, and returns how many blocks the session has.
 fn disturb_first(alloc: Global, first: Disturbance) -> Result<u32, Fault> {
     let exchange = record(alloc, &[first])?;
     expect(alloc, &exchange, first, 0, is_answered(&exchange))?;
     Ok(blocks(&exchange))
 }
 
-/// A session ended as it should, and replays.
+/// Checks that a session ended as it should, and replays.
 fn expect(
     alloc: Global,
     exchange: &Exchange,
@@ -118,7 +120,7 @@ fn expect(
 }
 
 impl Disturbed {
-    /// The line of these sessions.
+    /// Returns the line about these sessions.
     fn line(self, alloc: Global) -> Result<String, Fault> {
         let Disturbed { sessions, answered } = self;
         Ok(format!(in alloc;
@@ -126,7 +128,7 @@ impl Disturbed {
         )?)
     }
 
-    /// With one session more.
+    /// Counts one more session.
     fn and(self, is_answered: bool) -> Disturbed {
         Disturbed {
             sessions: self.sessions.saturating_add(1),
@@ -135,14 +137,14 @@ impl Disturbed {
     }
 }
 
-/// The record of the session with these blocks disturbed.
+/// Returns the record of the session with these blocks disturbed.
 fn record(alloc: Global, disturbances: &[Disturbance]) -> Result<Exchange, Fault> {
     let mut recorder = recorder(alloc, &ATR)?;
     go_through(&mut recorder, disturbances)?;
     Ok(recorder.exchange()?)
 }
 
-/// All that happens in the session with these blocks disturbed.
+/// Runs the session with these blocks disturbed.
 fn go_through(recorder: &mut Recorder, disturbances: &[Disturbance]) -> Result<(), Fault> {
     let mut calls: &[Event<'static>] = &CALLS;
     let mut number = 0u32;
@@ -162,7 +164,7 @@ fn go_through(recorder: &mut Recorder, disturbances: &[Disturbance]) -> Result<(
     Ok(())
 }
 
-/// What happens to the block with this number.
+/// Returns what happens to the block with this number.
 fn fate(disturbances: &[Disturbance], number: u32) -> Event<'static> {
     for disturbance in disturbances {
         if disturbance.number == number {
@@ -172,7 +174,7 @@ fn fate(disturbances: &[Disturbance], number: u32) -> Event<'static> {
     Event::Deliver
 }
 
-/// How many blocks were sent.
+/// Returns how many blocks were sent.
 fn blocks(exchange: &Exchange) -> u32 {
     let mut count = 0u32;
     for line in exchange.lines().get() {
@@ -183,7 +185,7 @@ fn blocks(exchange: &Exchange) -> u32 {
     count
 }
 
-/// Whether a session ends with the answer, and brought the host one command.
+/// Whether a session ends with the answer, and the host got one command.
 fn is_answered(exchange: &Exchange) -> bool {
     let lines = exchange.lines().get();
     let is_last = match lines.last() {
@@ -193,12 +195,12 @@ fn is_answered(exchange: &Exchange) -> bool {
     is_last && asked(lines) == 1
 }
 
-/// Whether a session ends with the command given up, as where a block and its repeat are lost.
+/// Whether a session ends with the command given up, as after a block and its repeat were lost.
 fn is_given_up(exchange: &Exchange) -> bool {
     matches!(exchange.lines().get().last(), Some(Line::GivenUp))
 }
 
-/// How often an I-block brought the host a command.
+/// Returns how often the host got a command by an I-block.
 fn asked(lines: &[Line]) -> u32 {
     let mut count = 0u32;
     let mut is_info = false;

@@ -39,7 +39,7 @@ const ANSWERED: [Event<'static>; 24] = [
     Event::Deliver,
 ];
 
-/// A session of which each block is lost, until the card counts as dead.
+/// A session in which each block is lost, until the card counts as dead.
 const DEAD: [Event<'static>; 8] = [
     Event::Transmit(&SELECT),
     Event::Lose,
@@ -51,20 +51,21 @@ const DEAD: [Event<'static>; 8] = [
     Event::Lose,
 ];
 
-/// Each event is put between any two of each session. Where it is refused the record is as it was,
-/// and so is that of the whole session.
+/// Puts each event between any two events of each session.
+///
+/// If it is refused, the record stays as it was, and so does that of the whole session.
 pub(crate) fn refuse_each(alloc: Global, share: Share) -> Result<String, Fault> {
     let long = vec![in alloc; 0xA5u8; 65_545]?;
     let refused = refused_in_each(alloc, share, long.as_slice());
     line(alloc, refused?)
 }
 
-/// The line of so many events.
+/// Returns the line about so many events.
 fn line(alloc: Global, refused: u64) -> Result<String, Fault> {
     Ok(format!(in alloc; "recorded: {refused} events refused, which left the record as it was")?)
 }
 
-/// How many events are refused within the sessions.
+/// Returns how many events are refused within the sessions.
 fn refused_in_each(alloc: Global, share: Share, long: &[u8]) -> Result<u64, Fault> {
     let answered = match share {
         Share::All => refused_in(alloc, &ANSWERED, long)?,
@@ -73,7 +74,7 @@ fn refused_in_each(alloc: Global, share: Share, long: &[u8]) -> Result<u64, Faul
     Ok(answered.saturating_add(refused_in(alloc, &DEAD, long)?))
 }
 
-/// How many events are refused within a session.
+/// Returns how many events are refused within a session.
 fn refused_in(alloc: Global, session: &[Event<'_>], long: &[u8]) -> Result<u64, Fault> {
     let mut refused = 0u64;
     for place in 0..=session.len() {
@@ -86,7 +87,7 @@ fn refused_in(alloc: Global, session: &[Event<'_>], long: &[u8]) -> Result<u64, 
     Ok(refused)
 }
 
-/// All events, with those that no end takes.
+/// Returns all events, with those that no end accepts.
 fn events(long: &[u8]) -> [Event<'_>; 16] {
     [
         Event::Deliver,
@@ -108,7 +109,7 @@ fn events(long: &[u8]) -> [Event<'_>; 16] {
     ]
 }
 
-/// Whether an event is refused before the event at `place`; where it is, the records are as without
+/// Returns whether an event is refused before the event at `place`. If it is, checks that the records are as without
 /// it.
 fn is_put(
     alloc: Global,
@@ -128,7 +129,8 @@ fn is_put(
     }
 }
 
-/// An event that is refused before the event at `place` leaves the record as it was, and that of the whole session.
+/// Checks that an event which is refused before the event at `place` leaves the record as it was, and that of the whole
+/// session.
 fn expect(
     alloc: Global,
     session: &[Event<'_>],
@@ -147,7 +149,7 @@ fn expect(
     case.expect(alloc, is_as_before && goes_on)?;
     Ok(true)
 }
-/// The text of a session with an event after it that is refused; nothing where that is taken.
+/// Returns the text of a session after which an event is refused; `None` if the event is accepted.
 fn refused_after(
     alloc: Global,
     before: &[Event<'_>],
@@ -158,7 +160,7 @@ fn refused_after(
     text_where(alloc, recorder, is_refused)
 }
 
-/// Whether an event after others is refused, or one of these.
+/// Whether an event after others is refused, or one of the others is.
 fn is_refused_after(
     recorder: &mut Recorder,
     before: &[Event<'_>],
@@ -168,7 +170,7 @@ fn is_refused_after(
     Ok(!is_taken(recorder, event)? || !is_begun)
 }
 
-/// Whether a session is recorded as without an event that is refused before the event at `place`.
+/// Whether a session has the same record as without an event that is refused before the event at `place`.
 fn goes_on(
     alloc: Global,
     session: &[Event<'_>],
@@ -192,7 +194,7 @@ fn is_record(alloc: Global, events: &[Event<'_>], text: &[u8]) -> Result<bool, F
     })
 }
 
-/// A recorder of a session with a card that has this answer to reset.
+/// Returns a recorder of a session with a card that has this answer to reset.
 pub(crate) fn recorder(alloc: Global, atr: &[u8]) -> Result<Recorder, Fault> {
     match Recorder::new(alloc, atr) {
         Ok(recorder) => Ok(recorder),
@@ -201,7 +203,7 @@ pub(crate) fn recorder(alloc: Global, atr: &[u8]) -> Result<Recorder, Fault> {
     }
 }
 
-/// What is to happen happens.
+/// Makes an event happen that must not be refused.
 pub(crate) fn happens(recorder: &mut Recorder, event: Event<'_>) -> Result<(), Fault> {
     match recorder.happens(event) {
         Ok(()) => Ok(()),
@@ -210,7 +212,7 @@ pub(crate) fn happens(recorder: &mut Recorder, event: Event<'_>) -> Result<(), F
     }
 }
 
-/// Whether an event is taken.
+/// Whether an event is accepted.
 fn is_taken(recorder: &mut Recorder, event: Event<'_>) -> Result<bool, Fault> {
     match recorder.happens(event) {
         Ok(()) => Ok(true),
@@ -219,7 +221,7 @@ fn is_taken(recorder: &mut Recorder, event: Event<'_>) -> Result<bool, Fault> {
     }
 }
 
-/// Whether all events are taken.
+/// Whether all events are accepted.
 fn are_taken(recorder: &mut Recorder, events: &[Event<'_>]) -> Result<bool, Fault> {
     for event in events {
         if !is_taken(recorder, *event)? {
@@ -229,7 +231,7 @@ fn are_taken(recorder: &mut Recorder, events: &[Event<'_>]) -> Result<bool, Faul
     Ok(true)
 }
 
-/// The text of a record where something is so, and else nothing.
+/// Returns the text of a record if a condition holds, else `None`.
 fn text_where(
     alloc: Global,
     recorder: Recorder,
@@ -242,20 +244,20 @@ fn text_where(
     }
 }
 
-/// The text of a record.
+/// Returns the text of a record.
 fn text(alloc: Global, recorder: Recorder) -> Result<Vec<u8>, Fault> {
     Ok(write_exchange(alloc, &recorder.exchange()?)?)
 }
 
-/// The text of a session; nothing where not all its events are taken.
+/// Returns the text of a session; `None` if not all its events are accepted.
 fn told(alloc: Global, events: &[Event<'_>]) -> Result<Option<Vec<u8>>, Fault> {
     let mut recorder = recorder(alloc, &ATR)?;
     let are_taken = are_taken(&mut recorder, events);
     text_where(alloc, recorder, are_taken)
 }
 
-/// The text of a session in two parts, with an event between them that isn't taken; nothing where it is, or not all
-/// others are.
+/// Returns the text of a session in two parts, with an event between them that is refused; `None` if it is accepted, or
+/// if not all others are.
 fn told_past(
     alloc: Global,
     before: &[Event<'_>],
@@ -267,7 +269,7 @@ fn told_past(
     text_where(alloc, recorder, are_taken)
 }
 
-/// Whether events are taken, and one between them isn't.
+/// Whether events are accepted, and one between them is refused.
 fn are_taken_around(
     recorder: &mut Recorder,
     before: &[Event<'_>],

@@ -47,8 +47,7 @@ const CALLS: [Call; 14] = [
     Call::AskIfsc(255),
 ];
 
-/// What is handed to the calls: a block, a short command or reply, and octets of which there are
-/// too many for either.
+/// The arguments of the calls: a block, a short command or reply, and more octets than either may have.
 #[derive(Clone, Copy)]
 struct Handed<'a> {
     block: &'a [u8],
@@ -56,8 +55,8 @@ struct Handed<'a> {
     long: &'a [u8],
 }
 
-/// Each call that is refused is put between any two lines of each session, which goes on as if it
-/// weren't there.
+/// Puts each call that is refused between any two lines of each session. The session has to go on as if it weren't
+/// there.
 pub(crate) fn refuse_each(
     alloc: Global,
     sessions: &[Exchange],
@@ -69,7 +68,7 @@ pub(crate) fn refuse_each(
     line(alloc, refused?, count)
 }
 
-/// What is handed to the calls, with these octets as too many.
+/// Returns the arguments of the calls, with these octets as too many.
 fn as_handed(long: &[u8]) -> Handed<'_> {
     Handed {
         block: &[0x00, 0x80, 0x00, 0x80],
@@ -78,14 +77,14 @@ fn as_handed(long: &[u8]) -> Handed<'_> {
     }
 }
 
-/// The line of so many calls.
+/// Returns the line about so many calls.
 fn line(alloc: Global, refused: u64, count: usize) -> Result<String, Fault> {
     Ok(format!(in alloc;
         "refused: {refused} calls within {count} sessions, which went on unchanged"
     )?)
 }
 
-/// How many calls are refused within the first so many sessions.
+/// Returns how many calls are refused within the first so many sessions.
 fn refused_in_each(
     alloc: Global,
     sessions: &[Exchange],
@@ -99,7 +98,7 @@ fn refused_in_each(
     Ok(refused)
 }
 
-/// How many calls are refused within a session.
+/// Returns how many calls are refused within a session.
 fn refused_in(alloc: Global, session: &Exchange, handed: Handed<'_>) -> Result<u64, Fault> {
     let mut refused = 0u64;
     for place in 0..=session.lines().get().len() {
@@ -108,7 +107,7 @@ fn refused_in(alloc: Global, session: &Exchange, handed: Handed<'_>) -> Result<u
     Ok(refused)
 }
 
-/// How many calls are refused before the line at `place` of a session.
+/// Returns how many calls are refused before the line at `place` of a session.
 fn refused_at(
     alloc: Global,
     session: &Exchange,
@@ -124,7 +123,7 @@ fn refused_at(
     Ok(refused)
 }
 
-/// Whether a call is refused before the line at `place`; where it is, all else is as it was.
+/// Returns whether a call is refused before the line at `place`. If it is, checks that everything else is as it was.
 fn is_put(
     alloc: Global,
     session: &Exchange,
@@ -149,8 +148,8 @@ fn is_put(
     Ok(true)
 }
 
-/// Whether new ends do what the lines say, with a call between them that is refused as it should; nothing where the
-/// call isn't one that is refused there.
+/// Whether new ends do what the lines say, with a call between them that is refused as it should be; `None` if the call
+/// isn't to be refused there.
 fn goes_on_from(
     alloc: Global,
     params: T1Params,
@@ -163,8 +162,8 @@ fn goes_on_from(
     Ok(goes_on(&mut ends, before, call, handed, after))
 }
 
-/// Whether a call between lines is refused as it should, and the ends do what the lines say; nothing where the call
-/// isn't one that is refused there.
+/// Whether a call between lines is refused as it should be, and the ends do what the lines say; `None` if the call
+/// isn't to be refused there.
 fn goes_on(
     ends: &mut Ends,
     before: &[Line],
@@ -178,7 +177,7 @@ fn goes_on(
     Some(is_followed && is_refused && ends.follow(after))
 }
 
-/// Why a call is refused in this state, none where it isn't.
+/// Returns why a call has to be refused in this state, or `None` if it hasn't.
 fn wanted(ends: &Ends, call: Call) -> Option<Refused> {
     match call {
         Call::ToTerminal | Call::Quiet => match ends.waits() {
@@ -201,7 +200,7 @@ fn wanted(ends: &Ends, call: Call) -> Option<Refused> {
     }
 }
 
-/// Why a call of an application is refused, where an idle terminal refuses it so.
+/// Returns why a call of an application has to be refused; `idle` is why an idle terminal refuses it.
 fn called(waits: Waits, idle: Option<TerminalFault>) -> Option<Refused> {
     match waits {
         Waits::Idle => idle.map(Refused::Terminal),
@@ -210,7 +209,7 @@ fn called(waits: Waits, idle: Option<TerminalFault>) -> Option<Refused> {
     }
 }
 
-/// Why the call is refused, none where it isn't.
+/// Makes the call, and returns why it is refused, or `None` if it isn't.
 fn refusal_of(ends: &mut Ends, call: Call, handed: Handed<'_>) -> Option<Refused> {
     let terminal = match call {
         Call::ToTerminal => ends.terminal.received(handed.block),

@@ -1,4 +1,4 @@
-//! The files of recorded exchanges, which lie where the program runs, or in its folder `data`.
+//! The files of recorded exchanges, from the folder where the program runs or from its folder `data`.
 
 use crate::as_exchange;
 use exchange_core::Exchange;
@@ -18,7 +18,7 @@ const NAMES: [&str; 8] = [
     "moments_and_notes.exchange",
 ];
 
-/// The octets of each file.
+/// Returns the octets of each file.
 pub(crate) fn files(rt: &HostRuntime) -> Result<Vec<Vec<u8>>, Fault> {
     let mut files = Vec::new(rt.alloc());
     for &name in &NAMES {
@@ -27,7 +27,7 @@ pub(crate) fn files(rt: &HostRuntime) -> Result<Vec<Vec<u8>>, Fault> {
     Ok(files)
 }
 
-/// The octets of a file.
+/// Returns the octets of a file.
 fn octets(rt: &HostRuntime, name: &str) -> Result<Vec<u8>, Fault> {
     if let Ok(octets) = fs::read(rt, name) {
         return Ok(octets);
@@ -36,7 +36,7 @@ fn octets(rt: &HostRuntime, name: &str) -> Result<Vec<u8>, Fault> {
     Ok(fs::read(rt, path.as_str())?)
 }
 
-/// The exchange of each file.
+/// Returns the exchange of each file.
 pub(crate) fn sessions(alloc: Global, files: &[Vec<u8>]) -> Result<Vec<Exchange>, Fault> {
     let mut sessions = Vec::new(alloc);
     for file in files {

@@ -1,24 +1,24 @@
-//! The states of both ends: how they are reached, and what each end then makes of what comes.
+//! The states of both ends: how they are reached, and what each end then does with what comes.
 
 use crate::turns::{Fits, Wanted};
 use t1_core::{CardFault, TerminalFault};
 use test_support::Size;
 
-/// What an end makes of what comes.
+/// What an end does with what comes.
 pub(crate) struct Turns {
-    /// Blocks that fit.
+    /// The blocks that fit.
     pub(crate) fits: (Fits, Fits),
-    /// Octets that are no such block.
+    /// What it does with octets that aren't such a block.
     pub(crate) misfit: Misfit,
 }
 
-/// What an end makes of octets that are no block that fits. These are names and no blocks, since a table of values that
-/// hold references takes long to be proved.
+/// What an end does with octets that aren't a block that fits. The values are names instead of blocks, since a table of
+/// values with references takes long to prove.
 #[derive(Clone, Copy)]
 pub(crate) enum Misfit {
     /// R-blocks for the number 0, with a redundancy error and with another error.
     AsksForZero,
-    /// The same for the number 1.
+    /// R-blocks for the number 1, with a redundancy error and with another error.
     AsksForOne,
     /// Requests: RESYNCH, IFS with 2 and with 254, WTX.
     Resynch,
@@ -34,7 +34,7 @@ pub(crate) enum Misfit {
 }
 
 impl Misfit {
-    /// What comes of damaged octets.
+    /// Returns the result for damaged octets.
     pub(crate) fn damaged(self) -> Wanted {
         match self {
             Misfit::AsksForZero => Wanted::Sends("00810081"),
@@ -43,7 +43,7 @@ impl Misfit {
         }
     }
 
-    /// What comes of invalid ones, and of blocks that don't fit.
+    /// Returns the result for invalid octets, and for blocks that don't fit.
     pub(crate) fn other(self) -> Wanted {
         match self {
             Misfit::AsksForZero => Wanted::Sends("00820082"),
@@ -62,7 +62,7 @@ impl Misfit {
 
 /// A state of both ends, after the lines of an exchange.
 pub(crate) struct State {
-    /// The states of the terminal and the card that are new in it.
+    /// The states of the terminal and the card that are new here.
     pub(crate) name: &'static str,
     /// The lines after the answer to reset.
     pub(crate) text: &'static str,

@@ -1,6 +1,7 @@
-//! Exchanges over lines with a clock, on which each block may be harmed: one octet is another one, octets are missing at
-//! its end or come after it, or all of it is lost. No answer is wrong, and the card acts on no command that wasn't sent,
-//! and on none twice.
+//! Exchanges over lines with a clock, on which each block may be harmed: one octet is changed, octets are missing at
+//! its end or follow it, or all of it is lost.
+//!
+//! No answer may be wrong. The card may act only on commands that were sent, and on each of them at most once.
 
 ghost use Rattle.std.specs.Prelude.{◌<◌, ◌≤◌, length};
 
@@ -30,13 +31,13 @@ const SILENCES: Silences = Silences {
     after: 22,
 };
 
-/// The octets of a reply: more than one block takes, zeros, and at the end a number and the status bytes.
+/// How many octets a reply has, more than one block takes: zeros, and at the end a number and the status bytes.
 const REPLY: usize = 60;
 
-/// More octets than a burst has, with all that comes after one.
+/// More octets than a burst has, with everything that follows it.
 const ROOM: usize = 300;
 
-/// Octets under way, the first of them still to come.
+/// Octets on the line. Those from `begin` are still to come.
 #[derive(Clone, Copy)]
 struct Queue {
     octets: [u8; ROOM],
@@ -53,7 +54,7 @@ impl Queue {
         }
     }
 
-    /// An octet more, where there is room for one.
+    /// Appends an octet, if there is room for it.
     fn push(&mut self, octet: u8) {
         if let Some(place) = self.octets.get_mut(self.end) {
             *place = octet;
@@ -61,7 +62,7 @@ impl Queue {
         }
     }
 
-    /// The next octet.
+    /// Takes the next octet.
     fn pop(&mut self) -> Option<u8> {
         if self.begin >= self.end {
             return None;
@@ -71,7 +72,7 @@ impl Queue {
         octet
     }
 
-    /// The next octet, to the front of a buffer: how many there are.
+    /// Takes the next octet to the front of a buffer, and returns how many there are.
     fn give(&mut self, room: &mut [u8]) -> usize
         requires { 1 ≤ length room.old }
         ensures { result ≤ length room.new }
@@ -86,12 +87,12 @@ impl Queue {
     }
 }
 
-/// The command with this number, and a sum by which no other list of octets is likely to be one.
+/// Returns the command with this number. It has a sum, so that other octets are hardly ever a command.
 fn command_of(number: u8) -> [u8; 5] {
     [0x00, 0xB0, number, number ^ 0x5A, 0x00]
 }
 
-/// The number of a command.
+/// Returns the number of a command.
 fn number_of(command: &[u8]) -> Option<u8> {
     match command {
         [0x00, 0xB0, number, sum, 0x00] if *sum == *number ^ 0x5A => Some(*number),
@@ -112,7 +113,7 @@ fn reply_of(number: u8) -> [u8; REPLY] {
 struct Application {
     /// The least number that the next command may have.
     next: u8,
-    /// How many commands nobody sent, or had been acted on already.
+    /// How many commands nobody sent, or were acted on before.
     wrong: u32,
     reply: [u8; REPLY],
 }
@@ -137,7 +138,7 @@ impl Host for Application {
     }
 }
 
-/// A number below a bound.
+/// Draws a number below a bound.
 fn below(generator: &mut Pcg32, bound: u32) -> u32
     requires { 0 < bound }
     ensures { result < bound }
@@ -145,7 +146,7 @@ fn below(generator: &mut Pcg32, bound: u32) -> u32
     generator.next_word() % bound
 }
 
-/// What comes of a block on its way: three quarters of them arrive as they were sent.
+/// Draws what happens to a block on its way. Three quarters of them arrive as they were sent.
 fn harmed(generator: &mut Pcg32, octets: &[u8]) -> Queue {
     let place = below(generator, LONGEST) as usize % octets.len().max(1);
     match below(generator, 16) {
@@ -168,7 +169,7 @@ fn arriving(octets: &[u8]) -> Queue {
     queue
 }
 
-/// One octet is another one.
+/// Returns octets with one octet changed.
 fn changed(octets: &[u8], place: usize, by: u8) -> Queue {
     let mut queue = arriving(octets);
     if let Some(octet) = queue.octets.get_mut(place) {
@@ -177,7 +178,7 @@ fn changed(octets: &[u8], place: usize, by: u8) -> Queue {
     queue
 }
 
-/// Some octets come after it, those of a block too.
+/// Returns octets with some more after them, which may be those of a block.
 fn extended(generator: &mut Pcg32, octets: &[u8], more: usize) -> Queue {
     let mut queue = arriving(octets);
     if below(generator, 2) == 0 {
@@ -244,7 +245,7 @@ impl TimedDevice for Wire {
     }
 }
 
-/// How many exchanges ended so.
+/// How many exchanges had each outcome.
 #[derive(Clone, Copy)]
 struct Tally {
     right: u32,
@@ -253,7 +254,7 @@ struct Tally {
     wrong: u32,
 }
 
-/// An exchange with this number: whether the card is still alive.
+/// Runs the exchange with this number, and returns whether the card is still alive.
 fn exchanged(
     terminal: &mut Terminal,
     line: &mut TimedLine<Wire>,
@@ -274,7 +275,7 @@ fn exchanged(
     true
 }
 
-/// A session of a new terminal and a new card.
+/// Runs a session of a new terminal and a new card.
 fn session(alloc: Global, seed: u32, tally: &mut Tally) -> Result<(), Fault> {
     let Some(params) = T1Params::new(32, 4, 5) else {
         return Err(Fault::Stream);
@@ -294,7 +295,7 @@ fn session(alloc: Global, seed: u32, tally: &mut Tally) -> Result<(), Fault> {
     Ok(())
 }
 
-/// All exchanges of a session.
+/// Runs all exchanges of a session.
 fn go_through(terminal: &mut Terminal, wire: Wire, tally: &mut Tally) {
     let mut line = TimedLine::new(wire, SILENCES);
     for number in 0..EXCHANGES {
@@ -307,7 +308,7 @@ fn go_through(terminal: &mut Terminal, wire: Wire, tally: &mut Tally) {
         .saturating_add(line.into_device().application.wrong);
 }
 
-/// Sessions in which a quarter of all blocks are harmed.
+/// Runs sessions in which a quarter of all blocks are harmed.
 pub(crate) fn harm_each(alloc: Global, share: Share) -> Result<String, Fault> {
     let mut tally = Tally {
         right: 0,
@@ -323,7 +324,7 @@ pub(crate) fn harm_each(alloc: Global, share: Share) -> Result<String, Fault> {
     told(alloc, &tally)
 }
 
-/// The line of all sessions, or the case that they went wrong.
+/// Returns the line about all sessions, or the case that they went wrong.
 fn told(alloc: Global, tally: &Tally) -> Result<String, Fault> {
     let Tally {
         right,

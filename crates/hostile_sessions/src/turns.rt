@@ -1,8 +1,8 @@
-//! What the ends make of blocks that fit their states.
+//! What the ends do with blocks that fit their states.
 
 use t1_core::{CardFault, TerminalFault};
 
-/// What an end makes of octets.
+/// What an end does with octets.
 #[derive(Clone, Copy)]
 pub(crate) enum Wanted {
     /// It sends a block of these octets, in hexadecimal.
@@ -14,48 +14,48 @@ pub(crate) enum Wanted {
     Dies,
     /// It is the turn of the card's host.
     Asked,
-    /// The terminal refuses them.
+    /// The terminal refuses them, with this fault.
     Terminal(TerminalFault),
-    /// The card refuses them.
+    /// The card refuses them, with this fault.
     Card(CardFault),
 }
 
 /// Which blocks fit a state.
 #[derive(Clone, Copy, PartialEq)]
 pub(crate) enum Fits {
-    /// None.
+    /// No blocks.
     Nothing,
-    /// What a terminal that waits for the card grants it: sizes, and time.
+    /// Requests that a terminal grants while it waits for the card: sizes, and time.
     Granted,
-    /// R-blocks in Ack: the first block of three again, or the next one.
+    /// In Ack: R-blocks for the first block of three again, or for the next one.
     Ack,
-    /// After three failures only the next one.
+    /// In Ack after three failures: only that for the next one.
     AckAtLast,
-    /// In Answer the block again, a question, and what the card's next block comes to.
+    /// In Answer: R-blocks for the block again and with the other number, and the card's next block.
     Answer,
-    /// After three failures only that block.
+    /// In Answer after three failures: only the card's next block.
     AnswerAtLast,
-    /// In More a question, and what the card's next block comes to.
+    /// In More: R-blocks, and the card's next block.
     More,
-    /// The responses that are waited for.
+    /// The responses that the end waits for.
     SizeSet,
     GivenUp,
     TimeGranted,
-    /// What a card does outside its host's turn: sizes, and RESYNCH.
+    /// Requests that a card accepts outside its host's turn: sizes, and RESYNCH.
     Served,
-    /// What it does while it asks.
+    /// The request that a card accepts while it asks: RESYNCH.
     BegunAnew,
-    /// A new card: a question, and the first block of a command.
+    /// At a new card: R-blocks, and the first block of a command.
     StartCard,
-    /// After a block that has more after it.
+    /// After a block that more blocks follow.
     Joining,
     /// With a reply saved, which is sent again.
     Saved,
-    /// Within a reply: its block again, or the next one.
+    /// Within a reply: R-blocks for its block again, or for the next one.
     Reply,
 }
 
-/// The blocks that fit, in hexadecimal, and what comes of each.
+/// The blocks that fit, in hexadecimal, and the result of each.
 pub(crate) static ROWS: [(Fits, &str, Wanted); 64] = [
     (Fits::Granted, "00C101FE3E", Wanted::Sends("00E101FE1E")),
     (Fits::Granted, "00C10102C2", Wanted::Sends("00E10102E2")),

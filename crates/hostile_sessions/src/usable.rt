@@ -14,7 +14,7 @@ const COMMAND: [u8; 2] = [0x00, 0xA4];
 
 const REPLY: [u8; 2] = [0x90, 0x00];
 
-/// Whether the terminal begins again with a new card and an exchange passes, or refuses all as dead.
+/// Whether the terminal begins again with a new card and an exchange passes, or refuses everything as dead.
 pub(crate) fn is_terminal_usable(terminal: &mut Terminal, card: &mut Card) -> bool {
     for _ in 0..8usize {
         match terminal.received(&RESYNCHED) {
@@ -36,8 +36,8 @@ fn is_dead(terminal: &mut Terminal) -> bool {
         && same(terminal.ask_ifs(32), Err(TerminalFault::Dead))
 }
 
-/// Whether the card, whose host replies where it owes to, begins again and an exchange with a new
-/// terminal passes.
+/// Whether the card begins again, and an exchange with a new terminal passes. Its host first replies if it owes a
+/// reply.
 pub(crate) fn is_card_usable(terminal: &mut Terminal, card: &mut Card) -> bool {
     if same(card.received(&RESYNCH), Err(CardFault::Order)) {
         let is_replied = card.reply(&REPLY).is_ok();
@@ -59,13 +59,13 @@ fn is_exchanged(terminal: &mut Terminal, card: &mut Card) -> bool {
     }
 }
 
-/// Whether a block brings the card's host the command.
+/// Whether a block gives the card's host the command.
 fn is_asked(card: &mut Card, sent: &Block) -> bool {
     same(card.received(encode(sent).as_slice()), Ok(CardTurn::Asked))
         && same(card.command(), Some(COMMAND.as_slice()))
 }
 
-/// Whether a block brings the terminal the reply.
+/// Whether a block gives the terminal the reply.
 fn is_answered(terminal: &mut Terminal, back: &Block) -> bool {
     same(
         terminal.received(encode(back).as_slice()),

@@ -1,4 +1,4 @@
--- The octets that code has classed, as contracts see them.
+-- Classed octets in the code, as contracts see them.
 use Rattle.judge_core.specs.declared.class.Class.{Class}
 use Rattle.judge_core.specs.declared.class.Class.TheVariants.{Whole, Malformed, Damage}
 use Rattle.judge_core.specs.declared.monitor.Reached.{Reached}

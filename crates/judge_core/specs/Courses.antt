@@ -1,4 +1,4 @@
--- What an end may have heard, and what is permitted by some course of it. A tap on the line doesn't see whether an end got
+-- What an end may have heard, and what some course of it permits. A tap on the line doesn't see whether an end received
 -- a block whole.
 use Rattle.std.specs.Prelude.{◌≡◌, ◌⊎◌, ℕ, List, Bool, false, if◌then◌else◌, Option, Some, None, Ok, Err}
 use Rattle.block_core.specs.declared.pcb.Pcb.{Pcb}
@@ -19,7 +19,7 @@ use Rattle.judge_core.specs.Sends.{Sent, sends, suggested}
 
 -- ---- the courses
 
--- What the end owes on the course on which it got the last block whole. A terminal begins (rule 1).
+-- What the end owes on the course on which it received the last block whole. A terminal begins (rule 1).
 abbrev pub got_whole : End → Heard → Option After
 got_whole e Beginning = Some (after e NewMessage)
 got_whole e (Whole pcb octet) = Some (hears e pcb octet)
@@ -27,19 +27,19 @@ got_whole e (Perhaps pcb octet) = Some (hears e pcb octet)
 got_whole e Broken = None
 got_whole e Nothing = None
 
--- What an end owes that didn't take the block. Of an end whose last block nobody knows, the numbers of the block hold all
--- the same.
+-- What an end owes if it didn't take the block. If its own last block isn't known, the numbers of the received block
+-- hold nevertheless.
 abbrev pub untaken : End → Pcb → After → After
 untaken e pcb due = if e.known then due else hears_unknown e pcb
 
--- where a block certainly came whole: an I-block may still be refused
+-- a block certainly came whole: if it is an I-block, the end may still refuse it
 abbrev pub got_refused : End → Pcb → Option After
 got_refused e (Info number more) = Some (untaken e (Info number more) (after e Refusal))
 got_refused e (Ready number fault) = None
 got_refused e (Request s) = None
 got_refused e (Response s) = None
 
--- Whether the block answers the end's request. Where it may have come, the next such request counts as a first one.
+-- Whether the block answers the end's request. If it may have come, the next such request counts as a first one.
 abbrev pub perhaps_answers : Option Asked → Pcb → ℕ → Bool
 perhaps_answers None pcb octet = false
 perhaps_answers (Some asked) pcb octet = answers asked pcb octet
@@ -47,7 +47,7 @@ perhaps_answers (Some asked) pcb octet = answers asked pcb octet
 abbrev pub uncounted : End → Pcb → ℕ → End
 uncounted e pcb octet = if perhaps_answers e.asked pcb octet then record e { tries = 0 } else e
 
--- What it owes on the course on which it got it damaged, or, a terminal, heard nothing.
+-- What the end owes on the course on which it received the last block damaged, or, for a terminal, heard nothing.
 abbrev pub got_none : End → Heard → Option After
 got_none e Beginning = None
 got_none e (Whole pcb octet) = got_refused e pcb
@@ -55,7 +55,7 @@ got_none e (Perhaps pcb octet) = Some (untaken e pcb (after (uncounted e pcb oct
 got_none e Broken = Some (after e (missed e))
 got_none e Nothing = None
 
--- The end may send this block on some course, and is then this.
+-- The end may send this block on some course, and is then e'.
 pub record Permits (e : End) (heard : Heard) (last : List ℕ) (pcb : Pcb) (inf : List ℕ) (e' : End) : Type 0 where
   pub due : After
   pub course : (got_whole e heard ≡ Some due) ⊎ (got_none e heard ≡ Some due)
@@ -63,12 +63,13 @@ pub record Permits (e : End) (heard : Heard) (last : List ℕ) (pcb : Pcb) (inf 
 
 -- ---- the decision
 
--- what comes of the block on a course, where there is one
+-- the result of the block on a course, if there is that course
 abbrev pub attempted : Option After → List ℕ → Pcb → List ℕ → Option Sent
 attempted None last pcb inf = None
 attempted (Some due) last pcb inf = Some (sends due.«end» due.owed last pcb inf)
 
--- a block that only damage permits: to an earlier one that was seen whole, or to octets that were no block anyway
+-- the verdict on a block that only damage permits: damage to an earlier block that was seen whole, or to octets that
+-- weren't a block anyway
 abbrev pub by_damage : Heard → Verdict
 by_damage Beginning = Permitted
 by_damage (Whole pcb octet) = Permitted
@@ -76,7 +77,7 @@ by_damage (Perhaps pcb octet) = Unseen
 by_damage Broken = Permitted
 by_damage Nothing = Permitted
 
--- the first course that there is
+-- the first course, if there is one
 abbrev pub first_course : End → Option After → Option After → After
 first_course e (Some due) other = due
 first_course e None (Some due) = due
@@ -85,7 +86,8 @@ first_course e None None = after e NewMessage
 abbrev pub judgment : Verdict → End → Judged
 judgment verdict e = record { verdict = verdict; «end» = e }
 
--- The rule that is named is that of the first course, and it goes on from the end that the block suggests.
+-- If no course permits the block, the judge names the rule of the first course. It goes on from the end that the block
+-- suggests.
 abbrev pub chosen : Heard → After → Pcb → ℕ → Option Sent → Option Sent → Judged
 chosen heard due pcb octet (Some (Ok e)) other = judgment Permitted e
 chosen heard due pcb octet whole (Some (Ok e)) = judgment (by_damage heard) e
@@ -95,7 +97,7 @@ chosen heard due pcb octet None (Some (Err broken)) =
     judgment (Deviates broken due) (suggested due.«end» pcb octet)
 chosen heard due pcb octet None None = judgment (Deviates Turn due) (suggested due.«end» pcb octet)
 
--- What the judge says of a block, and the end that it goes on from.
+-- The judge's verdict on a block, and the end that the judge goes on from.
 abbrev pub judges : End → Heard → List ℕ → Pcb → List ℕ → Judged
 judges e heard last pcb inf = chosen heard (first_course e (got_whole e heard) (got_none e heard)) pcb (carried inf)
     (attempted (got_whole e heard) last pcb inf)

@@ -1,4 +1,4 @@
--- What an end of T=1 has under way, and what it owes after a block that it heard (ISO/IEC 7816-3:2006, clause 11.6). The
+-- The state of an end of T=1, and what it owes after a block that it heard (ISO/IEC 7816-3:2006, clause 11.6). The
 -- rules are those of 11.6.2.3 (1 to 5) and 11.6.3.2 (6 to 9).
 use Rattle.std.specs.Prelude.{ℕ, ◌==◌, Bool, true, false, if◌then◌else◌, max, Option, Some, None}
 use Rattle.block_core.specs.Block.{other}
@@ -28,8 +28,8 @@ after e owed = record { «end» = e; owed = owed }
 abbrev pub no_row : Row
 no_row = record { repeats = 0; corrections = 0 }
 
--- At a reset of the card, with the largest field that the end may send: the terminal the IFSC of the answer to reset, the
--- card 32 octets (11.4.2). Numbers begin at 0 (rule 2.1).
+-- An end at a reset of the card, with the largest field that it may send: for the terminal the IFSC of the answer to
+-- reset, for the card 32 octets (11.4.2). Numbers begin at 0 (rule 2.1).
 abbrev pub new_end : Side → ℕ → End
 new_end side room = record {
   side = side;
@@ -46,7 +46,7 @@ new_end side room = record {
   aborted = false;
 }
 
--- After RESYNCH numbers begin again (rule 6.5). Whether sizes do too isn't certain, so the larger of both is permitted.
+-- After RESYNCH numbers begin again (rule 6.5). Whether sizes do too isn't certain, so the larger size is permitted.
 abbrev pub begun : End → End
 begun e = record e {
   next = Zero;
@@ -61,7 +61,7 @@ begun e = record e {
   aborted = false;
 }
 
--- whether the response answers the request: a size and a multiple come back as they were (rules 3 and 4)
+-- whether the response answers the request: a size or a multiple has to be repeated unchanged (rules 3 and 4)
 abbrev pub answers : Asked → Pcb → ℕ → Bool
 answers (Size n) (Response Ifs) carried = carried == n
 answers (Time n) (Response Wtx) carried = carried == n
@@ -69,18 +69,19 @@ answers Stop (Response Abort) carried = true
 answers Anew (Response Resynch) carried = true
 answers asked pcb carried = false
 
--- A request was answered: the end owes what it owed before it asked. After ABORT its chain is over, and it may begin a
--- message or hand over the right to send by an R-block (rule 9). After RESYNCH it begins again (rule 6).
+-- The end's request was answered: it owes what it owed before. After ABORT the end's chain is over. It may begin a
+-- message, or hand over the right to send by an R-block (rule 9). After RESYNCH it begins again (rule 6).
 abbrev pub answered : End → Asked → After
 answered e (Size n) = after (record e { asked = None }) e.before
 answered e (Time n) = after (record e { asked = None }) e.before
 answered e Stop = after (record e { asked = None; pending = Settled }) EitherBlock
 answered e Anew = after (begun e) NewMessage
 
--- The other end's R-block, which has the number of this end's next I-block or of its last one. The next after a chain's
--- block acknowledges it (rule 2.2), and the last one is asked for again (rule 7.1). Else the other end lacks a block that
--- this end can't know, and it says which I-block it expects itself (rule 7.1). After ABORT it can't tell an R-block that
--- hands over the right to send (rule 9) from one that asks for its R-block again.
+-- After the other end's R-block, with the number of this end's next I-block or of its last one. After a chain's block
+-- the next number acknowledges it (rule 2.2). The number of the last I-block asks for that again (rule 7.1). Else the
+-- other end lacks a block that this end can't know, and this end says which I-block it expects itself (rule 7.1). After
+-- ABORT an R-block may hand over the right to send (rule 9), or ask for this end's R-block again. The end can't tell
+-- which.
 abbrev pub hears_ready : End → Pending → Bool → After
 hears_ready e Chain true = after (record e { pending = Settled }) NextBlock
 hears_ready e Chain false = after e SameBlock
@@ -89,7 +90,7 @@ hears_ready e Last false = after e SameBlock
 hears_ready e Settled true = if e.aborted then after e MessageOrCorrection else after e Correction
 hears_ready e Settled false = after e Correction
 
--- The other end's request: only the terminal asks for RESYNCH (rule 6.1) and only the card for time (rule 3).
+-- After the other end's request: only the terminal asks for RESYNCH (rule 6.1), and only the card for time (rule 3).
 abbrev pub hears_request : End → Side → S → ℕ → After
 hears_request e side Ifs carried = after e (Answer Ifs carried)
 hears_request e side Abort carried = after e (Answer Abort 0)
@@ -98,12 +99,13 @@ hears_request e Card Wtx carried = after e Correction
 hears_request e Terminal Resynch carried = after e Correction
 hears_request e Card Resynch carried = after e (Answer Resynch 0)
 
--- after an I-block in its order: an acknowledgment where its chain goes on (rule 2.2), else a message (rule 2.1)
+-- after an I-block with the expected number: an acknowledgment if its chain goes on (rule 2.2), else a message (rule
+-- 2.1)
 abbrev pub due_after : Bool → Owed
 due_after true = Acknowledgment
 due_after false = NewMessage
 
--- an I-block of the other end acknowledges the last block of a message, and not a block that more follow (rules 2.1, 2.2)
+-- an I-block of the other end acknowledges the last block of a message, but not an earlier block of it (rules 2.1, 2.2)
 abbrev pub is_chain : Pending → Bool
 is_chain Settled = false
 is_chain Chain = true
@@ -116,32 +118,32 @@ hears_info e number more =
     then after (record e { expects = other e.expects; pending = Settled; aborted = false }) (due_after more)
     else after e Correction)
 
--- What an end owes that waits for no response.
+-- What an end owes if it waits for no response.
 abbrev pub hears_free : End → Pcb → ℕ → After
 hears_free e (Info number more) carried = hears_info e number more
 hears_free e (Ready number fault) carried = hears_ready e e.pending (same number e.next)
 hears_free e (Request s) carried = hears_request e e.side s carried
 hears_free e (Response s) carried = after e Correction
 
--- To one that waits for a response all else is an error, and it asks again (rule 7.3).
+-- An end that waits for a response takes every other block for an error, and asks again (rule 7.3).
 abbrev pub hears_asking : End → Option Asked → Pcb → ℕ → After
 hears_asking e None pcb carried = hears_free e pcb carried
 hears_asking e (Some asked) pcb carried =
     if answers asked pcb carried then answered e asked else after e SameRequest
 
--- Of an end whose last block nobody knows, since the line damaged it: the numbers of the other end's block hold.
+-- The line damaged the end's own last block, so nobody knows it. The numbers of the other end's block hold.
 abbrev pub hears_unknown : End → Pcb → After
 hears_unknown e (Info number more) = after (record e { expects = other number; pending = Settled }) AnyBlock
 hears_unknown e (Ready number fault) = after e AnyBlock
 hears_unknown e (Request s) = after e AnyBlock
 hears_unknown e (Response s) = after e AnyBlock
 
--- a card takes RESYNCH whatever it waits for (rule 6)
+-- a card accepts RESYNCH whatever it waits for (rule 6)
 abbrev pub begins_again : Side → Pcb → Bool
 begins_again Card (Request Resynch) = true
 begins_again side pcb = false
 
--- What an end owes after a block of the other end, which carries this octet where it is about a size or time.
+-- What an end owes after a block of the other end. The octet is the size or the multiple that the block carries.
 abbrev pub hears : End → Pcb → ℕ → After
 hears e pcb carried =
     if begins_again e.side pcb then after e (Answer Resynch 0)
@@ -151,7 +153,7 @@ abbrev pub missed_asking : Option Asked → Owed
 missed_asking None = Correction
 missed_asking (Some asked) = SameRequest
 
--- What it owes after octets that are no block to it, and a terminal after silence: an R-block (rules 7.1 and 7.2), or the
--- same request (rule 7.3).
+-- What an end owes after octets that aren't a block, or, for a terminal, after silence: an R-block (rules 7.1 and 7.2),
+-- or the same request (rule 7.3).
 abbrev pub missed : End → Owed
 missed e = if e.known then missed_asking e.asked else AnyBlock

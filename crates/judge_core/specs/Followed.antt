@@ -1,4 +1,4 @@
--- A whole course of an end: the blocks that it sends one after another, each permitted by what it may have heard.
+-- A whole course of an end: the blocks that it sends in order, each permitted by what it may have heard.
 use Rattle.std.specs.Prelude.{◌≡◌, ◌⊎◌, ℕ, List, [], ◌∷◌, Option, Some, None, Ok}
 use Rattle.block_core.specs.declared.pcb.Pcb.{Pcb}
 use Rattle.block_core.specs.declared.pcb.Pcb.TheVariants.{Info, Ready, Request, Response}
@@ -20,7 +20,7 @@ IsCertain (Perhaps pcb octet) = ⊥
 IsCertain Broken = Unit {0}
 IsCertain Nothing = Unit {0}
 
--- The end may send this block, and is then e', without damage that nobody saw.
+-- The end may send this block, and is then e', even if there was no unseen damage.
 pub record PermitsSurely (e : End) (heard : Heard) (last : List ℕ) (pcb : Pcb) (inf : List ℕ) (e' : End) : Type 0 where
   pub due : After
   pub course : (got_whole e heard ≡ Some due) ⊎ (IsCertain heard × (got_none e heard ≡ Some due))
@@ -39,7 +39,7 @@ last_after last (Ready number fault) inf = last
 last_after last (Request s) inf = last
 last_after last (Response s) inf = last
 
--- The end may send these blocks one after another, each on some course, and is then e'. Its last I-block had the field last.
+-- The end may send these blocks in order, each on some course, and is then e'. Its last I-block had the field last.
 abbrev pub Follows : List Sending → End → List ℕ → End → Type 0
 Follows [] e last e' = e ≡ e'
 Follows (s ∷ ss) e last e' =
@@ -47,7 +47,7 @@ Follows (s ∷ ss) e last e' =
 
 -- ---- the decision
 
--- the end after a block that is no deviation
+-- the end after a block that isn't a deviation
 abbrev pub passed : Verdict → End → Option End
 passed Permitted e = Some e
 passed Unseen e = Some e
@@ -60,7 +60,7 @@ abbrev pub goes_on : (End → List ℕ → Option End) → Option End → List �
 goes_on rest None last = None
 goes_on rest (Some e) last = rest e last
 
--- The end after these blocks, or none at the first deviation.
+-- The end after these blocks, or None at the first deviation.
 abbrev pub followed : List Sending → End → List ℕ → Option End
 followed [] e last = Some e
 followed (s ∷ ss) e last =

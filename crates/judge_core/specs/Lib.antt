@@ -8,5 +8,5 @@ pub mod Monitored
 pub mod Rules
 pub mod States
 pub mod Stakes
--- what code makes of octets
+-- how code classes octets
 pub mod Classes

@@ -1,5 +1,5 @@
--- What a monitor keeps of a trace, and what it says of each block: as the block was on the line, and as it reached the
--- other end where the trace says so. The clauses are those of ISO/IEC 7816-3:2006.
+-- What a monitor keeps of a trace, and its report on each block: as the block was on the line, and as it reached the
+-- other end if the trace says so. The clauses are those of ISO/IEC 7816-3:2006.
 use Rattle.std.specs.Prelude.{◌≡◌, ◌≢◌, ◌⊎◌, ℕ, ◌+◌, ◌*◌, ◌/◌, ◌%◌, ◌==◌, min, List, [], length, Bool, true, false, Option, Some, None}
 use Rattle.octet_core.specs.Grammar.{self_ended, Accepts, Refuses}
 use Rattle.octet_core.specs.declared.stop.Stop.{Stop}
@@ -35,7 +35,8 @@ use Rattle.judge_core.specs.Courses.{got_whole, got_none, first_course, judges}
 
 -- ---- octets on the line
 
--- What octets on the line are: a block; octets of a block's form with a right check octet that no block has; or damage.
+-- What octets on the line are: a block; octets with the length and the check octet of a block, but of no valid block;
+-- or damage.
 pub data Seen : Type 0 where
   whole : (block : Parts) → Seen
   malformed : (broken : Rule) → Seen
@@ -53,7 +54,7 @@ abbrev pub rule_at : Stop BlockReason → Option Rule
 rule_at (Short place) = None
 rule_at (At place reason) = rule_of reason
 
--- octets that are no block break a rule only where their length and their check octet are right, and else are damage
+-- octets that aren't a block break a rule only if their length and their check octet are right; else they are damage
 abbrev pub refused_as : Bool → Option Rule → Seen
 refused_as true (Some broken) = malformed broken
 refused_as true None = damage
@@ -69,11 +70,11 @@ IsSeen octets seen =
 
 -- ---- node addresses
 
--- the halves of the octet swapped: an answer goes back to where the block came from (11.3.2.1)
+-- the node address with its halves swapped: an answer goes back to the sender of the block (11.3.2.1)
 abbrev pub swapped : ℕ → ℕ
 swapped nad = (nad % 16) * 16 + nad / 16
 
--- the node address of the terminal's blocks, by one of this end's
+-- the node address of the terminal's blocks, from the node address of a block of this end
 abbrev pub nad_of : Side → ℕ → ℕ
 nad_of Terminal nad = nad
 nad_of Card nad = swapped nad
@@ -84,7 +85,7 @@ is_addressed (Some first) nad = nad == first
 
 -- ---- what reached the other end
 
--- What the trace says of it: nothing, that the block was lost, or which octets came.
+-- What the trace says about it: nothing, that the block was lost, or which octets came.
 pub data Reaching : Type 0 where
   unsaid : Reaching
   lost : Reaching
@@ -107,8 +108,8 @@ surely_heard true (malformed broken) = Broken
 surely_heard true damage = Broken
 surely_heard false seen = Broken
 
--- what this end has then heard of a block of the other end, where the block, or what came of it, has the right node
--- address or not
+-- what this end has heard after a block of the other end; the two flags say whether the block, and the octets that
+-- arrived, have the right node address
 abbrev pub heard_of : Side → Bool → Bool → Seen → Reaching → Heard
 heard_of side addressed came_addressed seen unsaid = perhaps_heard addressed seen
 heard_of side addressed came_addressed seen lost = after_silence side
@@ -124,7 +125,7 @@ new_watched side room heard = record {
   number = 0;
 }
 
--- At a reset of a card that takes fields of so many octets: the terminal sends first (rule 1 of 11.6.2.3).
+-- The monitor at a reset of a card that takes fields of so many octets. The terminal sends first (rule 1 of 11.6.2.3).
 abbrev pub new_monitor : ℕ → Monitor
 new_monitor ifsc = record {
   terminal = new_watched Terminal ifsc Beginning;
@@ -133,18 +134,18 @@ new_monitor ifsc = record {
   blocks = 0;
 }
 
--- what an end owes, on the first course there is
+-- what an end owes on the first course that it has
 abbrev pub due : Watched → After
 due w = first_course w.«end» (got_whole w.«end» w.heard) (got_none w.«end» w.heard)
 
--- What is said of octets of this end: damage is nobody's deviation.
+-- What the monitor says about octets of this end. Damage is nobody's deviation.
 abbrev pub said_of : Watched → Bool → Seen → Said
 said_of w addressed damage = Damage
 said_of w addressed (malformed broken) = Block (Deviates broken (due w))
 said_of w true (whole block) = Block (judges w.«end» w.heard w.last.items block.pcb block.inf).verdict
 said_of w false (whole block) = Block (Deviates NodeAddress (due w))
 
--- an end that sends an I-block next has taken the one that it heard
+-- the end as if it took the I-block that it heard; if it sends an I-block next, it did
 abbrev pub presumed : End → Heard → End
 presumed e Beginning = e
 presumed e (Whole pcb octet) = (hears_unknown e pcb).«end»
@@ -152,7 +153,7 @@ presumed e (Perhaps pcb octet) = (hears_unknown e pcb).«end»
 presumed e Broken = e
 presumed e Nothing = e
 
--- an end whose block nobody knows: it was damaged, or no block, or for another address
+-- an end whose last block nobody knows: it was damaged, wasn't a block, or had another address
 abbrev pub unknown_after : Watched → ℕ → Watched
 unknown_after w number = record w {
   «end» = record (presumed w.«end» w.heard) { known = false; before = AnyBlock };
@@ -177,7 +178,7 @@ sender_after w false (whole block) number = unknown_after w number
 abbrev pub listens : Watched → Heard → Watched
 listens w heard = record w { heard = heard }
 
--- a card that heard a block, or may have, and sent none
+-- the silence of a card that heard a block, or may have, and sent none
 abbrev pub silence_of : Heard → ℕ → Silence
 silence_of Beginning number = No
 silence_of (Whole pcb octet) number = Certain number
@@ -185,7 +186,7 @@ silence_of (Perhaps pcb octet) number = Possible number
 silence_of Broken number = No
 silence_of Nothing number = No
 
--- the first whole block sets the addresses
+-- whether the octets have the right node address; the first whole block sets the addresses
 abbrev pub addressed_by : Side → Option ℕ → Seen → Bool
 addressed_by from nad (whole block) = is_addressed nad (nad_of from block.nad)
 addressed_by from nad (malformed broken) = true
@@ -205,7 +206,7 @@ came_by from nad unsaid = true
 came_by from nad lost = true
 came_by from nad (came seen) = addressed_by from nad seen
 
--- blocks are counted from 1, and the count stays at its greatest value
+-- blocks are counted from 1; the count stays at its greatest value
 abbrev pub number_after : ℕ → ℕ
 number_after blocks = min (blocks + 1) most_counted
 
@@ -225,7 +226,7 @@ monitor_after m Card seen reaching = record {
   blocks = number_after m.blocks;
 }
 
--- What is said of a block, and of a card that sent none before it; with the number of the other end's last block.
+-- The report on a block, and on a card that sent none before it. It has the number of the other end's last block.
 abbrev pub report_of : Monitor → Side → Seen → Report
 report_of m Terminal seen = record {
   silence = silence_of m.card.heard m.terminal.number;
@@ -243,7 +244,7 @@ IsReaching Unsaid reaching = reaching ≡ unsaid
 IsReaching Lost reaching = reaching ≡ lost
 IsReaching (Came octets) reaching = (seen : Seen) × IsSeen octets.now seen × (reaching ≡ came seen)
 
--- The monitor takes these octets of an end.
+-- The monitor takes these octets of an end, and is then m'.
 pub record Takes (m : Monitor) (from : Side) (octets : List ℕ) (arrival : Arrival) (m' : Monitor) (report : Report)
     : Type 0 where
   pub seen : Seen
@@ -253,7 +254,7 @@ pub record Takes (m : Monitor) (from : Side) (octets : List ℕ) (arrival : Arri
   pub after : m' ≡ monitor_after m from seen reaching
   pub reports : report ≡ report_of m from seen
 
--- The terminal's waiting time ended: it heard nothing, whatever the card sent, and a card that owed a block sent none.
+-- What a terminal heard if its waiting time ended: nothing, whatever the card sent. A card that owed a block sent none.
 abbrev pub heard_in_time : Heard → Heard
 heard_in_time Beginning = Beginning
 heard_in_time (Whole pcb octet) = Broken
@@ -267,6 +268,6 @@ quiet_after m = record m {
   card = listens m.card Nothing;
 }
 
--- The card is reset: both ends begin again, and blocks are counted on.
+-- The monitor after a reset of the card: both ends begin again, and blocks are counted on.
 abbrev pub reset_after : Monitor → ℕ → Monitor
 reset_after m ifsc = record (new_monitor ifsc) { blocks = m.blocks }

@@ -1,5 +1,5 @@
--- The names of the rules, and their clauses in ISO/IEC 7816-3:2006. The numbers of rules within 11.6.2.3 and 11.6.3.2 are
--- from memory of the standard, whose text isn't at hand.
+-- The names of the rules, and their clauses in ISO/IEC 7816-3:2006. The numbers of rules within 11.6.2.3 and 11.6.3.2
+-- are from memory, since the text of the standard isn't at hand.
 use Rattle.std.specs.Prelude.{ℕ, List, [], ◌∷◌, codes}
 use Rattle.judge_core.specs.declared.rule.Rule.{Rule}
 use Rattle.judge_core.specs.declared.rule.Rule.TheVariants as rule
@@ -52,7 +52,7 @@ rule_clause rule.EarlyResynch = codes "11.6.3.2 rule 6"
 rule_clause rule.TooManyRepeats = codes "11.6.3.2 rule 7.4"
 rule_clause rule.Silence = codes "11.6.2.3 rule 1"
 
--- all of them
+-- all rules
 abbrev pub rules : List Rule
 rules =
     rule.NodeAddress ∷ rule.ControlOctet ∷ rule.Length ∷ rule.ReservedSize ∷ rule.FieldSize ∷ rule.Turn ∷
@@ -60,7 +60,7 @@ rules =
     rule.RepeatDue ∷ rule.RepeatedOctets ∷ rule.CorrectionDue ∷ rule.RequestDue ∷ rule.ResponseDue ∷
     rule.ResponseOctet ∷ rule.Unasked ∷ rule.NoChain ∷ rule.EarlyResynch ∷ rule.TooManyRepeats ∷ rule.Silence ∷ []
 
--- the place of a rule among them, from 0
+-- the place of a rule among all rules, from 0
 abbrev pub rule_place : Rule → ℕ
 rule_place rule.NodeAddress = 0
 rule_place rule.ControlOctet = 1

@@ -1,4 +1,4 @@
--- What an end of T=1 may send that owes this (ISO/IEC 7816-3:2006, clause 11.6), and the rule that another block breaks.
+-- What an end of T=1 may send if it owes this (ISO/IEC 7816-3:2006, clause 11.6), and which rule another block breaks.
 use Rattle.std.specs.Prelude.{ℕ, ◌+◌, ◌==◌, nat_lt, nat_le, min, List, length, bytes_eq, Bool, true, false, if◌then◌else◌, Option, Some, None, Result, Ok, Err}
 use Rattle.block_core.specs.Block.{other}
 use Rattle.block_core.specs.declared.pcb.Number.{Number}
@@ -30,10 +30,10 @@ Sent = Result End Rule
 
 -- ---- what may be repeated, and how often
 
--- A terminal repeats an I-block so many times in a row before it asks for RESYNCH, corrects as often (rule 7.4), and asks
--- for RESYNCH so many times; a card has no limit. RESYNCH may come after two repeats and corrections together since the
--- last new block. A response to a request of the card ends both rows, and not that count. So the reading that permits
--- more is taken of each.
+-- The limits of a terminal; a card has none. It repeats an I-block at most so many times in a row before it asks for
+-- RESYNCH, and corrects at most as often (rule 7.4). It asks for RESYNCH at most so many times. RESYNCH may come after
+-- two repeats and corrections together since the last new block. A response to a request of the card ends both rows,
+-- but not that count. So each limit follows the reading that permits more.
 abbrev pub least_repeats : ℕ
 least_repeats = 2
 
@@ -41,7 +41,7 @@ least_repeats = 2
 abbrev pub one_more : ℕ → ℕ
 one_more n = min (n + 1) 255
 
--- once more, where there were so many of its kind in a row, which is then this
+-- the end after one more of its kind, if fewer than the limit came in a row; row is the row then
 abbrev pub again_as : Side → End → ℕ → Row → Sent
 again_as Terminal e count row =
     if nat_lt count most_repeats then Ok (record e { tries = one_more e.tries; row = row }) else Err rule.TooManyRepeats
@@ -55,19 +55,19 @@ corrects_again e = again_as e.side e e.row.corrections (record e.row { correctio
 
 -- ---- requests
 
--- only the terminal asks for RESYNCH (rule 6.1) and only the card for time (rule 3)
+-- only the terminal asks for RESYNCH (rule 6.1), and only the card for time (rule 3)
 abbrev pub is_foreign : Side → Pcb → Bool
 is_foreign Card (Request Resynch) = true
 is_foreign Terminal (Request Wtx) = true
 is_foreign side pcb = false
 
--- a request counts its first sending too, at a terminal
+-- for a terminal the first sending of a request counts too
 abbrev pub first_tries : Side → ℕ
 first_tries Terminal = 1
 first_tries Card = 0
 
--- What an end owes once its request about a size or time is answered: what it owed before. It may still refuse the I-block
--- that it took before it asked. A card asks only after an I-block; a terminal may ask before there was one.
+-- What an end owes after the response to its request for a size or for time: what it owed before. It may still refuse
+-- the I-block that it took before it asked. A card asks only after an I-block; a terminal may ask before there was one.
 abbrev pub after_answer : Owed → Side → Owed
 after_answer NewMessage Terminal = NewMessage
 after_answer NewMessage Card = MessageOrRefusal
@@ -84,7 +84,7 @@ after_answer MessageOrRefusal side = MessageOrRefusal
 after_answer AcknowledgmentOrRefusal side = AcknowledgmentOrRefusal
 after_answer AnyBlock side = AnyBlock
 
--- an end that asks
+-- the end after it asks
 abbrev pub asks_for : End → Owed → Asked → End
 asks_for e owed asked = record e {
   asked = Some asked;
@@ -94,14 +94,14 @@ asks_for e owed asked = record e {
   known = true;
 }
 
--- The end after its request. After RESYNCH all begins again, whatever it owed.
+-- The end after its request. After RESYNCH everything begins again, whatever it owed.
 abbrev pub asking : End → Owed → S → ℕ → End
 asking e owed Resynch n = asks_for (begun e) NewMessage Anew
 asking e owed Ifs n = asks_for e owed (Size n)
 asking e owed Abort n = asks_for e owed Stop
 asking e owed Wtx n = asks_for e owed (Time n)
 
--- between messages a terminal may begin again
+-- between messages, where a terminal may begin again
 abbrev pub is_between : Owed → Bool
 is_between NewMessage = true
 is_between EitherBlock = true
@@ -109,20 +109,20 @@ is_between MessageOrCorrection = true
 is_between MessageOrRefusal = true
 is_between owed = false
 
--- within a chain either end may abort it (rule 9)
+-- within a chain, which either end may abort (rule 9)
 abbrev pub is_within : Owed → Bool
 is_within NextBlock = true
 is_within Acknowledgment = true
 is_within owed = false
 
--- A request in place of what is owed: about a size or time at any time (rules 3 and 4).
+-- A request instead of what is owed. A request for a size or for time may come at any time (rules 3 and 4).
 abbrev pub asks : End → Owed → S → ℕ → Sent
 asks e owed Resynch n = if is_between owed then Ok (asking e owed Resynch n) else Err rule.EarlyResynch
 asks e owed Ifs n = Ok (asking e owed Ifs n)
 asks e owed Abort n = if is_within owed then Ok (asking e owed Abort n) else Err rule.NoChain
 asks e owed Wtx n = Ok (asking e owed Wtx n)
 
--- RESYNCH in place of a repeat, once enough repeats failed (rules 6.1 and 7.4); no other request is
+-- RESYNCH instead of a repeat, once enough repeats failed (rules 6.1 and 7.4); no other request is permitted
 abbrev pub resynchs : End → S → Rule → Sent
 resynchs e Resynch broken =
     if nat_le least_repeats e.tries then Ok (asking e NewMessage Resynch 0) else Err rule.EarlyResynch
@@ -130,7 +130,7 @@ resynchs e Ifs broken = Err broken
 resynchs e Abort broken = Err broken
 resynchs e Wtx broken = Err broken
 
--- whether it is the request that was sent before
+-- whether it is the request that the end sent before
 abbrev pub is_asked : Option Asked → S → ℕ → Bool
 is_asked (Some (Size n)) Ifs octet = octet == n
 is_asked (Some (Time n)) Wtx octet = octet == n
@@ -149,7 +149,7 @@ abbrev pub is_waiting : Option Asked → Bool
 is_waiting None = false
 is_waiting (Some asked) = true
 
--- the request of this end goes out once more
+-- the end sends its request again
 abbrev pub asked_again : Side → End → S → ℕ → Sent
 asked_again Terminal e s octet =
     if nat_lt e.tries (most_asked s)
@@ -157,14 +157,14 @@ asked_again Terminal e s octet =
     else Err rule.TooManyRepeats
 asked_again Card e s octet = Ok (asking e e.before s octet)
 
--- RESYNCH in place of a request may come at any time, since nobody sees how often the request failed.
+-- RESYNCH instead of a request may come at any time, since nobody sees how often the request failed.
 abbrev pub resynchs_asking : End → S → Rule → Sent
 resynchs_asking e Resynch broken = Ok (asking e NewMessage Resynch 0)
 resynchs_asking e Ifs broken = Err broken
 resynchs_asking e Abort broken = Err broken
 resynchs_asking e Wtx broken = Err broken
 
--- The same request once more (rule 7.3), or RESYNCH.
+-- The end sends the same request again (rule 7.3), or RESYNCH.
 abbrev pub repeats_request : End → S → ℕ → Rule → Sent
 repeats_request e s octet broken =
     if is_asked e.asked s octet then asked_again e.side e s octet
@@ -176,7 +176,7 @@ abbrev pub pending_of : Bool → Pending
 pending_of true = Chain
 pending_of false = Last
 
--- a new I-block was sent
+-- the end after a new I-block
 abbrev pub informed : End → Number → Bool → End
 informed e number more = record e {
   next = other number;
@@ -188,7 +188,7 @@ informed e number more = record e {
   aborted = false;
 }
 
--- A new I-block has the next number (rule 2.1) and at most so many octets as the other end takes (11.4.2).
+-- A new I-block has the next number (rule 2.1), and at most as many octets as the other end takes (11.4.2).
 abbrev pub sends_info : End → Number → Bool → List ℕ → Sent
 sends_info e number more inf =
     if same number e.next
@@ -204,11 +204,11 @@ messages e owed (Response s) inf = Err rule.Unasked
 
 -- ---- R-blocks
 
--- An R-block with the number of the I-block that its sender expects (rule 7.1).
+-- An R-block has the number of the I-block that its sender expects (rule 7.1).
 abbrev pub sends_ready : End → Number → Sent
 sends_ready e number = if same number e.expects then corrects_again e else Err rule.SequenceNumber
 
--- An acknowledgment is free of errors (rule 2.2).
+-- An acknowledgment reports no error (rule 2.2).
 abbrev pub acknowledged : End → Number → Fault → Sent
 acknowledged e number Free =
     if same number e.expects then Ok (record e { tries = 0; row = no_row }) else Err rule.SequenceNumber
@@ -228,7 +228,7 @@ corrects e (Ready number fault) = sends_ready e number
 corrects e (Request s) = resynchs e s rule.CorrectionDue
 corrects e (Response s) = Err rule.Unasked
 
--- An end that has no room for an I-block refuses it as another error (11.3.2.2).
+-- An end that has no room for an I-block refuses it with the error code for other errors (11.3.2.2).
 abbrev pub refuses_with : End → Number → Fault → Sent
 refuses_with e number Free = Err rule.CorrectionDue
 refuses_with e number Redundancy = Err rule.CorrectionDue
@@ -240,7 +240,7 @@ refuses e (Ready number fault) inf = refuses_with e number fault
 refuses e (Request s) inf = repeats_request e s (carried inf) rule.CorrectionDue
 refuses e (Response s) inf = Err rule.CorrectionDue
 
--- An end that asked for a size or for time after it took an I-block may still refuse that block (11.3.2.2).
+-- An end that asked for a size or for time after it took an I-block may still refuse that I-block (11.3.2.2).
 abbrev pub is_refusal : End → Pcb → Bool
 is_refusal e (Info number more) = false
 is_refusal e (Ready number Free) = false
@@ -261,7 +261,7 @@ is_pending Chain more = more
 is_pending Last true = false
 is_pending Last false = true
 
--- The last I-block once more, with the octets that it had (rule 7.1).
+-- The last I-block again, with the same octets (rule 7.1).
 abbrev pub repeats_info : End → List ℕ → Number → Bool → List ℕ → Sent
 repeats_info e last number more inf =
     if same number e.next then Err rule.SequenceNumber
@@ -275,14 +275,15 @@ repeats e last (Ready number fault) inf = Err rule.RepeatDue
 repeats e last (Request s) inf = resynchs e s rule.RepeatDue
 repeats e last (Response s) inf = Err rule.Unasked
 
--- The same request once more (rule 7.3).
+-- The same request again (rule 7.3).
 abbrev pub asks_again : End → Pcb → List ℕ → Sent
 asks_again e (Info number more) inf = Err rule.RequestDue
 asks_again e (Ready number fault) inf = Err rule.RequestDue
 asks_again e (Request s) inf = repeats_request e s (carried inf) rule.RequestDue
 asks_again e (Response s) inf = Err rule.RequestDue
 
--- An end that answered: a size holds from then on (rule 4), a chain is over (rule 9), or all begins again (rule 6).
+-- The end after its response: a size holds from then on (rule 4), a chain is over (rule 9), or everything begins again
+-- (rule 6).
 abbrev pub responded : End → S → ℕ → End
 responded e Resynch n = begun e
 responded e Ifs n = record e { room = n; row = no_row }
@@ -306,14 +307,15 @@ responds e s n (Response t) inf =
     then (if carried inf == n then Ok (responded e s n) else Err rule.ResponseOctet)
     else Err rule.ResponseDue
 
--- After ABORT a message, or an R-block that hands over the right to send (rule 9).
+-- After ABORT: a message, or an R-block that hands over the right to send (rule 9).
 abbrev pub either : End → Pcb → List ℕ → Sent
 either e (Info number more) inf = sends_info e number more inf
 either e (Ready number fault) inf = acknowledged e number fault
 either e (Request s) inf = asks e EitherBlock s (carried inf)
 either e (Response s) inf = Err rule.Unasked
 
--- A message, or an R-block with any error code: after an R-block that hands over, or asks for the last one again.
+-- After an R-block that hands over the right to send or asks for the last R-block again: a message, or an R-block with
+-- any error code.
 abbrev pub begins_or_corrects : End → Pcb → List ℕ → Sent
 begins_or_corrects e (Info number more) inf = sends_info e number more inf
 begins_or_corrects e (Ready number fault) inf = sends_ready e number
@@ -322,7 +324,7 @@ begins_or_corrects e (Response s) inf = Err rule.Unasked
 
 -- ---- going on
 
--- The end that its own block suggests, where nothing is known of it or the block broke a rule.
+-- The end that its own block suggests, if nothing is known about it or the block broke a rule.
 abbrev pub suggested : End → Pcb → ℕ → End
 suggested e (Info number more) n = informed (record e { before = NewMessage }) number more
 suggested e (Ready number fault) n = record e { expects = number; asked = None; before = NewMessage; known = true }
@@ -330,12 +332,12 @@ suggested e (Request s) n =
     if is_foreign e.side (Request s) then record e { known = false } else asking e NewMessage s n
 suggested e (Response s) n = responded (record e { asked = None; before = NewMessage; known = true }) s n
 
--- Whether an end that the line hid is known again: it sent an I-block since, and this is the next one.
+-- Whether an end that the line hid is known again: it has sent an I-block since, and this one has the next number.
 abbrev pub is_next : Owed → Bool → Bool
 is_next AnyBlock next = false
 is_next owed next = next
 
--- Any block of an end of which nobody knows what it sent last. It is known again by a second I-block, or by RESYNCH.
+-- Any block of an end whose last block nobody knows. It is known again after a second I-block, or after RESYNCH.
 abbrev pub any_block : End → Pcb → List ℕ → Sent
 any_block e (Info number more) inf =
     if nat_le (length inf) e.room
@@ -345,7 +347,7 @@ any_block e (Ready number fault) inf = Ok (record e { expects = number; asked = 
 any_block e (Request s) inf = Ok (asking e AnyBlock s (carried inf))
 any_block e (Response s) inf = Ok (responded (record e { asked = None; known = false }) s (carried inf))
 
--- ---- all of them
+-- ---- everything that an end may owe
 
 abbrev pub sends_owed : End → Owed → List ℕ → Pcb → List ℕ → Sent
 sends_owed e NewMessage last pcb inf = messages e NewMessage pcb inf
@@ -362,7 +364,7 @@ sends_owed e MessageOrRefusal last pcb inf = or_refuses e pcb (messages e Messag
 sends_owed e AcknowledgmentOrRefusal last pcb inf = or_refuses e pcb (acknowledges e pcb inf)
 sends_owed e AnyBlock last pcb inf = any_block e pcb inf
 
--- What an end may send that owes this: its last I-block had the field last, and the block has the field inf.
+-- What an end may send if it owes this. Its last I-block had the field last, and the block has the field inf.
 abbrev pub sends : End → Owed → List ℕ → Pcb → List ℕ → Sent
 sends e owed last pcb inf =
     if is_foreign e.side pcb then Err rule.ForeignRequest else sends_owed e owed last pcb inf

@@ -1,4 +1,4 @@
--- Which rules an end can keep or break by the block that it sends next, and which of them a block kept or broke.
+-- Which rules an end can keep or break with the block that it sends next, and which of them a block kept or broke.
 use Rattle.std.specs.Prelude.{◌≡◌, ℕ, ◌&&◌, ◌||◌, ◌==◌, not, nat_le, nat_lt, List, Bool, true, false, if◌then◌else◌, Option, Some, None, Ok, Err}
 use Rattle.octet_core.specs.Sizes.{IsFieldSize}
 use Rattle.block_core.specs.Block.{Suits}
@@ -42,13 +42,13 @@ abbrev pub is_card : Side → Bool
 is_card Terminal = false
 is_card Card = true
 
--- ---- what an end can break that owes something
+-- ---- what an end that owes something can break
 
--- a block can have more octets than the other end takes (11.4.2)
+-- the other end takes so few octets that a block can have more (11.4.2)
 abbrev pub takes_less : End → Bool
 takes_less e = nat_lt e.room 254
 
--- only a terminal has limits, and asks for RESYNCH (rules 6.1 and 7.4)
+-- a terminal corrected as often as it may; only a terminal has limits and asks for RESYNCH (rules 6.1 and 7.4)
 abbrev pub is_corrected_out : End → Bool
 is_corrected_out e = is_terminal e.side && not (nat_lt e.row.corrections most_repeats)
 
@@ -63,7 +63,7 @@ is_repeated_out e = is_terminal e.side && (not (nat_lt e.row.repeats most_repeat
 abbrev pub asked_so_often : End → S → Bool
 asked_so_often e s = is_terminal e.side && not (nat_lt e.tries (most_asked s))
 
--- a terminal asks for no time
+-- a terminal asked as often as it may; it doesn't ask for time
 abbrev pub is_asked_out : End → Option Asked → Bool
 is_asked_out e None = false
 is_asked_out e (Some (Size n)) = asked_so_often e Ifs
@@ -74,11 +74,11 @@ is_asked_out e (Some Anew) = asked_so_often e Resynch
 abbrev pub is_early : End → Bool
 is_early e = is_terminal e.side && not (nat_le least_repeats e.tries)
 
--- a request is sent again at once, and RESYNCH may come in its place
+-- RESYNCH would be too early; while a request waits for its response, RESYNCH may replace it at any time
 abbrev pub is_early_alone : End → Bool
 is_early_alone e = is_early e && not (is_waiting e.asked)
 
--- a message that begins or goes on
+-- the rules of a message that begins or goes on
 abbrev pub message_breaks : End → Owed → Rule → Bool
 message_breaks e owed rule.FieldSize = takes_less e
 message_breaks e owed rule.SequenceNumber = true
@@ -126,20 +126,20 @@ request_breaks e rule.EarlyResynch = is_early_alone e
 request_breaks e rule.TooManyRepeats = is_asked_out e e.asked
 request_breaks e r = false
 
--- whether such a block carries an octet
+-- whether a request of this kind carries an octet
 abbrev pub carries : S → Bool
 carries Resynch = false
 carries Ifs = true
 carries Abort = false
 carries Wtx = true
 
--- one that carries none counts as carrying 0
+-- the rules of a response; one without an octet counts as carrying 0
 abbrev pub response_breaks : S → ℕ → Rule → Bool
 response_breaks s octet rule.ResponseDue = true
 response_breaks s octet rule.ResponseOctet = carries s || not (octet == 0)
 response_breaks s octet r = false
 
--- after ABORT
+-- the rules after ABORT
 abbrev pub either_breaks : End → Rule → Bool
 either_breaks e rule.FieldSize = takes_less e
 either_breaks e rule.SequenceNumber = true
@@ -148,7 +148,7 @@ either_breaks e rule.Unasked = true
 either_breaks e rule.NoChain = true
 either_breaks e r = false
 
--- after an R-block that either hands over or asks for the last R-block again
+-- the rules after an R-block that hands over the right to send or asks for the last R-block again
 abbrev pub begun_or_corrected_breaks : End → Rule → Bool
 begun_or_corrected_breaks e rule.FieldSize = takes_less e
 begun_or_corrected_breaks e rule.SequenceNumber = true
@@ -157,7 +157,7 @@ begun_or_corrected_breaks e rule.NoChain = true
 begun_or_corrected_breaks e rule.TooManyRepeats = is_corrected_out e
 begun_or_corrected_breaks e r = false
 
--- an end that may refuse too can correct too often
+-- an end that may refuse too can also correct too often
 abbrev pub or_refusal_breaks : End → Rule → Bool → Bool
 or_refusal_breaks e rule.TooManyRepeats breaks = is_corrected_out e
 or_refusal_breaks e r breaks = breaks
@@ -181,12 +181,12 @@ owed_breaks e MessageOrRefusal r = or_refusal_breaks e r (message_breaks e Messa
 owed_breaks e AcknowledgmentOrRefusal r = or_refusal_breaks e r (acknowledgment_breaks e r)
 owed_breaks e AnyBlock r = any_breaks e r
 
--- Whether some block of an end that owes this breaks the rule. Each end has a request that only the other one makes.
+-- Whether some block of an end that owes this breaks the rule. Each end has a request that only the other end makes.
 abbrev pub can_break : End → Owed → Rule → Bool
 can_break e owed rule.ForeignRequest = true
 can_break e owed r = owed_breaks e owed r
 
--- A request that can be on the line: about a size that is none of the reserved ones (11.4.2).
+-- A request that can be on the line: if it is about a size, the size isn't reserved (11.4.2).
 abbrev pub CanBeSent : Option Asked → Type 0
 CanBeSent None = Unit {0}
 CanBeSent (Some (Size n)) = IsFieldSize n
@@ -194,7 +194,7 @@ CanBeSent (Some (Time n)) = Unit {0}
 CanBeSent (Some Stop) = Unit {0}
 CanBeSent (Some Anew) = Unit {0}
 
--- some block breaks the rule, of an end that owes this and whose last I-block had the field last
+-- some block breaks the rule, if its sender owes this and its last I-block had the field last
 pub record IsBreakable (e : End) (owed : Owed) (last : List ℕ) (r : Rule) : Type 0 where
   pub pcb : Pcb
   pub inf : List ℕ
@@ -219,7 +219,8 @@ is_whole (Perhaps pcb octet) = false
 is_whole Broken = false
 is_whole Nothing = false
 
--- Whether an end that sends keeps the rule or breaks it. A card can send out of turn, and owes a block where it got one.
+-- Whether an end that sends a block keeps or breaks the rule. A card can send out of turn, and it owes a block if it
+-- received one.
 abbrev pub at_stake : Stakes → Rule → Bool
 at_stake s rule.NodeAddress = s.addressed
 at_stake s rule.ControlOctet = true
@@ -231,7 +232,7 @@ at_stake s r = not (is_nothing s.heard) && can_break s.due.«end» s.due.owed r
 
 -- ---- what a block did
 
--- The course on which a block is judged: the first, unless that doesn't permit it and the other does.
+-- The course on which a block is judged: the first, unless only the other course permits the block.
 abbrev pub fitting : After → Option After → Option Sent → Option Sent → After
 fitting first second (Some (Ok e)) other = first
 fitting first (Some second) course (Some (Ok e)) = second
@@ -251,11 +252,11 @@ is_set (Some nad) = true
 abbrev pub stakes_of : Option ℕ → Watched → Seen → Stakes
 stakes_of nad w seen = record { addressed = is_set nad; heard = w.heard; due = course_of w seen }
 
--- what was due, at an end whose turn it is
+-- what was due from an end, if it was its turn
 abbrev pub came_in : Stakes → Option State
 came_in s = if is_nothing s.heard then None else Some (state_of s.due.owed)
 
--- A block that is permitted keeps each rule that was at stake; another one breaks the rule that is named.
+-- A permitted block keeps each rule that was at stake. Another block breaks the rule that the judge names.
 abbrev pub exercise_by : Stakes → Said → Exercise
 exercise_by s Damage = exercise.Unknown
 exercise_by s (Block Permitted) = exercise.Keeps s
@@ -266,7 +267,7 @@ abbrev pub sender : Monitor → Side → Watched
 sender m Terminal = m.terminal
 sender m Card = m.card
 
--- what octets of an end do, before the monitor takes them
+-- what octets of an end exercise, before the monitor takes them
 abbrev pub exercise_of : Monitor → Side → Seen → Exercise
 exercise_of m from seen = exercise_by (stakes_of m.nad (sender m from) seen)
     (said_of (sender m from) (addressed_by from m.nad seen) seen)

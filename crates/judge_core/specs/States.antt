@@ -1,4 +1,4 @@
--- What may be due from an end when it sends a block, and the words for it.
+-- What may be due from an end when it sends a block, and the texts of these states.
 use Rattle.std.specs.Prelude.{ℕ, List, [], ◌∷◌, codes}
 use Rattle.block_core.specs.declared.pcb.S.{S}
 use Rattle.block_core.specs.declared.pcb.S.TheVariants.{Resynch, Ifs, Abort, Wtx}
@@ -47,14 +47,14 @@ state_name state.MessageOrRefusal = codes "I-block or R-block that refuses"
 state_name state.AcknowledgmentOrRefusal = codes "acknowledgment or R-block that refuses"
 state_name state.Any = codes "any block"
 
--- all of them
+-- all states
 abbrev pub states : List State
 states =
     state.Message ∷ state.Chain ∷ state.Acknowledgment ∷ state.Repeat ∷ state.Correction ∷ state.Refusal ∷ state.Request
     ∷ state.Resynch ∷ state.Size ∷ state.Abort ∷ state.Time ∷ state.AfterAbort ∷ state.MessageOrCorrection ∷
     state.MessageOrRefusal ∷ state.AcknowledgmentOrRefusal ∷ state.Any ∷ []
 
--- the place of a state among them, from 0
+-- the place of a state among all states, from 0
 abbrev pub state_place : State → ℕ
 state_place state.Message = 0
 state_place state.Chain = 1

@@ -1,4 +1,4 @@
--- The judge watches both ends of a link, and knows what each of them hears.
+-- The judge watches both ends of a link, and knows what each end hears.
 use Rattle.std.specs.Prelude.{ℕ, List, [], ◌∷◌, Ok, Err}
 use Rattle.block_core.specs.Block.{Parts}
 use Rattle.t1_core.specs.declared.turns.TerminalTurn.{TerminalTurn}
@@ -32,7 +32,7 @@ pub record Watch : Type 0 where
   pub card : Watched
   pub verdicts : List Verdict
 
--- at a reset of the card, which takes fields of up to ifsc octets
+-- a watch at a reset of the card, which takes fields of up to ifsc octets
 abbrev pub new_watch : ℕ → Watch
 new_watch ifsc = record {
   terminal = record { «end» = new_end Terminal ifsc; heard = Beginning; last = [] };
@@ -40,7 +40,7 @@ new_watch ifsc = record {
   verdicts = [];
 }
 
--- what an end heard that took this
+-- what an end heard if it took this
 abbrev pub heard_of : Came → Heard
 heard_of (got pcb inf) = Whole pcb (carried inf)
 heard_of damaged = Broken
@@ -50,11 +50,11 @@ heard_of quiet = Broken
 abbrev pub hearing : Watched → Heard → Watched
 hearing w heard = record w { heard = heard }
 
--- what the judge says of its block
+-- the judge's verdict on the end's block
 abbrev pub judged_of : Watched → Parts → Judged
 judged_of w block = judges w.«end» w.heard w.last block.pcb block.inf
 
--- the end after its block, and what it hears where no block comes
+-- the end after its block, and what it heard if no block comes
 abbrev pub after_sending : Heard → Watched → Parts → Watched
 after_sending silence w block = record {
   «end» = (judged_of w block).«end»;
@@ -62,7 +62,7 @@ after_sending silence w block = record {
   last = last_after w.last block.pcb block.inf;
 }
 
--- ---- what happens
+-- ---- events
 
 -- What an event makes an end do: a call, or a block that it takes.
 pub data Made : Type 0 where
@@ -132,7 +132,7 @@ card_hears w (more_time multiple) = w
 card_hears w (card_ask_ifs size) = w
 card_hears w (card_takes came) = hearing w (heard_of came)
 
--- What is refused changes nothing.
+-- A refused call changes nothing.
 abbrev pub watches : Watch → Made → Watch
 watches w none = w
 watches w (by_terminal input (Ok step)) = terminal_says (record w { terminal = terminal_hears w.terminal input }) step.0
@@ -158,7 +158,7 @@ EndsArePermitted by = (terminal_limits card_limits : Limits) (ifsc : ℕ) (event
 
 -- ---- a judge that only sees the blocks
 
--- an end to which this block was sent, which perhaps came
+-- an end after this block was sent to it and perhaps came
 abbrev pub may_hear : Watched → Parts → Watched
 may_hear w block = hearing w (Perhaps block.pcb (carried block.inf))
 
@@ -198,7 +198,8 @@ NoneDeviates (Permitted ∷ verdicts) = NoneDeviates verdicts
 NoneDeviates (Unseen ∷ verdicts) = NoneDeviates verdicts
 NoneDeviates (Deviates broken owed ∷ verdicts) = ⊥
 
--- Whatever the limits of both ends, and whatever is lost or damaged on the way to its receiver, nobody is accused.
+-- Whatever the limits of both ends, and whatever is lost or damaged on the way to its receiver, the judge accuses
+-- nobody.
 abbrev pub NobodyIsAccused : Tables → Type 0
 NobodyIsAccused by = (terminal_limits card_limits : Limits) (ifsc : ℕ) (events : List Event)
     → NoneDeviates (tap_all by events (link_with terminal_limits card_limits ifsc) (new_watch ifsc)).verdicts

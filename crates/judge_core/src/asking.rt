@@ -1,4 +1,4 @@
-//! Which requests an end may make (ISO/IEC 7816-3:2006, clause 11.6): about a size or time, for ABORT and for RESYNCH.
+//! Which requests an end may make (ISO/IEC 7816-3:2006, clause 11.6): about a size or time, ABORT and RESYNCH.
 
 ghost use Rattle.std.specs.Prelude.{◌≡◌, Some, true};
 ghost use Rattle.judge_core.specs.Sends.{after_answer, asked_again, asking, asks, asks_for, first_tries, is_asked, is_between, is_foreign, is_within, most_asked, repeats_request, resynchs, resynchs_asking};
@@ -9,11 +9,11 @@ use crate::step::Sent;
 use block_core::{Pcb, S, Side};
 use t1_core::{MOST_REPEATS, MOST_RESYNCHS};
 
-/// How many repeats come before RESYNCH.
+/// How many repeats and corrections together have to come before RESYNCH.
 pub(crate) const LEAST_REPEATS: u8 = 2;
 
 impl End {
-    /// The same request once more, or RESYNCH; another request breaks this rule.
+    /// Sends the same request again, or RESYNCH. Another request breaks this rule.
     pub(crate) fn repeats_request(self, about: S, octet: u8, broken: Rule) -> Sent
         ensures { result ≡ repeats_request self about octet broken }
     {
@@ -26,7 +26,7 @@ impl End {
         }
     }
 
-    /// Its request goes out once more; a card has no limit.
+    /// Sends its request again. A card has no limit.
     fn asked_again(self, about: S, octet: u8) -> Sent
         ensures { result ≡ asked_again self.side self about octet }
     {
@@ -41,7 +41,7 @@ impl End {
         }
     }
 
-    /// RESYNCH in place of a request: nobody sees how often the request failed.
+    /// Sends RESYNCH instead of a request. It may come at any time, since nobody sees how often the request failed.
     fn resynchs_asking(self, about: S, broken: Rule) -> Sent
         ensures { result ≡ resynchs_asking self about broken }
     {
@@ -51,7 +51,7 @@ impl End {
         }
     }
 
-    /// A request in place of what is owed.
+    /// Sends a request instead of what is owed.
     pub(crate) fn asks(self, owed: Owed, about: S, octet: u8) -> Sent
         ensures { result ≡ asks self owed about octet }
     {
@@ -86,7 +86,7 @@ impl End {
         }
     }
 
-    /// RESYNCH in place of a repeat; another request breaks this rule.
+    /// Sends RESYNCH instead of a repeat. Another request breaks this rule.
     pub(crate) fn resynchs(self, about: S, broken: Rule) -> Sent
         ensures { result ≡ resynchs self about broken }
     {
@@ -98,7 +98,7 @@ impl End {
     }
 }
 
-/// Whether it is a request that only the other end makes.
+/// Whether only the other end makes this request.
 pub(crate) fn is_foreign(side: Side, pcb: Pcb) -> bool
     ensures { result ≡ is_foreign side pcb }
 {
@@ -109,7 +109,7 @@ pub(crate) fn is_foreign(side: Side, pcb: Pcb) -> bool
     }
 }
 
-/// What an end owes once its request is answered, which owed this when it asked.
+/// Returns what an end owes after its request is answered, if it owed this when it asked.
 fn after_answer(owed: Owed, side: Side) -> Owed
     ensures { result ≡ after_answer owed side }
 {
@@ -120,7 +120,7 @@ fn after_answer(owed: Owed, side: Side) -> Owed
     }
 }
 
-/// A request of a terminal counts its first sending too.
+/// Returns the tries after the first sending of a request: 1 for a terminal, where it counts, and 0 for a card.
 fn first_tries(side: Side) -> u8
     ensures { result ≡ first_tries side }
 {
@@ -130,7 +130,7 @@ fn first_tries(side: Side) -> u8
     }
 }
 
-/// How often a terminal may send a request in a row.
+/// Returns how often a terminal may send a request in a row.
 pub(crate) fn most_asked(about: S) -> u8
     ensures { result ≡ most_asked about }
 {

@@ -10,18 +10,18 @@ use crate::rule::Rule;
 use block_core::{BlockReason, BlockRef};
 use octet_core::{Stop, lrc};
 
-/// What octets are.
+/// What octets on the line are.
 #[derive(Debug, Drop)]
 pub(crate) enum Class<'a> {
-    /// A block, and nothing else.
+    /// A block, and no further octets.
     Whole(BlockRef<'a>),
-    /// Octets with the length and the check octet of a block that no block has.
+    /// Octets with the length and the check octet of a block, which break this rule.
     Malformed(Rule),
     /// Anything else.
     Damage,
 }
 
-/// What these octets are.
+/// Returns what these octets are.
 pub(crate) fn class_of(octets: &[u8]) -> Class<'_>
     ensures { IsSeen octets.now (seen_of result) }
 {

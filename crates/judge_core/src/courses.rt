@@ -1,4 +1,4 @@
-//! What an end may have heard, and what is permitted by some course of it.
+//! What an end may have heard, and what some course of it permits.
 
 ghost use Rattle.std.specs.Prelude.{◌≡◌};
 ghost use Rattle.judge_core.specs.Courses.{attempted, by_damage, chosen, first_course, got_none, got_whole, judgment, judges, perhaps_answers, uncounted, untaken};
@@ -14,24 +14,24 @@ use block_core::Pcb;
 pub enum Heard {
     /// The session begins: a terminal may send its first block.
     Beginning,
-    /// This block, which certainly came whole, with the octet that it carries about a size or time, or 0.
+    /// This block, certainly whole, with the size or the multiple that it carries, or 0.
     Whole(Pcb, u8),
-    /// This block, if it came whole; else octets that are no block, or nothing.
+    /// This block, if it came whole; else octets that aren't a block, or nothing.
     Perhaps(Pcb, u8),
-    /// Octets that are no block, or, at a terminal, nothing within the waiting time.
+    /// Octets that aren't a block, or, for a terminal, nothing within the waiting time.
     Broken,
-    /// Nothing: it isn't its turn.
+    /// Nothing: it isn't this end's turn.
     Nothing,
 }
 
-/// What the judge says of a block.
+/// The judge's verdict on a block.
 #[derive(Clone, Copy, Debug)]
 pub enum Verdict {
     /// The standard permits it.
     Permitted,
-    /// It does so only if the other end's last block was damaged or lost unseen.
+    /// The standard permits it only if the other end's last block was damaged or lost unseen.
     Unseen,
-    /// It breaks this rule: by the first course this end owed this.
+    /// It breaks this rule. On the first course its sender owed this.
     Deviates(Rule, After),
 }
 
@@ -42,11 +42,11 @@ pub struct Judged {
     pub end: End,
 }
 
-/// What comes of a block on a course, where there is one.
+/// The result of a block on a course, if there is that course.
 pub(crate) type Attempt = Option<Result<End, Rule>>;
 
 impl End {
-    /// What the judge says of a block with this field, where the end's last I-block had the field `last`.
+    /// Judges a block with this field. The end's last I-block had the field `last`.
     pub(crate) fn judges(self, heard: Heard, last: &[u8], pcb: Pcb, inf: &[u8]) -> Judged
         ensures { result ≡ judges self heard last.now pcb inf.now }
     {
@@ -58,7 +58,7 @@ impl End {
         chosen(heard, first, pcb, carried(inf), by_whole, by_none)
     }
 
-    /// What it owes on the course on which it got the last block whole.
+    /// Returns what the end owes on the course on which it received the last block whole.
     pub(crate) fn got_whole(self, heard: Heard) -> Option<After>
         ensures { result ≡ got_whole self heard }
     {
@@ -69,7 +69,7 @@ impl End {
         }
     }
 
-    /// What it owes on the course on which it got it damaged, or nothing.
+    /// Returns what the end owes on the course on which it received the last block damaged, or heard nothing.
     pub(crate) fn got_none(self, heard: Heard) -> Option<After>
         ensures { result ≡ got_none self heard }
     {
@@ -86,7 +86,7 @@ impl End {
         }
     }
 
-    /// What it owes where it didn't take the block, and would owe `due` if its last block is known.
+    /// Returns what the end owes if it didn't take the block. It is `due` if its own last block is known.
     fn untaken(self, pcb: Pcb, due: After) -> After
         ensures { result ≡ untaken self pcb due }
     {
@@ -97,7 +97,8 @@ impl End {
         }
     }
 
-    /// Where the block may have answered its request, the next such request counts as a first one.
+    /// Returns the end as it counts its requests: if the block may have answered its request, the next one counts as a
+    /// first.
     fn uncounted(self, pcb: Pcb, octet: u8) -> End
         ensures { result ≡ uncounted self pcb octet }
     {
@@ -124,7 +125,7 @@ pub(crate) fn attempted(due: Option<After>, last: &[u8], pcb: Pcb, inf: &[u8]) -
     due.map(|due| due.end.sends(due.owed, last, pcb, inf))
 }
 
-/// What a block is that only damage permits.
+/// Returns the verdict on a block that only damage permits.
 fn by_damage(heard: Heard) -> Verdict
     ensures { result ≡ by_damage heard }
 {
@@ -143,7 +144,7 @@ pub(crate) fn first_course(end: End, whole: Option<After>, none: Option<After>) 
     }
 }
 
-/// The verdict of both courses.
+/// Returns the verdict from both courses.
 fn chosen(heard: Heard, due: After, pcb: Pcb, octet: u8, whole: Attempt, none: Attempt) -> Judged
     ensures { result ≡ chosen heard due pcb octet whole none }
 {

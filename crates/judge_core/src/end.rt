@@ -1,4 +1,4 @@
-//! What an end of the line has under way, and what it owes.
+//! The state of an end of the line, and what it owes.
 
 ghost use Rattle.std.specs.Prelude.{◌≡◌};
 ghost use Rattle.judge_core.specs.Ends.{after, begun, new_end, no_row};
@@ -10,26 +10,26 @@ use block_core::{Number, S, Side};
 pub enum Pending {
     /// It is acknowledged, or there was none.
     Settled,
-    /// It waits for an acknowledgment, and its chain goes on after it.
+    /// It waits for an acknowledgment, and more blocks of its chain follow.
     Chain,
-    /// It waits for one, and ends its message.
+    /// It waits for an acknowledgment, and is the last of its message.
     Last,
 }
 
-/// A request of an end that waits for its response.
+/// A request of an end, which waits for the response.
 #[derive(Clone, Copy, Debug)]
 pub enum Asked {
     /// For fields of up to so many octets.
     Size(u8),
     /// For so many times the waiting time.
     Time(u8),
-    /// For an end of the chain (ABORT).
+    /// For the end of the chain (ABORT).
     Stop,
     /// For a new beginning (RESYNCH).
     Anew,
 }
 
-/// What an end owes the other: the block that is due from it.
+/// What an end owes the other: the block that is due next from it.
 #[derive(Clone, Copy, Debug)]
 pub enum Owed {
     /// The first I-block of a message: a command or an answer.
@@ -38,37 +38,39 @@ pub enum Owed {
     NextBlock,
     /// The R-block that acknowledges a block of the other end's chain.
     Acknowledgment,
-    /// Its last I-block once more.
+    /// Its last I-block again.
     SameBlock,
     /// An R-block with the number of the I-block that it expects.
     Correction,
-    /// The same, to refuse an I-block that came whole.
+    /// An R-block that refuses an I-block which came whole.
     Refusal,
-    /// Its request once more.
+    /// Its request again.
     SameRequest,
-    /// The response to a request, with the octet that it carried, or 0.
+    /// The response to a request, with the octet that the request carried, or 0.
     Answer(S, u8),
-    /// The first I-block of a message, or an R-block that hands over the right to send: after ABORT.
+    /// After ABORT: the first I-block of a message, or an R-block that hands over the right to send.
     EitherBlock,
-    /// The first I-block of a message, or an R-block: after an R-block that either hands over or asks for one again.
+    /// The first I-block of a message, or an R-block: after an R-block that either hands over the right to send or asks
+    /// for an R-block again.
     MessageOrCorrection,
     /// The first I-block of a message, or an R-block that refuses the I-block before its request.
     MessageOrRefusal,
     /// An R-block that acknowledges the I-block before its request, or that refuses it.
     AcknowledgmentOrRefusal,
-    /// Nobody knows, since the line damaged its last block.
+    /// Nobody knows, since the line damaged the end's last block.
     AnyBlock,
 }
 
-/// How often in a row a terminal sent its last I-block again, and an R-block after an error. A new block ends the row, and
-/// so does a response to a request of the card.
+/// How often in a row a terminal sent its last I-block again, and how often an R-block after an error.
+///
+/// A new block ends the row, and so does a response to a request of the card.
 #[derive(Clone, Copy, Debug)]
 pub struct Row {
     pub repeats: u8,
     pub corrections: u8,
 }
 
-/// What decides what an end may send.
+/// The state of an end, which decides what it may send.
 #[derive(Clone, Copy, Debug)]
 pub struct End {
     pub side: Side,
@@ -77,19 +79,19 @@ pub struct End {
     /// The number of the I-block that it expects.
     pub expects: Number,
     pub pending: Pending,
-    /// Its request that waits for a response.
+    /// Its request that waits for a response, if any.
     pub asked: Option<Asked>,
-    /// What it owes once its request is answered.
+    /// What it owes after its request is answered.
     pub before: Owed,
-    /// How often it repeated or corrected since its last new block, or sent its request, at a terminal.
+    /// How often a terminal repeated or corrected since its last new block, or sent its request.
     pub tries: u8,
     pub row: Row,
     /// The most octets of a field that the other end takes, now and at the start.
     pub room: u8,
     pub first_room: u8,
-    /// Whether its last block is known: the line may have damaged it.
+    /// Whether its last block is known. It isn't if the line damaged it.
     pub known: bool,
-    /// Whether the other end aborted its chain just now.
+    /// Whether the other end has just aborted its chain.
     pub aborted: bool,
 }
 
@@ -101,7 +103,7 @@ pub struct After {
 }
 
 impl Row {
-    /// Nothing was repeated or corrected.
+    /// Returns a row without repeats and corrections.
     pub(crate) fn none() -> Row
         ensures { result ≡ no_row }
     {
@@ -113,7 +115,7 @@ impl Row {
 }
 
 impl End {
-    /// An end at a reset of the card, which sends fields of up to `room` octets.
+    /// Returns an end at a reset of the card, which sends fields of up to `room` octets.
     pub fn new(side: Side, room: u8) -> End
         ensures { result ≡ new_end side room }
     {
@@ -133,7 +135,7 @@ impl End {
         }
     }
 
-    /// The end after RESYNCH.
+    /// Returns the end after RESYNCH.
     pub(crate) fn begun(self) -> End
         ensures { result ≡ begun self }
     {
@@ -144,7 +146,7 @@ impl End {
         }
     }
 
-    /// The end, which owes this.
+    /// Returns the end with what it owes.
     pub(crate) fn owes(self, owed: Owed) -> After
         ensures { result ≡ after self owed }
     {

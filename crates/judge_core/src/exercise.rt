@@ -17,16 +17,16 @@ use block_core::Side;
 /// What a block of a trace exercises.
 #[derive(Clone, Copy, Debug)]
 pub enum Exercise {
-    /// Nothing is known of it: it is damage.
+    /// Nothing is known about it: it is damage.
     Unknown,
     /// The standard permits it, so it keeps each rule that was at stake.
     Keeps(Stakes),
-    /// It breaks this rule, where this was due, if it was its sender's turn.
+    /// It breaks this rule. The state is what was due, if it was its sender's turn.
     Breaks(Rule, Option<State>),
 }
 
 impl Monitor {
-    /// What the octets of an end exercise that come next. [`Monitor::block`] takes them.
+    /// Returns what the next octets of an end exercise. It doesn't take them; [`Monitor::block`] does.
     pub fn exercise(&self, from: Side, octets: &[u8]) -> Exercise
         ensures { Exercises self.now from octets.now result }
     {
@@ -62,7 +62,7 @@ impl Watched {
         }
     }
 
-    /// The end and what was due from it, on the course on which the block is judged.
+    /// Returns the end and what was due from it, on the course on which the block is judged.
     fn course(&self, class: &Class<'_>) -> After
         ensures { result ≡ course_of self.now (seen_of class.now) }
     {
@@ -77,7 +77,7 @@ impl Watched {
         fitting(self.due(), none, by_whole, by_none)
     }
 
-    /// What is said of the octets.
+    /// Returns what the monitor says about the octets.
     fn said(&self, addressed: bool, class: &Class<'_>) -> Said
         ensures { result ≡ said_of self.now addressed (seen_of class.now) }
     {
@@ -94,7 +94,7 @@ impl Watched {
     }
 }
 
-/// The first course, unless that doesn't permit the block and the second does.
+/// Returns the first course, unless only the second permits the block.
 fn fitting(first: After, second: Option<After>, by_first: Attempt, by_second: Attempt) -> After
     ensures { result ≡ fitting first second by_first by_second }
 {

@@ -8,7 +8,7 @@ use crate::end::{After, Asked, End, Owed, Pending};
 use block_core::{Number, Pcb, S, Side};
 
 impl End {
-    /// What it owes after a block of the other end, which carries this octet where it is about a size or time.
+    /// Returns what the end owes after a block of the other end, which carries this size or multiple, or 0.
     pub(crate) fn hears(self, pcb: Pcb, carried: u8) -> After
         ensures { result ≡ hears self pcb carried }
     {
@@ -21,7 +21,7 @@ impl End {
         }
     }
 
-    /// What it owes after octets that are no block to it, or after silence.
+    /// Returns what the end owes after octets that aren't a block, or after silence.
     pub(crate) fn missed(self) -> Owed
         ensures { result ≡ missed self }
     {
@@ -90,7 +90,7 @@ impl End {
         }
     }
 
-    /// After an R-block, which has the number of its next I-block or of its last one.
+    /// Takes an R-block, which has the number of the end's next I-block or of its last one.
     fn hears_ready(self, is_next: bool) -> After
         ensures { result ≡ hears_ready self self.pending is_next }
     {
@@ -139,7 +139,7 @@ pub(crate) fn same(a: Number, b: Number) -> bool
     a == b
 }
 
-/// Whether the block has a card begin again.
+/// Whether the block makes a card begin again.
 fn begins_again(side: Side, pcb: Pcb) -> bool
     ensures { result ≡ begins_again side pcb }
 {

@@ -1,4 +1,4 @@
-//! What holds of the judge's decision, and of the ends of `t1_core` before it, as contracts.
+//! What holds for the judge's decision, and for the ends of `t1_core` that it judges, as contracts.
 
 ghost use Rattle.std.specs.Prelude.{◌≡◌, ◌≤◌, ◌↔◌, ℕ, List, Option, Some, length, true};
 ghost use Rattle.block_core.specs.declared.pcb.Pcb.{Pcb};
@@ -18,9 +18,10 @@ ghost use Rattle.judge_core.specs.Monitored.{IsSeen, Seen};
 ghost use Rattle.judge_core.specs.Stakes.{at_stake, can_break, exercise_of, sender, stakes_of, CanBeSent, IsBreakable};
 ghost use Rattle.judge_core.specs.declared.end.Owed.{Owed};
 
-/// The decision is exact: a block is no deviation where some course permits it, and only there. All
-/// such courses lead to one end, which the judge goes on from. The verdict is [`Permitted`] where no
-/// damage is needed that nobody saw, and only there.
+/// The decision is exact: a block is no deviation if and only if some course permits it.
+///
+/// All such courses lead to one end, and the judge goes on from it. The verdict is [`Permitted`] if and only if the
+/// block is permitted without unseen damage.
 ///
 /// [`Permitted`]: crate::Verdict::Permitted
 pub fn decides()
@@ -31,7 +32,7 @@ pub fn decides()
         ↔ (judges e heard last pcb inf ≡ judgment Permitted e1) }
 {}
 
-/// A deviation is found at the first block after which no course is left, and nowhere else.
+/// A deviation is found at the first block after which no course is left, and at no other block.
 pub fn follows()
     ensures { (blocks : List Sending) (e e1 : End) (last : List ℕ)
         → Follows blocks e last e1 ↔ (followed blocks e last ≡ Some e1) }
@@ -43,20 +44,21 @@ pub fn ends_are_permitted()
     ensures { EndsArePermitted tables }
 {}
 
-/// A judge that sees the blocks of both ends, and not which of them came whole, accuses neither of
-/// them, whatever is lost or damaged on the way.
+/// A judge sees the blocks of both ends, but not which of them came whole. It accuses neither end, whatever is lost or
+/// damaged on the way.
 pub fn nobody_is_accused()
     ensures { NobodyIsAccused tables }
 {}
 
-/// The rule that a block breaks is one of those that were at stake, which a permitted block keeps.
+/// The rule that a block breaks was at stake. A permitted block keeps each rule that was at stake.
 pub fn broken_was_at_stake()
     ensures { (m : Monitor) (from : Side) (octets : List ℕ) (seen : Seen) (broken : Rule)
         (state : Option State) → IsSeen octets seen → exercise_of m from seen ≡ Breaks broken state
         → at_stake (stakes_of m.nad (sender m from) seen) broken ≡ true }
 {}
 
-/// No other rule is said to be at stake: some block breaks each rule that an end can break by what is due from it.
+/// The stakes name no rule without reason. If an end that owes this can break a rule, as they say, then some block
+/// breaks it.
 pub fn stakes_are_real()
     ensures { (e : End) (owed : Owed) (last : List ℕ) (broken : Rule) → length last ≤ 254
         → CanBeSent e.asked → can_break e owed broken ≡ true → IsBreakable e owed last broken }

@@ -1,9 +1,11 @@
-//! Who broke the T=1 protocol, where, and by which clause (ISO/IEC 7816-3:2006, clause 11).
+//! Says which end broke the T=1 protocol, at which block, and by which clause (ISO/IEC 7816-3:2006, clause 11).
 //!
-//! A [`Monitor`] takes each block of a trace in its order, as it was on the line, and says whether the standard permits
-//! it. Nobody sees on the line whether the other end got a block whole, so a block is permitted where some course of what
-//! its sender may have heard permits it. `specs/Ends.antt` has what an end owes after what it heard, `specs/Sends.antt`
-//! what it may send then, rule by rule, and `specs/Courses.antt` the courses. Nothing here allocates.
+//! A [`Monitor`] takes the blocks of a trace in order, as they were on the line, and says whether the standard permits
+//! each one. Nobody sees on the line whether the other end received a block whole. So a block is permitted if some
+//! course of what its sender may have heard permits it. Nothing here allocates.
+//!
+//! `specs/Ends.antt` has what an end owes after what it heard. `specs/Sends.antt` has what it may send then, rule by
+//! rule, and `specs/Courses.antt` has the courses.
 #![tactic(auto)]
 
 mod asking;

@@ -16,7 +16,7 @@ use arrayvec::ArrayVec;
 use block_core::{BlockRef, LONGEST_INF, Pcb, Side};
 use t1_core::FIRST_IFSD;
 
-/// An end of the line that is watched.
+/// An end of the line that the monitor watches.
 #[derive(Drop)]
 pub struct Watched {
     pub end: End,
@@ -27,49 +27,49 @@ pub struct Watched {
     pub number: u64,
 }
 
-/// Judges each block of a trace as it comes. It takes no memory, and keeps of each end what decides what that may send.
+/// Judges each block of a trace as it comes. It allocates nothing, and keeps of each end what decides what it may send.
 #[derive(Drop)]
 pub struct Monitor {
     pub terminal: Watched,
     pub card: Watched,
-    /// The node address of the terminal's blocks, once one was seen.
+    /// The node address of the terminal's blocks, after one was seen.
     pub nad: Option<u8>,
-    /// How many blocks were seen; it stays at its greatest value.
+    /// How many blocks were seen. The count stays at its greatest value.
     pub blocks: u64,
 }
 
-/// What a trace says of how a block reached the other end.
+/// What a trace says about how a block reached the other end.
 #[derive(Clone, Copy, Debug)]
 pub enum Arrival<'a> {
-    /// Nothing.
+    /// It says nothing.
     Unsaid,
-    /// It didn't reach the other end.
+    /// The block didn't reach the other end.
     Lost,
-    /// These octets did.
+    /// These octets reached the other end.
     Came(&'a [u8]),
 }
 
-/// A card that sent no block before the terminal's next one, or before the terminal's waiting time ended.
+/// Whether a card sent no block before the terminal's next one, or before the terminal's waiting time ended.
 #[derive(Clone, Copy, Debug, PartialEq, Eq)]
 pub enum Silence {
-    /// It owed none.
+    /// It owed no block.
     No,
-    /// It owed one in answer to the block with this number, unless that was lost or damaged unseen.
+    /// It owed the answer to the block with this number, unless that block was lost or damaged unseen.
     Possible(u64),
-    /// It owed one in answer to the block with this number, which it got whole.
+    /// It owed the answer to the block with this number, which it received whole.
     Certain(u64),
 }
 
-/// What is said of octets.
+/// What the monitor says about octets.
 #[derive(Clone, Copy, Debug)]
 pub enum Said {
-    /// They are no block, by the check octet or the length: damage, and nobody's deviation.
+    /// They aren't a block, by the check octet or the length. They are damage, and nobody's deviation.
     Damage,
-    /// They are meant for a block.
+    /// They were sent as a block, with this verdict.
     Block(Verdict),
 }
 
-/// What is said of a block, and of a card that sent none before it.
+/// The monitor's report on a block, and on a card that sent none before it.
 #[derive(Clone, Copy, Debug)]
 pub struct Report {
     pub silence: Silence,
@@ -98,7 +98,7 @@ impl Watched {
         }
     }
 
-    /// What the end owes, on the first course there is.
+    /// Returns what the end owes on the first course that it has.
     pub(crate) fn due(&self) -> After
         ensures { result ≡ due self.now }
     {
@@ -107,7 +107,7 @@ impl Watched {
         first_course(self.end, whole, none)
     }
 
-    /// The end sent octets; blocks are judged.
+    /// Takes octets that the end sent, and judges them if they are a block.
     fn sent(&mut self, addressed: bool, class: &Class<'_>, number: u64) -> Said
         ensures said { result ≡ said_of self.old addressed (seen_of class.now) }
         ensures after { self.new ≡ sender_after self.old addressed (seen_of class.now) number }
@@ -172,7 +172,8 @@ impl Watched {
 }
 
 impl Monitor {
-    /// A monitor at a reset of a card that takes fields of up to `ifsc` octets, as its answer to reset says (11.4.2).
+    /// Returns a monitor at a reset of a card that takes fields of up to `ifsc` octets, as its answer to reset says
+    /// (11.4.2).
     pub fn new(ifsc: u8) -> Monitor
         ensures { result ≡ new_monitor ifsc }
     {
@@ -231,7 +232,7 @@ impl Monitor {
         }
     }
 
-    /// The terminal's waiting time ended.
+    /// Says to the monitor that the terminal's waiting time ended. Returns whether the card owed a block.
     pub fn quiet(&mut self) -> Silence
         ensures after { self.new ≡ quiet_after self.old }
         ensures silence { result ≡ silence_of self.old.card.heard self.old.terminal.number }
@@ -242,7 +243,7 @@ impl Monitor {
         silence
     }
 
-    /// The card is reset: both ends begin again, with this IFSC, and blocks are counted on.
+    /// Says to the monitor that the card was reset. Both ends begin again, with this IFSC, and blocks are counted on.
     pub fn reset(&mut self, ifsc: u8)
         ensures { self.new ≡ reset_after self.old ifsc }
     {
@@ -252,7 +253,7 @@ impl Monitor {
         };
     }
 
-    /// Whether the card owes a block now, as at the end of a trace.
+    /// Returns whether the card owes a block now, as for the end of a trace.
     pub fn silence(&self) -> Silence
         ensures { result ≡ silence_of self.now.card.heard self.now.terminal.number }
     {
@@ -270,7 +271,7 @@ fn reached_by(arrival: Arrival<'_>) -> Reached<'_>
     }
 }
 
-/// An end that sends an I-block next, and has taken the one that it heard.
+/// Returns the end as if it took the I-block that it heard. If it sends an I-block next, it did.
 fn presumed(end: End, heard: Heard) -> End
     ensures { result ≡ presumed end heard }
 {
@@ -280,7 +281,7 @@ fn presumed(end: End, heard: Heard) -> End
     }
 }
 
-/// What an end has heard of a block of the other end.
+/// Returns what an end has heard after a block of the other end.
 fn heard_of(
     side: Side,
     addressed: bool,
@@ -354,7 +355,7 @@ fn silence_of(heard: Heard, number: u64) -> Silence
     }
 }
 
-/// Whether a block has the node address that the first one set.
+/// Whether a block has the node address that the first block set.
 pub(crate) fn addressed_by(from: Side, nad: Option<u8>, class: &Class<'_>) -> bool
     ensures { result ≡ addressed_by from nad (seen_of class.now) }
 {
@@ -373,7 +374,8 @@ fn nad_after(from: Side, nad: Option<u8>, class: &Class<'_>) -> Option<u8>
     }
 }
 
-/// The node address of the terminal's blocks, by one of this end's: an answer has its halves swapped (11.3.2.1).
+/// Returns the node address of the terminal's blocks, from that of a block of this end. An answer has its halves
+/// swapped (11.3.2.1).
 fn nad_of(from: Side, nad: u8) -> u8
     ensures { result ≡ nad_of from nad }
 {

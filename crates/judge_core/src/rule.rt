@@ -22,35 +22,35 @@ pub enum Rule {
     Turn,
     /// Only a terminal asks for RESYNCH, and only a card for time.
     ForeignRequest,
-    /// An I-block with another number than the next one, or an R-block with another than the one that is expected.
+    /// An I-block doesn't have the next number, or an R-block doesn't have the expected one.
     SequenceNumber,
     /// An I-block, or a request, is due.
     BlockDue,
     /// The R-block that acknowledges a block of a chain is due.
     AcknowledgmentDue,
-    /// An acknowledgment says that a block had an error that was free of errors.
+    /// An acknowledgment reports an error, although the block had none.
     ErrorCode,
-    /// The last I-block is due once more.
+    /// The last I-block is due again.
     RepeatDue,
     /// A repeated I-block has other octets than before.
     RepeatedOctets,
     /// An R-block after an error is due.
     CorrectionDue,
-    /// The same request is due once more.
+    /// The same request is due again.
     RequestDue,
     /// The response to a request is due.
     ResponseDue,
     /// A response carries another size or multiple than its request.
     ResponseOctet,
-    /// A response to no request.
+    /// A response without a request.
     Unasked,
     /// ABORT outside a chain.
     NoChain,
-    /// RESYNCH before a block was repeated twice.
+    /// RESYNCH within an exchange, before two repeats and corrections together.
     EarlyResynch,
-    /// A block was repeated as often as the standard permits already.
+    /// A block was repeated more often than the standard permits.
     TooManyRepeats,
-    /// No block where one is owed.
+    /// No block came, although one was owed.
     Silence,
 }
 
@@ -81,7 +81,7 @@ pub const RULES: [Rule; 22] = [
 ];
 
 impl Rule {
-    /// Its place among [`RULES`], from 0.
+    /// Returns its place among [`RULES`], from 0.
     pub fn place(self) -> usize
         ensures place { result ≡ rule_place self }
         ensures below { result < 22 }
@@ -89,7 +89,7 @@ impl Rule {
         self as usize
     }
 
-    /// Its clause in ISO/IEC 7816-3:2006.
+    /// Returns its clause in ISO/IEC 7816-3:2006.
     pub fn clause(self) -> &'static str
         ensures { result.now ≡ rule_clause self }
     {

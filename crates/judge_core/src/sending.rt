@@ -1,4 +1,4 @@
-//! What an end may send that owes this (ISO/IEC 7816-3:2006, clause 11.6).
+//! What an end may send if it owes this (ISO/IEC 7816-3:2006, clause 11.6).
 
 ghost use Rattle.std.specs.Prelude.{◌≡◌, Some, true, length, slice_index};
 ghost use Rattle.t1_core.specs.Came.{carried};
@@ -12,7 +12,8 @@ use crate::step::Sent;
 use block_core::{Fault, Pcb, S};
 
 impl End {
-    /// What it may send that owes this: its last I-block had the field `last`, and the block has the field `inf`.
+    /// Returns the end after a block with the field `inf`, or the rule that the block breaks, if the end owes this. Its
+    /// last I-block had the field `last`.
     pub(crate) fn sends(self, owed: Owed, last: &[u8], pcb: Pcb, inf: &[u8]) -> Sent
         ensures { result ≡ sends self owed last.now pcb inf.now }
     {
@@ -35,7 +36,7 @@ impl End {
         }
     }
 
-    /// A message begins or goes on.
+    /// Takes a block where a message begins or goes on.
     fn messages(self, owed: Owed, pcb: Pcb, inf: &[u8]) -> Sent
         ensures { result ≡ messages self owed pcb inf.now }
     {
@@ -58,7 +59,7 @@ impl End {
         }
     }
 
-    /// After ABORT.
+    /// Takes a block after ABORT.
     fn either(self, pcb: Pcb, inf: &[u8]) -> Sent
         ensures { result ≡ either self pcb inf.now }
     {
@@ -70,7 +71,7 @@ impl End {
         }
     }
 
-    /// After an R-block that either hands over the right to send or asks for the last R-block again.
+    /// Takes a block after an R-block that either hands over the right to send or asks for the last R-block again.
     fn begins_or_corrects(self, pcb: Pcb, inf: &[u8]) -> Sent
         ensures { result ≡ begins_or_corrects self pcb inf.now }
     {
@@ -82,7 +83,8 @@ impl End {
         }
     }
 
-    /// Where the block refuses the I-block before the end's request, and else what the end may send all the same.
+    /// Returns the end after a block that refuses the I-block before the end's request; for another block returns
+    /// `sent`.
     fn or_refuses(self, pcb: Pcb, sent: Sent) -> Sent
         ensures { result ≡ or_refuses self pcb sent }
     {
@@ -121,7 +123,7 @@ impl End {
         }
     }
 
-    /// An R-block after an error.
+    /// Takes a block where an R-block after an error is due.
     fn corrects(self, pcb: Pcb) -> Sent
         ensures { result ≡ corrects self pcb }
     {
@@ -166,7 +168,7 @@ impl End {
         }
     }
 
-    /// A block of an end of which nothing is known.
+    /// Takes any block of an end about which nothing is known.
     fn any_block(self, pcb: Pcb, inf: &[u8]) -> Sent
         ensures { result ≡ any_block self pcb inf.now }
     {
@@ -192,14 +194,14 @@ impl End {
     }
 }
 
-/// The size or the multiple that a block carries, or 0.
+/// Returns the size or the multiple that a block carries, or 0.
 pub(crate) fn carried(inf: &[u8]) -> u8
     ensures { result ≡ carried inf.now }
 {
     inf.first().copied().unwrap_or(0)
 }
 
-/// Whether an end that the line hid is known again, by an I-block with the next number or another one.
+/// Whether an end that the line hid is known again after an I-block. `next` says whether that has the next number.
 fn is_next(owed: Owed, next: bool) -> bool
     ensures { result ≡ is_next owed next }
 {

@@ -1,4 +1,4 @@
-//! Which rules an end can keep or break by the block that it sends next (ISO/IEC 7816-3:2006, clause 11).
+//! Which rules an end can keep or break with the block that it sends next (ISO/IEC 7816-3:2006, clause 11).
 
 ghost use Rattle.std.specs.Prelude.{◌≡◌};
 ghost use Rattle.judge_core.specs.Stakes.{acknowledgment_breaks, any_breaks, asked_so_often, at_stake, begun_or_corrected_breaks, came_in, can_break, carries, correction_breaks, either_breaks, is_asked_out, is_card, is_corrected_out, is_early, is_early_alone, is_nothing, is_repeated_out, is_terminal, is_unsettled, is_whole, message_breaks, or_refusal_breaks, owed_breaks, refusal_breaks, repeat_breaks, request_breaks, response_breaks, takes_less};
@@ -11,20 +11,20 @@ use crate::state::State;
 use block_core::{LONGEST_INF, S, Side};
 use t1_core::MOST_REPEATS;
 
-/// What an end can keep or break by a block that it sends.
+/// What an end can keep or break with a block.
 #[derive(Clone, Copy, Debug)]
 pub struct Stakes {
-    /// Whether a block before it set the node addresses.
+    /// Whether an earlier block set the node addresses.
     pub addressed: bool,
     /// What the end heard since its last block.
     pub heard: Heard,
-    /// The end and what was due from it, on the course on which the block is judged: the one without damage, unless that
-    /// doesn't permit the block and another one does.
+    /// The end and what was due from it, on the course on which the block is judged. That is the course without damage,
+    /// unless only another one permits the block.
     pub due: After,
 }
 
 impl Stakes {
-    /// Whether the end keeps this rule or breaks it, whatever it sends.
+    /// Whether the rule is at stake: the end keeps it or breaks it, whatever it sends.
     pub fn has(&self, rule: Rule) -> bool
         ensures { result ≡ at_stake self.now rule }
     {
@@ -38,7 +38,7 @@ impl Stakes {
         }
     }
 
-    /// What was due from the end, if it was its turn.
+    /// Returns what was due from the end, if it was its turn.
     pub fn state(&self) -> Option<State>
         ensures { result ≡ came_in self.now }
     {
@@ -51,7 +51,7 @@ impl Stakes {
 }
 
 impl End {
-    /// Whether some block breaks this rule, where the end owes this.
+    /// Whether some block breaks this rule, if the end owes this.
     fn can_break(self, owed: Owed, rule: Rule) -> bool
         ensures { result ≡ can_break self owed rule }
     {
@@ -151,7 +151,7 @@ impl End {
         }
     }
 
-    /// After ABORT.
+    /// Whether an end can break this rule after ABORT.
     fn either_breaks(self, rule: Rule) -> bool
         ensures { result ≡ either_breaks self rule }
     {
@@ -162,7 +162,8 @@ impl End {
         }
     }
 
-    /// After an R-block that either hands over the right to send or asks for the last R-block again.
+    /// Whether an end can break this rule after an R-block that either hands over the right to send or asks for the
+    /// last R-block again.
     fn begun_or_corrected_breaks(self, rule: Rule) -> bool
         ensures { result ≡ begun_or_corrected_breaks self rule }
     {
@@ -174,7 +175,7 @@ impl End {
         }
     }
 
-    /// An end that may refuse too, and else can break the rule or not.
+    /// Whether an end that may also refuse can break this rule; `breaks` says whether it can if it may not refuse.
     fn or_refusal_breaks(self, rule: Rule, breaks: bool) -> bool
         ensures { result ≡ or_refusal_breaks self rule breaks }
     {
@@ -200,21 +201,21 @@ impl End {
         usize::from(self.room) < LONGEST_INF
     }
 
-    /// Whether a terminal corrected as often as it may.
+    /// Whether it is a terminal that corrected as often as it may.
     fn is_corrected_out(self) -> bool
         ensures { result ≡ is_corrected_out self }
     {
         is_terminal(self.side) && self.row.corrections >= MOST_REPEATS
     }
 
-    /// Whether a terminal repeated its last I-block as often as it may.
+    /// Whether it is a terminal that repeated its last I-block as often as it may.
     fn is_repeated_out(self) -> bool
         ensures { result ≡ is_repeated_out self }
     {
         is_terminal(self.side) && self.row.repeats >= MOST_REPEATS && is_unsettled(self.pending)
     }
 
-    /// Whether a terminal sent its request as often as it may.
+    /// Whether it is a terminal that sent its request as often as it may.
     fn is_asked_out(self) -> bool
         ensures { result ≡ is_asked_out self self.asked }
     {
@@ -232,14 +233,14 @@ impl End {
         is_terminal(self.side) && self.tries >= most_asked(about)
     }
 
-    /// Whether a terminal may not ask for RESYNCH yet.
+    /// Whether it is a terminal that may not ask for RESYNCH yet.
     fn is_early(self) -> bool
         ensures { result ≡ is_early self }
     {
         is_terminal(self.side) && self.tries < LEAST_REPEATS
     }
 
-    /// The same of one that waits for no response.
+    /// Whether it is a terminal that may not ask for RESYNCH yet, and waits for no response.
     fn is_early_alone(self) -> bool
         ensures { result ≡ is_early_alone self }
     {
@@ -257,7 +258,7 @@ fn response_breaks(about: S, octet: u8, rule: Rule) -> bool
     }
 }
 
-/// Whether such a block carries an octet.
+/// Whether a request of this kind carries an octet.
 fn carries(about: S) -> bool
     ensures { result ≡ carries about }
 {

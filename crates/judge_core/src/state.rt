@@ -1,4 +1,4 @@
-//! What may be due from an end, in a few words.
+//! What may be due from an end, and its text.
 
 ghost use Rattle.std.specs.Prelude.{◌≡◌, ◌<◌};
 ghost use Rattle.judge_core.specs.States.{response_state, state_name, state_of, state_place};
@@ -16,13 +16,13 @@ pub enum State {
     Chain,
     /// The R-block that acknowledges a block of the other end's chain.
     Acknowledgment,
-    /// Its last I-block once more.
+    /// Its last I-block again.
     Repeat,
     /// An R-block after an error.
     Correction,
     /// An R-block that refuses an I-block.
     Refusal,
-    /// Its request once more.
+    /// Its request again.
     Request,
     /// The response to RESYNCH.
     Resynch,
@@ -32,7 +32,7 @@ pub enum State {
     Abort,
     /// The response to a request for time.
     Time,
-    /// A message, or an R-block that hands over, after ABORT.
+    /// A message, or an R-block that hands over the right to send, after ABORT.
     AfterAbort,
     /// A message, or an R-block after an error.
     MessageOrCorrection,
@@ -40,7 +40,7 @@ pub enum State {
     MessageOrRefusal,
     /// An R-block that acknowledges the I-block before its request, or refuses it.
     AcknowledgmentOrRefusal,
-    /// Any block, since the line damaged its last one.
+    /// Any block, since the line damaged the end's last one.
     Any,
 }
 
@@ -65,7 +65,7 @@ pub const STATES: [State; 16] = [
 ];
 
 impl State {
-    /// The state of an end that owes this.
+    /// Returns the state of an end that owes this.
     pub fn of(owed: Owed) -> State
         ensures { result ≡ state_of owed }
     {
@@ -86,7 +86,7 @@ impl State {
         }
     }
 
-    /// Its place among [`STATES`], from 0.
+    /// Returns its place among [`STATES`], from 0.
     pub fn place(self) -> usize
         ensures place { result ≡ state_place self }
         ensures below { result < 16 }

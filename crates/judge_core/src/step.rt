@@ -14,7 +14,7 @@ use t1_core::MOST_REPEATS;
 pub(crate) type Sent = Result<End, Rule>;
 
 impl End {
-    /// A new I-block.
+    /// Sends a new I-block.
     pub(crate) fn sends_info(self, number: Number, more: bool, inf: &[u8]) -> Sent
         ensures { result ≡ sends_info self number more inf.now }
     {
@@ -42,7 +42,7 @@ impl End {
         }
     }
 
-    /// The last I-block once more, with the octets that it had.
+    /// Sends the last I-block again, which has to have the same octets.
     pub(crate) fn repeats_info(self, last: &[u8], number: Number, more: bool, inf: &[u8]) -> Sent
         ensures { result ≡ repeats_info self last.now number more inf.now }
     {
@@ -79,7 +79,7 @@ impl End {
         }
     }
 
-    /// Its last I-block once more.
+    /// Counts one more repeat of its last I-block.
     fn repeats_again(self) -> Sent
         ensures { result ≡ repeats_again self }
     {
@@ -91,7 +91,7 @@ impl End {
         self.again(self.row.repeats, row)
     }
 
-    /// One correction more.
+    /// Counts one more correction.
     pub(crate) fn corrects_again(self) -> Sent
         ensures { result ≡ corrects_again self }
     {
@@ -103,7 +103,8 @@ impl End {
         self.again(self.row.corrections, row)
     }
 
-    /// Once more, where there were so many of its kind in a row, which is then this; a card has no limit.
+    /// Returns the end after one more of its kind, if fewer than the limit came in a row; `row` is the row then. A card
+    /// has no limit.
     fn again(self, count: u8, row: Row) -> Sent
         ensures { result ≡ again_as self.side self count row }
     {
@@ -118,7 +119,7 @@ impl End {
         }
     }
 
-    /// The end after its response.
+    /// Returns the end after its response.
     pub(crate) fn responded(self, about: S, octet: u8) -> End
         ensures { result ≡ responded self about octet }
     {
@@ -142,7 +143,7 @@ impl End {
         }
     }
 
-    /// The end that its own block suggests, which carries this octet or 0.
+    /// Returns the end that its own block suggests. The block carries this octet, or 0.
     pub(crate) fn suggested(self, pcb: Pcb, octet: u8) -> End
         ensures { result ≡ suggested self pcb octet }
     {

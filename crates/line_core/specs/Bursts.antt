@@ -8,17 +8,17 @@ use Rattle.line_core.specs.declared.framing.Framer.{Framer}
 
 -- A burst is octets that follow one another without the silence that ends it (11.4.3).
 
--- an end is handed the first so many octets of a burst: one more than the longest block has (11.3)
+-- how many octets of a burst are passed to an end at most: one more than the longest block has (11.3)
 abbrev pub handed : ℕ
 handed = 259
 
--- the burst is NAD, PCB, LEN, so many octets and one check octet, by which the exclusive-or of all is 00, and nothing
--- more: 11.3
+-- the burst is NAD, PCB, LEN, as many octets as LEN says, one check octet, and nothing more; the exclusive-or of all is
+-- 00: 11.3
 abbrev pub is_whole : List ℕ → Bool
 is_whole burst = (length burst == slice_index burst 2 + 4) && (xor_of burst == 0)
 
--- How long a silence ends the burst: while no octet came, what is waited for one; inside a block CWT (11.4.3); after a
--- whole block a shorter one, BGT where no other was asked for (11.4.3) *(own)*.
+-- How long a silence must be to end the burst: before the first octet, the wait for it; inside a block, CWT (11.4.3);
+-- after a whole block, a shorter one, which is BGT unless another was asked for (11.4.3) *(own)*.
 abbrev pub wait_of : ℕ → ℕ → ℕ → List ℕ → ℕ
 wait_of first inside after [] = first
 wait_of first inside after (octet ∷ octets) = if is_whole (octet ∷ octets) then after else inside
@@ -27,14 +27,14 @@ wait_of first inside after (octet ∷ octets) = if is_whole (octet ∷ octets) t
 abbrev pub most_counted : ℕ
 most_counted = 18446744073709551615
 
--- The framer took these octets since its burst began: it counts them, and keeps the first.
+-- The framer took these octets since its burst began: it has counted them, and kept the first.
 pub record HasHeard (framer : Framer) (burst : List ℕ) : Type 0 where
   pub counted : framer.count ≡ min (length burst) most_counted
   pub kept : take handed burst ≡ take (min (length burst) handed) framer.octets
 
 -- ---- what may happen to a burst on its way
 
--- one octet is another one
+-- one octet was changed
 pub record IsChanged (sent burst : List ℕ) : Type 0 where
   pub before : List ℕ
   pub after : List ℕ
@@ -44,7 +44,7 @@ pub record IsChanged (sent burst : List ℕ) : Type 0 where
   pub burst_is : burst ≡ before ++ came ∷ after
   pub other : came ≢ was
 
--- any number of octets is missing at its end, all of them too
+-- any number of octets is missing at the end, possibly all of them
 pub record IsCut (sent burst : List ℕ) : Type 0 where
   pub missing : List ℕ
   pub some : 0 < length missing
@@ -59,14 +59,14 @@ pub record IsExtended (sent burst : List ℕ) : Type 0 where
 abbrev pub IsHarmed : List ℕ → List ℕ → Type 0
 IsHarmed sent burst = IsChanged sent burst ⊎ (IsCut sent burst ⊎ IsExtended sent burst)
 
--- no block, and not quiet either
+-- neither a block nor quiet
 abbrev pub IsNoBlock : Came → Type 0
 IsNoBlock (got pcb inf) = ⊥
 IsNoBlock damaged = Unit {0}
 IsNoBlock invalid = Unit {0}
 IsNoBlock quiet = ⊥
 
--- Whatever block was sent: no end takes for a block what is left of a burst that was harmed so, whatever size it holds.
+-- Whatever block was sent and harmed in this way, no end takes the burst for a block, whatever size the end accepts.
 abbrev pub AlwaysNoBlock : Type 0
 AlwaysNoBlock = (block : Parts) → IsProper 254 block → (burst : List ℕ) → AreOctets burst
     → IsHarmed (spelling block) burst → (size : ℕ) → IsNoBlock (class_of size (take handed burst))

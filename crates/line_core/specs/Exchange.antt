@@ -15,8 +15,8 @@ use Rattle.line_core.specs.declared.fault.TransceiveFault.TheVariants as fault
 use Rattle.line_core.specs.Line.{Arrival, block, nothing, failure, Talk, Adds}
 use denote.Ref.{Bor}
 
--- How an exchange, or a question about a size, ends: its answer came, or the size was taken; it was given up; the card
--- is dead; the line failed with this error; another block isn't allowed; or the terminal refused the call.
+-- How an exchange, or a request for a size, ends: its answer came, or the size was accepted; it was given up; the card
+-- is dead; the line failed with this error; no more blocks are allowed; or the terminal refused the call.
 pub data Ending : Type 0 where
   done : Ending
   given_up : Ending
@@ -46,8 +46,8 @@ next_of (Ok GivenUp) = ends given_up
 next_of (Ok Dead) = ends dead
 next_of (Err inner) = ends (refused inner)
 
--- What it does, and its state, once this came after its block: octets are classed, and of a failure of the line it
--- isn't told.
+-- What the terminal does, and its state, after this came. Octets are classified first. The terminal isn't called for a
+-- failure of the line.
 abbrev pub next_after : TerminalState → Arrival → Next
 next_after t (block octets) = next_of (turn_of (terminal_turn t (takes (class_of t.ifsd octets))))
 next_after t nothing = next_of (turn_of (terminal_turn t (takes quiet)))
@@ -58,12 +58,12 @@ left_after t (block octets) = state_after t (terminal_turn t (takes (class_of t.
 left_after t nothing = state_after t (terminal_turn t (takes quiet))
 left_after t (failure inner) = t
 
--- The octets of the block were sent, and the wait was the one that goes with it.
+-- The octets of the block were sent, with the wait that belongs to it.
 abbrev pub IsSent : Parts → Talk → Type 0
 IsSent sent talk = (talk.sent ≡ spelling sent) × (talk.waiting ≡ waiting_times (Send sent))
 
--- The terminal is in state t and about to do this, and may send at most so many blocks: then these are the talks on the
--- line, so it ends, and it is left in this state.
+-- The terminal is in state t, has this to do next, and may send at most so many blocks. Then these are the talks on the
+-- line, the exchange ends so, and the terminal is left in this state.
 abbrev pub Runs : ℕ → Next → TerminalState → List Talk → Ending → TerminalState → Type 0
 Runs most (sends sent) t (talk ∷ talks) ending left =
     (1 ≤ most) × IsSent sent talk × Runs (most - 1) (next_after t talk.arrival) (left_after t talk.arrival) talks ending
@@ -72,7 +72,7 @@ Runs most (sends sent) t [] ending left = (most ≡ 0) × (ending ≡ used_up) �
 Runs most (ends how) t [] ending left = (ending ≡ how) × (left ≡ t)
 Runs most (ends how) t (talk ∷ talks) ending left = ⊥
 
--- The next turn is in the caller's hands: the block that is sent at the front of the buffer, or how it ends.
+-- The caller has the next turn: the block to send, at the front of the buffer, or how the exchange ends.
 abbrev pub IsReady : Next → List ℕ → Result EncodedTerminalTurn TransceiveFault → Type 0
 IsReady next out (Ok (put.Send count waiting)) =
     (sent : Parts) × (next ≡ sends sent) × (take count out ≡ spelling sent) × (waiting ≡ waiting_times (Send sent))
@@ -82,8 +82,8 @@ IsReady next out (Ok put.GivenUp) = next ≡ ends given_up
 IsReady next out (Ok put.Dead) = next ≡ ends dead
 IsReady next out (Err inner) = next ≡ ends (ending_of {A = EncodedTerminalTurn} (Err inner))
 
--- The terminal in state t takes this call: what is added to the line, and the state that it leaves, are those of such a
--- run.
+-- The terminal in state t takes this call. What is added to the line, and the state of the terminal after it, are those
+-- of such a run.
 abbrev pub HasRun : {A : Type 0} → (A → List Talk → Type 0) → (A → List Talk → Type 0) → ℕ → TerminalState
     → TerminalInput → Ending → TerminalState → Type 0
 HasRun before after most t input ending left = (talks : List Talk) × Adds before after talks

@@ -1,4 +1,4 @@
--- A line with two ends: what its terminal sends comes to its card, and the card's answer comes back, but for what is
+-- A line with two ends. What its terminal sends comes to its card, and the card's answer comes back, except what is
 -- lost or damaged. So the calls of both ends are one history.
 use Rattle.std.specs.Prelude.{◌≡◌, ◌≤◌, ◌<◌, ◌⊎◌, ℕ, ◌+◌, Bool, true, false, List, [], ◌∷◌, ◌++◌, take, Option, Some, None, Ok, Err}
 use Rattle.std.proofs.Common.{inl, inr}
@@ -16,23 +16,24 @@ use Rattle.line_core.specs.Exchange.{Ending, done, given_up, dead, line_failed, 
 use Rattle.line_core.specs.Service.{Event, came, asked, sent, unsent, hears, Serves}
 use Rattle.line_core.specs.Service as at_card
 
--- These octets came where those were sent: the same, or what no end takes for a block, whatever size it holds.
+-- These octets came for those that were sent: the same octets, or octets that no end takes for a block, whatever size
+-- it accepts.
 abbrev pub Passes : List ℕ → List ℕ → Type 0
 Passes octets here = (here ≡ octets) ⊎ ((size : ℕ) → IsNoBlock (class_of size here))
 
--- A burst that came as it was sent, or with one octet that is another one, octets missing at its end or octets after it,
--- hands over what passes: the octets, or what no end takes for a block.
+-- An end gets a burst that came as it was sent, or with one octet changed, octets missing at its end, or octets after
+-- it. What it gets passes: the octets that were sent, or octets that no end takes for a block.
 abbrev pub AlwaysPasses : Type 0
 AlwaysPasses = (sent : Parts) → IsProper 254 sent → (burst : List ℕ) → AreOctets burst
     → (burst ≡ spelling sent) ⊎ IsHarmed (spelling sent) burst → Passes (spelling sent) (take handed burst)
 
--- This came to the terminal where the card sent those octets: they may be lost, and the terminal's line may fail.
+-- This came to the terminal after the card sent those octets. They may be lost, and the terminal's line may fail.
 abbrev pub Returns : List ℕ → Arrival → Type 0
 Returns octets (block here) = Passes octets here
 Returns octets nothing = Unit {0}
 Returns octets (failure fault) = Unit {0}
 
--- the card's last event after a block: it sent its answer, or its line failed to, in part or whole
+-- the card's last event after a block: it sent its answer, or its line failed to send it, in part or whole
 abbrev pub IsSaid : List Event → Arrival → Type 0
 IsSaid [] back = ⊥
 IsSaid (sent octets ∷ []) back = Returns octets back
@@ -42,8 +43,8 @@ IsSaid (unsent octets fault ∷ (event ∷ events)) back = ⊥
 IsSaid (came arrival ∷ events) back = ⊥
 IsSaid (asked command reply ∷ events) back = ⊥
 
--- Its host may be asked before that. A card that refuses a block, or its host's reply, sends nothing: calls during
--- which one did are none of those that the laws speak of.
+-- The card's host may be asked before that. A card that refuses a block, or its host's reply, sends nothing: the laws
+-- don't cover calls in which a card did so.
 abbrev pub IsAnswered : List Event → Arrival → Type 0
 IsAnswered [] back = ⊥
 IsAnswered (asked command reply ∷ events) back = AreOctets reply × IsSaid events back
@@ -81,7 +82,7 @@ abbrev pub events_of : List Trip → List Event
 events_of [] = []
 events_of (trip ∷ trips) = trip.events ++ events_of trips
 
--- How many blocks were damaged or lost in a trip. Where the terminal's line failed, its wait ends in the next call.
+-- How many blocks were damaged or lost in a trip. If the terminal's line failed, its wait ends in the next call.
 abbrev pub passing_faults : (octets here : List ℕ) → Passes octets here → ℕ
 passing_faults octets here (inl same) = 0
 passing_faults octets here (inr other) = 1
@@ -126,8 +127,8 @@ abbrev pub faults_of : List Trip → ℕ
 faults_of [] = 0
 faults_of (trip ∷ trips) = trip_faults trip.talk trip.events trip.passed + faults_of trips
 
--- A call of `exchange`, `ask_ifs` or `resume`, by what the terminal takes, with what was on the line meanwhile, how it
--- ended and what the terminal then was.
+-- A call of `exchange`, `ask_ifs` or `resume`. It has the input of the terminal, what was on the line meanwhile, how
+-- the call ended, and the state of the terminal after it.
 pub record Call : Type 0 where
   pub input : TerminalInput
   pub most : ℕ
@@ -143,19 +144,19 @@ IsCall (takes damaged) = ⊥
 IsCall (takes invalid) = ⊥
 IsCall (takes quiet) = Unit {0}
 
--- These are calls of a terminal, one after another, from this state on.
+-- These are calls of a terminal, one after another, from this state to the last one.
 abbrev pub HaveRun : TerminalState → List Call → TerminalState → Type 0
 HaveRun t [] last = last ≡ t
 HaveRun t (call ∷ calls) last = IsCall call.input
     × Runs call.most (next_of (turn_of (terminal_turn t call.input))) (state_after t (terminal_turn t call.input))
     (talks_of call.trips) call.ending call.left × HaveRun call.left calls last
 
--- what happened at the card during all of them
+-- what happened at the card during all these calls
 abbrev pub events_in : List Call → List Event
 events_in [] = []
 events_in (call ∷ calls) = events_of call.trips ++ events_in calls
 
--- These are the events of calls of `serve`, one after another, from this state of the card on.
+-- These are the events of calls of `serve`, one after another, from this state of the card to the last one.
 abbrev pub HaveServed : CardState → List (List Event) → CardState → Type 0
 HaveServed c [] last = last ≡ c
 HaveServed c (events ∷ more) last = (most : ℕ) × (ending : at_card.Ending) × (next : CardState)
@@ -165,14 +166,14 @@ abbrev pub joined : List (List Event) → List Event
 joined [] = []
 joined (events ∷ more) = events ++ joined more
 
--- The commands that the terminal took, each with its answer, or the note that it was given up; the newest first.
+-- The commands that the terminal took, the newest first, each with its answer, or marked as given up.
 abbrev pub begun : TerminalInput → TerminalStep → List Exchange → List Exchange
 begun (transmit command) (Ok step) older = unanswered command ∷ older
 begun (transmit command) (Err fault) older = older
 begun (ask_ifs size) step older = older
 begun (takes arrived) step older = older
 
--- whether a call is about a size: it asks for one, or resumes such a question
+-- whether a call is about a size: it asks for one, or resumes such a request
 abbrev pub is_about_size : TerminalInput → Waits → Bool
 is_about_size (transmit command) waits = false
 is_about_size (ask_ifs size) waits = true
@@ -184,7 +185,7 @@ is_about_size (takes arrived) (for_more octets) = false
 is_about_size (takes arrived) (resynch times) = false
 is_about_size (takes arrived) found_dead = false
 
--- the answer of a call that isn't
+-- the answer, unless the call is about a size
 abbrev pub answer_unless : Bool → Option (List ℕ) → Option (List ℕ)
 answer_unless false answer = answer
 answer_unless true answer = None
@@ -204,7 +205,7 @@ exchanges_of t (call ∷ calls) older = exchanges_of call.left calls
     (ended call.ending (answer_unless (is_about_size call.input t.waits) call.left.answered)
     (begun call.input (terminal_turn t call.input) older))
 
--- The commands that the card's host was given, each with its reply; the newest first.
+-- The commands that the card's host was passed, each with its reply; the newest first.
 abbrev pub services_of : List Event → List Exchange → List Exchange
 services_of [] older = older
 services_of (asked command reply ∷ events) older = services_of events (answered command reply ∷ older)
@@ -212,8 +213,8 @@ services_of (came arrival ∷ events) older = services_of events older
 services_of (sent octets ∷ events) older = services_of events older
 services_of (unsent octets fault ∷ events) older = services_of events older
 
--- So many blocks were damaged or lost in the exchange, or the question about a size, that a call begins or goes on
--- with: none so far where it is begun; where it is resumed, one more than before.
+-- How many blocks were damaged or lost so far in the exchange, or the request for a size, that a call begins or
+-- resumes. It is 0 if the call begins one, and one more than before if it resumes one.
 abbrev pub faults_before : TerminalInput → TerminalStep → ℕ → ℕ
 faults_before (transmit command) (Ok step) count = 0
 faults_before (transmit command) (Err fault) count = count
@@ -221,7 +222,7 @@ faults_before (ask_ifs size) (Ok step) count = 0
 faults_before (ask_ifs size) (Err fault) count = count
 faults_before (takes arrived) step count = count + 1
 
--- an exchange is given up only after two of them, and the card is dead only after five
+-- an exchange is given up only after two damaged or lost blocks, and the card is dead only after five
 abbrev pub IsPatientEnd : Ending → ℕ → Type 0
 IsPatientEnd done count = Unit {0}
 IsPatientEnd given_up count = 2 ≤ count
@@ -230,7 +231,7 @@ IsPatientEnd (line_failed fault) count = Unit {0}
 IsPatientEnd used_up count = Unit {0}
 IsPatientEnd (refused fault) count = Unit {0}
 
--- each of these calls, from this state on
+-- each of these calls is patient, from this state on
 abbrev pub ArePatient : TerminalState → List Call → ℕ → Type 0
 ArePatient t [] count = Unit {0}
 ArePatient t (call ∷ calls) count =
@@ -252,7 +253,7 @@ pub record TwoEnds (of_terminal of_card : Limits) (ifsc : ℕ) (calls : List Cal
   pub served : HaveServed (card_with of_card ifsc) servings c
   pub events : events_in calls ≡ joined servings
 
--- They are a history of the link.
+-- The calls are a history of the link.
 abbrev pub AlwaysLinked : Type 0
 AlwaysLinked = (of_terminal of_card : Limits) (ifsc : ℕ) (calls : List Call) (servings : List (List Event))
     (t : TerminalState) (c : CardState) → TwoEnds of_terminal of_card ifsc calls servings t c
@@ -260,32 +261,32 @@ AlwaysLinked = (of_terminal of_card : Limits) (ifsc : ℕ) (calls : List Call) (
     × IsLink (run tables events (link_with of_terminal of_card ifsc)) t c
     (exchanges_of (terminal_with of_terminal ifsc) calls []) (services_of (events_in calls) [])
 
--- So each answer is the reply to its command, and no command is acted on twice.
+-- Each answer is the reply to its command, and no command is acted on twice.
 abbrev pub AlwaysMatched : Type 0
 AlwaysMatched = (of_terminal of_card : Limits) (ifsc : ℕ) (calls : List Call) (servings : List (List Event))
     (t : TerminalState) (c : CardState) → TwoEnds of_terminal of_card ifsc calls servings t c
     → Matches (exchanges_of (terminal_with of_terminal ifsc) calls []) (services_of (events_in calls) [])
 
--- And where no exchange was given up, the host was given the commands in their order.
+-- If no exchange was given up, the host was passed the commands in their order.
 abbrev pub AlwaysInOrder : Type 0
 AlwaysInOrder = (of_terminal of_card : Limits) (ifsc : ℕ) (calls : List Call) (servings : List (List Event))
     (t : TerminalState) (c : CardState) → TwoEnds of_terminal of_card ifsc calls servings t c
     → NoneGivenUp (exchanges_of (terminal_with of_terminal ifsc) calls [])
     → InOrder (exchanges_of (terminal_with of_terminal ifsc) calls []) (services_of (events_in calls) [])
 
--- And between ends with the same limits a single block that was damaged or lost gives up no exchange.
+-- Between ends with the same limits, a single damaged or lost block gives up no exchange.
 abbrev pub AlwaysPatientCalls : Type 0
 AlwaysPatientCalls = (limits : Limits) (ifsc : ℕ) (calls : List Call) (servings : List (List Event))
     (t : TerminalState) (c : CardState) → TwoEnds limits limits ifsc calls servings t c
     → ArePatient (terminal_with limits ifsc) calls 0
 
--- The host was given this command at most once, and no other.
+-- The host was passed this command at most once, and no other.
 abbrev pub WasGiven : List ℕ → List Exchange → Type 0
 WasGiven command [] = Unit {0}
 WasGiven command (service ∷ []) = command_of service ≡ command
 WasGiven command (service ∷ (other ∷ services)) = ⊥
 
--- And where the call ended with an answer it was given it, and the answer is its reply.
+-- If the call ended with an answer, the host was passed the command, and the answer is its reply.
 abbrev pub IsOnce : List ℕ → Ending → Option (List ℕ) → List Exchange → Type 0
 IsOnce command done (Some answer) services = services ≡ answered command answer ∷ []
 IsOnce command done None services = ⊥

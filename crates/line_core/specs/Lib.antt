@@ -8,5 +8,5 @@ pub mod Resynch
 pub mod Streams
 pub mod Timed
 pub mod Joined
--- what the code keeps between calls, what calls answer, and what is printed
+-- what the code keeps between calls, what calls return, and what is printed
 pub mod Names

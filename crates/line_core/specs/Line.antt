@@ -4,8 +4,8 @@ use Rattle.std.specs.declared.io.Error.{Error}
 use Rattle.line_core.specs.declared.line.Received.{Received}
 use Rattle.line_core.specs.declared.line.Received.TheVariants.{Octets, Nothing}
 
--- What came after a block: these octets as one block, nothing within the waiting time, or the line failed with this
--- error.
+-- What came after a block: these octets as one block, nothing within the waiting time, or a failure of the line
+-- with this error.
 pub data Arrival : Type 0 where
   block : (octets : List ℕ) → Arrival
   nothing : Arrival
@@ -17,12 +17,12 @@ pub record Talk : Type 0 where
   pub waiting : ℕ
   pub arrival : Arrival
 
--- what came, where this is the buffer that the line filled
+-- what came, if this is the buffer that the line filled
 abbrev pub arrived : Received → List ℕ → Arrival
 arrived (Octets count) room = block (take count room)
 arrived Nothing room = nothing
 
--- what a call of the line says
+-- what came, by the result of a call of the line
 abbrev pub arrival_of : Result Received Error → List ℕ → Arrival
 arrival_of (Ok heard) room = arrived heard room
 arrival_of (Err fault) room = failure fault
@@ -32,6 +32,6 @@ abbrev pub FitsRoom : Received → List ℕ → Type 0
 FitsRoom (Octets count) room = count ≤ length room
 FitsRoom Nothing room = Unit {0}
 
--- Whatever was on the line since another one, these talks came after it, and nothing else did.
+-- From any earlier state of the line, these talks came after those before, and nothing else did.
 abbrev pub Adds : {A : Type 0} → (A → List Talk → Type 0) → (A → List Talk → Type 0) → List Talk → Type 0
 Adds {A} old new talks = (first : A) (before : List Talk) → old first before → new first (before ++ talks)

@@ -1,4 +1,4 @@
--- What is printed of the faults.
+-- The texts of the faults.
 use Rattle.std.specs.Prelude.{ℕ, List, ◌++◌, Option, Some, None, codes}
 use Rattle.t1_core.specs.Names.{terminal_fault_name, card_fault_name}
 use Rattle.line_core.specs.declared.fault.TransceiveFault.{TransceiveFault}
@@ -6,7 +6,7 @@ use Rattle.line_core.specs.declared.fault.TransceiveFault.TheVariants as exchang
 use Rattle.line_core.specs.declared.serving.ServeFault.{ServeFault}
 use Rattle.line_core.specs.declared.serving.ServeFault.TheVariants as serve
 
--- as text; that of an error of the line isn't known
+-- the text of a fault; that of an error of the line isn't known
 abbrev pub transceive_fault_text : TransceiveFault → Option (List ℕ)
 transceive_fault_text exchange.GivenUp = Some (codes "GivenUp")
 transceive_fault_text exchange.Dead = Some (codes "Dead")

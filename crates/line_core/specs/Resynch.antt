@@ -1,4 +1,4 @@
--- A session that begins by RESYNCH, where the card can't be reset (ISO/IEC 7816-3, clause 11.6.3.2).
+-- A session that begins with RESYNCH, if the card can't be reset (ISO/IEC 7816-3, clause 11.6.3.2).
 use Rattle.std.specs.Prelude.{◌≡◌, ◌≤◌, ℕ, ◌+◌, List, [], ◌∷◌, ◌++◌, length, map, All, Bool, true, false, Result, Ok, Err}
 use Rattle.block_core.specs.Block.{spelling}
 use Rattle.block_core.specs.declared.pcb.S.TheVariants.{Resynch}
@@ -15,14 +15,14 @@ answered = block (spelling (response Resynch []))
 abbrev pub asked : Arrival → Talk
 asked arrival = record { sent = spelling (request Resynch []); waiting = 1; arrival = arrival }
 
--- the line didn't fail, and what came is no answer to it
+-- the line didn't fail, and what came isn't the answer to RESYNCH
 abbrev pub IsUnanswered : Arrival → Type 0
 IsUnanswered (block octets) = block octets ≡ answered → ⊥
 IsUnanswered nothing = Unit {0}
 IsUnanswered (failure fault) = ⊥
 
--- After these arrivals, none of which was the answer, the talks end so: with the answer, with a failure of the line, or
--- as often as may be without either.
+-- How the talks end after these arrivals, none of which was the answer: with the answer, with a failure of the line, or
+-- after `most` requests without either.
 abbrev pub IsLast : ℕ → List Arrival → List Talk → Ending → Type 0
 IsLast most before talks done = (length before + 1 ≤ most) × (talks ≡ map asked (before ++ answered ∷ []))
 IsLast most before talks (line_failed fault) =
@@ -32,7 +32,7 @@ IsLast most before talks given_up = ⊥
 IsLast most before talks used_up = ⊥
 IsLast most before talks (refused fault) = ⊥
 
--- RESYNCH is asked for until the card answers, at most so many times, and nothing else is sent.
+-- RESYNCH is asked for until the card answers, at most `most` times, and nothing else is sent.
 pub record Asks (most : ℕ) (talks : List Talk) (ending : Ending) : Type 0 where
   pub before : List Arrival
   pub unanswered : All IsUnanswered before

@@ -11,15 +11,15 @@ use Rattle.line_core.specs.declared.serving.ServeFault.{ServeFault}
 use Rattle.line_core.specs.declared.serving.ServeFault.TheVariants.{Line, UsedUp, Refused}
 use Rattle.line_core.specs.Line.{Arrival, block, nothing, failure}
 
--- What happens at the card: what came, or the line's word that nothing comes any more; a command that the host was
--- given, with its reply; a block that was sent, or that the line failed to send, with its error.
+-- What happens at the card: something came, or the line said that no more comes; the host was passed a command, and
+-- this is its reply; a block was sent, or the line failed to send it, with this error.
 pub data Event : Type 0 where
   came : (arrival : Arrival) → Event
   asked : (command reply : List ℕ) → Event
   sent : (octets : List ℕ) → Event
   unsent : (octets : List ℕ) (fault : Error) → Event
 
--- the events on the line, and those at the host
+-- the events on the line; `at_host` has the others
 abbrev pub on_line : List Event → List Event
 on_line [] = []
 on_line (asked command reply ∷ events) = on_line events
@@ -34,17 +34,17 @@ at_host (came arrival ∷ events) = at_host events
 at_host (sent octets ∷ events) = at_host events
 at_host (unsent octets fault ∷ events) = at_host events
 
--- what a call to send a block adds
+-- the event that a call to send a block adds
 abbrev pub sending : {A : Type 0} → List ℕ → Result A Error → Event
 sending octets (Ok done) = sent octets
 sending octets (Err fault) = unsent octets fault
 
--- Whatever happened since another line, or another host, these events came after it, and nothing else did.
+-- From any earlier state of the line, or of the host, these events came after those before, and nothing else did.
 abbrev pub Happens : {A : Type 0} → (A → List Event → Type 0) → (A → List Event → Type 0) → List Event → Type 0
 Happens {A} old new events = (first : A) (before : List Event) → old first before → new first (before ++ events)
 
--- How serving ends: nothing comes any more, the line failed with this error, as many blocks came as the caller allows, or the card
--- refused what came or the reply.
+-- How serving ends: no more comes, the line failed with this error, as many blocks came as the caller allows, or the
+-- card refused what came or the reply.
 pub data Ending : Type 0 where
   over : Ending
   line_failed : (fault : Error) → Ending
@@ -79,8 +79,8 @@ left_after c (block octets) = state_after c (card_turn c (takes (class_of c.ifsc
 left_after c nothing = c
 left_after c (failure fault) = c
 
--- The card is in state c and about to do this, and at most so many blocks may come: then these events happen, so
--- serving ends, and the card is left in this state.
+-- The card is in state c, has this to do next, and at most so many blocks may come. Then these events happen, serving
+-- ends so, and the card is left in this state.
 abbrev pub Serves : ℕ → Doing → CardState → List Event → Ending → CardState → Type 0
 Serves most hears c (came arrival ∷ events) ending left =
     (1 ≤ most) × Serves (most - 1) (doing_after c arrival) (left_after c arrival) events ending left
@@ -95,19 +95,19 @@ Serves most (says parts) c (unsent octets fault ∷ []) ending left =
 Serves most (ends how) c [] ending left = (ending ≡ how) × (left ≡ c)
 Serves most doing c events ending left = ⊥
 
--- The front of the buffer has the block of this turn, or the call was refused so.
+-- The front of the buffer has the block of this turn, or the call was refused with this fault.
 abbrev pub IsReply : Result CardTurn CardFault → List ℕ → Result ℕ CardFault → Type 0
 IsReply turn out (Ok count) = (parts : Parts) × (turn ≡ Ok (Send parts)) × (take count out ≡ spelling parts)
 IsReply turn out (Err inner) = turn ≡ Err inner
 
--- These events answer a block: what follows them from the new state follows it from the old one.
+-- These events answer a block: whatever follows them from the new state also follows from the old one.
 abbrev pub IsAnswer : Doing → CardState → List Event → List ℕ → Result ℕ ServeFault → CardState → Type 0
 IsAnswer doing c events out (Ok count) c' = (parts : Parts) × (take count out ≡ spelling parts)
     × ((most : ℕ) (more : List Event) (ending : Ending) (left : CardState)
     → Serves most (says parts) c' more ending left → Serves most doing c (events ++ more) ending left)
 IsAnswer doing c events out (Err inner) c' = (most : ℕ) → Serves most doing c events (ending_of {A = ℕ} (Err inner)) c'
 
--- The same of a block that came, or of one that didn't.
+-- These events are a block that came and its answer, or they say that none came.
 abbrev pub IsRound : CardState → List Event → Result Bool ServeFault → CardState → Type 0
 IsRound c events (Ok true) c' = (most : ℕ) (more : List Event) (ending : Ending) (left : CardState) → 1 ≤ most
     → Serves (most - 1) hears c' more ending left → Serves most hears c (events ++ more) ending left

@@ -1,5 +1,5 @@
--- A line over a device that has a clock: what its device heard and said, and what talk, or event of a card, comes of
--- that. The clauses are those of ISO/IEC 7816-3:2006; what is this project's is marked (own).
+-- A line over a device with a clock: what its device heard and said, and the talk, or the event of a card, that follows
+-- from it. The clauses are those of ISO/IEC 7816-3:2006. What this project adds is marked (own).
 use Rattle.std.specs.Prelude.{◌≡◌, ◌<◌, ◌⊎◌, ℕ, ◌-◌, ◌*◌, ◌/◌, List, [], ◌∷◌, ◌++◌, length, take, min, max, true, if◌then◌else◌, Result, Ok, Err}
 use Rattle.std.specs.IoError.{error_kind}
 use Rattle.std.specs.declared.io.Error.{Error}
@@ -10,8 +10,8 @@ use Rattle.line_core.specs.Bursts.{handed, is_whole, wait_of}
 use Rattle.line_core.specs.Line.{Arrival, block, nothing, failure, Talk}
 use Rattle.line_core.specs.Service.{Event, came as arrives, asked, sent, unsent}
 
--- One call of the device: within so many microseconds these octets came, or none; or it failed. Or the end said these
--- octets, or failed to.
+-- One call of the device: these octets came within so many microseconds, or none did; or it failed. Or the end sent
+-- these octets, or failed to.
 pub data Sound : Type 0 where
   came : (limit : ℕ) (piece : List ℕ) → Sound
   deaf : (limit : ℕ) (fault : Error) → Sound
@@ -26,27 +26,27 @@ abbrev pub saying : {A : Type 0} → List ℕ → Result A Error → Sound
 saying octets (Ok done) = said octets
 saying octets (Err fault) = unsaid octets fault
 
--- Whatever the device heard and said since another one, these sounds came after it, and nothing else did.
+-- From any earlier state of the device, these sounds came after those before, and nothing else did.
 abbrev pub Sounds : {A : Type 0} → (A → List Sound → Type 0) → (A → List Sound → Type 0) → List Sound → Type 0
 Sounds {A} old new sounds = (first : A) (before : List Sound) → old first before → new first (before ++ sounds)
 
--- after so many octets no silence is waited for any more (own)
+-- after this many octets without a silence, the line doesn't wait for one any more (own)
 abbrev pub most_noise : ℕ
 most_noise = 65536
 
--- as long as it takes
+-- the greatest limit, which stands for a wait without an end
 abbrev pub forever : ℕ
 forever = 18446744073709551615
 
 -- ---- before an end sends
 
--- the fault of a line that is never silent
+-- the fault of a line that never gets silent
 abbrev pub IsNeverSilent : Result (Unit {0}) Error → Type 0
 IsNeverSilent (Ok done) = ⊥
 IsNeverSilent (Err fault) = error_kind fault ≡ TimedOut
 
--- What came late is dropped until the line is silent, first for as long as it still has to be, and after an octet for
--- this long; at most so many octets (BGT: 11.4.3).
+-- What comes late is dropped until the line is silent: first for `limit`, and after an octet for `again`; at most
+-- `left` octets are dropped (BGT: 11.4.3).
 abbrev pub Settles : ℕ → ℕ → ℕ → List Sound → Result (Unit {0}) Error → Type 0
 Settles limit again left [] settled = (left ≡ 0) × IsNeverSilent settled
 Settles limit again left (came at [] ∷ []) settled = (0 < left) × (at ≡ limit) × (settled ≡ Ok tt)
@@ -55,18 +55,18 @@ Settles limit again left (came at (octet ∷ octets) ∷ sounds) settled =
 Settles limit again left (deaf at fault ∷ []) settled = (0 < left) × (at ≡ limit) × (settled ≡ Err fault)
 Settles limit again left sounds settled = ⊥
 
--- how long the line then still has to be silent before the end sends
+-- how long the line still has to be silent before the end sends
 abbrev pub owed_then : Result (Unit {0}) Error → ℕ → ℕ
 owed_then (Ok done) owed = 0
 owed_then (Err fault) owed = owed
 
--- what the device is told to send, where the line became silent or didn't
+-- what the device does for a block: it sends the octets if the line became silent, and nothing if it didn't
 abbrev pub Sends : ℕ → Result (Unit {0}) Error → List Sound → List ℕ → Result (Unit {0}) Error → ℕ → Type 0
 Sends owed (Err fault) sounds octets result next = (sounds ≡ []) × (result ≡ Err fault) × (next ≡ owed)
 Sends owed (Ok done) sounds octets result next = (sounds ≡ saying octets result ∷ []) × (next ≡ 0)
 
--- An end sends a block: the line had to be silent for so long, these are the sounds, and after them it has to be silent
--- for so long.
+-- An end sends a block. The line has to be silent for `owed` before, these are the sounds, and it has to be silent for
+-- `next` after them.
 pub record Says (after owed : ℕ) (sounds : List Sound) (octets : List ℕ) (result : Result (Unit {0}) Error)
     (next : ℕ) : Type 0 where
   pub settling : List Sound
@@ -78,13 +78,14 @@ pub record Says (after owed : ℕ) (sounds : List Sound) (octets : List ℕ) (re
 
 -- ---- when an end listens
 
--- A burst is over with no silence where it is a whole block and no silence is asked for after one, or where so many
--- octets came.
+-- A burst is over without a silence if it is a whole block and no silence is required after one, or if too many octets
+-- came.
 abbrev pub IsOver : ℕ → ℕ → List ℕ → Type 0
 IsOver after left burst = (left ≡ 0) ⊎ ((after ≡ 0) × (is_whole burst ≡ true))
 
--- The end has heard this of a burst: then these sounds come, and it heard this burst, or its device failed. A silence
--- ends the burst, as long as the octets so far ask for: the first wait, CWT (11.4.3), or the one after a whole block.
+-- The end has heard this burst so far. Then these sounds come, and it has heard the burst in the result, or its device
+-- failed. A silence ends the burst. Its length depends on the octets so far: the first wait, CWT (11.4.3), or the wait
+-- after a whole block.
 abbrev pub Listens : ℕ → ℕ → ℕ → ℕ → List ℕ → List Sound → Result (List ℕ) Error → Type 0
 Listens first cwt after left burst [] heard = IsOver after left burst × (heard ≡ Ok burst)
 Listens first cwt after left burst (came limit [] ∷ []) heard =
@@ -107,8 +108,8 @@ arrival_from (Ok []) = nothing
 arrival_from (Ok (octet ∷ octets)) = block (take handed (octet ∷ octets))
 arrival_from (Err fault) = failure fault
 
--- How long the line still has to be silent before the end sends: after a burst that is no whole block so long that a
--- late rest of it isn't taken for a block (own).
+-- How long the line still has to be silent before the end sends. After a burst that isn't a whole block, it has to be
+-- silent so long that a late rest of the burst isn't taken for a block (own).
 abbrev pub owed_after : ℕ → Result (List ℕ) Error → ℕ
 owed_after drain (Ok []) = 0
 owed_after drain (Ok (octet ∷ octets)) = if is_whole (octet ∷ octets) then 0 else drain
@@ -123,7 +124,7 @@ pub record Hears (silences : Silences) (first drain : ℕ) (sounds : List Sound)
 
 -- ---- a talk of a terminal, and an event of a card
 
--- a terminal that sent its block listens for BWT, times what the card was granted (11.4.3)
+-- a terminal that sent its block listens for BWT, multiplied by what the card was granted (11.4.3)
 abbrev pub Answers : Silences → Result (Unit {0}) Error → ℕ → List Sound → Talk → ℕ → Type 0
 Answers silences (Err fault) owed sounds talk next =
     (sounds ≡ []) × (talk.arrival ≡ failure fault) × (next ≡ owed)
@@ -139,8 +140,8 @@ pub record IsTalk (silences : Silences) (owed : ℕ) (sounds : List Sound) (talk
   pub says : Says silences.after owed saying talk.sent result mid
   pub answers : Answers silences result mid hearing talk next
 
--- A card answers within BWT: after a burst that is no whole block it waits for a silence of three quarters of it, and of
--- CWT at least (own).
+-- A card answers within BWT. After a burst that isn't a whole block, it waits for a silence of three quarters of BWT,
+-- and of CWT at least (own).
 abbrev pub drain_of : Silences → ℕ
 drain_of silences = max (silences.bwt - silences.bwt / 4) silences.cwt
 
@@ -152,7 +153,7 @@ IsEvent silences owed sounds (asked command reply) next = ⊥
 
 -- ---- one after another
 
--- These sounds are those of these steps, each by its own, and the line has to be silent for so long after them.
+-- The sounds are those of these steps, one after another, and the line has to be silent for `last` after them.
 abbrev pub Come : {E : Type 0} → (ℕ → List Sound → E → ℕ → Type 0) → ℕ → List Sound → List E → ℕ → Type 0
 Come step owed sounds [] last = (sounds ≡ []) × (last ≡ owed)
 Come step owed sounds (one ∷ more) last = (mine rest : List Sound) × (next : ℕ) × (sounds ≡ mine ++ rest)
@@ -165,11 +166,12 @@ module _ {D : Type 0} where
   abbrev pub silences_of : TimedLine D → Silences
   silences_of line = line.silences
 
-  -- how long it still has to be silent before it is sent to
+  -- how long the line still has to be silent before its end sends
   abbrev pub owed_of : TimedLine D → ℕ
   owed_of line = line.owed
 
-  -- Since the first line its device heard and said the sounds of these talks, or of these events of a card.
+  -- Since the first state of the line, its device heard and said the sounds of these talks, or of these events of a
+  -- card.
   abbrev pub HasHeardOf : {E : Type 0} → (Silences → ℕ → List Sound → E → ℕ → Type 0)
       → (D → D → List Sound → Type 0) → TimedLine D → TimedLine D → List E → Type 0
   HasHeardOf step heard line first steps = (line.silences ≡ first.silences) × (sounds : List Sound)

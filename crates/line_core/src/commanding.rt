@@ -1,4 +1,4 @@
-//! One exchange of a command and its response as values.
+//! One exchange of a command and its response, as values.
 
 ghost use Rattle.std.specs.Prelude.{◌≤◌, length, OnOk, IsSome};
 ghost use Rattle.apdu_core.specs.Command.{spelling};
@@ -13,12 +13,11 @@ use apdu_core::{Command, ResponseReason, ResponseRef, encode_command_into};
 use octet_core::Stop;
 use t1_core::Terminal;
 
-/// Sends a command over the line (ISO/IEC 7816-3, clause 12); at `Ok` the terminal has its answer, which
-/// [`response_of`] reads.
+/// Sends a command over the line (ISO/IEC 7816-3, clause 12). At `Ok` the terminal has the answer, which
+/// [`response_of`] decodes.
 ///
-/// The command's octets are put to the front of the buffer, which has room for them: for as many as
-/// [`Command::encoded_len`] says, at most 65,544. Blocks, the budget and faults are those of
-/// [`exchange`](crate::exchange).
+/// The command is encoded at the front of the buffer, which must have room for [`Command::encoded_len`] octets,
+/// at most 65,544. Blocks, the budget and the errors are those of [`exchange`](crate::exchange).
 pub fn exchange_command<L: TerminalLine>(
     terminal: &mut Terminal,
     line: &mut L,
@@ -35,8 +34,9 @@ pub fn exchange_command<L: TerminalLine>(
     send_command(terminal, line, &buffer[..count], most_blocks)
 }
 
-/// The terminal's answer after [`exchange_command`] or [`resume`](crate::resume), decoded as a response, or why
-/// it isn't one; `None` where the terminal has no answer. The data field is lent from the answer.
+/// Decodes the terminal's answer as a response, after [`exchange_command`] or [`resume`](crate::resume). The
+/// data field is borrowed from the answer. The result is `None` if the terminal has no answer; the inner error
+/// says why the answer isn't a response.
 pub fn response_of(terminal: &Terminal) -> Option<Result<ResponseRef<'_>, Stop<ResponseReason>>>
     ensures { IsResponseOf terminal.now.answered result }
 {

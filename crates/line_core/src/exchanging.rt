@@ -15,20 +15,20 @@ use crate::line::{Received, TerminalLine};
 use block_core::LONGEST_BLOCK;
 use t1_core::{EncodedTerminalTurn, Terminal};
 
-/// The most octets that are taken as one block: one more than the longest block has, so that the front of
-/// a longer one isn't taken for a block.
+/// The greatest number of octets that are taken as one block: one more than the longest block has. So the front of a
+/// longer one isn't taken for a block.
 pub const LONGEST_ARRIVAL: usize = 259;
 
-/// Sends a command over the line and gives the answer, which the terminal lends (ISO/IEC 7816-3, clause
-/// 11.6). It has at most 65,538 octets.
+/// Sends a command over the line and returns the answer, borrowed from the terminal (ISO/IEC 7816-3, clause 11.6). The
+/// answer has at most 65,538 octets.
 ///
-/// The call sends each block that the terminal's table gives, and nothing else. It passes what comes after a block to
-/// the terminal, until the table ends the exchange. At most `most_blocks` blocks are sent: a card may
-/// ask for more time again and again. One that takes no such requests, and loses nothing, needs a block for
-/// each information field of the command and of the answer.
+/// The call sends the blocks that the terminal's table requires, and nothing else. It passes what comes after a block
+/// to the terminal, until the table ends the exchange. It sends at most `most_blocks` blocks, since a card may ask for
+/// more time again and again. If the card doesn't, and nothing is lost, the exchange takes one block for each
+/// information field of the command and of the answer.
 ///
-/// `Refused` comes before anything is sent: `Dead`, `Busy`, then `TooLong` for more than 65,544 octets.
-/// After `Line` and `UsedUp` the exchange is still under way: [`resume`] goes on with it.
+/// The error is `Refused` before anything is sent: `Dead`, `Busy`, or `TooLong` for more than 65,544 octets, tried in
+/// this order. After `Line` and `UsedUp` the exchange is still unfinished, and [`resume`] continues it.
 pub fn exchange<'a, L: TerminalLine>(
     terminal: &'a mut Terminal,
     line: &mut L,
@@ -43,7 +43,7 @@ pub fn exchange<'a, L: TerminalLine>(
     Ok(answer_of(terminal))
 }
 
-/// The answer that the terminal holds.
+/// Returns the answer that the terminal holds.
 fn answer_of(terminal: &Terminal) -> &[u8]
     requires { IsSome terminal.now.answered }
     ensures { terminal.now.answered ≡ Some result.now }
@@ -51,10 +51,11 @@ fn answer_of(terminal: &Terminal) -> &[u8]
     terminal.answer().unwrap_or(&[])
 }
 
-/// Asks the card over the line to send information fields of up to `size` octets; at `Ok` it does.
+/// Asks the card over the line to send information fields of up to `size` octets. At `Ok` the card does so from then
+/// on.
 ///
-/// Blocks, the budget and faults are those of [`exchange`]; refused `Dead`, `Busy`, then `Reserved` for the
-/// sizes 0 and 255.
+/// Blocks, the budget and the errors are those of [`exchange`]. `Refused` is `Dead`, `Busy`, or `Reserved` for the
+/// sizes 0 and 255, tried in this order.
 pub fn ask_ifs<L: TerminalLine>(
     terminal: &mut Terminal,
     line: &mut L,
@@ -69,13 +70,13 @@ pub fn ask_ifs<L: TerminalLine>(
     run(terminal, line, first, &mut out, most_blocks)
 }
 
-/// Goes on with an exchange, or a question about a size, that a line's failure or the budget cut short. The call tells
+/// Continues an exchange, or a request for a size, that a failure of the line or the budget cut short. The call tells
 /// the terminal that nothing came, and the terminal asks again for the block that it waits for. At `Ok` an exchange
-/// has its answer, which [`Terminal::answer`] lends.
+/// has its answer, which [`Terminal::answer`] returns.
 ///
-/// So it counts as one more failure of the line; where that is the fourth in a row, both ends are
-/// resynchronized, and `GivenUp` comes. Faults are those of [`exchange`]; refused `Dead`, and `Idle` where
-/// nothing is under way.
+/// So the call counts as one more failure of the line. If it is the fourth in a row, both ends are resynchronized, and
+/// the error is `GivenUp`. The errors are those of [`exchange`]. `Refused` is `Dead`, or `Idle` if nothing is
+/// unfinished.
 pub fn resume<L: TerminalLine>(
     terminal: &mut Terminal,
     line: &mut L,
@@ -89,7 +90,7 @@ pub fn resume<L: TerminalLine>(
     run(terminal, line, first, &mut out, most_blocks)
 }
 
-/// Sends a command; at `Ok` the terminal has the answer.
+/// Sends a command. At `Ok` the terminal has the answer.
 pub(crate) fn send_command<L: TerminalLine>(
     terminal: &mut Terminal,
     line: &mut L,
@@ -105,7 +106,7 @@ pub(crate) fn send_command<L: TerminalLine>(
     run(terminal, line, first, &mut out, most_blocks)
 }
 
-/// Goes on from the first turn of an exchange until it ends.
+/// Continues from the first turn of an exchange until it ends.
 fn run<L: TerminalLine>(
     terminal: &mut Terminal,
     line: &mut L,
@@ -136,8 +137,8 @@ fn run<L: TerminalLine>(
     }
 }
 
-/// Sends the block at the front of the buffer, and tells the terminal what came: its next turn, with its
-/// block at the front of the buffer.
+/// Sends the block at the front of the buffer, and passes what came to the terminal. Returns the terminal's next turn,
+/// with its block at the front of the buffer.
 fn talked<L: TerminalLine>(
     terminal: &mut Terminal,
     line: &mut L,

@@ -11,21 +11,21 @@ use t1_core::TerminalFault;
 /// Why an exchange has no answer.
 #[derive(Debug, Drop)]
 pub enum TransceiveFault {
-    /// Both ends were resynchronized, and the exchange or the question about a size is given up. The
+    /// Both ends were resynchronized, and the exchange or the request for a size was given up. The
     /// terminal takes the next call.
     GivenUp,
-    /// The card answers no more, not even RESYNCH, and the terminal refuses each call.
+    /// The card doesn't answer any more, not even RESYNCH. The terminal refuses each further call.
     Dead,
     /// The line failed. The terminal still waits for the answer to its last block.
     Line(io::Error),
-    /// As many blocks were sent as the caller allows. The terminal waits for the answer to one more, which
-    /// wasn't sent.
+    /// As many blocks were sent as the caller allows. The terminal waits for the answer to one more block,
+    /// which wasn't sent.
     UsedUp,
-    /// The terminal refused the call: nothing was sent, and nothing changes.
+    /// The terminal refused the call. Nothing was sent, and nothing changed.
     Refused(TerminalFault),
 }
 
-/// The name of the fault, and what it holds after it, as in `Refused: Busy`.
+/// Writes the name of the fault, and after it the inner fault, as in `Refused: Busy`.
 impl Display for TransceiveFault {
     ghost use Rattle.line_core.specs.Names.{transceive_fault_text};
 

@@ -1,4 +1,4 @@
-//! From octets and silences to bursts (ISO/IEC 7816-3, clause 11.4.3).
+//! Division of octets and silences into bursts (ISO/IEC 7816-3, clause 11.4.3).
 
 ghost use Rattle.std.specs.Prelude.{◌≡◌, ◌≤◌, ◌++◌, [], ℕ, List, length, take, min};
 ghost use Rattle.octet_core.specs.Octets.{xor_of};
@@ -10,21 +10,21 @@ use std::fmt::{self, Debug, Formatter, Write};
 
 /// A burst: octets that follow one another on a line without the silence that ends it.
 ///
-/// A block begins and ends with its burst, so the end takes the whole burst, and what LEN says alone ends nothing: one
-/// octet of a block that is another one, octets that are missing at its end, and octets after it are never taken for a
-/// block ([`no_block`](crate::laws::no_block)). All octets are counted and the first 259 are kept, one more than the
-/// longest block has. Any value of the fields is a framer.
+/// A block begins and ends with its burst. So an end takes the whole burst, and LEN alone doesn't end anything. A burst
+/// is never taken for a block ([`no_block`](crate::laws::no_block)) if one octet of a block was changed, octets are
+/// missing at its end, or octets follow it. The framer counts all octets, and keeps the first 259, one more than the
+/// longest block has. Any values of the fields are valid.
 #[repr(C)]
 #[derive(Clone, Copy)]
 pub struct Framer {
-    /// How many octets came, also those that aren't kept. It stays at its greatest value.
+    /// How many octets came, including those that aren't kept. The count stops at its greatest value.
     pub count: u64,
-    /// The first of them.
+    /// The first octets that came.
     pub octets: [u8; LONGEST_ARRIVAL],
 }
 
 impl Framer {
-    /// A burst of no octet so far.
+    /// Makes a framer for a burst before its first octet.
     pub fn new() -> Framer
         ensures { HasHeard result [] }
     {
@@ -34,14 +34,14 @@ impl Framer {
         }
     }
 
-    /// Begins the next burst.
+    /// Starts the next burst.
     pub fn restart(&mut self)
         ensures { HasHeard self.new [] }
     {
         self.count = 0;
     }
 
-    /// Takes octets that came, none too.
+    /// Takes octets that came, possibly none.
     pub fn feed(&mut self, piece: &[u8])
         ensures { (burst : List ℕ) → HasHeard self.old burst
             → HasHeard self.new (burst ++ piece.now) }
@@ -52,7 +52,7 @@ impl Framer {
         self.count = self.count.saturating_add(piece.len() as u64);
     }
 
-    /// How many octets at the front of `octets` an end is handed: all that came, at most 259.
+    /// Returns how many octets at the front of `octets` are passed to an end: all that came, at most 259.
     pub fn kept(&self) -> usize
         ensures is { result ≡ min self.now.count handed }
         ensures kept { (burst : List ℕ) → HasHeard self.now burst
@@ -61,7 +61,7 @@ impl Framer {
         self.count.min(LONGEST_ARRIVAL as u64) as usize
     }
 
-    /// The octets that an end is handed: the burst, or its first 259 octets.
+    /// Returns the octets that are passed to an end: the burst, or its first 259 octets.
     pub fn burst(&self) -> &[u8]
         ensures most { length result.now ≤ 259 }
         ensures burst { (burst : List ℕ) → HasHeard self.now burst
@@ -70,15 +70,15 @@ impl Framer {
         &self.octets[..self.kept()]
     }
 
-    /// Whether the burst is a whole block with the right LRC, by its LEN, and nothing more.
+    /// Whether the burst is exactly one whole block, by its LEN, with the right LRC.
     pub fn is_whole(&self) -> bool
         ensures { (burst : List ℕ) → HasHeard self.now burst → result ≡ is_whole burst }
     {
         self.count == u64::from(self.octets[2]) + 4 && sum_of(self.burst()) == 0
     }
 
-    /// How long a silence ends the burst, in any unit of time: `first` while no octet came, `after` where the burst is
-    /// a whole block with the right LRC, and else `inside`.
+    /// Returns how long a silence must be to end the burst, in any unit of time. It is `first` before the first octet,
+    /// `after` if the burst is a whole block with the right LRC, and `inside` otherwise.
     pub fn wait(&self, first: u64, inside: u64, after: u64) -> u64
         ensures { (burst : List ℕ) → HasHeard self.now burst
             → result ≡ wait_of first inside after burst }
@@ -93,8 +93,8 @@ impl Framer {
     }
 }
 
-/// The exclusive-or of the octets. It isn't inlined: beside a test of its result the compiler takes octet by octet, and
-/// in a function of its own many at once.
+/// Returns the exclusive-or of the octets. It isn't inlined: next to a test of its result, the compiler takes one octet
+/// at a time. In a separate function it takes many at once.
 #[inline(never)]
 fn sum_of(octets: &[u8]) -> u8
     ensures { result ≡ xor_of octets.now }
@@ -102,7 +102,7 @@ fn sum_of(octets: &[u8]) -> u8
     lrc(octets)
 }
 
-/// Shows how many octets came, and none of them.
+/// Shows how many octets came, but no octet.
 impl Debug for Framer {
     fn fmt<W: Write>(&self, f: &mut Formatter<W>) -> fmt::Result {
         f.debug_struct("Framer")

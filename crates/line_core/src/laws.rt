@@ -1,13 +1,14 @@
-//! What holds of both ends of a line, as contracts.
+//! Laws of both ends of a line, as contracts.
 //!
-//! `specs/Joined.antt` has the statements: calls of `exchange`, `ask_ifs` and `resume` at one end, and of `serve`
-//! at the other, over a line which gives each end what the other one sent, but for what is lost or damaged.
+//! `specs/Joined.antt` has the statements. They are about calls of `exchange`, `ask_ifs` and `resume` at one end, and
+//! of `serve` at the other. The line between them passes what one end sent to the other, except what it loses or
+//! damages.
 
 ghost use Rattle.line_core.specs.Bursts.{AlwaysNoBlock};
 ghost use Rattle.line_core.specs.Joined.{AlwaysPasses, AlwaysLinked, AlwaysMatched, AlwaysInOrder, AlwaysPatientCalls, AlwaysOnce};
 
-/// The calls of a new terminal and of a new card are a history of t1_core's link: so what its laws promise of the
-/// link they promise of these calls.
+/// The calls of a new terminal and of a new card are a history of the link in t1_core. So what the laws of t1_core
+/// promise of the link holds for these calls.
 pub fn linked()
     ensures { AlwaysLinked }
 {
@@ -16,8 +17,8 @@ pub fn linked()
     t1_core::laws::patient();
 }
 
-/// Each command that was answered is one that the card's host was given, once and in order, and the answer is its
-/// reply; a command without an answer was given to the host once or not at all.
+/// Each command with an answer was passed to the card's host once and in order, and the answer is the host's reply. A
+/// command without an answer was passed to the host once or not at all.
 pub fn matched()
     ensures { AlwaysMatched }
 {
@@ -25,8 +26,8 @@ pub fn matched()
     t1_core::laws::matched();
 }
 
-/// Where no exchange was given up, the host's commands are the first of the terminal's, in their order, and the
-/// answered exchanges are the first of the host's services.
+/// If no exchange was given up, the host's commands are the first of the terminal's, in the same order. The answered
+/// exchanges are the first of the host's services.
 pub fn in_order()
     ensures { AlwaysInOrder }
 {
@@ -34,8 +35,8 @@ pub fn in_order()
     t1_core::laws::in_order();
 }
 
-/// Between ends with the same limits, an exchange is given up only after two blocks that were lost or damaged in
-/// it, and the card is found dead only after five.
+/// Between ends with the same limits, an exchange is given up only after two of its blocks were lost or damaged. The
+/// card is found dead only after five.
 pub fn patient()
     ensures { AlwaysPatientCalls }
 {
@@ -44,22 +45,22 @@ pub fn patient()
     t1_core::laws::patient();
 }
 
-/// Of one call at each end: the host was given the command at most once, and no other, and where the call ended with
-/// an answer it was given it, and replied this answer.
+/// For one call at each end: the host was passed this command at most once, and no other. If the call ended with an
+/// answer, the host was passed the command, and the answer is its reply.
 pub fn once()
     ensures { AlwaysOnce }
 {
     matched();
 }
 
-/// No end takes for a block what is left of a burst, of which one octet is another one, or octets are missing at its
-/// end, or follow it: whatever block it was, and whatever size the end holds (ISO/IEC 7816-3, clauses 11.3 and 11.4.4).
+/// A burst isn't taken for a block if one octet of a block was changed, octets are missing at its end, or octets follow
+/// it. This holds for every block, and for every size that the end accepts (ISO/IEC 7816-3, clauses 11.3 and 11.4.4).
 pub fn no_block()
     ensures { AlwaysNoBlock }
 {}
 
-/// So such a burst is a damaged block to the other laws: over a line that does nothing else, and loses blocks, each
-/// answered exchange is one that the card's host served, and each command is acted on at most once.
+/// Such a burst is a damaged block to the other laws. So they hold over a line that does only this, and loses blocks.
+/// Each answered exchange is one that the card's host served, and each command is acted on at most once.
 pub fn harmed_passes()
     ensures { AlwaysPasses }
 {

@@ -1,17 +1,19 @@
 //! One exchange of T=1 in one call (ISO/IEC 7816-3, clause 11.6), for drivers of readers and simulators of cards.
 //!
-//! A [`TerminalLine`] carries the blocks of a terminal: one call sends a block and takes what comes.
-//! [`exchange`] hands over a command and gives the answer, [`ask_ifs`] asks about a size, and
-//! [`resume`] goes on with either where the line failed or too many blocks were sent.
-//! `specs/Exchange.antt` says what these do: what was on the line is a run of the terminal's table
-//! over what came. [`exchange_command`] makes such a run of a command as a value, and
-//! [`response_of`] reads the answer. [`begin_by_resynch`] begins with a card that can't be reset:
-//! `specs/Resynch.antt`. At the other end [`serve`] has a card answer what comes over a [`CardLine`],
-//! with the replies of its [`Host`]: `specs/Service.antt`. What holds of both ends over one line are the [`laws`].
+//! A [`TerminalLine`] carries the blocks of a terminal: one call sends a block and takes what comes after it.
+//! [`exchange`] sends a command and returns the answer. [`ask_ifs`] asks for a size of information fields.
+//! [`resume`] continues either after the line failed or too many blocks were sent. `specs/Exchange.antt` says what
+//! these calls do: what was on the line is a run of the terminal's table over what came. [`exchange_command`]
+//! makes such a run for a command as a value, and [`response_of`] decodes the answer. [`begin_by_resynch`] begins
+//! a session with a card that can't be reset: `specs/Resynch.antt`.
 //!
-//! A [`TimedLine`] is a line of either kind over a [`TimedDevice`], the driver of a serial port: a [`Framer`] cuts
-//! what comes into bursts by silence, and a burst is a block only as a whole: `specs/Bursts.antt` and
-//! `specs/Timed.antt`. An [`UntimedLine`] is a line over a reader and a writer of octets with no clock.
+//! At the other end, [`serve`] makes a card answer what comes over a [`CardLine`], with the replies of its
+//! [`Host`]: `specs/Service.antt`. [`laws`] states what holds of both ends over one line.
+//!
+//! A [`TimedLine`] is a line of either kind over a [`TimedDevice`], the driver of a serial port. A [`Framer`]
+//! divides what comes into bursts at the silences, and a burst counts as a block only as a whole:
+//! `specs/Bursts.antt` and `specs/Timed.antt`. An [`UntimedLine`] is a line over a reader and a writer of octets,
+//! without a clock.
 #![tactic(auto)]
 
 pub mod commanding;

@@ -1,4 +1,4 @@
-//! Begins a session with a card that can't be reset.
+//! Beginning of a session with a card that can't be reset.
 
 ghost use Rattle.std.specs.Prelude.{◌≡◌, List, Ok, OnOk, OnErr, Decides};
 ghost use Rattle.t1_core.specs.Terminal.{terminal_with, most_resynchs};
@@ -15,17 +15,17 @@ use t1_core::{MOST_RESYNCHS, Terminal};
 /// The block that asks for RESYNCH.
 const REQUEST: [u8; 4] = [0x00, 0xC0, 0x00, 0xC0];
 
-/// The block by which a card answers it.
+/// The block with which a card answers it.
 const RESPONSE: [u8; 4] = [0x00, 0xE0, 0x00, 0xE0];
 
-/// Begins a new session with a card that can't be reset, and of whose state nothing is known: a terminal
-/// begins else only together with a reset of its card (ISO/IEC 7816-3, clause 11.6.3.2).
+/// Begins a new session with a card that can't be reset, and whose state isn't known. Otherwise a terminal
+/// begins only together with a reset of its card (ISO/IEC 7816-3, clause 11.6.3.2).
 ///
-/// The card is asked for RESYNCH, three times at most and for one block waiting time each, and nothing else
-/// is sent. At `Ok` it answered: it is as at its start, and the terminal is a new one for these parameters
-/// with the limits that it had. What was under way is given up; whether the card's host acted on it isn't
-/// known. `Dead` where the card didn't answer, `Line` where the line failed: then the terminal stays as it
-/// was.
+/// The card is asked for RESYNCH at most three times, for one block waiting time each, and nothing else is
+/// sent. At `Ok` the card answered, and is as at its start. The terminal is a new one for these parameters,
+/// with the limits that it had. An unfinished exchange is given up; whether the card's host acted on it
+/// isn't known. The error is `Dead` if the card didn't answer, or `Line` if the line failed. In both cases
+/// the terminal stays as it was.
 pub fn begin_by_resynch<L: TerminalLine>(
     terminal: &mut Terminal,
     line: &mut L,
@@ -43,7 +43,7 @@ pub fn begin_by_resynch<L: TerminalLine>(
     Ok(())
 }
 
-/// Asks for RESYNCH until the card answers, or as often as may be: whether it did.
+/// Asks for RESYNCH until the card answers, or the greatest number of times. Returns whether it answered.
 fn is_answered<L: TerminalLine>(line: &mut L) -> Result<bool, TransceiveFault>
     ensures { (talks : List Talk) × Adds (L.said line.old) (L.said line.new) talks
         × Asks most_resynchs talks (told_of result) }

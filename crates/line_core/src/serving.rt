@@ -15,16 +15,16 @@ use std::fmt::{self, Display, Formatter, Write};
 use std::io;
 use t1_core::{Card, CardFault, EncodedCardTurn};
 
-/// The line of a card: what a card, or a simulator of one, has.
+/// The line of a card, as a card or a simulator of one has it.
 ///
-/// Contracts see what was on it since it was another line, as of a [`TerminalLine`](crate::TerminalLine). A line of which
-/// nothing is known, such as a device, has for `said` what always holds, `λ _ _ _. Unit {0}`.
+/// Contracts see the events on the line since an earlier state of it, as for a [`TerminalLine`](crate::TerminalLine). A
+/// line about which nothing is known, such as a device, has a `said` that always holds: `λ _ _ _. Unit {0}`.
 pub trait CardLine {
-    /// These may be the events that were on the line since it was another line (the second).
+    /// Whether these may be the events on the line since an earlier state, the second argument.
     ghost said: { Self → Self → List Event → Type 0 };
 
-    /// Waits for the next block as long as it takes, and takes it into the buffer. `Nothing` says that no
-    /// more comes, as where the card's power is off.
+    /// Waits for the next block without a limit, and takes it into the buffer. `Nothing` says that no more comes, for
+    /// example because the card's power is off.
     fn receive(&mut self, room: &mut [u8]) -> io::Result<Received>
         requires { 259 ≤ length room.old }
         ensures fits { IfOk result (λ heard. FitsRoom heard room.new) }
@@ -36,12 +36,12 @@ pub trait CardLine {
         ensures { Happens (said self.old) (said self.new) (sending block.now result ∷ []) };
 }
 
-/// What a card does with the commands that it is given.
+/// The application of a card: what acts on its commands.
 ///
-/// Contracts see those since it was another host, each with its reply; where nothing is said of them `served` is what
-/// always holds, `λ _ _ _. Unit {0}`.
+/// Contracts see the commands since an earlier state of the host, each with its reply. If nothing is known about them,
+/// `served` always holds: `λ _ _ _. Unit {0}`.
 pub trait Host {
-    /// These may be the commands and replies since it was another host (the second).
+    /// Whether these may be the commands and replies since an earlier state, the second argument.
     ghost served: { Self → Self → List Event → Type 0 };
 
     /// The reply to the last command.
@@ -52,23 +52,23 @@ pub trait Host {
         ensures { Happens (served self.old) (served self.new)
             (asked command.now (reply self.new) ∷ []) };
 
-    /// The reply to the last command, with its status bytes: at most 65,538 octets.
+    /// Returns the reply to the last command, with its status bytes: at most 65,538 octets.
     fn reply(&self) -> &[u8]
         ensures { result.now ≡ reply self.now };
 }
 
-/// Why a card serves no more.
+/// Why a card stopped serving.
 #[derive(Debug, Drop)]
 pub enum ServeFault {
     /// The line failed.
     Line(io::Error),
     /// As many blocks came as the caller allows, and each was answered.
     UsedUp,
-    /// The card refused what came, `Order` where its host still owes a reply, or the reply, `TooLong`.
+    /// The card refused what came, as `Order` if its host still owes a reply, or it refused the reply, as `TooLong`.
     Refused(CardFault),
 }
 
-/// The name of the fault, and what it holds after it, as in `Refused: Order`.
+/// Writes the name of the fault, and after it the inner fault, as in `Refused: Order`.
 impl Display for ServeFault {
     ghost use Rattle.line_core.specs.Names.{serve_fault_text};
 
@@ -93,17 +93,15 @@ impl From<CardFault> for ServeFault {
     }
 }
 
-/// Serves what comes over the line to a card, by its host, until the line says that no more comes (ISO/IEC
-/// 7816-3, clause 11.6).
+/// Serves what comes over the line to a card, until the line says that no more comes (ISO/IEC 7816-3, clause 11.6).
 ///
-/// The call passes what comes to the card. It sends the block that the card's table gives, and nothing else. Where the
+/// The call passes what comes to the card, sends the blocks that the card's table requires, and nothing else. When the
 /// table says that a command is complete, the host acts on it once, and the call passes its reply to the card. At most
-/// `most_blocks` blocks are waited for. After `UsedUp` each is answered, and a further call goes on.
+/// `most_blocks` blocks are waited for. After `UsedUp` each of them is answered, and a further call continues.
 ///
-/// `Line` comes where the line fails: as it waits, or as it sends, and then the block that wasn't sent is
-/// sent again where the terminal asks for it. `Refused(TooLong)` comes for a reply of more than 65,538
-/// octets; then the card waits for another reply, by `Card::reply`, and until that what comes is refused
-/// `Order`.
+/// The error is `Line` if the line fails while it waits or sends. A block that wasn't sent is sent again if the
+/// terminal asks for it. The error is `Refused(TooLong)` for a reply of more than 65,538 octets. Then the card waits
+/// for another reply, by `Card::reply`, and until then refuses what comes as `Order`.
 pub fn serve<L: CardLine, H: Host>(
     card: &mut Card,
     line: &mut L,
@@ -126,7 +124,7 @@ pub fn serve<L: CardLine, H: Host>(
     Err(ServeFault::UsedUp)
 }
 
-/// Serves the next block: whether one came.
+/// Serves the next block, and returns whether one came.
 fn serve_block<L: CardLine, H: Host>(
     card: &mut Card,
     line: &mut L,
@@ -153,7 +151,7 @@ fn serve_block<L: CardLine, H: Host>(
     }
 }
 
-/// The block that answers these octets is put to the front of the buffer: how many octets it has.
+/// Puts the block that answers these octets at the front of the buffer, and returns how many octets it has.
 fn answer_block<H: Host>(
     card: &mut Card,
     host: &mut H,
@@ -175,7 +173,8 @@ fn answer_block<H: Host>(
     }
 }
 
-/// The host acts on the command, and the first block of its reply is put to the front of the buffer.
+/// Makes the host act on the command, and puts the first block of its reply at the front of the buffer. Returns how
+/// many octets it has.
 fn reply_to<H: Host>(card: &mut Card, host: &mut H, out: &mut [u8]) -> Result<usize, CardFault>
     requires out { 258 ≤ length out.old }
     requires waits { card.old.waits ≡ owes }

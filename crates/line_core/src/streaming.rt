@@ -1,4 +1,4 @@
-//! A line whose octets go to a writer and come from a reader.
+//! A line that writes its octets to a writer and reads them from a reader.
 
 ghost use Rattle.std.specs.Prelude.{◌≡◌, ◌≢◌, ◌≤◌, ◌<◌, ◌+◌, ◌⊎◌, ℕ, Option, List, [], ◌∷◌, length, take, slice_index, IfOk, IfErr, OnOk, Ok, Err};
 ghost use Rattle.octet_core.specs.Failures.{Counts, ReadFails, HasFailed, next_count, most_failures};
@@ -15,32 +15,30 @@ use block_core::block_len;
 use octet_core::{Sink, Source, write_octets};
 use std::io::{self, ErrorKind};
 
-/// A line over a reader and a writer that can't see a silence: it ends a block where LEN says, and never looks at what
-/// follows. So one damaged LEN can make another block of it. It is right over packets, pipes and in tests, where octets
-/// come as they were sent; over a serial port use a [`TimedLine`](crate::TimedLine).
+/// A line over a reader and a writer that can't see a silence. It ends a block where LEN says, and never looks at what
+/// follows. So one damaged LEN can make another block of it. It is suitable for packets, pipes and tests, where octets
+/// arrive as they were sent. Over a serial port use a [`TimedLine`](crate::TimedLine).
 ///
 /// It is a `TerminalLine` for a terminal, and a `CardLine` for a card.
 ///
-/// The waiting time of `transceive` isn't handed on: how long a block is waited for is the reader's affair. A reader
-/// that blocks for ever makes a terminal wait for ever where the card is silent. So who uses this line for a terminal
-/// sets a limit on the reader, no shorter than the longest waiting time that the card may ask for. Where a call of the
-/// reader fails with `TimedOut` or `WouldBlock` before the first octet, that counts as the end of the waiting time:
-/// nothing came.
+/// The waiting time of `transceive` isn't passed on: the reader decides how long it waits for a block. With a reader
+/// that blocks forever, a terminal waits forever if the card is silent. So set a limit on the reader of a terminal, no
+/// shorter than the longest waiting time that the card may ask for. If a call of the reader fails with `TimedOut` or
+/// `WouldBlock` before the first octet, that is the end of the waiting time: nothing came.
 ///
-/// A block is written whole. What comes is read up to its end, which its third octet tells: the reader is
-/// asked for NAD, PCB and LEN, and then for LEN + 1 octets, so what follows the block stays unread. A block of
-/// which only the first octets came before the reader ended or failed is handed over so far. `Err` comes where the
-/// writer failed, as `WriteZero`, and where the reader failed otherwise before the first octet. No failed call is
-/// tried again.
+/// A block is written whole. What comes is read up to its end, which its third octet determines. The reader is asked
+/// for NAD, PCB and LEN, and then for LEN + 1 octets, so what follows the block stays unread. If the reader ended or
+/// failed after the first octets of a block, these octets are passed on. The error is `WriteZero` if the writer failed,
+/// or the reader's own error if it failed otherwise before the first octet. A failed call isn't retried.
 ///
-/// The ends differ where the reader has ended before the first octet, or fails with `UnexpectedEof` there. For
-/// a terminal, whose block has no answer then, that is the line's failure, `UnexpectedEof`. For a card it is
-/// `Nothing`: no more comes, and `serve` ends with `Ok`. Since `Nothing` ends serving, the reader of a card
-/// has to wait for the next block as long as it takes, and to time out only where no more comes.
+/// The two kinds of line differ if the reader ends before the first octet, or fails with `UnexpectedEof` there. For a
+/// terminal, whose block then has no answer, the line fails with `UnexpectedEof`. For a card the result is `Nothing`:
+/// no more comes, and `serve` ends with `Ok`. Since `Nothing` ends serving, the reader of a card must wait for the next
+/// block without a limit. It may time out only if no more comes.
 ///
-/// Contracts see what each call wrote and read, and which of it was whole, by the calls of the reader and the
-/// writer that failed: `said` has it of every talk, so the clauses of `exchange` and `serve` do. They don't see by
-/// which error a call failed, since a `Source` doesn't state it.
+/// Contracts see what each call wrote and read. They see what of it was whole by the number of calls of the reader and
+/// the writer that failed. `said` has this for every talk, so the clauses of `exchange` and `serve` have it too.
+/// Contracts don't see the error of a failed call, since a `Source` doesn't state it.
 #[derive(Debug, Drop)]
 pub struct UntimedLine<R, W> {
     source: R,
@@ -48,7 +46,7 @@ pub struct UntimedLine<R, W> {
 }
 
 impl<R, W> UntimedLine<R, W> {
-    /// The line over these two.
+    /// Makes a line over a reader and a writer.
     pub fn new(source: R, sink: W) -> Self
         ensures source { source_of result ≡ source }
         ensures sink { sink_of result ≡ sink }
@@ -56,7 +54,7 @@ impl<R, W> UntimedLine<R, W> {
         UntimedLine { source, sink }
     }
 
-    /// The reader and the writer back.
+    /// Returns the reader and the writer.
     pub fn into_parts(self) -> (R, W)
         ensures { result ≡ (source_of self, sink_of self) }
     {
@@ -131,7 +129,7 @@ impl<R: Source, W: Sink> CardLine for UntimedLine<R, W> {
     }
 }
 
-/// Writes a block whole: `WriteZero` where the writer fails before its last octet.
+/// Writes a whole block. The error is `WriteZero` if the writer fails before the last octet.
 fn write_block<W: Sink>(sink: &mut W, block: &[u8]) -> io::Result<()>
     ensures all { OnOk result (Appends (W.contents sink.old) (W.contents sink.new) block.now) }
     ensures part { IfErr result (λ _. (count : ℕ) × (count < length block.now)
@@ -148,7 +146,7 @@ fn write_block<W: Sink>(sink: &mut W, block: &[u8]) -> io::Result<()>
     }
 }
 
-/// What a card hears where this was read: of a reader that ended before the first octet, that no more comes.
+/// Returns what a card takes this read for. If the reader ended before the first octet, no more comes.
 fn over_at_end(read: io::Result<Received>) -> io::Result<Received>
     ensures fits { (room : List ℕ) → IfOk read (λ heard. FitsRoom heard room)
         → IfOk result (λ heard. FitsRoom heard room) }
@@ -201,16 +199,16 @@ fn read_block<R: Source>(source: &mut R, room: &mut [u8]) -> io::Result<Received
     Ok(Received::Octets(count))
 }
 
-/// What one call of the reader leads to.
+/// The result of one call of the reader.
 #[derive(Drop)]
 enum AfterRead {
-    /// So many octets more came, at least one.
+    /// This many more octets came, at least one.
     More(usize),
-    /// No more octets of the block come, and this is heard of it.
+    /// No more octets of the block come, and this is the result for the block.
     Over(io::Result<Received>),
 }
 
-/// Reads octets of the block by one call, after those at the front of the buffer.
+/// Reads octets of the block by one call, after the `count` octets at the front of the buffer.
 fn read_more<R: Source>(source: &mut R, room: &mut [u8], count: usize) -> io::Result<usize>
     requires room { 259 ≤ length room.old }
     requires count { count ≤ 259 }
@@ -228,7 +226,7 @@ fn read_more<R: Source>(source: &mut R, room: &mut [u8], count: usize) -> io::Re
     source.read(&mut room[count..end])
 }
 
-/// What a call of the reader leads to, where `count` octets of the block came before it. The end of its octets
+/// Returns what follows from a call of the reader after `count` octets of the block. The end of the reader's octets
 /// counts as the error `UnexpectedEof`.
 fn after_read(count: usize, read: io::Result<usize>) -> AfterRead
     ensures more { IfOk read (λ more. more ≢ 0 → result ≡ More more) }
@@ -243,7 +241,7 @@ fn after_read(count: usize, read: io::Result<usize>) -> AfterRead
     }
 }
 
-/// What is heard of a block of which no more octets come.
+/// Returns the result for a block if no more of its octets come after the first `count`.
 fn broken_off(count: usize, fault: io::Error) -> io::Result<Received>
     ensures fits { (room : List ℕ) → count ≤ length room
         → IfOk result (λ heard. FitsRoom heard room) }
@@ -266,7 +264,8 @@ fn broken_off(count: usize, fault: io::Error) -> io::Result<Received>
     }
 }
 
-/// Where the block ends that begins with these octets, as far as they tell: 3 for less than 3 of them.
+/// Returns the place where the block with these first octets ends, as far as they determine it: 3 for fewer than 3 of
+/// them.
 fn end_of(octets: &[u8]) -> usize
     ensures head { length octets.now < 3 → result ≡ 3 }
     ensures rest { 3 ≤ length octets.now → result ≡ slice_index octets.now 2 + 4 }

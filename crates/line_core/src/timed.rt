@@ -1,4 +1,4 @@
-//! A line over a device that receives under a time limit, as the driver of a serial port does.
+//! A line over a device that receives under a time limit, like the driver of a serial port.
 
 ghost use Rattle.std.specs.Prelude.{◌≡◌, ◌≤◌, ◌<◌, ◌*◌, ◌++◌, ℕ, List, [], ◌∷◌, length, take, min, max, IfOk, Ok, true, false};
 ghost use Rattle.line_core.specs.Bursts.{HasHeard, is_whole};
@@ -12,25 +12,25 @@ use crate::line::{Received, TerminalLine};
 use crate::serving::CardLine;
 use std::io::{self, ErrorKind};
 
-/// After so many octets without a silence, none is waited for any more.
+/// After this many octets without a silence, the line doesn't wait for one any more.
 const MOST_NOISE: usize = 65_536;
 
-/// What sends octets to the other end, and receives them under a time limit.
+/// A device that sends octets to the other end, and receives octets under a time limit.
 ///
-/// Contracts see what it heard and said since it was another device. A device of which nothing is known has for `heard`
-/// what always holds, `λ _ _ _. Unit {0}`.
+/// Contracts see the sounds of the device since an earlier state of it. A device about which nothing is known has a
+/// `heard` that always holds: `λ _ _ _. Unit {0}`.
 pub trait TimedDevice {
-    /// These may be the sounds since it was another device (the second).
+    /// Whether these may be the sounds since an earlier state, the second argument.
     ghost heard: { Self → Self → List Sound → Type 0 };
 
-    /// Sends these octets, all of them.
+    /// Sends all of these octets.
     fn send(&mut self, octets: &[u8]) -> io::Result<()>
         ensures { Sounds (heard self.old) (heard self.new) (saying octets.now result ∷ []) };
 
-    /// Receives octets to the front of the buffer, as soon as there are any: how many, and 0 where none came within so
-    /// many microseconds, counted from the last octet that was sent or received. It may wait for longer than that,
-    /// never for less; with 0 it gives what is there. `u64::MAX` is as long as it takes: then 0 says that no more
-    /// comes, as where the card's power is off.
+    /// Receives octets to the front of the buffer, as soon as there are any, and returns how many. The result is 0 if
+    /// none came within `microseconds`, counted from the last octet that was sent or received. The device may wait
+    /// longer than that, but never less. With 0 it returns what is there. With `u64::MAX` it waits without a limit, and
+    /// 0 says that no more comes, for example because the card's power is off.
     fn receive(&mut self, room: &mut [u8], microseconds: u64) -> io::Result<usize>
         requires { 1 ≤ length room.old }
         ensures fits { IfOk result (λ count. count ≤ length room.new) }
@@ -38,29 +38,30 @@ pub trait TimedDevice {
             (sound_of microseconds result room.new ∷ []) };
 }
 
-/// How long a line is silent, in microseconds (ISO/IEC 7816-3, clause 11.4.3).
+/// The silences of a line, in microseconds (ISO/IEC 7816-3, clause 11.4.3).
 #[derive(Clone, Copy, Debug, PartialEq, Eq)]
 pub struct Silences {
-    /// BWT: how long the first octet of a card's answer is waited for.
+    /// BWT: the wait for the first octet of a card's answer.
     pub bwt: u64,
-    /// CWT: the silence that ends a burst which is no whole block.
+    /// CWT: the silence that ends a burst that isn't a whole block.
     pub cwt: u64,
-    /// The silence that ends a burst which is a whole block: BGT, 22 elementary time units, or more, up to CWT. With 0
-    /// none is waited for: that is right where one call of the device gives a whole burst, and no more than one, as
-    /// a line of packets does.
+    /// The silence that ends a burst that is a whole block: BGT, 22 elementary time units, or more, up to CWT. With 0
+    /// no silence is waited for. That is right if one call of the device returns exactly one whole burst, as for a line
+    /// of packets.
     pub after: u64,
 }
 
 /// A line over a device with a time limit: a `TerminalLine` for a terminal, and a `CardLine` for a card.
 ///
-/// What comes is cut into bursts by silence, in a [`Framer`], and the end is handed each burst as one block: so one
-/// octet that is another one, octets that are missing at the end and octets that follow are never taken for a block
-/// ([`no_block`](crate::laws::no_block)). That rests on one premise: no octet of a block that was sent comes later than
-/// `after` after the one before it. A device, or what is between it and the card, that holds octets up for longer needs
-/// a greater `after`.
+/// A [`Framer`] divides what comes into bursts at the silences, and each burst is passed to the end as one block. A
+/// burst is never taken for a block if one octet was changed, octets are missing at its end, or octets follow it
+/// ([`no_block`](crate::laws::no_block)). This has one premise: no octet of a block that was sent comes later than
+/// `after` after the one before it. If a device, or what is between it and the card, delays octets longer than that,
+/// use a greater `after`.
 ///
-/// Before an end sends, what came late is dropped until the line is silent: for `after`, and where the last burst was
-/// no whole block for BWT, or three quarters of BWT at a card, so that a late rest of it isn't taken for a block.
+/// Before an end sends, the line drops what comes late until it is silent for `after`. If the last burst wasn't a whole
+/// block, the line must be silent for BWT, or at a card for three quarters of BWT. So a late rest of the burst isn't
+/// taken for a block.
 #[derive(Debug, Drop)]
 pub struct TimedLine<D> {
     device: D,
@@ -70,7 +71,7 @@ pub struct TimedLine<D> {
 }
 
 impl<D> TimedLine<D> {
-    /// The line over this device.
+    /// Makes a line over this device.
     pub fn new(device: D, silences: Silences) -> Self
         ensures device { device_of result ≡ device }
         ensures silences { silences_of result ≡ silences }
@@ -84,7 +85,7 @@ impl<D> TimedLine<D> {
         }
     }
 
-    /// The device back.
+    /// Returns the device.
     pub fn into_device(self) -> D
         ensures { result ≡ device_of self }
     {
@@ -121,8 +122,8 @@ impl<D: TimedDevice> CardLine for TimedLine<D> {
 }
 
 impl<D: TimedDevice> TimedLine<D> {
-    /// Waits so long for a burst, and takes it into the buffer. After one that is no whole block, the line has to be
-    /// silent for `drain` before the end sends.
+    /// Waits for a burst for `first` at most, and takes it into the buffer. After a burst that isn't a whole block, the
+    /// line must be silent for `drain` before the end sends.
     fn listen(&mut self, first: u64, drain: u64, room: &mut [u8]) -> io::Result<Received>
         requires { 259 ≤ length room.old }
         ensures fits { IfOk result (λ heard. FitsRoom heard room.new) }
@@ -157,7 +158,8 @@ impl<D: TimedDevice> TimedLine<D> {
     }
 }
 
-/// Drops what came late until the line is silent: first for as long as it still has to be, then for that or `after`.
+/// Drops what comes late until the line is silent. It has to be silent for the time `owed` first. After an octet it has
+/// to be silent for that time or `after`, whichever is longer.
 fn settle<D: TimedDevice>(device: &mut D, owed: &mut u64, after: u64) -> io::Result<()>
     ensures settles { (sounds : List Sound)
         × Sounds (D.heard device.old) (D.heard device.new) sounds
@@ -213,7 +215,7 @@ fn hear<D: TimedDevice>(
     Ok(())
 }
 
-/// Whether the burst is over although no silence came: it is a whole block, and none is asked for after one.
+/// Whether the burst is over without a silence: it is a whole block, and no silence is required after one.
 fn needs_no_silence(framer: &Framer, after: u64) -> bool
     ensures yes { (burst : List ℕ) → HasHeard framer.now burst → result ≡ true
         → (after ≡ 0) × (is_whole burst ≡ true) }
@@ -223,7 +225,7 @@ fn needs_no_silence(framer: &Framer, after: u64) -> bool
     after == 0 && framer.is_whole()
 }
 
-/// How long the line has to be silent after this burst before an end sends.
+/// Returns how long the line must be silent after this burst before the end sends.
 fn still_owed(framer: &Framer, drain: u64) -> u64
     ensures { (burst : List ℕ) → HasHeard framer.now burst → result ≡ owed_after drain (Ok burst) }
 {
@@ -234,7 +236,7 @@ fn still_owed(framer: &Framer, drain: u64) -> u64
     }
 }
 
-/// Puts what an end is handed of a burst to the front of the buffer.
+/// Puts the octets of a burst that are passed to an end at the front of the buffer.
 fn hand_over(framer: &Framer, room: &mut [u8]) -> Received
     requires { 259 ≤ length room.old }
     ensures fits { FitsRoom result room.new }

@@ -1,4 +1,4 @@
--- What octets say in words, by the tables of the standards.
+-- The notes on octets, by the tables of the standards.
 use Rattle.std.specs.Prelude.{◌==◌, ◌||◌, ◌&&◌, ◌+◌, ◌-◌, ◌*◌, ◌/◌, ◌%◌, ◌^◌, min, nat_le, ℕ, List, [], ◌∷◌, ◌++◌, length, slice_index, codes, decimal, Option, Some, None, Result, Ok, Err, Bool, if◌then◌else◌}
 use Rattle.std.specs.List.{list_all}
 use Rattle.atr_core.specs.T1.{T1Values}
@@ -9,7 +9,7 @@ use Rattle.tlv_core.specs.Tag.{constructed_bit, length_field}
 use Rattle.notes.specs.Noted.{mark, marked}
 use Rattle.notes.specs.Tables.{instructions, statuses}
 
--- words, a number after them, if any, and the words after that
+-- words, a number after them, if there is one, and the words after that
 pub record NoteText : Type 0 where
   pub before : List ℕ
   pub number : Option ℕ
@@ -18,12 +18,12 @@ pub record NoteText : Type 0 where
 abbrev pub said : List ℕ → Option ℕ → List ℕ → NoteText
 said before number after = record { before = before; number = number; after = after }
 
--- the text of them
+-- the text of words and a number
 abbrev pub note_text : List ℕ → Option ℕ → List ℕ → List ℕ
 note_text before None after = before
 note_text before (Some number) after = before ++ (decimal number ++ after)
 
--- the note of them: none where there are neither words nor a number
+-- the note of words and a number: none if there are no words and no number
 abbrev pub words_marked : List ℕ → Option ℕ → List ℕ → List ℕ
 words_marked before None after = marked before
 words_marked before (Some number) after = mark ++ (before ++ (decimal number ++ after))
@@ -35,7 +35,7 @@ note_of said = words_marked said.before said.number said.after
 abbrev pub words : List ℕ → NoteText
 words text = said text None []
 
--- the name that the first row of a table has of which something holds, if any
+-- the name in the first row of a table that this holds of, if there is one
 abbrev pub named : {Row : Type 0} → (Row → Bool) → (Row → List ℕ) → List Row → List ℕ
 named is name [] = []
 named is name (row ∷ rows) = if is row then name row else named is name rows
@@ -64,7 +64,7 @@ class_says class =
     else if class == 0xFF then words (codes "invalid class")
     else words (codes "proprietary class")
 
--- whether a class is one of the standard's
+-- whether a class is one of the standard
 abbrev pub is_standard : ℕ → Bool
 is_standard class = nat_le class 0x1F || (nat_le 0x40 class && nat_le class 0x7F)
 
@@ -76,7 +76,7 @@ instruction_says class instruction =
     else if is_standard class then named (λ row. row.0 == instruction) (λ row. row.1) instructions
     else []
 
--- the name of an instruction before what its class says
+-- the name of an instruction before the words on its class
 abbrev pub name_then : List ℕ → List ℕ
 name_then [] = []
 name_then (x ∷ name) = (x ∷ name) ++ codes ", "
@@ -85,7 +85,7 @@ abbrev pub header_note : ℕ → ℕ → List ℕ
 header_note class instruction = mark ++ (name_then (instruction_says class instruction)
     ++ note_text (class_says class).before (class_says class).number (class_says class).after)
 
--- a data field of so many octets
+-- a data field of this many octets
 abbrev pub part_note : ℕ → List ℕ
 part_note len = if len == 0 then [] else mark ++ (codes "Lc " ++ decimal len)
 
@@ -98,7 +98,7 @@ le_says (Some le) =
 
 -- ---- responses (ISO/IEC 7816-4:2005, 5.1.3)
 
--- SW2 as a number of octets, with the words after one octet or others
+-- SW2 as a number of octets, with the words after one octet or after any other number
 abbrev pub there : List ℕ → ℕ → List ℕ → List ℕ → NoteText
 there before sw2 one others =
     said before (Some (if sw2 == 0 then 256 else sw2)) (if sw2 == 1 then one else others)
@@ -190,11 +190,11 @@ t1_says (Err fault) indicated = if length indicated == 0 then words (codes "offe
 abbrev pub counted : ℕ → List ℕ
 counted n = if n == 1 then codes "1 octet" else decimal n ++ codes " octets"
 
--- the note on so many: none on none
+-- the note on a number of octets: none on 0
 abbrev pub count_note : ℕ → List ℕ
 count_note n = if n == 0 then [] else mark ++ counted n
 
--- how many octets the entries of a list ask for, at most 2 ^ 64 - 1, where the ones before ask for so many
+-- how many octets the entries of a list request, at most 2 ^ 64 - 1; those before them request this many
 abbrev pub asked_from : ℕ → List (List ℕ × ℕ) → ℕ
 asked_from before [] = before
 asked_from before (entry ∷ entries) =
@@ -218,7 +218,7 @@ tag_says first =
 abbrev pub is_printable : ℕ → Bool
 is_printable c = nat_le 0x20 c && nat_le c 0x7E
 
--- octets that are shown as text too
+-- octets that are also shown as text
 abbrev pub is_text : List ℕ → Bool
 is_text octets = nat_le 1 (length octets) && nat_le (length octets) 40 && list_all is_printable octets
 
@@ -235,12 +235,12 @@ text_note octets = if is_text octets then mark ++ quoted octets else []
 abbrev pub header_place : PartValue → ℕ
 header_place p = p.place - (length p.tag + length (length_field p.form (length p.value)))
 
--- the value as text, if it is one, after what parts it from the class
+-- the value as text, if it is text, after a separator
 abbrev pub value_quoted : PartValue → List ℕ
 value_quoted p =
     if constructed_bit p.tag == 1 then [] else if is_text p.value then codes ", " ++ quoted p.value else []
 
--- how many octets the value has, its class, and its text
+-- the length of the value, its class, and its text
 abbrev pub value_note : PartValue → List ℕ
 value_note p = counted (length p.value) ++ (codes ", " ++ (tag_says (slice_index p.tag 0) ++ value_quoted p))
 

@@ -1,7 +1,7 @@
--- The names that ISO/IEC 7816-4:2005 gives instructions and status bytes.
+-- The names of instructions and status bytes in ISO/IEC 7816-4:2005.
 use Rattle.std.specs.Prelude.{ℕ, List, [], ◌∷◌, codes}
 
--- what instruction codes say (5.1.2, table 4.2)
+-- the names of instruction codes (5.1.2, table 4.2)
 unfoldable pub instructions : List (ℕ × List ℕ)
 instructions =
     (0x04, codes "DEACTIVATE FILE") ∷
@@ -56,7 +56,7 @@ instructions =
     (0xE8, codes "TERMINATE EF") ∷
     (0xFE, codes "TERMINATE CARD USAGE") ∷ []
 
--- what status bytes say (5.1.3, tables 5 and 6), but for those that have a number in SW2
+-- the meaning of status bytes (5.1.3, tables 5 and 6), except those that have a number in SW2
 unfoldable pub statuses : List (ℕ × ℕ × List ℕ)
 statuses =
     (0x90, 0x00, codes "no further qualification") ∷

@@ -6,7 +6,7 @@ ghost use Rattle.notes.specs.Says.{mode_says, said, t1_says, ta_says, tck_says, 
 use crate::note::Note;
 use atr_core::{Indicated, ParamFault, T1Params};
 
-/// What a TD offers, by the protocol that it indicates: T=15 is none (ISO/IEC 7816-3, 8.2.3).
+/// Returns the note on a TD, by the protocol that it indicates. T=15 isn't a protocol (ISO/IEC 7816-3, 8.2.3).
 pub fn td_note(protocol: u8) -> Note
     ensures { said result.before.now result.number result.after.now ≡ td_says protocol }
 {
@@ -16,7 +16,7 @@ pub fn td_note(protocol: u8) -> Note
     }
 }
 
-/// What a TA says, by its number: of TA2 the mode.
+/// Returns the note on a TA by its number: for TA2 the mode.
 pub fn ta_note(number: usize, ta: u8) -> Note
     ensures { said result.before.now result.number result.after.now ≡ ta_says number ta }
 {
@@ -26,14 +26,14 @@ pub fn ta_note(number: usize, ta: u8) -> Note
     }
 }
 
-/// The mode that TA2 says (ISO/IEC 7816-3, 8.3).
+/// Returns the note on TA2, the mode (ISO/IEC 7816-3, 8.3).
 pub fn mode_note(ta2: u8) -> Note
     ensures { said result.before.now result.number result.after.now ≡ mode_says ta2 }
 {
     Note::with("specific mode, T=", ta2 % 16, "")
 }
 
-/// What TCK makes 00, if there is one.
+/// Returns the note on TCK, if there is one: which exclusive-or is 00.
 pub fn tck_note(tck: Option<u8>) -> Note
     ensures { said result.before.now result.number result.after.now ≡ tck_says tck }
 {
@@ -43,7 +43,8 @@ pub fn tck_note(tck: Option<u8>) -> Note
     }
 }
 
-/// What the parameters of T=1 say of the redundancy code, or that no TD means T=0 alone (ISO/IEC 7816-3, clause 8).
+/// Returns the note on the parameters of T=1: the redundancy code, or that no TD means T=0 alone (ISO/IEC 7816-3,
+/// clause 8).
 pub fn t1_note(params: Result<T1Params, ParamFault>, indicated: &[Indicated]) -> Note
     ensures { said result.before.now result.number result.after.now
         ≡ t1_says params indicated.now }

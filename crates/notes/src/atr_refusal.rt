@@ -1,4 +1,4 @@
-//! The note on octets that are no answer to reset.
+//! The note on octets that aren't an answer to reset.
 
 ghost use Rattle.std.specs.Prelude.{◌≡◌, ◌≢◌, ◌/◌, ◌%◌, ◌<◌, drop};
 ghost use Rattle.octet_core.specs.Octets.{xor_of};
@@ -9,7 +9,7 @@ use atr_core::AtrReason;
 use octet_core::{Stop, lrc};
 use std::alloc::{AllocError, Global};
 
-/// A byte of an answer to reset by its name (ISO/IEC 7816-3, 8.2).
+/// A byte of an answer to reset, by its name (ISO/IEC 7816-3, 8.2).
 #[derive(Clone, Copy, Debug, PartialEq, Eq)]
 pub enum NextByte {
     Ts,
@@ -27,8 +27,8 @@ pub enum NextByte {
     Tck,
 }
 
-/// What is to be said of octets that are no answer to reset: what TCK would have to be, where it is wrong or is all
-/// that is missing, or which byte comes next.
+/// Returns the note on octets that aren't an answer to reset. If TCK is wrong, or is all that is missing, it is what
+/// TCK must be. If more is missing, it is which byte comes next. Otherwise it is empty.
 pub fn atr_refusal_note(
     alloc: Global,
     octets: &[u8],
@@ -62,7 +62,7 @@ fn numbered_next(alloc: Global, name: &str, number: usize) -> Result<String, All
     comes_next(alloc, name.as_str())
 }
 
-/// TCK after these octets, from TS on: it makes the exclusive-or of all octets from T0 on 00.
+/// Returns TCK after these octets, from TS on: with it the exclusive-or of all octets from T0 on is 00.
 pub fn tck_after(octets: &[u8]) -> u8
     ensures { result ≡ xor_of (drop 1 octets.now) }
 {
@@ -72,7 +72,8 @@ pub fn tck_after(octets: &[u8]) -> u8
     }
 }
 
-/// The byte of an answer to reset that comes after these octets, with which one begins; TCK after all others.
+/// Returns which byte of an answer to reset comes after these octets, which begin one. After all other bytes this is
+/// TCK.
 pub fn next_byte(octets: &[u8]) -> NextByte
     ensures { result ≡ next_byte octets.now }
 {
@@ -83,7 +84,7 @@ pub fn next_byte(octets: &[u8]) -> NextByte
     }
 }
 
-/// The same after T0.
+/// Returns which byte of an answer to reset comes after T0 and these octets.
 fn next_after(t0: u8, octets: &[u8]) -> NextByte
     ensures { result ≡ next_after (t0 / 16) 1 (t0 % 16) octets.now }
 {
@@ -105,7 +106,7 @@ fn next_after(t0: u8, octets: &[u8]) -> NextByte
     next_in_tail(usize::from(t0 % 16), rest)
 }
 
-/// The first of TA, TB, TC and TD with this number that the bits announce.
+/// Returns the first of TA, TB, TC and TD with this number that the bits announce.
 fn first_announced(bits: u8, number: usize) -> NextByte
     ensures { result ≡ first_announced bits number }
 {
@@ -120,7 +121,7 @@ fn first_announced(bits: u8, number: usize) -> NextByte
     }
 }
 
-/// What the bits announce after the first, where that is no TD.
+/// Returns what the bits announce after the first byte, which isn't a TD.
 fn announced_after(bits: u8) -> u8
     requires some { bits ≢ 0 }
     requires byte { bits ≢ 8 }
@@ -136,7 +137,7 @@ fn announced_after(bits: u8) -> u8
     }
 }
 
-/// Which of so many historical bytes comes after these, or TCK.
+/// Returns which of this many historical bytes comes after these, or TCK.
 fn next_in_tail(historical: usize, tail: &[u8]) -> NextByte
     ensures { result ≡ next_in_tail historical tail.now }
 {

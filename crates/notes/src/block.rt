@@ -5,14 +5,14 @@ ghost use Rattle.notes.specs.Says.{lrc_says, nad_says, pcb_says, said, superviso
 
 use crate::note::Note;
 
-/// What an LRC is.
+/// Returns the note on an LRC.
 pub fn lrc_note() -> Note
     ensures { said result.before.now result.number result.after.now ≡ lrc_says }
 {
     Note::of("exclusive-or of the octets before it")
 }
 
-/// The addresses of a block, where NAD has some (ISO/IEC 7816-3, 11.3.2.1): from which to which.
+/// Returns the note on a NAD with addresses: from which to which (ISO/IEC 7816-3, 11.3.2.1).
 pub fn nad_note(nad: u8) -> Note
     ensures { said result.before.now result.number result.after.now ≡ nad_says nad }
 {
@@ -37,7 +37,8 @@ fn target(address: u8) -> &'static str
     }
 }
 
-/// What a PCB says with the first octet of its field (ISO/IEC 7816-3, 11.3.2.2): no words where no block has it.
+/// Returns the note on a PCB with the first octet of its field (ISO/IEC 7816-3, 11.3.2.2). Empty if no block has this
+/// PCB.
 pub fn pcb_note(pcb: u8, first: u8) -> Note
     ensures { said result.before.now result.number result.after.now ≡ pcb_says pcb first }
 {

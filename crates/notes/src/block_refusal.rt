@@ -1,4 +1,4 @@
-//! The note on octets that are no block.
+//! The note on octets that aren't a block.
 
 ghost use Rattle.std.specs.Prelude.{◌≡◌, ◌≤◌, ◌-◌, length, take};
 ghost use Rattle.octet_core.specs.Octets.{xor_of};
@@ -8,8 +8,9 @@ use block_core::{BlockReason, BlockRef};
 use octet_core::{Stop, lrc};
 use std::alloc::{AllocError, Global};
 
-/// What is to be said of octets that are no block: what the LRC would have to be, where it is wrong or is all that is
-/// missing, how many octets of the field are left, or which byte comes next.
+/// Returns the note on octets that aren't a block. If the LRC is wrong, or is all that is missing, it is what the LRC
+/// must be. If more is missing, it is how many octets of the field are left, or which byte comes next. Otherwise it is
+/// empty.
 pub fn block_refusal_note(
     alloc: Global,
     octets: &[u8],
@@ -25,14 +26,14 @@ pub fn block_refusal_note(
     }
 }
 
-/// The check octet of the octets before a place.
+/// Returns the check octet of the octets before a place.
 fn lrc_before(octets: &[u8], place: usize) -> u8
     ensures { result ≡ xor_of (take place octets.now) }
 {
     lrc(front(octets, place))
 }
 
-/// What comes after the first octets of a block (ISO/IEC 7816-3, 11.3.1).
+/// Returns what comes after the first octets of a block (ISO/IEC 7816-3, 11.3.1).
 fn rest_note(alloc: Global, octets: &[u8]) -> Result<String, AllocError> {
     match octets {
         [] => comes_next(alloc, "NAD"),
@@ -46,15 +47,14 @@ fn rest_note(alloc: Global, octets: &[u8]) -> Result<String, AllocError> {
     }
 }
 
-/// How many octets a field of this length has after these.
+/// Returns how many octets of a field with this length come after these.
 pub fn field_left(len: u8, field: &[u8]) -> usize
     ensures { result ≡ len - length field.now }
 {
     usize::from(len).saturating_sub(field.len())
 }
 
-/// What is to be said of octets that are no chain: of the block that isn't whole, or that is no block, what is said of
-/// a block.
+/// Returns the note on octets that aren't a chain: that on its block that is incomplete or isn't a block.
 pub fn chain_refusal_note<R: Copy>(
     alloc: Global,
     octets: &[u8],
@@ -81,7 +81,7 @@ pub fn chain_refusal_note<R: Copy>(
     }
 }
 
-/// What is left after all whole blocks with which octets begin.
+/// Returns what is left after all complete blocks at the front of the octets.
 fn last_block(octets: &[u8], ifs: u8) -> &[u8]
     requires least { 1 ≤ ifs }
     requires most { ifs ≤ 254 }

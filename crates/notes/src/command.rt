@@ -9,7 +9,7 @@ use crate::joining::MARK;
 use crate::note::{Note, push_text};
 use std::alloc::AllocError;
 
-/// What instruction codes say (ISO/IEC 7816-4:2005, 5.1.2, table 4.2).
+/// The names of instruction codes (ISO/IEC 7816-4:2005, 5.1.2, table 4.2).
 const INSTRUCTIONS: [(u8, &str); 51] = [
     (0x04, "DEACTIVATE FILE"),
     (0x0C, "ERASE RECORD"),
@@ -64,7 +64,7 @@ const INSTRUCTIONS: [(u8, &str); 51] = [
     (0xFE, "TERMINATE CARD USAGE"),
 ];
 
-/// Adds the note on a header, where it is `noted`: the instruction by its name, where it has one in this class, and the
+/// Appends the note on a header, if it is `noted`: the name of the instruction, if it has one in this class, and the
 /// class in words.
 pub fn push_header_note(
     text: &mut String,
@@ -83,7 +83,7 @@ pub fn push_header_note(
     push_class(text, class)
 }
 
-/// Adds a name, and what parts it from what comes after it.
+/// Appends a name and a separator.
 fn push_name(text: &mut String, name: &str) -> Result<(), AllocError>
     ensures { OnOk result (string_bytes text.new ≡ string_bytes text.old ++ name_then name.now) }
 {
@@ -94,7 +94,7 @@ fn push_name(text: &mut String, name: &str) -> Result<(), AllocError>
     text.push_str(", ")
 }
 
-/// Adds a class in words.
+/// Appends a class in words.
 fn push_class(text: &mut String, class: u8) -> Result<(), AllocError>
     ensures { OnOk result (string_bytes text.new ≡ string_bytes text.old
         ++ note_text (class_says class).before (class_says class).number (class_says class).after) }
@@ -102,8 +102,8 @@ fn push_class(text: &mut String, class: u8) -> Result<(), AllocError>
     push_text(text, class_note(class))
 }
 
-/// A class in words (ISO/IEC 7816-4:2005, 5.1.1, tables 2 and 3): its secure messaging, its channel, and whether more
-/// commands of a chain follow.
+/// Returns the note on a class (ISO/IEC 7816-4:2005, 5.1.1, tables 2 and 3): its secure messaging, its channel, and
+/// whether more commands of a chain follow.
 pub fn class_note(class: u8) -> Note
     ensures { said result.before.now result.number result.after.now ≡ class_says class }
 {
@@ -117,7 +117,7 @@ pub fn class_note(class: u8) -> Note
     }
 }
 
-/// Secure messaging by its two bits, and the word before the channel.
+/// Returns in words the secure messaging of these two bits, and the word before the channel.
 fn secured(bits: u8) -> &'static str
     ensures { result.now ≡ secured bits }
 {
@@ -129,7 +129,7 @@ fn secured(bits: u8) -> &'static str
     }
 }
 
-/// Whether more commands of a chain follow, by its bit.
+/// Returns in words whether more commands of a chain follow, by this bit.
 fn chained(bit: u8) -> &'static str
     ensures { result.now ≡ chained bit }
 {
@@ -139,8 +139,8 @@ fn chained(bit: u8) -> &'static str
     }
 }
 
-/// The name of an instruction in a class of the standard, or that it is none in any class (ISO/IEC 7816-4:2005, 5.1.2,
-/// table 4.2): no words where there is none.
+/// Returns the name of an instruction in a class of the standard, or that it is invalid in every class. Empty if it has
+/// no name (ISO/IEC 7816-4:2005, 5.1.2, table 4.2).
 pub fn instruction_name(class: u8, instruction: u8) -> &'static str
     ensures { result.now ≡ instruction_says class instruction }
 {
@@ -153,14 +153,14 @@ pub fn instruction_name(class: u8, instruction: u8) -> &'static str
     }
 }
 
-/// The name of an instruction in the standard's table, if any.
+/// Returns the name of an instruction in the standard's table, if it has one.
 fn standard_name(instruction: u8) -> &'static str
     ensures { result.now ≡ named (λ row. row.0 == instruction) (λ row. row.1) instructions }
 {
     named(&INSTRUCTIONS, instruction)
 }
 
-/// The name in the first of these rows that has an instruction, if any.
+/// Returns the name in the first of these rows with this instruction, if there is one.
 fn named(rows: &'static [(u8, &'static str)], instruction: u8) -> &'static str
     ensures { result.now ≡ named (λ row. row.0 == instruction) (λ row. row.1.now) rows.now }
 {
@@ -174,7 +174,7 @@ fn named(rows: &'static [(u8, &'static str)], instruction: u8) -> &'static str
     ""
 }
 
-/// Adds the note on a data field, where it is `noted` and has octets: how many.
+/// Appends the note on a data field, if it is `noted` and has octets: how many there are.
 pub fn push_part_note(text: &mut String, noted: bool, len: usize) -> Result<(), AllocError>
     ensures { OnOk result (string_bytes text.new ≡ string_bytes text.old
         ++ where_noted noted (part_note len)) }
@@ -188,7 +188,7 @@ pub fn push_part_note(text: &mut String, noted: bool, len: usize) -> Result<(), 
     }
 }
 
-/// How many octets an answer may have by Le.
+/// Returns the note on Le: how many octets a response's data field may have.
 pub fn le_note(le: Option<u32>) -> Note
     ensures { said result.before.now result.number result.after.now ≡ le_says le }
 {

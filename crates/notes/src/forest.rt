@@ -10,8 +10,8 @@ use crate::text::{as_text, push_counted};
 use std::alloc::AllocError;
 use tlv_core::{Form, Part, Tag};
 
-/// Adds the note on a data object, where it is `noted`: the places of its header and of its value, how many octets that
-/// has, its class, and its value as text where it is one (ISO/IEC 7816-4:2005, 5.2.2).
+/// Appends the note on a data object, if it is `noted`: the places of its header and of its value, the length of the
+/// value, its class, and its value as text if it is text (ISO/IEC 7816-4:2005, 5.2.2).
 pub fn push_object_note(text: &mut String, noted: bool, part: &Part<'_>) -> Result<(), AllocError>
     ensures { OnOk result (string_bytes text.new ≡ string_bytes text.old
         ++ where_noted noted (object_note (part_seen part.now))) }
@@ -25,7 +25,7 @@ pub fn push_object_note(text: &mut String, noted: bool, part: &Part<'_>) -> Resu
     push_value(text, part)
 }
 
-/// Adds how many octets the value of an object has, its class, and its value as text where it is one.
+/// Appends the length of an object's value, its class, and its value as text if it is text.
 fn push_value(text: &mut String, part: &Part<'_>) -> Result<(), AllocError>
     ensures { OnOk result (string_bytes text.new ≡ string_bytes text.old
         ++ value_note (part_seen part.now)) }
@@ -36,7 +36,7 @@ fn push_value(text: &mut String, part: &Part<'_>) -> Result<(), AllocError>
     push_quoted(text, part)
 }
 
-/// Adds the value of an object as text, after what parts it from the class.
+/// Appends the value of an object as text, after a separator.
 fn push_quoted(text: &mut String, part: &Part<'_>) -> Result<(), AllocError>
     ensures { OnOk result (string_bytes text.new ≡ string_bytes text.old
         ++ value_quoted (part_seen part.now)) }
@@ -50,14 +50,14 @@ fn push_quoted(text: &mut String, part: &Part<'_>) -> Result<(), AllocError>
     }
 }
 
-/// The place of the header of an object, whose value is at this place.
+/// Returns the place of the header of an object whose value is at this place.
 pub(crate) fn header_at(tag: Tag, form: Form, place: usize) -> usize
     ensures { (len : ℕ) → result ≡ place - (length tag + length (length_field form len)) }
 {
     place.saturating_sub(tag.octets().len() + form.octets())
 }
 
-/// The class of a tag by its first octet (ISO/IEC 7816-4:2005, 5.2.2.1).
+/// Returns the class of a tag by its first octet (ISO/IEC 7816-4:2005, 5.2.2.1).
 pub fn class_name(first: u8) -> &'static str
     ensures { result.now ≡ tag_says first }
 {

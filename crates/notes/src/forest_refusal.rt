@@ -1,4 +1,4 @@
-//! The note on octets that are no data objects.
+//! The note on octets that aren't data objects.
 
 ghost use Rattle.std.specs.Prelude.{◌≡◌, ◌≤◌};
 ghost use Rattle.notes.specs.Missing.{wanted_of};
@@ -9,9 +9,9 @@ use octet_core::{Stop, hex_upper};
 use std::alloc::{AllocError, Global};
 use tlv_core::{PartWalk, PlacedPart, Tag, TlvReason};
 
-/// What is to be said of octets that are no forest of at most `max` octets: which object asks for more than is left
-/// where it is; or each object that is open with how many octets of it are still to come, the outermost first, and
-/// where a header isn't whole.
+/// Returns the note on octets that aren't a forest of at most `max` octets. If an object needs more octets than are
+/// left where it is, the note is on this object. Otherwise it gives each open object with how many octets it still
+/// needs, the outermost first, and where a header is incomplete.
 pub fn forest_refusal_note(
     alloc: Global,
     octets: &[u8],
@@ -31,7 +31,7 @@ pub fn forest_refusal_note(
     }
 }
 
-/// The objects whose headers are whole, in their order.
+/// Returns the objects with complete headers, in their order.
 fn parts_before(alloc: Global, octets: &[u8], max: usize) -> Result<Vec<PlacedPart>, AllocError>
     requires { max ≤ 1048576 }
 {
@@ -46,28 +46,28 @@ fn parts_before(alloc: Global, octets: &[u8], max: usize) -> Result<Vec<PlacedPa
     Ok(parts)
 }
 
-/// How many octets of an object are still to come after so many of the forest.
+/// Returns how many octets an object still needs after this many of the forest.
 pub fn wanted_of(part: PlacedPart, taken: usize) -> usize
     ensures { result ≡ wanted_of part taken }
 {
     value_end(part).saturating_sub(taken)
 }
 
-/// The place after an object.
+/// Returns the place after an object.
 fn value_end(part: PlacedPart) -> usize
     ensures { result ≡ wanted_of part 0 }
 {
     part.place as usize + part.len as usize
 }
 
-/// The tag of an object and the place of its header.
+/// Returns the tag of an object and the place of its header.
 fn named(alloc: Global, part: PlacedPart) -> Result<String, AllocError> {
     let tag = hex_upper(alloc, part.tag.octets())?;
     let place = header_at(part.tag, part.form, part.place as usize);
     format!(in alloc; "{tag} at {place}")
 }
 
-/// Each object that is open after so many octets, with how many of it are still to come.
+/// Returns each object that is open after this many octets, with how many octets it still needs.
 fn open_note(alloc: Global, parts: &[PlacedPart], taken: usize) -> Result<String, AllocError> {
     let mut text = String::new(alloc);
     for part in parts {
@@ -84,7 +84,7 @@ fn wants(alloc: Global, part: PlacedPart, wanted: usize) -> Result<String, Alloc
     format!(in alloc; "{name} needs {wanted} more")
 }
 
-/// Adds words after a comma, or the first ones.
+/// Appends words, after a comma unless they are the first.
 fn push_parted(text: &mut String, words: &str) -> Result<(), AllocError> {
     if !text.is_empty() {
         text.push_str(", ")?;
@@ -92,7 +92,7 @@ fn push_parted(text: &mut String, words: &str) -> Result<(), AllocError> {
     text.push_str(words)
 }
 
-/// Each object that is open, and where a header isn't whole.
+/// Returns each open object, and where a header is incomplete.
 fn short_note(
     alloc: Global,
     octets: &[u8],
@@ -107,7 +107,7 @@ fn short_note(
     Ok(text)
 }
 
-/// Where a header begins that comes after these objects and isn't whole, if one does: fillers may be before it.
+/// Returns where an incomplete header after these objects begins, if there is one. Fillers may come before it.
 fn header_place(octets: &[u8], parts: &[PlacedPart]) -> Option<usize> {
     let after = match parts.last() {
         Some(part) if part.tag.is_constructed() => part.place as usize,
@@ -119,7 +119,8 @@ fn header_place(octets: &[u8], parts: &[PlacedPart]) -> Option<usize> {
     Some(after.saturating_add(fillers))
 }
 
-/// An object that asks for more than is left of what it is in, the innermost object that is open or all.
+/// Returns the note on an object that needs more than is left in the object around it, or in the forest if none is
+/// open.
 fn asked_note(
     alloc: Global,
     octets: &[u8],
@@ -140,7 +141,7 @@ fn asked_note(
     format!(in alloc; "{asks}, {left}")
 }
 
-/// The innermost object that is open after so many octets.
+/// Returns the innermost object that is open after this many octets.
 fn innermost(parts: &[PlacedPart], taken: usize) -> Option<&PlacedPart> {
     let mut inner = None;
     for part in parts {
@@ -151,7 +152,7 @@ fn innermost(parts: &[PlacedPart], taken: usize) -> Option<&PlacedPart> {
     inner
 }
 
-/// How many octets are left in an object.
+/// Returns how many octets are left in an object.
 fn left_in(alloc: Global, part: &PlacedPart, taken: usize) -> Result<String, AllocError> {
     let name = named(alloc, *part)?;
     let of = format!(in alloc; "in {name}")?;
@@ -163,7 +164,7 @@ fn left_of(alloc: Global, count: usize, of: &str) -> Result<String, AllocError> 
     format!(in alloc; "{count} {is} left {of}")
 }
 
-/// What the object asks for whose header begins at a place.
+/// Returns what the object with its header at this place needs.
 fn asks(alloc: Global, octets: &[u8], at: usize) -> Result<String, AllocError> {
     let header = &octets[at.min(octets.len())..];
     match header_said(header) {
@@ -175,7 +176,7 @@ fn asks(alloc: Global, octets: &[u8], at: usize) -> Result<String, AllocError> {
     }
 }
 
-/// The tag and the length that a whole header says.
+/// Returns the tag and the length of a complete header.
 fn header_said(header: &[u8]) -> Option<(&[u8], u32)> {
     for count in 1..=3 {
         let (tag, field) = header.split_at(count.min(header.len()));
@@ -186,7 +187,7 @@ fn header_said(header: &[u8]) -> Option<(&[u8], u32)> {
     None
 }
 
-/// The length that a whole length field says.
+/// Returns the length of a complete length field.
 fn length_said(field: &[u8]) -> Option<u32> {
     match field {
         [len @ 0..=0x7F] => Some(u32::from(*len)),

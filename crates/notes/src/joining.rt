@@ -7,10 +7,11 @@ ghost use Rattle.notes.specs.Noted.{kept, mark, marked, noted_line};
 use octet_core::Octets;
 use std::alloc::{AllocError, Global};
 
-/// What parts a line and its note.
+/// What separates a line from its note.
 pub const MARK: &str = "  # ";
 
-/// A line with words as a note before its end. No words are no note, and words with a line end are left out.
+/// Returns a line with words as a note before its end. There is no note if there are no words, or if they have a line
+/// end.
 pub fn noted_line(alloc: Global, line: &[u8], words: &str) -> Result<Octets, AllocError>
     ensures { IfOk result (λ text. text ≡ noted_line line.now words.now) }
 {
@@ -22,7 +23,7 @@ pub fn noted_line(alloc: Global, line: &[u8], words: &str) -> Result<Octets, All
     Ok(Octets::of(text))
 }
 
-/// Adds words without a line end as a note.
+/// Appends words as a note, if they have no line end.
 fn push_kept(text: &mut Vec<u8>, words: &[u8]) -> Result<(), AllocError>
     ensures { OnOk result (text.new.items ≡ text.old.items ++ marked (kept words.now)) }
 {
@@ -33,7 +34,7 @@ fn push_kept(text: &mut Vec<u8>, words: &[u8]) -> Result<(), AllocError>
     }
 }
 
-/// Adds words as a note.
+/// Appends words as a note.
 fn push_octets(text: &mut Vec<u8>, words: &[u8]) -> Result<(), AllocError>
     ensures { OnOk result (text.new.items ≡ text.old.items ++ marked words.now) }
 {

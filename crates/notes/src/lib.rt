@@ -1,9 +1,9 @@
-//! What a person wants to know of the lines that a value is shown by.
+//! Notes for people on the lines of a value.
 //!
-//! A function adds the note on a line to its text, before the line ends, or makes its words; `specs/Says.antt` has the
-//! text of each. Of octets that are refused there is one note, on the line that says so: what could be read so far, and
-//! what is missing. [`noted_line`] puts it there. That the lines come back where each is cut at its first note is a law
-//! of `specs/Noted.antt`, [`laws::cut_again`]. Which words the note on a refusal has is said by no clause.
+//! A function appends the note on a line to its text, before the line ends, or returns its words. `specs/Says.antt` has
+//! the text of each. If octets are refused, the line of the refusal has the only note: what could be read so far, and
+//! what is missing. [`noted_line`] adds it. `specs/Noted.antt` defines how notes are cut off, and [`laws::cut_again`]
+//! proves that the lines are then as before. No clause says which words the note on a refusal has.
 #![tactic(auto)]
 
 pub mod atr;

@@ -8,7 +8,7 @@ use crate::text::push_counted;
 use std::alloc::AllocError;
 use tlv_core::Tag;
 
-/// Adds the note on a data object list, where it is `noted`: how many octets its entries ask for.
+/// Appends the note on a data object list, if it is `noted`: how many octets its entries request.
 pub fn push_list_note(
     text: &mut String,
     noted: bool,
@@ -24,7 +24,7 @@ pub fn push_list_note(
     push_counted(text, asked(entries))
 }
 
-/// How many octets entries ask for, at most `usize::MAX`.
+/// Returns how many octets entries request, at most `usize::MAX`.
 fn asked(entries: &[(Tag, u8)]) -> usize
     ensures { result ≡ asked_from 0 entries.now }
 {

@@ -1,4 +1,4 @@
-//! Words with a number among them.
+//! Words with a number between them.
 
 ghost use Rattle.std.specs.Prelude.{◌≡◌, ◌++◌, Some, OnOk, decimal, string_bytes};
 ghost use Rattle.notes.specs.Noted.{mark, marked, where_noted};
@@ -7,7 +7,7 @@ ghost use Rattle.notes.specs.Says.{note_text, said, words, words_marked};
 use crate::joining::MARK;
 use std::alloc::AllocError;
 
-/// What octets say: `before`, then the number in decimal digits, if there is one, then `after`.
+/// A note on octets: `before`, then the number in decimal digits, if there is one, then `after`.
 #[derive(Clone, Copy)]
 pub struct Note {
     /// The words before the number, or all words.
@@ -19,7 +19,7 @@ pub struct Note {
 }
 
 impl Note {
-    /// Words alone.
+    /// Returns a note of words alone.
     pub fn of(text: &'static str) -> Note
         ensures { said result.before.now result.number result.after.now ≡ words text.now }
     {
@@ -30,7 +30,7 @@ impl Note {
         }
     }
 
-    /// A number among words.
+    /// Returns a note with a number between words.
     pub(crate) fn with(before: &'static str, number: u8, after: &'static str) -> Note
         ensures { said result.before.now result.number result.after.now
             ≡ said before.now (Some number) after.now }
@@ -43,7 +43,7 @@ impl Note {
     }
 }
 
-/// Adds a note to its line where it is `noted` and there is one.
+/// Appends a note to its line, if it is `noted` and the note isn't empty.
 pub fn push_note(text: &mut String, noted: bool, note: Note) -> Result<(), AllocError>
     ensures { OnOk result (string_bytes text.new ≡ string_bytes text.old
         ++ where_noted noted (words_marked note.before.now note.number note.after.now)) }
@@ -57,7 +57,7 @@ pub fn push_note(text: &mut String, noted: bool, note: Note) -> Result<(), Alloc
     }
 }
 
-/// Adds a number among words as a note.
+/// Appends a number between words as a note.
 fn push_numbered(
     text: &mut String,
     before: &str,
@@ -71,7 +71,7 @@ fn push_numbered(
     write!(text, "{before}{number}{after}")
 }
 
-/// Adds words as a note, where there are some.
+/// Appends words as a note, if there are any.
 fn push_marked(text: &mut String, words: &str) -> Result<(), AllocError>
     ensures { OnOk result (string_bytes text.new ≡ string_bytes text.old ++ marked words.now) }
 {
@@ -82,7 +82,7 @@ fn push_marked(text: &mut String, words: &str) -> Result<(), AllocError>
     text.push_str(words)
 }
 
-/// Adds the text of a note.
+/// Appends the text of a note.
 pub(crate) fn push_text(text: &mut String, note: Note) -> Result<(), AllocError>
     ensures { OnOk result (string_bytes text.new ≡ string_bytes text.old
         ++ note_text note.before.now note.number note.after.now) }

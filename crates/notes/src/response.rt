@@ -8,7 +8,7 @@ ghost use Rattle.notes.specs.Tables.{statuses};
 use crate::note::{Note, push_note};
 use std::alloc::AllocError;
 
-/// What status bytes say (ISO/IEC 7816-4:2005, 5.1.3, tables 5 and 6), but for those that have a number in SW2.
+/// The meaning of status bytes (ISO/IEC 7816-4:2005, 5.1.3, tables 5 and 6), except those that have a number in SW2.
 const STATUSES: [(u8, u8, &str); 46] = [
     (0x90, 0x00, "no further qualification"),
     (0x62, 0x00, "no information given, memory unchanged"),
@@ -58,7 +58,7 @@ const STATUSES: [(u8, u8, &str); 46] = [
     (0x6F, 0x00, "no precise diagnosis"),
 ];
 
-/// Adds the note on status bytes, where it is `noted`: what they say.
+/// Appends the note on status bytes, if it is `noted`: what they mean.
 pub fn push_status_note(text: &mut String, noted: bool, sw1: u8, sw2: u8) -> Result<(), AllocError>
     ensures { OnOk result (string_bytes text.new ≡ string_bytes text.old
         ++ where_noted noted (note_of (status_says sw1 sw2))) }
@@ -69,7 +69,7 @@ pub fn push_status_note(text: &mut String, noted: bool, sw1: u8, sw2: u8) -> Res
     push_note(text, noted, status_note(sw1, sw2))
 }
 
-/// What status bytes say (ISO/IEC 7816-4:2005, 5.1.3, tables 5 and 6): no words where they have no name.
+/// Returns the meaning of status bytes (ISO/IEC 7816-4:2005, 5.1.3, tables 5 and 6). Empty if they have no name.
 pub fn status_note(sw1: u8, sw2: u8) -> Note
     ensures { said result.before.now result.number result.after.now ≡ status_says sw1 sw2 }
 {
@@ -86,7 +86,7 @@ pub fn status_note(sw1: u8, sw2: u8) -> Note
     }
 }
 
-/// SW2 as a number of octets, where 00 stands for 256, with the words after one octet or others.
+/// Returns a note with SW2 as a number of octets, where 00 stands for 256. The words depend on whether it is one octet.
 fn there(before: &'static str, sw2: u8, one: &'static str, others: &'static str) -> Note
     ensures { said result.before.now result.number result.after.now
         ≡ there before.now sw2 one.now others.now }
@@ -98,14 +98,14 @@ fn there(before: &'static str, sw2: u8, one: &'static str, others: &'static str)
     }
 }
 
-/// The name of status bytes, if any.
+/// Returns the name of status bytes, if they have one.
 fn status_name(sw1: u8, sw2: u8) -> &'static str
     ensures { result.now ≡ named (λ row. row.0 == sw1 && row.1 == sw2) (λ row. row.2) statuses }
 {
     named(&STATUSES, sw1, sw2)
 }
 
-/// The name in the first of these rows that has both octets, if any.
+/// Returns the name in the first of these rows with both octets, if there is one.
 fn named(rows: &'static [(u8, u8, &'static str)], sw1: u8, sw2: u8) -> &'static str
     ensures { result.now ≡ named (λ row. row.0 == sw1 && row.1 == sw2) (λ row. row.2.now) rows.now }
 {

@@ -8,10 +8,10 @@ ghost use Rattle.notes.specs.Says.{count_note, counted, is_printable, is_text, t
 use crate::joining::MARK;
 use std::alloc::{AllocError, Global};
 
-/// How many characters a note shows of a value at most.
+/// The most characters of a value that a note shows.
 const LONGEST_TEXT: usize = 40;
 
-/// Adds octets that are text as a note, where it is `noted`: between quotation marks.
+/// Appends octets that are text as a note between quotation marks, if it is `noted`.
 pub fn push_text_note(text: &mut String, noted: bool, octets: &[u8]) -> Result<(), AllocError>
     ensures { OnOk result (string_bytes text.new ≡ string_bytes text.old
         ++ where_noted noted (text_note octets.now)) }
@@ -25,7 +25,7 @@ pub fn push_text_note(text: &mut String, noted: bool, octets: &[u8]) -> Result<(
     }
 }
 
-/// Octets as text, where there are some, 40 at most, and all are printable.
+/// Returns octets as text, if there are 1 to 40 and all are printable.
 pub(crate) fn as_text(octets: &[u8]) -> Option<&str>
     ensures { MatchOption result (is_text octets.now ≡ false)
         (λ words. (is_text octets.now ≡ true) × (words.now ≡ octets.now)) }
@@ -39,7 +39,7 @@ pub(crate) fn as_text(octets: &[u8]) -> Option<&str>
     }
 }
 
-/// Adds so many octets, in words.
+/// Appends a number of octets in words.
 pub(crate) fn push_counted(text: &mut String, count: usize) -> Result<(), AllocError>
     ensures { OnOk result (string_bytes text.new ≡ string_bytes text.old ++ counted count) }
 {
@@ -49,7 +49,7 @@ pub(crate) fn push_counted(text: &mut String, count: usize) -> Result<(), AllocE
     }
 }
 
-/// Adds so many octets as a note, where it is `noted` and there are some.
+/// Appends a number of octets as a note, if it is `noted` and the number isn't 0.
 pub fn push_count_note(text: &mut String, noted: bool, count: usize) -> Result<(), AllocError>
     ensures { OnOk result (string_bytes text.new ≡ string_bytes text.old
         ++ where_noted noted (count_note count)) }
@@ -71,7 +71,7 @@ fn push_marked_count(text: &mut String, count: usize) -> Result<(), AllocError>
     push_counted(text, count)
 }
 
-/// So many octets, in words.
+/// Returns a number of octets in words.
 pub(crate) fn octets_counted(alloc: Global, count: usize) -> Result<String, AllocError>
     ensures { IfOk result (λ text. string_bytes text ≡ counted count) }
 {
@@ -80,7 +80,7 @@ pub(crate) fn octets_counted(alloc: Global, count: usize) -> Result<String, Allo
     Ok(text)
 }
 
-/// Whether octets are shown as text too: 1 to 40, all printable characters, 20 to 7E.
+/// Whether octets are also shown as text: there are 1 to 40, and all are printable characters, 20 to 7E.
 pub fn is_text(octets: &[u8]) -> bool
     ensures { result ≡ is_text octets.now }
 {

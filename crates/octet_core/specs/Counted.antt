@@ -1,4 +1,4 @@
--- What a counted reader or writer shows.
+-- What contracts see of a counted reader or writer.
 use Rattle.std.specs.Prelude.{ℕ}
 use Rattle.octet_core.specs.declared.counted.Counted.{Counted}
 

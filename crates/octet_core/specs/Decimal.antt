@@ -11,6 +11,6 @@ is_decimal (digit ∷ []) = is_ascii_digit digit
 is_decimal (first ∷ next ∷ digits) = not (first == 48) &&
     (nat_le (length (first ∷ next ∷ digits)) 15 && list_all is_ascii_digit (first ∷ next ∷ digits))
 
--- the number that they write
+-- the number that such a text stands for
 abbrev pub decimal_number : List ℕ → Option ℕ
 decimal_number text = if is_decimal text then Some (digits_value 10 text) else None

@@ -13,7 +13,7 @@ next_count n = min (n + 1) most_failures
 abbrev pub ReadFails : {E : Type 0} → Result ℕ E → Type 0
 ReadFails r = MatchResult r (λ _. ⊥) (λ _. Unit {0})
 
--- a call of write that failed: also one that takes nothing of something
+-- a call of write that failed: by an error, or by taking none of some octets
 abbrev pub WriteFails : {E : Type 0} → List ℕ → Result ℕ E → Type 0
 WriteFails octets r = MatchResult r (λ taken. (taken ≡ 0) × (0 < length octets)) (λ _. Unit {0})
 

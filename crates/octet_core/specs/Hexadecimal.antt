@@ -5,7 +5,7 @@ use Rattle.hex.specs.Hex.{is_hex_digit}
 use Rattle.octet_core.specs.declared.hexadecimal.HexFault.{HexFault}
 use Rattle.octet_core.specs.declared.hexadecimal.HexFault.TheVariants.{Odd, Digit, Memory}
 
--- why a text is no octets; lack of memory may come before a fault of a digit
+-- why a text isn't octets; a failed allocation may precede the fault of a digit
 abbrev pub IsHexFault : List ℕ → HexFault → Type 0
 IsHexFault text Odd = length text % 2 ≡ 1
 IsHexFault text (Digit place) = (length text % 2 ≡ 0) × (place < length text)

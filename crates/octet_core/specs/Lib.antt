@@ -5,7 +5,7 @@ pub mod Hexadecimal
 pub mod Decimal
 pub mod Words
 pub mod Sizes
--- what the code keeps between calls, what calls answer, and what is printed
+-- what the code keeps between calls, what calls return, and what is printed
 pub mod Failures
 pub mod Counted
 pub mod Reader

@@ -5,10 +5,10 @@ use Rattle.std.specs.Prelude.{◌≡◌, ◌≤◌, ◌⊎◌, ℕ, Bool, ◌==�
 abbrev pub IsReserved : ℕ → Type 0
 IsReserved size = (size ≡ 0) ⊎ (size ≡ 255)
 
--- the same, computed
+-- whether a size is reserved, computed
 abbrev pub is_reserved : ℕ → Bool
 is_reserved size = (size == 0) || (size == 255)
 
--- all others, as octets, are sizes that a field may have
+-- all other octets are sizes that a field may have
 abbrev pub IsFieldSize : ℕ → Type 0
 IsFieldSize size = (1 ≤ size) × (size ≤ 254)

@@ -1,4 +1,4 @@
-//! Readers and writers of std with a count of their failed calls.
+//! Readers and writers of std that count their failed calls.
 
 ghost use Rattle.std.specs.Prelude.{◌≡◌};
 ghost use Rattle.octet_core.specs.Counted.{inner_of, failures_of};
@@ -6,7 +6,7 @@ ghost use Rattle.octet_core.specs.Counted.{inner_of, failures_of};
 use crate::stream::{Sink, Source};
 use std::io::{self, Read, Write};
 
-/// A reader or writer of std with the count of its failed calls.
+/// A reader or writer of std, with the number of its failed calls.
 #[derive(Debug, Drop)]
 pub struct Counted<T> {
     inner: T,
@@ -14,7 +14,7 @@ pub struct Counted<T> {
 }
 
 impl<T> Counted<T> {
-    /// The reader or writer, with no failure counted.
+    /// Wraps a reader or writer, with no failure counted.
     pub fn new(inner: T) -> Self
         ensures inner { inner_of result ≡ inner }
         ensures failures { failures_of result ≡ 0 }
@@ -22,7 +22,7 @@ impl<T> Counted<T> {
         Counted { inner, failures: 0 }
     }
 
-    /// The reader or writer back.
+    /// Returns the reader or writer.
     pub fn into_inner(self) -> T
         ensures { result ≡ inner_of self }
     {

@@ -6,7 +6,8 @@ ghost use Rattle.std.specs.List.{list_all};
 ghost use Rattle.std.specs.Char.{is_ascii_digit};
 ghost use Rattle.octet_core.specs.Decimal.{decimal_number, is_decimal};
 
-/// The number that a text writes with 1 to 15 decimal digits: without a leading 0, or 0 itself.
+/// Parses a number of 1 to 15 decimal digits without a leading 0, or 0 itself. Any other text gives
+/// `None`.
 pub fn decimal_of(text: &[u8]) -> Option<u64>
     ensures number { result ≡ decimal_number text.now }
     ensures found { IfSome result (λ n. text.now ≡ decimal n) }
@@ -16,7 +17,7 @@ pub fn decimal_of(text: &[u8]) -> Option<u64>
     if is_decimal(text) { parsed(text) } else { None }
 }
 
-/// The number that such a text writes.
+/// Parses the number in such a text.
 fn parsed(text: &[u8]) -> Option<u64>
     requires { is_decimal text.now ≡ true }
     ensures { result ≡ Some (digits_value 10 text.now) }

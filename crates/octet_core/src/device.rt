@@ -8,7 +8,7 @@ use std::io::{self, ErrorKind, Read, Write};
 /// How many octets a `Taker` keeps at most.
 pub const LARGEST_ROOM: usize = 4096;
 
-/// What a device does once its octets are given, or its room is full.
+/// What a device does once its octets were all read, or its room is full.
 #[derive(Clone, Copy, Debug, PartialEq, Eq)]
 pub enum After {
     /// A call moves no octet.
@@ -17,12 +17,12 @@ pub enum After {
     Fails,
     /// A call fails as one that was interrupted.
     Interrupted,
-    /// A reader gives its octets again, without an end.
+    /// A reader starts again with its first octet, without an end.
     Repeats,
 }
 
 impl After {
-    /// What a call answers that moves no octet.
+    /// Returns the result of a call that moves no octet.
     fn answer(self) -> io::Result<usize>
         ensures { IfOk result (λ count. count ≡ 0) }
     {
@@ -34,7 +34,7 @@ impl After {
     }
 }
 
-/// A reader that gives octets, at most `step` by one call.
+/// A reader of some octets, at most `step` in one call.
 #[derive(Drop)]
 pub struct Feeder<'a> {
     octets: &'a [u8],
@@ -46,7 +46,8 @@ pub struct Feeder<'a> {
 }
 
 impl<'a> Feeder<'a> {
-    /// A reader of these octets. `step` is at least 1; only a reader of some octets repeats them.
+    /// Makes a reader of these octets. `step` is at least 1. A reader that repeats its octets must have
+    /// some.
     pub fn new(octets: &'a [u8], step: usize, after: After) -> Self
         requires step { 1 ≤ step }
         requires repeats { after ≡ After.Repeats → 0 < length octets.now }
@@ -60,13 +61,13 @@ impl<'a> Feeder<'a> {
         }
     }
 
-    /// How many octets were given; it stays at its greatest value once there.
+    /// Returns how many octets were read. The number stops at its greatest value.
     pub fn given(&self) -> u64 {
         self.given
     }
 }
 
-/// How many octets there are and how far they were given: no octet is shown.
+/// Shows how many octets there are and how many of them were read, but no octet.
 impl Debug for Feeder<'_> {
     fn fmt<W: fmt::Write>(&self, f: &mut Formatter<W>) -> fmt::Result {
         f.debug_struct("Feeder")
@@ -96,7 +97,7 @@ impl Read for Feeder<'_> {
     }
 }
 
-/// A writer that keeps what it takes, at most `step` octets by one call.
+/// A writer that keeps what it takes, at most `step` octets in one call.
 #[derive(Drop)]
 pub struct Taker {
     held: [u8; LARGEST_ROOM],
@@ -109,7 +110,7 @@ pub struct Taker {
 }
 
 impl Taker {
-    /// A writer with room for `room` octets, at most 4,096. `step` is at least 1, and a writer doesn't
+    /// Makes a writer with room for `room` octets, at most 4,096. `step` is at least 1. A writer can't
     /// repeat.
     pub fn new(room: usize, step: usize, after: After) -> Self
         requires room { room ≤ 4096 }
@@ -125,13 +126,13 @@ impl Taker {
         }
     }
 
-    /// The octets that were taken.
+    /// Borrows the octets that were taken.
     pub fn kept(&self) -> &[u8] {
         &self.held[..self.len]
     }
 }
 
-/// How many octets were taken: no octet is shown.
+/// Shows how many octets were taken, but no octet.
 impl Debug for Taker {
     fn fmt<W: fmt::Write>(&self, f: &mut Formatter<W>) -> fmt::Result {
         f.debug_struct("Taker")
@@ -160,8 +161,8 @@ impl Write for Taker {
     }
 }
 
-/// A reader or writer of which one call fails, after so many octets; the next call goes on where it was.
-/// So a failed call that was tried again in silence shows as no fault at all.
+/// A reader or writer that fails in one call after some octets. The next call continues where it was. So
+/// a caller that silently retries a failed call shows no fault at all.
 #[derive(Debug, Drop)]
 pub struct FailsOnce<T> {
     inner: T,
@@ -170,8 +171,8 @@ pub struct FailsOnce<T> {
 }
 
 impl<T> FailsOnce<T> {
-    /// The reader or writer, of which the call after the first `left` octets moves none and answers what
-    /// `fault` says; a device that fails doesn't repeat.
+    /// Makes a reader or writer that fails in the call after its first `left` octets. That call moves no
+    /// octet, and does what `fault` says, which can't be `Repeats`.
     pub fn new(inner: T, left: usize, fault: After) -> Self
         requires { fault ≢ After.Repeats }
     {
@@ -182,12 +183,12 @@ impl<T> FailsOnce<T> {
         }
     }
 
-    /// The reader or writer back.
+    /// Returns the reader or writer.
     pub fn into_inner(self) -> T {
         self.inner
     }
 
-    /// The fault of this call, if it is the one that fails.
+    /// Returns the fault of this call, if it is the one that fails.
     fn due(&mut self) -> Option<After> {
         if self.left == 0 {
             self.fault.take()
@@ -196,7 +197,7 @@ impl<T> FailsOnce<T> {
         }
     }
 
-    /// How many of `len` octets a call may move: none past the place of the fault.
+    /// Returns how many of `len` octets a call may move, so that none is past the place of the fault.
     fn most(&self, len: usize) -> usize
         ensures { result ≤ len }
     {

@@ -9,19 +9,19 @@ use std::alloc::{AllocError, Global};
 use std::error::Error;
 use std::fmt::{self, Display, Formatter, Write};
 
-/// Why a text is no octets in hexadecimal.
+/// Why a text isn't octets in hexadecimal.
 #[derive(Clone, Copy, Debug, PartialEq, Eq)]
 pub enum HexFault {
     /// The text has an odd number of octets in UTF-8.
     Odd,
-    /// The octet at `place` of the text, counted from 0, is the first that is no digit.
+    /// The octet at `place` of the text, counted from 0, is the first that isn't a digit.
     Digit { place: usize },
-    /// A growth was refused. The text has an even number of octets, and may have another digit.
+    /// An allocation failed. The text has an even number of octets, and some of them may not be digits.
     Memory,
 }
 
-/// The name of the fault, with the place of a digit after it, as in `Digit at 3`; `memory` where a growth was
-/// refused.
+/// Writes the name of the fault, followed by the place of an octet that isn't a digit, as in `Digit at 3`; or
+/// `memory` if an allocation failed.
 impl Display for HexFault {
     ghost use Rattle.std.specs.Prelude.{Some};
     ghost use Rattle.octet_core.specs.Stops.{hex_fault_text};
@@ -39,7 +39,7 @@ impl Display for HexFault {
 
 impl Error for HexFault {}
 
-/// The octets that the text gives with two digits each, in either case.
+/// Decodes a text with two hexadecimal digits for each octet, in either case.
 pub fn octets_of(alloc: Global, text: &str) -> Result<Vec<u8>, HexFault>
     ensures octets { IfOk result (λ octets. decode_of text.now ≡ Ok octets.items) }
     ensures fault { IfErr result (IsHexFault text.now) }
@@ -51,12 +51,12 @@ pub fn octets_of(alloc: Global, text: &str) -> Result<Vec<u8>, HexFault>
         }
         Err(FromHexError::OutOfMemory) => Err(HexFault::Memory),
         Err(FromHexError::OddLength) => Err(HexFault::Odd),
-        // `decode` makes room of the length that the text asks for.
+        // `decode` makes room of the length that the text needs
         Err(FromHexError::InvalidStringLength) => unreachable!(),
     }
 }
 
-/// The octets as text with two digits each, letters in upper case.
+/// Encodes the octets as text with two digits each, in upper case. The error is a failed allocation.
 pub fn hex_upper(alloc: Global, octets: &[u8]) -> Result<String, AllocError>
     ensures { IfOk result (λ text. string_bytes text ≡ encode_upper octets.now) }
 {

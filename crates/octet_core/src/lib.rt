@@ -1,11 +1,11 @@
-//! What every codec of the stack stands on: lists of octets and why they are refused, the
-//! redundancy check, and readers and writers whose failures are counted. Beside these, what is
-//! read of texts in more than one crate: hexadecimal, decimal numbers, words that blanks part.
+//! The basis of all codecs of the stack: lists of octets and why they are refused, the redundancy
+//! check, and readers and writers that count their failures. It also parses what more than one crate
+//! has in texts: hexadecimal, decimal numbers, and words separated by blanks.
 //!
-//! The grammar of a codec is a relation between values and lists of octets. What a decoder answers
-//! is the *verdict* of its grammar: the value and the octets that it takes, or the place at which no
-//! spelling goes on and the reason, or that the input was short. The definitions stand in
-//! `specs/Grammar.antt`, once for all codecs.
+//! The grammar of a codec is a relation between values and lists of octets. A decoder returns the
+//! *verdict* of its grammar: the value and the number of octets that it takes; or the place at which
+//! no encoding can continue, with a reason; or that the input was short. `specs/Grammar.antt`
+//! defines this once for all codecs.
 #![tactic(auto)]
 
 pub mod counted;

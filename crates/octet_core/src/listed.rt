@@ -1,8 +1,8 @@
-//! Lists that own their memory, which contracts see as lists.
+//! Lists that own their memory. Contracts see them as lists.
 
 use std::marker::Model;
 
-/// Items in a vector, which contracts see as a list.
+/// Items in a vector. Contracts see them as a list.
 #[derive(Debug, Drop)]
 pub struct Listed<T> {
     held: Vec<T>,
@@ -19,21 +19,21 @@ impl<T> Model for Listed<T> {
 impl<T> Listed<T> {
     ghost use Rattle.std.specs.Prelude.{◌≡◌};
 
-    /// The items of a vector.
+    /// Makes a list of the items in a vector.
     pub fn of(held: Vec<T>) -> Self
         ensures { result ≡ held.items }
     {
         Listed { held }
     }
 
-    /// The items, lent.
+    /// Borrows the items.
     pub fn get(&self) -> &[T]
         ensures { result.now ≡ self.now }
     {
         self.held.as_slice()
     }
 
-    /// The vector back.
+    /// Returns the vector.
     pub fn into_inner(self) -> Vec<T>
         ensures { result.items ≡ self }
     {
@@ -41,7 +41,7 @@ impl<T> Listed<T> {
     }
 }
 
-/// Lists are equal where they have as many items, and these are equal in their order.
+/// Lists are equal if they have the same number of items, and these are equal in their order.
 impl<T: PartialEq> PartialEq for Listed<T> {
     ghost use lib.Pointwise.{pointwise};
     ghost use Rattle.std.specs.Cmp.Lexicographic.{lists_per};

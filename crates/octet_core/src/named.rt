@@ -2,12 +2,12 @@
 
 ghost use Rattle.std.specs.Prelude.{◌≡◌, ℕ, List};
 
-/// A reason or a fault that has a name of its own, that of its variant. What is printed of it is this name.
+/// A reason or a fault with a name, which is that of its variant. It is printed as this name.
 pub trait Named {
-    /// The octets of its name.
+    /// The octets of the name.
     ghost text: { Self → List ℕ };
 
-    /// Its name.
+    /// Returns the name.
     fn name(self) -> &'static str
         ensures { result.now ≡ text self };
 }

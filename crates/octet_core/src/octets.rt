@@ -1,9 +1,9 @@
-//! Lists of octets and texts that own their memory, which contracts see as lists of octets.
+//! Lists of octets and texts that own their memory. Contracts see them as lists of octets.
 
 use std::fmt::{self, Debug, Formatter, Write};
 use std::marker::Model;
 
-/// Octets in a vector, which contracts see as a list.
+/// Octets in a vector. Contracts see them as a list.
 #[derive(Drop)]
 pub struct Octets {
     held: Vec<u8>,
@@ -20,21 +20,21 @@ impl Model for Octets {
 impl Octets {
     ghost use Rattle.std.specs.Prelude.{◌≡◌};
 
-    /// The octets of a vector.
+    /// Makes a list of the octets in a vector.
     pub fn of(held: Vec<u8>) -> Self
         ensures { result ≡ held.items }
     {
         Octets { held }
     }
 
-    /// The octets, lent.
+    /// Borrows the octets.
     pub fn get(&self) -> &[u8]
         ensures { result.now ≡ self.now }
     {
         self.held.as_slice()
     }
 
-    /// The vector back.
+    /// Returns the vector.
     pub fn into_inner(self) -> Vec<u8>
         ensures { result.items ≡ self }
     {
@@ -64,7 +64,7 @@ impl Eq for Octets {
     ghost laws = { Prim.search (comparing, rules) };
 }
 
-/// How many octets there are. They may be a message, so none is shown.
+/// Shows how many octets there are. They may be a message, so no octet is shown.
 impl Debug for Octets {
     fn fmt<W: Write>(&self, f: &mut Formatter<W>) -> fmt::Result {
         f.debug_struct("Octets")
@@ -73,7 +73,7 @@ impl Debug for Octets {
     }
 }
 
-/// A text, which contracts see as the list of its octets in UTF-8.
+/// A text. Contracts see it as the list of its octets in UTF-8.
 #[derive(Drop)]
 pub struct Text {
     held: String,
@@ -90,21 +90,21 @@ impl Model for Text {
 impl Text {
     ghost use Rattle.std.specs.Prelude.{◌≡◌, string_bytes};
 
-    /// The text of a string.
+    /// Makes a text of a string.
     pub fn of(held: String) -> Self
         ensures { result ≡ string_bytes held }
     {
         Text { held }
     }
 
-    /// The text, lent.
+    /// Borrows the text.
     pub fn get(&self) -> &str
         ensures { result.now ≡ self.now }
     {
         self.held.as_str()
     }
 
-    /// The string back.
+    /// Returns the string.
     pub fn into_inner(self) -> String
         ensures { string_bytes result ≡ self }
     {
@@ -134,7 +134,7 @@ impl Eq for Text {
     ghost laws = { Prim.search (comparing, rules) };
 }
 
-/// How many octets there are. They may tell a message, so none is shown.
+/// Shows how many octets there are. They may show a message, so no octet is shown.
 impl Debug for Text {
     fn fmt<W: Write>(&self, f: &mut Formatter<W>) -> fmt::Result {
         f.debug_struct("Text")

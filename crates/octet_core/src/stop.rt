@@ -8,17 +8,18 @@ use std::alloc::AllocError;
 use std::error::Error;
 use std::fmt::{self, Debug, Display, Formatter, Write};
 
-/// Why octets are no spelling of a value. Places count octets from 0.
+/// Why octets don't encode a value. Places count octets from 0.
 #[derive(Clone, Copy, Debug, PartialEq, Eq)]
 pub enum Stop<R> {
-    /// The input ended at `place`, where a spelling could still go on.
+    /// The input ended at `place`, where an encoding could continue.
     Short { place: usize },
-    /// The octet at `place` is the first after which no spelling goes on.
+    /// The octet at `place` is the first after which no encoding can continue.
     At { place: usize, reason: R },
 }
 
 impl<R> Stop<R> {
-    /// The same with another reason: of the reason, where there is one, what `rename` gives. The place stays.
+    /// Returns the stop with another reason: the result of `rename` for the reason, if there is one. The
+    /// place stays.
     pub fn map<T, F: FnOnce(R) -> T>(self, rename: F) -> Stop<T>
         requires { ForReason self (F.pre rename) }
         ensures { IsMapped (F.post rename) self result }
@@ -33,7 +34,7 @@ impl<R> Stop<R> {
     }
 }
 
-/// `short at P`, or `refused at P: ` and the reason.
+/// Writes `short at P`, or `refused at P: ` and the reason.
 impl<R: Display> Display for Stop<R> {
     ghost use Rattle.octet_core.specs.Stops.{stop_text};
 
@@ -49,12 +50,12 @@ impl<R: Display> Display for Stop<R> {
 
 impl<R: Debug + Display + Drop> Error for Stop<R> {}
 
-/// Why a call that takes memory gave no value.
+/// Why a call that allocates returned no value.
 #[derive(Clone, Copy, Debug, PartialEq, Eq)]
 pub enum Refused<R> {
-    /// The octets are no spelling.
+    /// The octets don't encode a value.
     Stop(Stop<R>),
-    /// A growth was refused. The octets may be a spelling or not.
+    /// An allocation failed. The octets may or may not encode a value.
     Memory,
 }
 
@@ -78,7 +79,7 @@ impl<R> From<Stop<R>> for Refused<R> {
     }
 }
 
-/// The stop, or `memory`.
+/// Writes the stop, or `memory`.
 impl<R: Display> Display for Refused<R> {
     ghost use Rattle.octet_core.specs.Stops.{refused_text};
 
@@ -94,8 +95,8 @@ impl<R: Display> Display for Refused<R> {
 
 impl<R: Debug + Display + Drop> Error for Refused<R> {}
 
-/// A refusal that a reader keeps and repeats: the octet at `place`, counted from the first that it was
-/// ever fed, is the first after which no spelling goes on.
+/// A refusal that a reader keeps and repeats. The octet at `place`, counted from the first that was ever fed,
+/// is the first after which no encoding can continue.
 #[derive(Clone, Copy, Debug, PartialEq, Eq)]
 pub struct Refusal<R> {
     pub place: usize,
@@ -103,7 +104,7 @@ pub struct Refusal<R> {
 }
 
 impl<R> Refusal<R> {
-    /// The refusal as it is answered.
+    /// Returns the refusal as the stop that calls return.
     pub fn stop(self) -> Stop<R>
         ensures { result ≡ At self.place self.reason }
     {
@@ -114,7 +115,7 @@ impl<R> Refusal<R> {
     }
 }
 
-/// As its stop: `refused at P: ` and the reason.
+/// Writes the refusal like its stop: `refused at P: ` and the reason.
 impl<R: Display> Display for Refusal<R> {
     ghost use Rattle.octet_core.specs.Stops.{stop_text};
     ghost use Rattle.octet_core.specs.declared.stop.Stop.TheVariants.{At};

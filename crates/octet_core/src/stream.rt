@@ -1,4 +1,4 @@
-//! Readers and writers that tell how many of their calls failed.
+//! Readers and writers that count their failed calls.
 
 ghost use Rattle.std.specs.Prelude.{◌≡◌, ◌≤◌, ◌<◌, List, ℕ, Option, OnOk, IfErr, IfSome, IfNone, take, length};
 ghost use Rattle.std.specs.Io.{ReadsAtMost, WritesAtMost};
@@ -9,30 +9,30 @@ use std::error::Error;
 use std::fmt::{self, Display, Formatter};
 use std::io;
 
-/// A reader that counts the calls that failed. The end of its input is no failure.
+/// A reader that counts its failed calls. The end of its input isn't a failure.
 pub trait Source {
-    /// The octets that are left to read, where they are known.
+    /// The octets that are left to read, if they are known.
     ghost remaining: { Self → Option (List ℕ) };
 
-    /// How many calls failed; it stays at its greatest value once there.
+    /// How many calls failed. The count stops at its greatest value.
     ghost failures: { Self → ℕ };
 
-    /// Reads as std's `Read::read` does: up to `room.len()` octets, 0 at the end of the input.
+    /// Reads like std's `Read::read`: up to `room.len()` octets, 0 at the end of the input.
     fn read(&mut self, room: &mut [u8]) -> io::Result<usize>
         ensures bound { ReadsAtMost result room.new }
         ensures octets { ReadConsumes (remaining self.old) (remaining self.new) result room.new }
         ensures counted { Counts (ReadFails result) (failures self.old) (failures self.new) };
 }
 
-/// A writer that counts the calls that failed. To take no octet of some is a failure.
+/// A writer that counts its failed calls. A call that takes none of some octets has failed.
 pub trait Sink {
-    /// The octets that were written, where they are known.
+    /// The octets that were written, if they are known.
     ghost contents: { Self → Option (List ℕ) };
 
-    /// How many calls failed; it stays at its greatest value once there.
+    /// How many calls failed. The count stops at its greatest value.
     ghost failures: { Self → ℕ };
 
-    /// Writes as std's `Write::write` does: the octets taken, from the first on.
+    /// Writes like std's `Write::write`, and returns how many of the first octets were taken.
     fn write(&mut self, octets: &[u8]) -> io::Result<usize>
         ensures bound { WritesAtMost result octets.now }
         ensures octets { WriteAppends (contents self.old) (contents self.new) result octets.now }
@@ -46,7 +46,7 @@ pub struct WriteFault {
     pub written: usize,
 }
 
-/// How many octets were written, as in `Write after 3 octets`.
+/// Writes how many octets were written, as in `Write after 3 octets`.
 impl Display for WriteFault {
     ghost use Rattle.std.specs.Prelude.{Some, ◌++◌, codes, decimal};
 
@@ -61,7 +61,7 @@ impl Display for WriteFault {
 
 impl Error for WriteFault {}
 
-/// Writes some of the octets by one call, `None` where it fails.
+/// Writes some of the octets by one call. The result is `None` if the call fails.
 fn write_some<W: Sink>(writer: &mut W, octets: &[u8]) -> Option<usize>
     requires { 0 < length octets.now }
     ensures some { IfSome result (λ n. (0 < n) × (n ≤ length octets.now)) }
@@ -79,7 +79,8 @@ fn write_some<W: Sink>(writer: &mut W, octets: &[u8]) -> Option<usize>
 }
 
 /// Writes all octets. At a fault the writer has taken the first `written` octets, fewer than all,
-/// and just one call of it failed; a failed call isn't tried again, an interruption neither.
+/// and exactly one of its calls failed. A failed call isn't retried, not even after an
+/// interruption.
 pub fn write_octets<W: Sink>(writer: &mut W, octets: &[u8]) -> Result<(), WriteFault>
     ensures all { OnOk result (Appends (W.contents writer.old) (W.contents writer.new) octets.now) }
     ensures none_failed { OnOk result (W.failures writer.new ≡ W.failures writer.old) }

@@ -1,4 +1,4 @@
-//! The longest sessions, and sessions with a limit. What other sessions become is in the folder `vectors`.
+//! The longest sessions, and sessions with a limit. The folder `vectors` has other sessions.
 
 mod requests;
 
@@ -11,29 +11,29 @@ use std::alloc::Global;
 use std::process::Abort;
 use test_support::{of_hex, same, shows};
 
-/// So many octets 00.
+/// Returns so many octets 00.
 fn zeros(rt: &impl Abort, alloc: Global, count: usize) -> Octets {
     Octets::of(vec![in alloc; 0; count].expect(rt, "octets"))
 }
 
-/// The answer to reset of a card that takes fields of 32 octets.
+/// Returns the answer to reset of a card that takes fields of 32 octets.
 fn atr(rt: &impl Abort, alloc: Global) -> Octets {
     Octets::of(of_hex(alloc, "3B808131204555").expect(rt, "octets"))
 }
 
-/// One command and its reply.
+/// Returns one command with its reply.
 fn one(rt: &impl Abort, alloc: Global, pair: Pair) -> Pairs {
     let mut list = Vec::new(alloc);
     list.push(pair).ok().expect(rt, "a pair");
     Pairs::of(list)
 }
 
-/// The numbers of no block.
+/// Returns a list that names no block.
 fn no_block(alloc: Global) -> BlockNumbers {
     BlockNumbers::of(Vec::new(alloc))
 }
 
-/// A session of one command and its reply, each of so many octets 00.
+/// Returns a session of one command and its reply, each of so many octets 00.
 fn session(rt: &impl Abort, alloc: Global, command: usize, reply: usize) -> Session {
     let pair = Pair {
         command: zeros(rt, alloc, command),
@@ -49,7 +49,7 @@ fn session(rt: &impl Abort, alloc: Global, command: usize, reply: usize) -> Sess
     }
 }
 
-/// The exchange of that session.
+/// Returns the exchange of that session.
 fn exchange(rt: &impl Abort, alloc: Global, command: usize, reply: usize) -> Exchange {
     let session = session(rt, alloc, command, reply);
     simulate(alloc, &session, 100_000).expect(rt, "an exchange")
@@ -60,7 +60,7 @@ fn replays(alloc: Global, exchange: &Exchange, side: Side) -> bool {
     replay(alloc, exchange, side).is_ok()
 }
 
-/// Asserts how many lines an exchange has, which replays at both ends.
+/// Asserts that an exchange replays at both ends and has so many lines.
 fn assert_line_count(rt: &impl Abort, alloc: Global, exchange: &Exchange, count: usize) {
     assert!(rt; replays(alloc, exchange, Side::Terminal));
     assert!(rt; replays(alloc, exchange, Side::Card));
@@ -70,10 +70,10 @@ fn assert_line_count(rt: &impl Abort, alloc: Global, exchange: &Exchange, count:
 #[test]
 fn ends_before_an_event_that_is_refused(rt: HostRuntime) {
     let alloc = rt.alloc();
-    // a command that is too long: nothing happens; a reply: the host was asked, and that is all
+    // a command that is too long: nothing happens; a reply that is too long: the host was asked, and nothing more
     assert_line_count(&rt, alloc, &exchange(&rt, alloc, 65_545, 0), 0);
     assert_line_count(&rt, alloc, &exchange(&rt, alloc, 5, 65_539), 3);
-    // the longest ones: 2,049 blocks of each, and as many R-blocks but for the last two
+    // the longest messages: 2,049 blocks each, and as many R-blocks, except after the last block of each
     let count = 4 + 4 * 2_049 - 2;
     assert_line_count(&rt, alloc, &exchange(&rt, alloc, 65_544, 65_538), count);
 }
@@ -99,7 +99,7 @@ fn assert_event_count(rt: &impl Abort, alloc: Global, session: &Session, count: 
 
 #[test]
 fn sessions_that_are_too_large(rt: HostRuntime) {
-    // four events lead to the end of a session of one exchange
+    // four events make a session of one exchange
     let session = session(&rt, rt.alloc(), 5, 2);
     assert_event_count(&rt, rt.alloc(), &session, 5);
 }

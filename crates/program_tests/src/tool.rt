@@ -1,4 +1,5 @@
-//! What no line of the folder `vectors` can say of the program: help, writers and readers that fail, the largest values.
+//! What no line of the folder `vectors` can say about the program: help, writers and readers that fail, the largest
+//! values.
 
 ghost use Rattle.std.specs.Prelude.{◌≤◌, ◌≢◌};
 
@@ -13,7 +14,7 @@ use std::io::{Read, Write};
 use std::process::Abort;
 use test_support::same;
 
-/// How a run of the program ended, with its reader and its writer back.
+/// How a run of the program ended, with its reader and its writer returned.
 #[derive(Drop)]
 struct Ended<R, W> {
     status: Status,
@@ -21,7 +22,7 @@ struct Ended<R, W> {
     writer: W,
 }
 
-/// The program run on the words of a line. It has no contract, so that no test carries what `run` ensures.
+/// Runs the program on the words of a line. It has no contract, so that no test carries what `run` ensures.
 fn ran<R: Read, W: Write>(
     rt: &impl Abort,
     alloc: Global,
@@ -39,7 +40,7 @@ fn ran<R: Read, W: Write>(
     }
 }
 
-/// The program run on the words of a line that leave its reader unread.
+/// Runs the program on the words of a line that leave its reader unread.
 fn told(
     rt: &impl Abort,
     alloc: Global,
@@ -61,7 +62,7 @@ fn assert_has(rt: &impl Abort, text: &[u8], parts: &[&str]) {
     }
 }
 
-/// Asserts that the program accepts a call for help, and that what it says has these parts.
+/// Asserts that the program accepts a call for help, and that its text has these parts.
 fn assert_helps(rt: &impl Abort, alloc: Global, line: &str, parts: &[&str]) {
     let told = told(rt, alloc, line, Taker::new(4096, 7, After::End));
     assert!(rt; same(told.status, Status::Accepted), "{line}");

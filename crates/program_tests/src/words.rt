@@ -3,7 +3,7 @@
 use std::alloc::Global;
 use std::process::Abort;
 
-/// The program's name, and then the words of a line, which are parted by blanks.
+/// Returns the program's name, and then the words of a line, which blanks separate.
 pub(super) fn words_of(rt: &impl Abort, alloc: Global, line: &str) -> Vec<String> {
     let mut words = Vec::new(alloc);
     add(rt, alloc, &mut words, "scard");
@@ -13,7 +13,7 @@ pub(super) fn words_of(rt: &impl Abort, alloc: Global, line: &str) -> Vec<String
     words
 }
 
-/// One word more.
+/// Appends a word.
 fn add(rt: &impl Abort, alloc: Global, words: &mut Vec<String>, word: &str) {
     let word = String::from_str(alloc, word).expect(rt, "a word");
     words.push(word).ok().expect(rt, "words");

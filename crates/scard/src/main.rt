@@ -1,4 +1,4 @@
-//! The program `scard`. What it writes on standard output, and how it ends, stands in card_tool.
+//! The program `scard`. Its standard output and its exit status come from card_tool.
 #![tactic(auto)]
 
 mod notice;

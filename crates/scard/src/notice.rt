@@ -1,15 +1,15 @@
-//! What a person at a terminal reads before the program waits for octets.
+//! The notice for a person at a terminal before the program waits for octets.
 
 ghost use Rattle.std.specs.Prelude.{◌≡◌};
 
 use octet_core::Source;
 use std::io::{self, IsTerminal};
 
-/// What standard error says, which stays out of what other programs read.
+/// The notice, which goes to standard error and so stays out of what other programs read.
 const NOTICE: &str =
     "scard: reading standard input, which is this terminal, up to its end (Ctrl-D)";
 
-/// Standard input that says so before it is read for the first time, where it is a terminal.
+/// Standard input. Before the first read it prints the notice if it is a terminal.
 #[derive(Drop)]
 pub(crate) struct Announced<'a, R> {
     rt: &'a HostRuntime,
@@ -18,7 +18,7 @@ pub(crate) struct Announced<'a, R> {
 }
 
 impl<'a, R> Announced<'a, R> {
-    /// The reader, not yet read.
+    /// Returns the reader, with nothing read yet.
     pub(crate) fn new(rt: &'a HostRuntime, inner: R) -> Self {
         Announced {
             rt,
@@ -27,7 +27,7 @@ impl<'a, R> Announced<'a, R> {
         }
     }
 
-    /// Says that standard input is read, where it is a terminal and wasn't read before.
+    /// Prints the notice if standard input is a terminal and wasn't read before.
     fn announce(&mut self)
         ensures { self.new.inner ≡ self.old.inner }
     {

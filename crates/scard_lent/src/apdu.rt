@@ -12,7 +12,7 @@ ghost use Rattle.c_lent.specs.Apdu.{command_reason, response_reason, class_numbe
 use c_lent::apdu::{CCommand, CResponse};
 use c_lent::verdict::Verdict;
 
-/// The command that all the octets are. `OK` has their number as its place.
+/// Decodes a command, which must be all of the octets. The place of `OK` is their number.
 #[unsafe(no_mangle)]
 pub extern "C" fn scard_command_decode(octets: &[u8], out: &mut CCommand) -> Verdict
     ensures ok { result.status ≡ 0 → IsDecoded octets.now out.new }
@@ -24,7 +24,7 @@ pub extern "C" fn scard_command_decode(octets: &[u8], out: &mut CCommand) -> Ver
     c_lent::apdu::command_decode(octets, out)
 }
 
-/// The response that all the octets are. `OK` has their number as its place.
+/// Decodes a response, which must be all of the octets. The place of `OK` is their number.
 #[unsafe(no_mangle)]
 pub extern "C" fn scard_response_decode(octets: &[u8], out: &mut CResponse) -> Verdict
     ensures ok { result.status ≡ 0 → IsDecodedResponse octets.now out.new }
@@ -36,11 +36,11 @@ pub extern "C" fn scard_response_decode(octets: &[u8], out: &mut CResponse) -> V
     c_lent::apdu::response_decode(octets, out)
 }
 
-/// Writes a command with the header, the shape and Le of a struct and this data field. Nothing else of the
+/// Encodes a command with the header, the shape and the Le of a struct, and with this data field. No other field of the
 /// struct is read.
 ///
-/// `ARGUMENT` with place 0 where there is none: the shape isn't 1 to 7, there is a data field or an Le that
-/// the shape hasn't, or its length fields can't tell them.
+/// Returns `ARGUMENT` with place 0 if there is no such command. Then the shape isn't 1 to 7, the shape excludes the
+/// data field or the Le, or the shape's length fields can't express them.
 #[unsafe(no_mangle)]
 pub extern "C" fn scard_command_encode(command: &CCommand, field: &[u8], out: &mut [u8]) -> Verdict
     ensures written { IfSome (body_with command.now.shape command.now.le field.now)
@@ -53,8 +53,8 @@ pub extern "C" fn scard_command_encode(command: &CCommand, field: &[u8], out: &m
     c_lent::apdu::command_encode(command, field, out)
 }
 
-/// Writes a response with this data field and these status bytes. `ARGUMENT` with place 0 where the field
-/// has more than 65,536 octets.
+/// Encodes a response with this data field and these status bytes. Returns `ARGUMENT` with place 0 if the field has
+/// more than 65,536 octets.
 #[unsafe(no_mangle)]
 pub extern "C" fn scard_response_encode(field: &[u8], sw1: u8, sw2: u8, out: &mut [u8]) -> Verdict
     ensures written { length field.now ≤ 65536 →
@@ -65,8 +65,8 @@ pub extern "C" fn scard_response_encode(field: &[u8], sw1: u8, sw2: u8, out: &mu
     c_lent::apdu::response_encode(field, sw1, sw2, out)
 }
 
-/// The class of two status bytes: 1 normal, 2 warning, 3 execution error, 4 checking error, 5 proprietary,
-/// 6 invalid.
+/// Returns the class of two status bytes: 1 normal, 2 warning, 3 execution error, 4 checking error, 5 proprietary, 6
+/// invalid.
 #[unsafe(no_mangle)]
 pub extern "C" fn scard_status_class(sw1: u8, sw2: u8) -> u8
     ensures { (class : AnyClass) × IsOfClass class sw1 sw2 × (result ≡ class_number class) }

@@ -11,7 +11,7 @@ ghost use Rattle.c_lent.specs.Atr.{atr_reason, atr_of, SaysAtr, IsDecoded, IsT1,
 use c_lent::atr::{CAtr, CRates, CT1};
 use c_lent::verdict::Verdict;
 
-/// The verdict on octets as an answer to reset. `OK` says how many octets the answer takes.
+/// Checks whether octets begin with an answer to reset. The place of `OK` is the length of the answer.
 #[unsafe(no_mangle)]
 pub extern "C" fn scard_atr_check(octets: &[u8]) -> Verdict
     ensures ok { result.status ≡ 0 →
@@ -23,7 +23,7 @@ pub extern "C" fn scard_atr_check(octets: &[u8]) -> Verdict
     c_lent::atr::atr_check(octets)
 }
 
-/// The answer to reset with which the octets begin. `OK` says how many octets it takes.
+/// Decodes the answer to reset at the front of the octets. The place of `OK` is the length of the answer.
 #[unsafe(no_mangle)]
 pub extern "C" fn scard_atr_decode(octets: &[u8], out: &mut CAtr) -> Verdict
     ensures ok { result.status ≡ 0 → IsDecoded octets.now result out.new }
@@ -36,8 +36,8 @@ pub extern "C" fn scard_atr_decode(octets: &[u8], out: &mut CAtr) -> Verdict
     c_lent::atr::atr_decode(octets, out)
 }
 
-/// Writes the octets of an answer, at most 33. `ARGUMENT` with place 0 where the struct says none: a count
-/// is too large, a protocol is above 15, or it would have more than 33 octets.
+/// Encodes an answer to reset, which has at most 33 octets. Returns `ARGUMENT` with place 0 if the struct isn't an
+/// answer: a count is too large, a protocol is above 15, or the encoding would have more than 33 octets.
 #[unsafe(no_mangle)]
 pub extern "C" fn scard_atr_encode(atr: &CAtr, out: &mut [u8]) -> Verdict
     ensures written { SaysAtr atr.now → Puts (IsAtr (atr_of atr.now)) out.old out.new result }
@@ -46,8 +46,8 @@ pub extern "C" fn scard_atr_encode(atr: &CAtr, out: &mut [u8]) -> Verdict
     c_lent::atr::atr_encode(atr, out)
 }
 
-/// The parameters of T=1: 0 where the answer offers usable ones, 1 where it doesn't offer T=1, 2 where IFSC
-/// is reserved, 3 where it asks for the CRC, and `ARGUMENT` where the struct says no answer.
+/// Reads the parameters of T=1. Returns 0 if the answer offers usable ones, 1 if it doesn't offer T=1, 2 if IFSC is
+/// reserved, and 3 if the answer requires the CRC. Returns `ARGUMENT` if the struct isn't an answer to reset.
 #[unsafe(no_mangle)]
 pub extern "C" fn scard_atr_t1_params(atr: &CAtr, out: &mut CT1) -> u8
     ensures params { SaysAtr atr.now → IsT1 (t1_params_of (atr_of atr.now)) out.old out.new result }
@@ -56,7 +56,7 @@ pub extern "C" fn scard_atr_t1_params(atr: &CAtr, out: &mut CT1) -> u8
     c_lent::atr::atr_t1_params(atr, out)
 }
 
-/// The integers Fi and Di that TA1 gives. `ARGUMENT` where the struct says no answer.
+/// Reads the integers Fi and Di that TA1 gives. Returns `ARGUMENT` if the struct isn't an answer to reset.
 #[unsafe(no_mangle)]
 pub extern "C" fn scard_atr_rates(atr: &CAtr, out: &mut CRates) -> u8
     ensures rates { SaysAtr atr.now →

@@ -12,8 +12,8 @@ ghost use Rattle.c_lent.specs.Block.{block_reason, IsDecoded, IsUnfit, IsOf};
 use c_lent::block::CBlock;
 use c_lent::verdict::Verdict;
 
-/// The block with which the octets begin, under an information size of 1 to 254. `OK` says how many octets
-/// it takes.
+/// Decodes the block at the front of the octets, with an information size of 1 to 254. The place of `OK` is the length
+/// of the block.
 #[unsafe(no_mangle)]
 pub extern "C" fn scard_block_decode(octets: &[u8], ifs: u8, out: &mut CBlock) -> Verdict
     ensures ok { result.status ≡ 0 → IsDecoded ifs octets.now result out.new }
@@ -26,8 +26,7 @@ pub extern "C" fn scard_block_decode(octets: &[u8], ifs: u8, out: &mut CBlock) -
     c_lent::block::block_decode(octets, ifs, out)
 }
 
-/// Writes an I-block. `ARGUMENT` with place 0 where `ns` is neither 0 nor 1, or the field has more than 254
-/// octets.
+/// Encodes an I-block. Returns `ARGUMENT` with place 0 if `ns` isn't 0 or 1, or if the field has more than 254 octets.
 #[unsafe(no_mangle)]
 pub extern "C" fn scard_block_i(nad: u8, ns: u8, more: bool, inf: &[u8], out: &mut [u8]) -> Verdict
     ensures written { IfSome (number_of ns) (λ number. length inf.now ≤ 254 →
@@ -39,7 +38,7 @@ pub extern "C" fn scard_block_i(nad: u8, ns: u8, more: bool, inf: &[u8], out: &m
     c_lent::block::block_i(nad, ns, more, inf, out)
 }
 
-/// Writes an R-block. `ARGUMENT` with place 0 where `nr` is neither 0 nor 1, or `fault` is above 2.
+/// Encodes an R-block. Returns `ARGUMENT` with place 0 if `nr` isn't 0 or 1, or if `fault` is above 2.
 #[unsafe(no_mangle)]
 pub extern "C" fn scard_block_r(nad: u8, nr: u8, fault: u8, out: &mut [u8]) -> Verdict
     ensures written { IfSome (number_of nr) (λ number. IfSome (fault_of fault) (λ fault.
@@ -51,8 +50,8 @@ pub extern "C" fn scard_block_r(nad: u8, nr: u8, fault: u8, out: &mut [u8]) -> V
     c_lent::block::block_r(nad, nr, fault, out)
 }
 
-/// Writes an S-block that asks. `ARGUMENT` with place 0 where `about` is above 3, or the field isn't what
-/// it calls for.
+/// Encodes an S-block that is a request. Returns `ARGUMENT` with place 0 if `about` is above 3, or if the request can't
+/// have this field.
 #[unsafe(no_mangle)]
 pub extern "C" fn scard_block_s_request(nad: u8, about: u8, inf: &[u8], out: &mut [u8]) -> Verdict
     ensures written { IfSome (subject_of about) (λ s. Suits 254 (Request s) inf.now →
@@ -65,8 +64,8 @@ pub extern "C" fn scard_block_s_request(nad: u8, about: u8, inf: &[u8], out: &mu
     c_lent::block::block_s_request(nad, about, inf, out)
 }
 
-/// Writes an S-block that answers. `ARGUMENT` with place 0 where `about` is above 3, or the field isn't
-/// what the request calls for.
+/// Encodes an S-block that is a response. Returns `ARGUMENT` with place 0 if `about` is above 3, or if the response
+/// can't have this field.
 #[unsafe(no_mangle)]
 pub extern "C" fn scard_block_s_response(nad: u8, about: u8, inf: &[u8], out: &mut [u8]) -> Verdict
     ensures written { IfSome (subject_of about) (λ s. Suits 254 (Response s) inf.now →
@@ -79,7 +78,7 @@ pub extern "C" fn scard_block_s_response(nad: u8, about: u8, inf: &[u8], out: &m
     c_lent::block::block_s_response(nad, about, inf, out)
 }
 
-/// Writes the block with this control octet and field. `ARGUMENT` with place 0 where there is none.
+/// Encodes the block with this control octet and field. Returns `ARGUMENT` with place 0 if there is no such block.
 #[unsafe(no_mangle)]
 pub extern "C" fn scard_block_encode(nad: u8, pcb: u8, inf: &[u8], out: &mut [u8]) -> Verdict
     ensures { ((v : Parts) × IsOf nad pcb inf.now v × Puts (IsBlock 254 v) out.old out.new result)

@@ -10,9 +10,9 @@ ghost use Rattle.octet_core.specs.Sizes.{IsReserved};
 
 use c_lent::verdict::Verdict;
 
-/// Writes the first block of the chain into which the message from place `start` on is cut.
+/// Encodes the first block of the chain that carries the message from offset `start` on.
 ///
-/// `ARGUMENT` with place 0 where `ifs` is 0 or 255, `ns` is neither 0 nor 1, or `start` is past the message.
+/// Returns `ARGUMENT` with place 0 if `ifs` is 0 or 255, `ns` isn't 0 or 1, or `start` is past the end of the message.
 #[unsafe(no_mangle)]
 pub extern "C" fn scard_chain_block(
     message: &[u8],
@@ -32,10 +32,10 @@ pub extern "C" fn scard_chain_block(
     c_lent::chain::chain_block(message, start, ifs, ns, out)
 }
 
-/// Writes all blocks of the chain into which a message of at most 131,072 octets is cut: fields of `ifs`
-/// octets but for the last, and the first block with the number `ns`. It takes no memory.
+/// Encodes all blocks of the chain that carries a message of at most 131,072 octets. Each field except the last has
+/// `ifs` octets. The first block has the number `ns`. The call allocates nothing.
 ///
-/// `ARGUMENT` with place 0 where `ifs` is 0 or 255, `ns` is neither 0 nor 1, or the message is longer.
+/// Returns `ARGUMENT` with place 0 if `ifs` is 0 or 255, `ns` isn't 0 or 1, or the message is longer.
 #[unsafe(no_mangle)]
 pub extern "C" fn scard_chain_cut(message: &[u8], ifs: u8, ns: u8, out: &mut [u8]) -> Verdict
     ensures written { (IsReserved ifs → ⊥) → length message.now ≤ longest_message →

@@ -10,7 +10,7 @@ ghost use Rattle.c_lent.specs.Dol.{IsSomeDol, PutsEntries};
 use c_lent::dol::CEntry;
 use c_lent::verdict::Verdict;
 
-/// The verdict on octets as a data object list. It takes no memory.
+/// Checks whether octets are a data object list. The call allocates nothing.
 #[unsafe(no_mangle)]
 pub extern "C" fn scard_dol_check(octets: &[u8]) -> Verdict
     ensures ok { result.status ≡ 0 → IsSomeDol octets.now }
@@ -21,10 +21,10 @@ pub extern "C" fn scard_dol_check(octets: &[u8]) -> Verdict
     c_lent::dol::dol_check(octets)
 }
 
-/// Puts the entries of a data object list into an array, in their order. `OK` says how many there are. It takes no
-/// memory.
+/// Writes the entries of a data object list to an array, in their order. The place of `OK` is the number of entries.
+/// The call allocates nothing.
 ///
-/// `ARGUMENT` with their number where the array is too short.
+/// Returns `ARGUMENT` with the number of entries if the array is too short.
 #[unsafe(no_mangle)]
 pub extern "C" fn scard_dol_entries(octets: &[u8], out: &mut [CEntry]) -> Verdict
     ensures entries { (IsRefusal result → ⊥) → PutsEntries octets.now out.old out.new result }

@@ -1,4 +1,4 @@
-//! Data object lists that are filled with known values (EMV 4.3 Book 3, clause 5.4).
+//! Fills data object lists with known values (EMV 4.3 Book 3, clause 5.4).
 
 ghost use Rattle.std.specs.Prelude.{◌≡◌, ◌≢◌, ◌≤◌, ◌<◌, length, map};
 ghost use Rattle.octet_core.specs.Grammar.{whole, Refuses};
@@ -12,13 +12,13 @@ ghost use Rattle.c_lent.specs.Fill.{AreKnown, known_seen, longest_list, Fills};
 use c_lent::parts::CKnown;
 use c_lent::verdict::Verdict;
 
-/// Writes the octets that a data object list asks for: for each entry a part of its length, which is the
-/// known value of its tag, cut and padded by its format; or zeros, where the tag is that of a constructed
-/// object or has no known value.
+/// Writes the octets that a data object list requests: for each entry a part of its length. This part is the known
+/// value of its tag, cut and padded by its format. It is zeros if the tag is that of a constructed object or has no
+/// known value.
 ///
-/// `ARGUMENT` with place 0 where a tag isn't one, a format is above 2 or the list has more than 2^48 octets; else the
-/// refusal of the list; else `DUPLICATE` where two known values have one tag. All pairs of known values are compared,
-/// and for each entry the known values one by one.
+/// Returns `ARGUMENT` with place 0 if a tag isn't valid, a format is above 2, or the list has more than 2^48 octets.
+/// Otherwise returns the refusal if the list is refused, or `DUPLICATE` if two known values have the same tag. The call
+/// compares all pairs of known values. For each entry it searches them one by one.
 #[unsafe(no_mangle)]
 pub extern "C" fn scard_dol_fill(list: &[u8], known: &[CKnown<'_>], out: &mut [u8]) -> Verdict
     ensures filled { length list.now ≤ longest_list → AreKnown known.now → (IsRefusal result → ⊥)

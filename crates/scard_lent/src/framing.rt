@@ -1,11 +1,11 @@
-//! From octets and silences to bursts (ISO/IEC 7816-3, clause 11.4.3): the caller keeps the framer.
+//! Collects octets and silences into bursts (ISO/IEC 7816-3, clause 11.4.3). The caller keeps the framer.
 
 ghost use Rattle.std.specs.Prelude.{◌≡◌, ◌++◌, [], ℕ, List, take};
 ghost use Rattle.line_core.specs.Bursts.{HasHeard, handed, is_whole, wait_of};
 
 use line_core::Framer;
 
-/// Begins a burst of no octet, whatever the framer was.
+/// Begins a burst without octets. The framer may have any value before.
 #[unsafe(no_mangle)]
 pub extern "C" fn scard_lent_framer_begin(framer: &mut Framer)
     ensures { HasHeard framer.new [] }
@@ -13,7 +13,7 @@ pub extern "C" fn scard_lent_framer_begin(framer: &mut Framer)
     framer.restart();
 }
 
-/// Takes octets that came, none too: all are counted, and the first 259 of the burst are kept.
+/// Adds octets that arrived, possibly none, to the burst. All are counted, and the first 259 of the burst are kept.
 #[unsafe(no_mangle)]
 pub extern "C" fn scard_lent_framer_feed(framer: &mut Framer, piece: &[u8])
     ensures { (burst : List ℕ) → HasHeard framer.old burst
@@ -22,7 +22,7 @@ pub extern "C" fn scard_lent_framer_feed(framer: &mut Framer, piece: &[u8])
     framer.feed(piece);
 }
 
-/// Whether the burst is a whole block with the right LRC, by its LEN, and nothing more.
+/// Whether the burst is a complete block by its LEN, with the right LRC and nothing after it.
 #[unsafe(no_mangle)]
 pub extern "C" fn scard_lent_framer_is_whole(framer: &Framer) -> bool
     ensures { (burst : List ℕ) → HasHeard framer.now burst → result ≡ is_whole burst }
@@ -30,8 +30,8 @@ pub extern "C" fn scard_lent_framer_is_whole(framer: &Framer) -> bool
     framer.is_whole()
 }
 
-/// How long a silence ends the burst, in any unit of time: `first` while no octet came, `after` where the burst is a
-/// whole block with the right LRC, and else `inside`.
+/// Returns how long a silence ends the burst, in any unit of time. It is `first` before the first octet, `after` if the
+/// burst is a complete block with the right LRC, and `inside` otherwise.
 #[unsafe(no_mangle)]
 pub extern "C" fn scard_lent_framer_wait(
     framer: &Framer,
@@ -45,7 +45,7 @@ pub extern "C" fn scard_lent_framer_wait(
     framer.wait(first, inside, after)
 }
 
-/// How many octets at the front of those that are kept an end is handed: the burst, or its first 259 octets.
+/// Returns how many octets at the front of the kept ones an end takes: the burst, or its first 259 octets.
 #[unsafe(no_mangle)]
 pub extern "C" fn scard_lent_framer_burst(framer: &Framer) -> usize
     ensures { (burst : List ℕ) → HasHeard framer.now burst

@@ -7,8 +7,8 @@ ghost use Rattle.c_lent.specs.Hex.{hex_reason, RefusesText, PutsText};
 
 use c_lent::verdict::Verdict;
 
-/// Writes the octets that a text gives with two digits each, in either case. A text of an odd length is
-/// refused at its end, any other at the first octet that is no digit.
+/// Decodes a text with two digits for each octet, in either case. A text with an odd length is refused at its end. Any
+/// other text is refused at the first octet that isn't a digit.
 #[unsafe(no_mangle)]
 pub extern "C" fn scard_hex_decode(text: &[u8], out: &mut [u8]) -> Verdict
     ensures written { (IsRefusal result → ⊥) → PutsText text.now out.old out.new result }
@@ -18,7 +18,7 @@ pub extern "C" fn scard_hex_decode(text: &[u8], out: &mut [u8]) -> Verdict
     c_lent::hexadecimal::hex_decode(text, out)
 }
 
-/// Writes octets as text with two digits each, letters in upper case; no 0 follows it.
+/// Encodes octets as text with two digits for each, letters in upper case, without a 0 at the end.
 #[unsafe(no_mangle)]
 pub extern "C" fn scard_hex_encode(octets: &[u8], out: &mut [u8]) -> Verdict
     ensures verdict { result ≡ put_verdict (encode_upper octets.now) out.old }

@@ -3,7 +3,7 @@
 ghost use Rattle.std.specs.Prelude.{◌≡◌};
 ghost use Rattle.c_lent.specs.Layout.{size_of_struct};
 
-/// How many octets a struct has in the library, by its number in the header; 0 for any other number.
+/// Returns the size of a struct of the library in octets, by the struct's number in the header. 0 for any other number.
 #[unsafe(no_mangle)]
 pub extern "C" fn scard_struct_size(number: u8) -> usize
     ensures { result ≡ size_of_struct number }

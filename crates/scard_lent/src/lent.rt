@@ -1,5 +1,5 @@
-//! Both ends of T=1 without an allocator (ISO/IEC 7816-3, clause 11.6): the caller keeps the state, and lends
-//! it and both buffers to each call.
+//! Both ends of T=1 without an allocator (ISO/IEC 7816-3, clause 11.6). The caller keeps the state, and passes it and
+//! both buffers to each call.
 
 ghost use Rattle.std.specs.Prelude.{◌≡◌, length, replicate};
 ghost use Rattle.atr_core.specs.T1.{IsUsable};
@@ -15,9 +15,10 @@ use c_lent::kept::{CCard, CTerminal};
 use c_lent::turn::CTurn;
 use c_lent::verdict::Verdict;
 
-/// Begins a terminal for a card with these parameters of T=1, over two buffers that are set to 0: messages
-/// have at most as many octets as the buffers, and no more than 65,544 and 65,538. `ARGUMENT` where `ifsc` is
-/// 0 or 255, or an index is above 15: then nothing changes.
+/// Begins a terminal for a card with these parameters of T=1, and sets both buffers to 0. A command has at most as many
+/// octets as its buffer, and at most 65,544. An answer has at most as many as its buffer, and at most 65,538.
+///
+/// Returns `ARGUMENT` if `ifsc` is 0 or 255, or if an index is above 15. Then nothing changes.
 #[unsafe(no_mangle)]
 pub extern "C" fn scard_lent_terminal_begin(
     state: &mut CTerminal,
@@ -39,7 +40,7 @@ pub extern "C" fn scard_lent_terminal_begin(
     c_lent::lent::lent_terminal_begin(state, command, answer, ifsc, bwi, cwi)
 }
 
-/// The terminal's application hands over a command, which has room in its buffer.
+/// Takes a command from the terminal's application. The command must fit its buffer.
 #[unsafe(no_mangle)]
 pub extern "C" fn scard_lent_terminal_transmit(
     state: &mut CTerminal,
@@ -54,7 +55,7 @@ pub extern "C" fn scard_lent_terminal_transmit(
     c_lent::lent::lent_terminal_transmit(state, command, answer, octets, out)
 }
 
-/// The line delivered these octets to the terminal as one block.
+/// Takes the octets that the line delivered to the terminal as one block.
 #[unsafe(no_mangle)]
 pub extern "C" fn scard_lent_terminal_received(
     state: &mut CTerminal,
@@ -70,7 +71,7 @@ pub extern "C" fn scard_lent_terminal_received(
     c_lent::lent::lent_terminal_received(state, command, answer, octets, out)
 }
 
-/// Nothing came to the terminal within the waiting time.
+/// Reports that nothing came to the terminal within the waiting time.
 #[unsafe(no_mangle)]
 pub extern "C" fn scard_lent_terminal_quiet(
     state: &mut CTerminal,
@@ -84,7 +85,7 @@ pub extern "C" fn scard_lent_terminal_quiet(
     c_lent::lent::lent_terminal_quiet(state, command, answer, out)
 }
 
-/// The terminal asks the card to send information fields of up to `size` octets, 1 to 254.
+/// Requests that the card send information fields of up to `size` octets, 1 to 254.
 #[unsafe(no_mangle)]
 pub extern "C" fn scard_lent_terminal_ask_ifs(
     state: &mut CTerminal,
@@ -99,8 +100,8 @@ pub extern "C" fn scard_lent_terminal_ask_ifs(
     c_lent::lent::lent_terminal_ask_ifs(state, command, answer, size, out)
 }
 
-/// How many octets at the front of the answer's buffer are the answer, from the turn that completes it on until
-/// the next command is taken. `ARGUMENT` where there is none.
+/// Returns how many octets at the front of the answer's buffer are the answer. It is there from the turn that completes
+/// it until the next command is taken. Returns `ARGUMENT` if there is none.
 #[unsafe(no_mangle)]
 pub extern "C" fn scard_lent_terminal_answer(
     state: &CTerminal,
@@ -115,7 +116,7 @@ pub extern "C" fn scard_lent_terminal_answer(
     c_lent::lent::lent_terminal_answer(state, command, answer)
 }
 
-/// Begins a card with these parameters of T=1, as `scard_lent_terminal_begin` a terminal.
+/// Begins a card with these parameters of T=1, as `scard_lent_terminal_begin` begins a terminal.
 #[unsafe(no_mangle)]
 pub extern "C" fn scard_lent_card_begin(
     state: &mut CCard,
@@ -137,7 +138,7 @@ pub extern "C" fn scard_lent_card_begin(
     c_lent::lent::lent_card_begin(state, command, reply, ifsc, bwi, cwi)
 }
 
-/// The line delivered these octets to the card as one block.
+/// Takes the octets that the line delivered to the card as one block.
 #[unsafe(no_mangle)]
 pub extern "C" fn scard_lent_card_received(
     state: &mut CCard,
@@ -153,7 +154,7 @@ pub extern "C" fn scard_lent_card_received(
     c_lent::lent::lent_card_received(state, command, reply, octets, out)
 }
 
-/// The card's host hands over its reply, which has room in its buffer.
+/// Takes a reply from the card's host. The reply must fit its buffer.
 #[unsafe(no_mangle)]
 pub extern "C" fn scard_lent_card_reply(
     state: &mut CCard,
@@ -168,7 +169,7 @@ pub extern "C" fn scard_lent_card_reply(
     c_lent::lent::lent_card_reply(state, command, reply, octets, out)
 }
 
-/// The card's host asks for more waiting time, by any multiple of it.
+/// Requests more waiting time for the card's host, any multiple of it.
 #[unsafe(no_mangle)]
 pub extern "C" fn scard_lent_card_more_time(
     state: &mut CCard,
@@ -183,7 +184,7 @@ pub extern "C" fn scard_lent_card_more_time(
     c_lent::lent::lent_card_more_time(state, command, reply, multiple, out)
 }
 
-/// The card asks the terminal to send information fields of up to `size` octets, 1 to 254.
+/// Requests that the terminal send information fields of up to `size` octets, 1 to 254.
 #[unsafe(no_mangle)]
 pub extern "C" fn scard_lent_card_ask_ifs(
     state: &mut CCard,
@@ -198,8 +199,8 @@ pub extern "C" fn scard_lent_card_ask_ifs(
     c_lent::lent::lent_card_ask_ifs(state, command, reply, size, out)
 }
 
-/// How many octets at the front of the command's buffer are the command, while the host owes the reply to it.
-/// `ARGUMENT` where there is none.
+/// Returns how many octets at the front of the command's buffer are the command. It is there while the host owes the
+/// reply to it. Returns `ARGUMENT` if there is none.
 #[unsafe(no_mangle)]
 pub extern "C" fn scard_lent_card_command(state: &CCard, command: &[u8], reply: &[u8]) -> Verdict
     ensures command { (c : CardState) → IsCard state.now command.now reply.now c →

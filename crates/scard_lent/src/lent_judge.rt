@@ -1,4 +1,4 @@
-//! A judge of the blocks on a line, without an allocator: the caller keeps the state.
+//! A judge of the blocks on a line. The caller keeps the state, and nothing is allocated.
 
 ghost use Rattle.std.specs.Prelude.{◌≡◌, ◌≢◌, IfSome, IfNone};
 ghost use Rattle.octet_core.specs.Sizes.{IsReserved};
@@ -13,8 +13,8 @@ use c_lent::lent_judge::CJudgment;
 use c_lent::names::CText;
 use c_lent::verdict::Verdict;
 
-/// Begins a judge at a reset of a card that takes fields of up to `ifsc` octets, 1 to 254, whatever the state was.
-/// `ARGUMENT` for 0 and 255: then nothing changes.
+/// Begins a judge at a reset of a card that takes information fields of up to `ifsc` octets, 1 to 254. The state may
+/// have any value before. Returns `ARGUMENT` for 0 and 255. Then nothing changes.
 #[unsafe(no_mangle)]
 pub extern "C" fn scard_lent_judge_begin(state: &mut CJudge, ifsc: u8) -> Verdict
     ensures ok { (IsReserved ifsc → ⊥) →
@@ -24,9 +24,9 @@ pub extern "C" fn scard_lent_judge_begin(state: &mut CJudge, ifsc: u8) -> Verdic
     c_lent::lent_judge::lent_judge_begin(state, ifsc)
 }
 
-/// Judges the octets that were on the line as one block of an end: 0 the terminal, 1 the card. `arrival` says how they
-/// reached the other end: 0 nobody knows, 1 not at all, 2 as the octets `came`. `ARGUMENT` for another number: then
-/// nothing changes.
+/// Judges the octets that an end put on the line as one block. `from` is 0 for the terminal, 1 for the card. `arrival`
+/// says how they reached the other end: 0 unknown, 1 not at all, 2 as the octets `came`. Returns `ARGUMENT` for another
+/// number. Then nothing changes.
 #[unsafe(no_mangle)]
 pub extern "C" fn scard_lent_judge_block(
     state: &mut CJudge,
@@ -45,7 +45,7 @@ pub extern "C" fn scard_lent_judge_block(
     c_lent::lent_judge::lent_judge_block(state, from, octets, arrival, came, out)
 }
 
-/// The terminal's waiting time ended: says whether the card sent no block that it owed.
+/// Ends the terminal's waiting time, and says whether the card owed a block that it didn't send.
 #[unsafe(no_mangle)]
 pub extern "C" fn scard_lent_judge_quiet(state: &mut CJudge, out: &mut CJudgment)
     ensures after { monitor_of state.new ≡ quiet_after (monitor_of state.old) }
@@ -62,7 +62,7 @@ pub extern "C" fn scard_lent_judge_finish(state: &CJudge, out: &mut CJudgment)
     c_lent::lent_judge::lent_judge_finish(state, out)
 }
 
-/// What breaks a rule, in a few words; "" for any other number.
+/// Returns in a few words what breaks a rule; "" for any other number.
 #[unsafe(no_mangle)]
 pub extern "C" fn scard_judge_rule_text(rule: u8, out: &mut CText)
     ensures { out.new.octets.now ≡ ended (rule_words rule) }
@@ -70,7 +70,7 @@ pub extern "C" fn scard_judge_rule_text(rule: u8, out: &mut CText)
     c_lent::lent_judge::judge_rule_text(rule, out)
 }
 
-/// The clause of a rule in ISO/IEC 7816-3:2006; "" for any other number.
+/// Returns the clause of a rule in ISO/IEC 7816-3:2006; "" for any other number.
 #[unsafe(no_mangle)]
 pub extern "C" fn scard_judge_clause_text(rule: u8, out: &mut CText)
     ensures { out.new.octets.now ≡ ended (clause_words rule) }

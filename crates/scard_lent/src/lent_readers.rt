@@ -1,5 +1,5 @@
-//! Readers of one block and of one answer to reset that come in pieces, without an allocator: the caller keeps the
-//! state.
+//! Readers of one block and of one answer to reset that come in pieces. The caller keeps the state, and nothing is
+//! allocated.
 
 ghost use Rattle.std.specs.Prelude.{◌≡◌, ◌≢◌, []};
 ghost use Rattle.octet_core.specs.Sizes.{IsReserved};
@@ -11,8 +11,8 @@ use c_lent::block::CBlock;
 use c_lent::lent_readers::{CAtrReader, CBlockReader};
 use c_lent::verdict::Verdict;
 
-/// Begins a reader of one block (ISO/IEC 7816-3, clause 11.3) under an information size of 1 to 254, whatever the
-/// state was. `ARGUMENT` for 0 and 255: then nothing changes.
+/// Begins a reader of one block (ISO/IEC 7816-3, clause 11.3) with an information size of 1 to 254. The state may have
+/// any value before. Returns `ARGUMENT` for 0 and 255. Then nothing changes.
 #[unsafe(no_mangle)]
 pub extern "C" fn scard_lent_block_reader_begin(state: &mut CBlockReader, ifs: u8) -> Verdict
     ensures ok { (IsReserved ifs → ⊥)
@@ -23,10 +23,11 @@ pub extern "C" fn scard_lent_block_reader_begin(state: &mut CBlockReader, ifs: u
     c_lent::lent_readers::lent_block_reader_begin(state, ifs)
 }
 
-/// Gives the next octets to a reader of a block. `OK`: the block is whole, and took `place` octets of this piece, the
-/// rest isn't its own; after that it takes none. `MORE`: it took them all. `AT`: the octet at `place`, counted from the
-/// first ever given, is the first after which no block goes on; from then on it is refused again. Any state is a reader,
-/// but `ARGUMENT` where its information size is 0 or 255: then nothing changes.
+/// Feeds the next octets to a reader of a block. Any state is a reader, unless its information size is 0 or 255.
+///
+/// `OK`: the block is complete. It took `place` octets of this piece, and not those after them. Later calls take none.
+/// `MORE`: the reader took them all. `AT`: no block continues after the octet at `place`, counted from the first that
+/// was ever fed. Later calls refuse it again. `ARGUMENT`: the information size is 0 or 255, and nothing changes.
 #[unsafe(no_mangle)]
 pub extern "C" fn scard_lent_block_reader_feed(state: &mut CBlockReader, piece: &[u8]) -> Verdict
     ensures { BlockFed state.old piece.now state.new result }
@@ -34,8 +35,8 @@ pub extern "C" fn scard_lent_block_reader_feed(state: &mut CBlockReader, piece: 
     c_lent::lent_readers::lent_block_reader_feed(state, piece)
 }
 
-/// What there is to say of all octets that a reader of a block was given: `OK` with place 0 where they are a block,
-/// `SHORT` at their end where one goes on, or the refusal. `ARGUMENT` where the information size is 0 or 255.
+/// Ends a reader of a block, and returns the verdict on all octets that it was fed: `OK` with place 0 if they are a
+/// block, `SHORT` at their end if a block could continue, or the refusal. `ARGUMENT`: the information size is 0 or 255.
 #[unsafe(no_mangle)]
 pub extern "C" fn scard_lent_block_reader_finish(state: &CBlockReader) -> Verdict
     ensures { BlockEnded state.now result }
@@ -43,8 +44,9 @@ pub extern "C" fn scard_lent_block_reader_finish(state: &CBlockReader) -> Verdic
     c_lent::lent_readers::lent_block_reader_finish(state)
 }
 
-/// The block of a reader, once it is whole. `OK` says how many octets it has: they are at the front of `octets` of the
-/// state, and the places of the struct are places of them. `ARGUMENT` with place 0 where it isn't whole.
+/// Returns the block of a reader, once it is complete. The place of `OK` is the length of the block: its octets are at
+/// the front of `octets` of the state, and the struct's places count from there. Returns `ARGUMENT` with place 0 if the
+/// block isn't complete.
 #[unsafe(no_mangle)]
 pub extern "C" fn scard_lent_block_reader_value(state: &CBlockReader, out: &mut CBlock) -> Verdict
     ensures { BlockGiven state.now out.old out.new result }
@@ -52,7 +54,7 @@ pub extern "C" fn scard_lent_block_reader_value(state: &CBlockReader, out: &mut 
     c_lent::lent_readers::lent_block_reader_value(state, out)
 }
 
-/// Begins a reader of one answer to reset (ISO/IEC 7816-3, clause 8.2), whatever the state was.
+/// Begins a reader of one answer to reset (ISO/IEC 7816-3, clause 8.2). The state may have any value before.
 #[unsafe(no_mangle)]
 pub extern "C" fn scard_lent_atr_reader_begin(state: &mut CAtrReader)
     ensures { atr_held state.new ≡ [] }
@@ -60,10 +62,11 @@ pub extern "C" fn scard_lent_atr_reader_begin(state: &mut CAtrReader)
     c_lent::lent_readers::lent_atr_reader_begin(state);
 }
 
-/// Gives the next octets to a reader of an answer to reset. `OK`: the answer is whole, and took `place` octets of this
-/// piece, the rest isn't its own; after that it takes none. `MORE`: it took them all. `AT`: the octet at `place`,
-/// counted from the first ever given, is the first after which no answer goes on; from then on it is refused again. Any
-/// state is a reader.
+/// Feeds the next octets to a reader of an answer to reset. Any state is a reader.
+///
+/// `OK`: the answer is complete. It took `place` octets of this piece, and not those after them. Later calls take none.
+/// `MORE`: the reader took them all. `AT`: no answer continues after the octet at `place`, counted from the first that
+/// was ever fed. Later calls refuse it again.
 #[unsafe(no_mangle)]
 pub extern "C" fn scard_lent_atr_reader_feed(state: &mut CAtrReader, piece: &[u8]) -> Verdict
     ensures { AtrFed state.old piece.now state.new result }
@@ -71,8 +74,8 @@ pub extern "C" fn scard_lent_atr_reader_feed(state: &mut CAtrReader, piece: &[u8
     c_lent::lent_readers::lent_atr_reader_feed(state, piece)
 }
 
-/// What there is to say of all octets that a reader of an answer to reset was given: `OK` with place 0 where they are
-/// an answer, `SHORT` at their end where one goes on, or the refusal.
+/// Ends a reader of an answer to reset, and returns the verdict on all octets that it was fed: `OK` with place 0 if
+/// they are an answer, `SHORT` at their end if an answer could continue, or the refusal.
 #[unsafe(no_mangle)]
 pub extern "C" fn scard_lent_atr_reader_finish(state: &CAtrReader) -> Verdict
     ensures { AtrEnded state.now result }
@@ -80,8 +83,8 @@ pub extern "C" fn scard_lent_atr_reader_finish(state: &CAtrReader) -> Verdict
     c_lent::lent_readers::lent_atr_reader_finish(state)
 }
 
-/// The answer to reset of a reader, once it is whole. `OK` says how many octets it has: they are at the front of
-/// `octets` of the state. `ARGUMENT` with place 0 where it isn't whole.
+/// Returns the answer to reset of a reader, once it is complete. The place of `OK` is the length of the answer: its
+/// octets are at the front of `octets` of the state. Returns `ARGUMENT` with place 0 if the answer isn't complete.
 #[unsafe(no_mangle)]
 pub extern "C" fn scard_lent_atr_reader_value(state: &CAtrReader, out: &mut CAtr) -> Verdict
     ensures { AtrGiven state.now out.old out.new result }

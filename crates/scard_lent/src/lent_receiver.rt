@@ -1,5 +1,5 @@
-//! A receiver of a chain without an allocator (ISO/IEC 7816-3, clause 11.6): the caller keeps the state, and lends it
-//! and the buffer of the message to each call.
+//! A receiver of a chain without an allocator (ISO/IEC 7816-3, clause 11.6). The caller keeps the state, and passes it
+//! and the message's buffer to each call.
 
 ghost use Rattle.std.specs.Prelude.{◌≡◌, ◌≢◌, ◌≤◌, ◌<◌, ℕ, List, length, IfSome, IfNone};
 ghost use Rattle.chain_core.specs.Chain.{longest_message};
@@ -15,9 +15,9 @@ ghost use Rattle.c_lent.specs.LentReceiver.{ReceiverFed, ReceiverEnded};
 use c_lent::kept_receiver::CReceiver;
 use c_lent::verdict::Verdict;
 
-/// Begins a receiver of one chain under an information size of 1 to 254, whose first block has the number `ns` and
-/// whose message has at most `max` octets, itself at most 131,072, whatever the state was. Each buffer that is lent
-/// from then on has room for `max` octets. `ARGUMENT` where an argument is none of these: then nothing changes.
+/// Begins a receiver of one chain with an information size of 1 to 254. The first block has the number `ns`. The
+/// message has at most `max` octets, and `max` is at most 131,072. The state may have any value before. The buffer of
+/// each later call must have room for `max` octets. Returns `ARGUMENT` for any other argument. Then nothing changes.
 #[unsafe(no_mangle)]
 pub extern "C" fn scard_lent_receiver_begin(
     state: &mut CReceiver,
@@ -36,10 +36,11 @@ pub extern "C" fn scard_lent_receiver_begin(
     c_lent::lent_receiver::lent_receiver_begin(state, ifs, ns, max)
 }
 
-/// Gives the next octets to a receiver, which puts those of the message to the front of the buffer. `OK`: the chain
-/// is whole, and took `place` octets of this piece, the rest isn't its own. `MORE`: it took them all. `AT`: the octet
-/// at `place`, counted from the first ever given, is refused; from then on it is refused again. `ARGUMENT` where the
-/// state and the buffer are no receiver: then nothing changes.
+/// Feeds the next octets to a receiver, which copies those of the message to the front of the buffer.
+///
+/// `OK`: the chain is complete. It took `place` octets of this piece, and not those after them. `MORE`: the receiver
+/// took them all. `AT`: the octet at `place`, counted from the first that was ever fed, is refused. Later calls refuse
+/// it again. `ARGUMENT`: the state and the buffer aren't a receiver, and nothing changes.
 #[unsafe(no_mangle)]
 pub extern "C" fn scard_lent_receiver_feed(
     state: &mut CReceiver,
@@ -51,8 +52,9 @@ pub extern "C" fn scard_lent_receiver_feed(
     c_lent::lent_receiver::lent_receiver_feed(state, message, piece)
 }
 
-/// What there is to say of all octets that a receiver was given: `OK` with place 0 where they are a chain, `SHORT` at
-/// their end where one goes on, or the refusal. `ARGUMENT` where the state and the buffer are no receiver.
+/// Ends a receiver, and returns the verdict on all octets that it was fed: `OK` with place 0 if they are a chain,
+/// `SHORT` at their end if a chain could continue, or the refusal. `ARGUMENT`: the state and the buffer aren't a
+/// receiver.
 #[unsafe(no_mangle)]
 pub extern "C" fn scard_lent_receiver_finish(state: &CReceiver, message: &[u8]) -> Verdict
     ensures { ReceiverEnded state.now message.now result }
@@ -60,7 +62,8 @@ pub extern "C" fn scard_lent_receiver_finish(state: &CReceiver, message: &[u8]) 
     c_lent::lent_receiver::lent_receiver_finish(state, message)
 }
 
-/// How many octets at the front of the buffer are the message, once the chain is whole. `ARGUMENT` where it isn't.
+/// Returns how many octets at the front of the buffer are the message, once the chain is complete. Returns `ARGUMENT`
+/// if it isn't.
 #[unsafe(no_mangle)]
 pub extern "C" fn scard_lent_receiver_message(state: &CReceiver, message: &[u8]) -> Verdict
     ensures message { (r : Taking) → IsReceiver state.now message.now r

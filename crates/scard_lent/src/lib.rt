@@ -1,4 +1,5 @@
-//! The calls of the library for C that take no memory, a static library: exports over c_lent, which has their code.
+//! The calls of the library for C that need no memory, as a static library. It exports the code of c_lent, line_core's
+//! framer and one call of notes.
 #![tactic(auto)]
 
 pub mod apdu;

@@ -5,7 +5,7 @@ ghost use Rattle.c_lent.specs.Names.{ended, status_name, turn_name, reason_name}
 
 use c_lent::names::CText;
 
-/// The name of a status; "" for any other number.
+/// Returns the name of a status; "" for any other number.
 #[unsafe(no_mangle)]
 pub extern "C" fn scard_status_text(status: u8, out: &mut CText)
     ensures { out.new.octets.now ≡ ended (status_name status) }
@@ -13,7 +13,7 @@ pub extern "C" fn scard_status_text(status: u8, out: &mut CText)
     c_lent::names::status_text(status, out)
 }
 
-/// The name of the kind of a turn; "" for any other number.
+/// Returns the name of the kind of a turn; "" for any other number.
 #[unsafe(no_mangle)]
 pub extern "C" fn scard_turn_text(kind: u8, out: &mut CText)
     ensures { out.new.octets.now ≡ ended (turn_name kind) }
@@ -21,7 +21,7 @@ pub extern "C" fn scard_turn_text(kind: u8, out: &mut CText)
     c_lent::names::turn_text(kind, out)
 }
 
-/// The name of a reason of a codec; "" where the codec has none with this number.
+/// Returns the name of a reason of a codec; "" if the codec has no reason with this number.
 #[unsafe(no_mangle)]
 pub extern "C" fn scard_reason_text(codec: u8, reason: u8, out: &mut CText)
     ensures { out.new.octets.now ≡ ended (reason_name codec reason) }

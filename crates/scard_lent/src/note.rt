@@ -1,4 +1,4 @@
-//! What octets say in words.
+//! Notes on octets for people.
 
 ghost use Rattle.std.specs.Prelude.{◌≡◌};
 ghost use Rattle.notes.specs.Says.{is_text};
@@ -6,8 +6,8 @@ ghost use Rattle.c_lent.specs.Notes.{note_text, number_told};
 
 use c_lent::note::CNote;
 
-/// What one or two octets say in words, by the number in the header of what they are; nothing where they say nothing,
-/// or for any other number.
+/// Returns the note on one or two octets, by the number in the header of what they are. Without a note, and for any
+/// other number, both parts are empty.
 #[unsafe(no_mangle)]
 pub extern "C" fn scard_note_of(about: u8, first: u8, second: u8, out: &mut CNote)
     ensures before { out.new.before.now ≡ (note_text about first second).before }
@@ -18,7 +18,7 @@ pub extern "C" fn scard_note_of(about: u8, first: u8, second: u8, out: &mut CNot
     c_lent::note::note_of(about, first, second, out)
 }
 
-/// Whether octets are shown as text too: 1 to 40, all printable characters, 20 to 7E.
+/// Whether octets are also shown as text: there are 1 to 40, and all are printable characters, 20 to 7E.
 #[unsafe(no_mangle)]
 pub extern "C" fn scard_is_text(octets: &[u8]) -> bool
     ensures { result ≡ is_text octets.now }

@@ -12,11 +12,10 @@ ghost use Rattle.c_lent.specs.Parts.{tag_of, found, parts_shown, FindsFirst, Put
 use c_lent::parts::{CPart, CTag};
 use c_lent::verdict::Verdict;
 
-/// Puts the parts of a forest of at most `max` octets into an array: its objects in the order of their
-/// headers, each before those inside it, without the fillers. `OK` says how many there are. It takes no memory.
+/// Writes the parts of a forest of at most `max` octets to an array: its objects in the order of their headers, each
+/// before those inside it, without the fillers. The place of `OK` is the number of parts. The call allocates nothing.
 ///
-/// `ARGUMENT` with place 0 where `max` is above 1,048,576, and with their number where the array is too
-/// short.
+/// Returns `ARGUMENT` with place 0 if `max` is above 1,048,576, and with the number of parts if the array is too short.
 #[unsafe(no_mangle)]
 pub extern "C" fn scard_tlv_parts(octets: &[u8], max: usize, out: &mut [CPart]) -> Verdict
     ensures parts { max ≤ largest → (IsRefusal result → ⊥) →
@@ -29,9 +28,9 @@ pub extern "C" fn scard_tlv_parts(octets: &[u8], max: usize, out: &mut [CPart]) 
     c_lent::parts::tlv_parts(octets, max, out)
 }
 
-/// The place among the parts of a forest of the first object on a path of tags, or their number where there
-/// is none: for a path of one tag, of the first outermost object that has it; for a longer one, of the
-/// first that the rest of the path finds inside an object with the first tag, such objects tried in order.
+/// Returns the index of the first object on a path of tags in the parts of a forest, or the number of parts if there is
+/// none. A path of one tag finds the first outermost object with that tag. On a longer path, the call tries the objects
+/// with the first tag in order, and searches each of them for the rest of the path.
 #[unsafe(no_mangle)]
 pub extern "C" fn scard_tlv_first(parts: &[CPart], path: &[CTag]) -> usize
     ensures inside { result ≤ length parts.now }

@@ -7,8 +7,8 @@ ghost use Rattle.c_lent.specs.Atr.{t1_values};
 
 use c_lent::atr::CT1;
 
-/// The character waiting time CWT in elementary time units, 12 to 32,779: 11 + 2^CWI. 0 where the struct
-/// says no parameters: IFSC is 0 or 255, or an index is above 15.
+/// Returns the character waiting time CWT in elementary time units, 12 to 32,779: 11 + 2^CWI. Returns 0 if the struct
+/// has no valid parameters: IFSC is 0 or 255, or an index is above 15.
 #[unsafe(no_mangle)]
 pub extern "C" fn scard_t1_cwt(params: &CT1) -> u32
     ensures cwt { IsUsable (t1_values params.now) →
@@ -18,8 +18,8 @@ pub extern "C" fn scard_t1_cwt(params: &CT1) -> u32
     c_lent::timing::t1_cwt(params)
 }
 
-/// The block waiting time BWT in parts of an elementary time unit, `fi` of which are one unit:
-/// 11 x `fi` + 2^BWI x 960 x 372 x `di`. 0 where the struct says no parameters.
+/// Returns the block waiting time BWT: 11 x `fi` + 2^BWI x 960 x 372 x `di`. Its unit is a part of an elementary time
+/// unit, which has `fi` such parts. Returns 0 if the struct has no valid parameters.
 #[unsafe(no_mangle)]
 pub extern "C" fn scard_t1_bwt(params: &CT1, fi: u16, di: u16) -> u64
     ensures bwt { IsUsable (t1_values params.now) →

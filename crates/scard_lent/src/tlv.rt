@@ -9,9 +9,9 @@ ghost use Rattle.c_lent.specs.Tlv.{tlv_reason, IsSomeForest, IsTidied};
 
 use c_lent::verdict::Verdict;
 
-/// The verdict on octets as a forest of data objects, at most `max` octets. It takes no memory.
+/// Checks whether octets are a forest of data objects, at most `max` octets. The call allocates nothing.
 ///
-/// `ARGUMENT` where `max` is above 1,048,576.
+/// Returns `ARGUMENT` if `max` is above 1,048,576.
 #[unsafe(no_mangle)]
 pub extern "C" fn scard_tlv_check(octets: &[u8], max: usize) -> Verdict
     ensures ok { result.status ≡ 0 → IsSomeForest max octets.now }
@@ -23,11 +23,11 @@ pub extern "C" fn scard_tlv_check(octets: &[u8], max: usize) -> Verdict
     c_lent::tlv::tlv_check(octets, max)
 }
 
-/// Writes the tidy form of a forest of at most `max` octets: the same objects without fillers, each length
-/// in its shortest form. No forest that says the same has fewer octets, so the room of the octets suffices. It takes no
-/// memory.
+/// Writes the tidy form of a forest of at most `max` octets: the same objects without fillers, each length in its
+/// shortest form. No forest with the same objects has fewer octets, so a buffer of the input's size suffices. The call
+/// allocates nothing.
 ///
-/// `ARGUMENT` with place 0 where `max` is above 1,048,576.
+/// Returns `ARGUMENT` with place 0 if `max` is above 1,048,576.
 #[unsafe(no_mangle)]
 pub extern "C" fn scard_tlv_tidy(octets: &[u8], max: usize, out: &mut [u8]) -> Verdict
     ensures tidied { max ≤ largest → (IsRefusal result → ⊥) →

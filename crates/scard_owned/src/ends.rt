@@ -15,10 +15,12 @@ use c_lent::verdict::Verdict;
 use c_owned::handle::Handle;
 use std::alloc::Global;
 
-/// Opens a terminal for a card with these parameters of T=1. A terminal that the handle holds is made a new one, in the
-/// memory that it has, where what it held is overwritten; else all the memory that it needs is reserved, and what the
-/// handle held is freed. `ARGUMENT` where `ifsc` is 0 or 255, or an index is above 15. Unless it is
-/// `OK` the handle stays.
+/// Opens a terminal for a card with these parameters of T=1. If the handle already holds a terminal, it begins anew in
+/// the memory that it has, and its old content is overwritten. Else the call reserves all the memory that the terminal
+/// needs, and frees what the handle held.
+///
+/// Returns `ARGUMENT` if `ifsc` is 0 or 255, or if an index is above 15. Unless the status is `OK`, the handle doesn't
+/// change.
 #[unsafe(no_mangle)]
 pub extern "C" fn scard_terminal_open(
     alloc: Global,
@@ -40,10 +42,12 @@ pub extern "C" fn scard_terminal_open(
     c_owned::ends::terminal_open(alloc, handle, ifsc, bwi, cwi)
 }
 
-/// Opens a card with these parameters of T=1. A card that the handle holds is made a new one, in the memory that it has,
-/// where what it held is overwritten; else all the memory that it needs is reserved, and what the handle held is freed.
-/// `ARGUMENT` where `ifsc` is 0 or 255, or an index is above 15. Unless it is `OK` the
-/// handle stays.
+/// Opens a card with these parameters of T=1. If the handle already holds a card, it begins anew in the memory that it
+/// has, and its old content is overwritten. Else the call reserves all the memory that the card needs, and frees what
+/// the handle held.
+///
+/// Returns `ARGUMENT` if `ifsc` is 0 or 255, or if an index is above 15. Unless the status is `OK`, the handle doesn't
+/// change.
 #[unsafe(no_mangle)]
 pub extern "C" fn scard_card_open(
     alloc: Global,
@@ -73,7 +77,7 @@ pub extern "C" fn scard_close(alloc: Global, handle: &mut Handle)
     c_owned::ends::close(alloc, handle)
 }
 
-/// The terminal's application hands over a command of at most 65,544 octets.
+/// Takes a command of at most 65,544 octets from the terminal's application.
 #[unsafe(no_mangle)]
 pub extern "C" fn scard_terminal_transmit(
     alloc: Global,
@@ -91,7 +95,7 @@ pub extern "C" fn scard_terminal_transmit(
     c_owned::ends::terminal_transmit(alloc, handle, command, out)
 }
 
-/// The line delivered these octets to the terminal as one block.
+/// Takes the octets that the line delivered to the terminal as one block.
 #[unsafe(no_mangle)]
 pub extern "C" fn scard_terminal_received(
     alloc: Global,
@@ -109,7 +113,7 @@ pub extern "C" fn scard_terminal_received(
     c_owned::ends::terminal_received(alloc, handle, octets, out)
 }
 
-/// Nothing came to the terminal within the waiting time.
+/// Reports that nothing came to the terminal within the waiting time.
 #[unsafe(no_mangle)]
 pub extern "C" fn scard_terminal_quiet(alloc: Global, handle: &mut Handle, out: &mut [u8]) -> CTurn
     ensures room { length out.old < 258 → result ≡ no_room }
@@ -122,7 +126,7 @@ pub extern "C" fn scard_terminal_quiet(alloc: Global, handle: &mut Handle, out: 
     c_owned::ends::terminal_quiet(alloc, handle, out)
 }
 
-/// The terminal asks the card to send information fields of up to `size` octets, 1 to 254.
+/// Requests that the card send information fields of up to `size` octets, 1 to 254.
 #[unsafe(no_mangle)]
 pub extern "C" fn scard_terminal_ask_ifs(
     alloc: Global,
@@ -140,7 +144,7 @@ pub extern "C" fn scard_terminal_ask_ifs(
     c_owned::ends::terminal_ask_ifs(alloc, handle, size, out)
 }
 
-/// The line delivered these octets to the card as one block.
+/// Takes the octets that the line delivered to the card as one block.
 #[unsafe(no_mangle)]
 pub extern "C" fn scard_card_received(
     alloc: Global,
@@ -158,7 +162,7 @@ pub extern "C" fn scard_card_received(
     c_owned::ends::card_received(alloc, handle, octets, out)
 }
 
-/// The card's host hands over its reply of at most 65,538 octets.
+/// Takes a reply of at most 65,538 octets from the card's host.
 #[unsafe(no_mangle)]
 pub extern "C" fn scard_card_reply(
     alloc: Global,
@@ -176,7 +180,7 @@ pub extern "C" fn scard_card_reply(
     c_owned::ends::card_reply(alloc, handle, octets, out)
 }
 
-/// The card's host asks for more waiting time, by any multiple of it.
+/// Requests more waiting time for the card's host, any multiple of it.
 #[unsafe(no_mangle)]
 pub extern "C" fn scard_card_more_time(
     alloc: Global,
@@ -194,7 +198,7 @@ pub extern "C" fn scard_card_more_time(
     c_owned::ends::card_more_time(alloc, handle, multiple, out)
 }
 
-/// The card asks the terminal to send information fields of up to `size` octets, 1 to 254.
+/// Requests that the terminal send information fields of up to `size` octets, 1 to 254.
 #[unsafe(no_mangle)]
 pub extern "C" fn scard_card_ask_ifs(
     alloc: Global,
@@ -212,9 +216,9 @@ pub extern "C" fn scard_card_ask_ifs(
     c_owned::ends::card_ask_ifs(alloc, handle, size, out)
 }
 
-/// Puts the answer of a terminal into a buffer, from the turn that completes it on until the next command
-/// is taken; or the command of a card, while its host owes the reply; or the message of a receiver of
-/// chains, once the chain is whole. `ARGUMENT` with place 0 where there is none.
+/// Copies the message of a handle to a buffer. A terminal has its answer, from the turn that completes it until the
+/// next command is taken. A card has its command, while its host owes the reply. A receiver of chains has its message,
+/// once the chain is complete. Returns `ARGUMENT` with place 0 if there is no message.
 #[unsafe(no_mangle)]
 pub extern "C" fn scard_message(alloc: Global, handle: &mut Handle, out: &mut [u8]) -> Verdict
     ensures message { PutsMessage (message_of handle.old.engine) out.old out.new result }

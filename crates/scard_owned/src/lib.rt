@@ -1,4 +1,4 @@
-//! The calls of the library for C that take memory, a static library: exports over c_owned, which has their code.
+//! The calls of the library for C that need memory, as a static library. It exports the code of c_owned.
 #![tactic(auto)]
 
 pub mod ends;

@@ -19,8 +19,8 @@ use c_lent::verdict::Verdict;
 use c_owned::handle::Handle;
 use std::alloc::Global;
 
-/// Opens a reader of one answer to reset; what the handle held is freed. Unless it is `OK` the handle
-/// stays.
+/// Opens a reader of one answer to reset, and frees what the handle held. Unless the status is `OK`, the handle doesn't
+/// change.
 #[unsafe(no_mangle)]
 pub extern "C" fn scard_atr_reader_open(alloc: Global, handle: &mut Handle) -> Verdict
     ensures ok { result.status ≡ 0 →
@@ -31,8 +31,8 @@ pub extern "C" fn scard_atr_reader_open(alloc: Global, handle: &mut Handle) -> V
     c_owned::readers::atr_reader_open(alloc, handle)
 }
 
-/// Opens a reader of one block under an information size of 1 to 254, `ARGUMENT` for 0 and 255; what the
-/// handle held is freed. Unless it is `OK` the handle stays.
+/// Opens a reader of one block with an information size of 1 to 254, and frees what the handle held. Returns `ARGUMENT`
+/// for 0 and 255. Unless the status is `OK`, the handle doesn't change.
 #[unsafe(no_mangle)]
 pub extern "C" fn scard_block_reader_open(alloc: Global, handle: &mut Handle, ifs: u8) -> Verdict
     ensures ok { result.status ≡ 0 →
@@ -44,10 +44,10 @@ pub extern "C" fn scard_block_reader_open(alloc: Global, handle: &mut Handle, if
     c_owned::readers::block_reader_open(alloc, handle, ifs)
 }
 
-/// Opens a receiver of one chain under an information size of 1 to 254, whose first block has the number
-/// `ns` and whose message has at most `max` octets, itself at most 131,072; what the handle held is freed.
-/// Memory for the message is reserved here. `ARGUMENT` where an argument is none of these. Unless it is
-/// `OK` the handle stays.
+/// Opens a receiver of one chain with an information size of 1 to 254, and frees what the handle held. The first block
+/// has the number `ns`. The message has at most `max` octets, and `max` is at most 131,072. The call reserves the
+/// memory for the message. Returns `ARGUMENT` for any other argument. Unless the status is `OK`, the handle doesn't
+/// change.
 #[unsafe(no_mangle)]
 pub extern "C" fn scard_receiver_open(
     alloc: Global,
@@ -68,8 +68,8 @@ pub extern "C" fn scard_receiver_open(
     c_owned::readers::receiver_open(alloc, handle, ifs, ns, max)
 }
 
-/// Opens a check of a forest of at most `max` octets, `ARGUMENT` above 1,048,576; what the handle held is
-/// freed. Unless it is `OK` the handle stays.
+/// Opens a check of a forest of at most `max` octets, and frees what the handle held. Returns `ARGUMENT` if `max` is
+/// above 1,048,576. Unless the status is `OK`, the handle doesn't change.
 #[unsafe(no_mangle)]
 pub extern "C" fn scard_tlv_check_open(alloc: Global, handle: &mut Handle, max: usize) -> Verdict
     ensures ok { result.status ≡ 0 →
@@ -81,9 +81,9 @@ pub extern "C" fn scard_tlv_check_open(alloc: Global, handle: &mut Handle, max: 
     c_owned::readers::tlv_check_open(alloc, handle, max)
 }
 
-/// Gives the next octets to a reader. `OK`: it is whole, and took `place` octets of this piece, the rest
-/// isn't its own. `MORE`: it took them all. `AT`: the octet at `place`, counted from the first ever given,
-/// is refused; from then on it is refused again. `ARGUMENT` where the handle holds no reader.
+/// Feeds the next octets to a reader. `OK`: its value is complete. It took `place` octets of this piece, and not those
+/// after them. `MORE`: the reader took them all. `AT`: the octet at `place`, counted from the first that was ever fed,
+/// is refused. Later calls refuse it again. `ARGUMENT`: the handle holds no reader.
 #[unsafe(no_mangle)]
 pub extern "C" fn scard_reader_feed(alloc: Global, handle: &mut Handle, piece: &[u8]) -> Verdict
     ensures { Feeds handle.old.engine piece.now handle.new.engine result }
@@ -91,8 +91,8 @@ pub extern "C" fn scard_reader_feed(alloc: Global, handle: &mut Handle, piece: &
     c_owned::readers::reader_feed(alloc, handle, piece)
 }
 
-/// What there is to say of all octets that a reader was given: `OK` with place 0 where they are whole,
-/// `SHORT` at their end where they could go on, or the refusal. `ARGUMENT` where the handle holds none.
+/// Ends a reader, and returns the verdict on all octets that it was fed: `OK` with place 0 if they are complete,
+/// `SHORT` at their end if they could continue, or the refusal. `ARGUMENT`: the handle holds no reader.
 #[unsafe(no_mangle)]
 pub extern "C" fn scard_reader_finish(alloc: Global, handle: &mut Handle) -> Verdict
     ensures answer { Ends handle.old.engine result }
@@ -101,7 +101,7 @@ pub extern "C" fn scard_reader_finish(alloc: Global, handle: &mut Handle) -> Ver
     c_owned::readers::reader_finish(alloc, handle)
 }
 
-/// The answer to reset of a reader, once it is whole. `ARGUMENT` with place 0 where there is none.
+/// Returns the answer to reset of a reader, once it is complete. Returns `ARGUMENT` with place 0 if there is none.
 #[unsafe(no_mangle)]
 pub extern "C" fn scard_atr_reader_value(
     alloc: Global,
@@ -114,8 +114,8 @@ pub extern "C" fn scard_atr_reader_value(
     c_owned::readers::atr_reader_value(alloc, handle, out)
 }
 
-/// The block of a reader, once it is whole, with its octets in a buffer. `ARGUMENT` with place 0 where there
-/// is none, and with its octets where the buffer is too small.
+/// Returns the block of a reader, once it is complete, and copies its octets to a buffer. Returns `ARGUMENT` with place
+/// 0 if there is no block, and with the number of its octets if the buffer is too small.
 #[unsafe(no_mangle)]
 pub extern "C" fn scard_block_reader_value(
     alloc: Global,

@@ -1,4 +1,4 @@
-//! Each round trip once with ample memory.
+//! Each round trip once, with ample memory.
 
 use crate::ends::{params, terminal};
 use apdu_core::{Body, Command, Response};
@@ -16,18 +16,18 @@ use t1_core::Terminal;
 use test_support::of_hex;
 use tlv_core::{Dol, LARGEST_FOREST};
 
-/// The octets of a hexadecimal text.
+/// Returns the octets of a hexadecimal text.
 fn octets(rt: &impl Abort, alloc: Global, text: &str) -> Vec<u8> {
     of_hex(alloc, text).expect(rt, "octets")
 }
 
-/// SELECT with a body.
+/// Returns SELECT with a body.
 fn select_with(rt: &impl Abort, body: Body) -> Command {
     let select = Command::new([0x00, 0xA4, 0x04, 0x00], body);
     select.ok().expect(rt, "a command")
 }
 
-/// SELECT with a name of seven octets.
+/// Returns SELECT with a name of seven octets.
 fn select(rt: &impl Abort, alloc: Global) -> Command {
     let part = Octets::of(octets(rt, alloc, "A0000000041010"));
     select_with(rt, Body::ShortBoth { part, le: 256 })
@@ -46,7 +46,7 @@ fn a_block_comes_back(rt: HostRuntime) {
     assert!(rt; block_again(&block) == block);
 }
 
-/// The answer to reset that octets are.
+/// Returns the answer to reset in these octets.
 fn atr_of(rt: &impl Abort, octets: &[u8]) -> Atr {
     let (atr, _) = atr_core::decode(octets).ok().expect(rt, "an answer");
     atr
@@ -59,13 +59,13 @@ fn an_answer_to_reset_comes_back(rt: HostRuntime) {
     assert!(rt; atr_again(&atr) == atr);
 }
 
-/// Whether SELECT comes back.
+/// Whether SELECT survives a round trip.
 fn is_command_again(rt: &impl Abort, alloc: Global) -> bool {
     let command = select(rt, alloc);
     command_again(alloc, &command).expect(rt, "a command") == command
 }
 
-/// Whether a response comes back.
+/// Whether a response survives a round trip.
 fn is_response_again(rt: &impl Abort, alloc: Global) -> bool {
     let response = done(rt, alloc);
     response_again(alloc, &response).expect(rt, "a response") == response
@@ -77,7 +77,7 @@ fn apdus_come_back(rt: HostRuntime) {
     assert!(rt; is_response_again(&rt, rt.alloc()));
 }
 
-/// The octets of the forest that comes back of one.
+/// Returns the octets of a forest after a round trip.
 fn forest_octets(rt: &impl Abort, alloc: Global, octets: &[u8]) -> Vec<u8> {
     let forest = tlv_core::decode(alloc, octets, LARGEST_FOREST);
     let forest = forest.ok().expect(rt, "a forest");
@@ -92,7 +92,7 @@ fn a_forest_comes_back(rt: HostRuntime) {
     assert!(rt; spelled.as_slice() == octets.as_slice());
 }
 
-/// The octets of the list that comes back of one.
+/// Returns the octets of a data object list after a round trip.
 fn dol_octets(rt: &impl Abort, alloc: Global, octets: &[u8]) -> Vec<u8> {
     let dol = Dol::decode(alloc, octets).ok().expect(rt, "a list");
     let again = dol_again(alloc, &dol).expect(rt, "a list again");
@@ -106,7 +106,7 @@ fn a_list_comes_back(rt: HostRuntime) {
     assert!(rt; spelled.as_slice() == octets.as_slice());
 }
 
-/// Whether SELECT arrives whose chain is cut here.
+/// Whether SELECT arrives if its chain is cut here.
 fn is_command_in_two(rt: &impl Abort, alloc: Global, cut: usize) -> bool {
     let command = select(rt, alloc);
     let arrived = command_in_two_pieces(alloc, &command, 3, Number::One, cut);
@@ -120,7 +120,7 @@ fn a_command_in_two_pieces_arrives(rt: HostRuntime) {
     }
 }
 
-/// Whether a response arrives whose chain is cut here.
+/// Whether a response arrives if its chain is cut here.
 fn is_response_in_two(rt: &impl Abort, alloc: Global, cut: usize) -> bool {
     let response = done(rt, alloc);
     let arrived = response_in_two_pieces(alloc, &response, 254, Number::Zero, cut);
@@ -136,7 +136,7 @@ fn a_response_in_two_pieces_arrives(rt: HostRuntime) {
 
 type Line<'a> = UntimedLine<Counted<Feeder<'a>>, Counted<Taker>>;
 
-/// A line whose card says 9000 to each block.
+/// Returns a line whose card answers 9000 to each block.
 fn line() -> Line<'static> {
     let source = Feeder::new(&[0x00, 0x00, 0x02, 0x90, 0x00, 0x92], 6, After::Repeats);
     let sink = Taker::new(64, 64, After::End);
@@ -147,7 +147,7 @@ fn is_done(t: &Terminal) -> bool {
     t.answer() == Some(&[0x90, 0x00])
 }
 
-/// Whether SELECT is answered, in one block.
+/// Whether an exchange of SELECT in one block gets its answer.
 fn is_exchanged(rt: &impl Abort, t: &mut Terminal, line: &mut Line<'_>) -> bool {
     let command = select_with(rt, Body::ShortLe { le: 256 });
     let mut buffer = [0; 5];
@@ -156,7 +156,7 @@ fn is_exchanged(rt: &impl Abort, t: &mut Terminal, line: &mut Line<'_>) -> bool 
         && is_done(t)
 }
 
-/// Whether SELECT is answered to a terminal that begins.
+/// Whether an exchange of SELECT gets its answer at a terminal that begins a session.
 fn is_acted_on(rt: &impl Abort, t: &mut Terminal, line: &mut Line<'_>) -> bool {
     let command = select_with(rt, Body::ShortLe { le: 256 });
     let mut buffer = [0; 5];

@@ -5,12 +5,12 @@ use std::alloc::Global;
 use std::process::Abort;
 use t1_core::{Card, Terminal};
 
-/// The parameters of a card that takes information fields of 32 octets.
+/// Returns the parameters of a card that takes information fields of 32 octets.
 pub(crate) fn params(rt: &impl Abort) -> T1Params {
     params_for(rt, 32)
 }
 
-/// The parameters of a card that takes information fields of so many octets.
+/// Returns the parameters of a card that takes information fields of so many octets.
 pub(crate) fn params_for(rt: &impl Abort, ifsc: u8) -> T1Params {
     T1Params::new(ifsc, 4, 5).expect(rt, "parameters")
 }
@@ -19,7 +19,7 @@ pub(crate) fn terminal(rt: &impl Abort, alloc: Global) -> Terminal {
     terminal_for(rt, alloc, 32)
 }
 
-/// A terminal whose card takes information fields of so many octets.
+/// Returns a terminal for a card that takes information fields of so many octets.
 pub(crate) fn terminal_for(rt: &impl Abort, alloc: Global, ifsc: u8) -> Terminal {
     Terminal::new(alloc, params_for(rt, ifsc)).expect(rt, "a terminal")
 }
@@ -28,12 +28,12 @@ pub(crate) fn card(rt: &impl Abort, alloc: Global) -> Card {
     card_for(rt, alloc, 32)
 }
 
-/// A card that takes information fields of so many octets.
+/// Returns a card that takes information fields of so many octets.
 pub(crate) fn card_for(rt: &impl Abort, alloc: Global, ifsc: u8) -> Card {
     Card::new(alloc, params_for(rt, ifsc)).expect(rt, "a card")
 }
 
-/// So many octets of one value.
+/// Returns so many octets with one value.
 pub(crate) fn octets_of(rt: &impl Abort, alloc: Global, value: u8, count: usize) -> Vec<u8> {
     vec![in alloc; value; count].expect(rt, "octets")
 }

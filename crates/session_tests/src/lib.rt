@@ -1,5 +1,7 @@
-//! The tests of both ends, [`t1_core`] and [`line_core`], and of [`stack_laws`]. They are apart from these, so that the
-//! gate proves each once, and in one crate, since the toolchain takes a minute to begin with one.
+//! The tests of both ends, [`t1_core`] and [`line_core`], and of [`stack_laws`].
+//!
+//! They have a crate of their own, so that the gate proves each library crate once. They share one crate, since the
+//! toolchain needs a minute to begin with a crate.
 #![tactic(auto)]
 
 #[cfg(test)]

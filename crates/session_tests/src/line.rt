@@ -1,4 +1,4 @@
-//! Exchanges over a card at the other end of a line in memory, and over lines that fail, are silent or talk too
+//! Exchanges with a card at the other end of a line in memory, and over lines that fail, are silent or deliver too
 //! much.
 
 mod card_streams;
@@ -35,7 +35,7 @@ enum Ended {
     Refused(TerminalFault),
 }
 
-/// How a call ended that gives nothing more.
+/// Returns how a call ended that returns nothing else.
 fn end_of(given: Result<(), TransceiveFault>) -> Ended {
     match given {
         Ok(()) => Ended::Done,
@@ -47,7 +47,7 @@ fn end_of(given: Result<(), TransceiveFault>) -> Ended {
     }
 }
 
-/// How an exchange ended, apart from its answer.
+/// Returns how an exchange ended, without its answer.
 fn end_of_exchange(given: Result<&[u8], TransceiveFault>) -> Ended {
     match given {
         Ok(_) => Ended::Done,
@@ -55,7 +55,7 @@ fn end_of_exchange(given: Result<&[u8], TransceiveFault>) -> Ended {
     }
 }
 
-/// Whether an exchange gave this answer.
+/// Whether an exchange returned this answer.
 fn is_answer(given: Result<&[u8], TransceiveFault>, octets: &[u8]) -> bool {
     match given {
         Ok(answer) => answer == octets,

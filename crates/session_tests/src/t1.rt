@@ -1,5 +1,6 @@
-//! Calls that no clause pins, limits and lent buffers. Sessions call by call are in the folder `vectors`, as files that
-//! each end replays.
+//! Calls that no clause of a contract covers, limits, and caller-owned buffers.
+//!
+//! The folder `vectors` has sessions call by call, as files that each end replays.
 
 mod blocks;
 mod calls;
@@ -18,7 +19,7 @@ use std::alloc::Global;
 use std::process::Abort;
 use t1_core::{Card, CardFault, Terminal, TerminalFault};
 
-/// A terminal that sent a command of one block.
+/// Returns a terminal that sent a command of one block.
 fn in_answer(rt: &impl Abort, alloc: Global) -> Terminal {
     let mut t = terminal(rt, alloc);
     let wanted = Wanted::Block(&SELECT_BLOCK);
@@ -26,7 +27,7 @@ fn in_answer(rt: &impl Abort, alloc: Global) -> Terminal {
     t
 }
 
-/// A card whose host owes the reply to a command of one block.
+/// Returns a card whose host owes the reply to a command of one block.
 fn in_reply(rt: &impl Abort, alloc: Global) -> Card {
     let mut c = card(rt, alloc);
     let select = CardCall::Received(&SELECT_BLOCK);

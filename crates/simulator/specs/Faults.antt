@@ -1,4 +1,4 @@
--- Why there is no recorder, as a fault of a simulation, and that as text.
+-- Why there is no recorder, as a fault of a simulation, and its text.
 use Rattle.std.specs.Prelude.{ℕ, List, ◌++◌, codes}
 use Rattle.exchange_core.specs.Faults.{atr_fault_name}
 use Rattle.exchange_core.specs.declared.event.RecorderFault.{RecorderFault}

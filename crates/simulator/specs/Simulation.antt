@@ -1,4 +1,4 @@
--- What happens in a session that is told beforehand: commands, the host's replies, and what becomes of each block.
+-- The events of a session that is given in advance: its commands, the host's replies, and what happens to each block.
 use Rattle.std.specs.Prelude.{◌≡◌, ◌<◌, ℕ, length, zero, suc, ◌+◌, ◌*◌, nat_eq, List, [], ◌∷◌, Bool, if◌then◌else◌, Option, Some, None, Result, Ok, Err}
 use Rattle.std.specs.List.{list_any}
 use Rattle.std.specs.HashSet.{contains, HashSet}
@@ -27,9 +27,9 @@ use Rattle.simulator.specs.declared.fault.SimulationFault.TheVariants.{Refused, 
 
 -- How far a session has come.
 pub record Place : Type 0 where
-  -- the pairs that were not begun yet
+  -- the pairs that haven't begun yet
   pub left : List Pair
-  -- the reply of the pair that was begun last
+  -- the reply of the pair that began last
   pub reply : List ℕ
   -- how many blocks were sent
   pub sent : ℕ
@@ -41,7 +41,8 @@ start s = record { left = s.pairs; reply = []; sent = 0 }
 abbrev pub is_named : ℕ → List ℕ → Bool
 is_named number blocks = list_any (nat_eq number) blocks
 
--- What becomes of the block with this number. Where several lists name it, the first one counts: lost, damaged, spoilt.
+-- What happens to the block with this number. If several lists name it, the first of these counts: lost, damaged,
+-- spoiled.
 abbrev pub fate : Session → ℕ → link.Event
 fate s number =
     if is_named number s.lost then link.loses
@@ -49,7 +50,7 @@ fate s number =
     else (if is_named number s.spoilt then link.spoils
     else link.delivers))
 
--- an event, and how far the session has come with it; none where it ends
+-- an event, and how far the session has come with it; None if the session ends
 abbrev pub Next : Type 0
 Next = Option (link.Event × Place)
 
@@ -57,12 +58,12 @@ Next = Option (link.Event × Place)
 abbrev pub sends : Session → Place → Next
 sends s at = Some (fate s (at.sent + 1), record at { sent = at.sent + 1 })
 
--- the next command, where a pair is left
+-- the next command, if a pair is left
 abbrev pub begins : Place → List Pair → Next
 begins at [] = None
 begins at (pair ∷ left) = Some (link.transmits pair.command, record at { left = left; reply = pair.reply })
 
--- first a size is asked for, where the session has one
+-- first the terminal asks for a size, if the session has one
 abbrev pub opens : Place → Option ℕ → Next
 opens at None = begins at at.left
 opens at (Some size) = Some (link.asks_ifsd size, at)
@@ -80,7 +81,7 @@ next s at (Card Asked) = Some (link.host_replies at.reply, at)
 
 -- ---- the whole session
 
--- an event that an end refuses ends the session before it
+-- if an end refuses an event, the session ends before it
 abbrev pub onward : (Recording → Option Recording) → Recording → Result Recording EventFault → Option Recording
 onward go r (Ok after) = go after
 onward go r (Err fault) = Some r
@@ -89,55 +90,55 @@ abbrev pub further : (Place → Recording → Option Recording) → Recording �
 further go r None = Some r
 further go r (Some step) = onward (go step.1) r (recorded r step.0)
 
--- The record at the end of a session that has come so far, if fewer than so many events lead to it.
+-- The record at the end of a session that has come this far, if fewer than so many events lead to the end.
 unfoldable pub simulated : ℕ → Session → Place → Recording → Option Recording
 simulated zero s at r = None
 simulated (suc most) s at r = further (simulated most s) r (next s at r.last)
 
--- a new terminal and a new card
+-- a recorder with a new terminal and a new card
 abbrev pub new_recording : List ℕ → ℕ → Recording
 new_recording atr ifsc = record { atr = atr; ifsc = ifsc; lines = []; last = Nothing }
 
--- The record at the end of a session of a card that takes fields of so many octets.
+-- This is the record at the end of a session, with a card that takes fields of so many octets.
 abbrev pub EndsAs : Session → ℕ → Recording → Type 0
 EndsAs s ifsc r = (events : ℕ) × (simulated events s (start s) (new_recording s.atr ifsc) ≡ Some r)
 
--- the exchange that a recorder has
+-- the exchange of a recorder
 abbrev pub exchange_of : Recording → ExchangeParts
 exchange_of r = record { version = One; atr = r.atr; lines = closed r }
 
--- ---- how many events a session has at most
+-- ---- the most events of a session
 
 -- the octets of the replies
 abbrev pub reply_octets : List Pair → ℕ
 reply_octets [] = 0
 reply_octets (pair ∷ left) = length pair.reply + reply_octets left
 
--- where every block arrives: eight for each octet of a command or reply, and 50 for each pair
+-- the events if every block arrives: eight for each octet of a command or reply, and 50 for each pair
 abbrev pub pair_events : List Pair → ℕ
 pair_events [] = 0
 pair_events (pair ∷ left) = 8 * length pair.command + (8 * length pair.reply + (50 + pair_events left))
 
--- for a block that is lost, damaged or spoilt: what the longest command and the replies take
+-- the further events for a block that is lost, damaged or spoiled: those of the longest command and of the replies
 abbrev pub fault_events : Session → ℕ
 fault_events s = 8 * longest.command + (8 * reply_octets s.pairs + 60)
 
--- the numbers in the three lists
+-- how many numbers the three lists have
 abbrev pub listed : Session → ℕ
 listed s = length s.lost + (length s.damaged + length s.spoilt)
 
 abbrev pub most_events : Session → ℕ
 most_events s = listed s * fault_events s + (pair_events s.pairs + 11)
 
--- Each session of an answer to reset that can be used ends, by fewer than so many events.
+-- Each session with an answer to reset that can be used ends after fewer than so many events.
 abbrev pub EachSessionEnds : Type 0
 EachSessionEnds = (s : Session) (ifsc : ℕ) → IsFound s.atr (Ok ifsc)
     → (r : Recording) × (simulated (most_events s) s (start s) (new_recording s.atr ifsc) ≡ Some r)
 
--- ---- what a session comes to
+-- ---- the result of a session
 
--- What a session comes to: its exchange, or why there is none. It is too large only where the text of its end has more
--- than so many octets.
+-- The result of a session: its exchange, or why there is none. It is too large only if the text of its exchange has
+-- more than so many octets.
 abbrev pub IsSimulated : ℕ → Session → Result ExchangeParts SimulationFault → Type 0
 IsSimulated largest s (Ok e) = (ifsc : ℕ) × (r : Recording) × IsFound s.atr (Ok ifsc) × EndsAs s ifsc r
     × (e ≡ exchange_of r)
@@ -148,11 +149,11 @@ IsSimulated largest s (Err Memory) = Unit {0}
 
 -- ---- the lists as sets
 
--- a set has the blocks that a list names
+-- the set has the blocks that the list names
 abbrev pub HasBlocks : HashSet ℕ (BuildHasherDefault FoldHasher) → List ℕ → Type 0
 HasBlocks set blocks = (number : ℕ) → contains nat_eq set number ≡ is_named number blocks
 
--- the sets of all lists of a session
+-- the sets are the lists of a session
 pub record AreFates (fates : Fates) (s : Session) : Type 0 where
   pub lost : HasBlocks fates.lost s.lost
   pub damaged : HasBlocks fates.damaged s.damaged
@@ -160,13 +161,13 @@ pub record AreFates (fates : Fates) (s : Session) : Type 0 where
 
 -- ---- the run of a session
 
--- this where a run had no end in time; it refuses no answer to reset
+-- P, if a run didn't end in time; a run never refuses the answer to reset
 abbrev pub IfTooLarge : SimulationFault → Type 0 → Type 0
 IfTooLarge (Refused fault) P = ⊥
 IfTooLarge TooLarge P = P
 IfTooLarge Memory P = Unit {0}
 
--- this where a session is too large
+-- P, if a session is too large
 abbrev pub WhereTooLarge : SimulationFault → Type 0 → Type 0
 WhereTooLarge (Refused fault) P = Unit {0}
 WhereTooLarge TooLarge P = P

@@ -1,4 +1,4 @@
-//! What becomes of each block.
+//! What happens to each block.
 
 ghost use Rattle.std.specs.Prelude.{◌≡◌, IfOk};
 ghost use Rattle.exchange_core.specs.Recording.{event_of};
@@ -19,7 +19,7 @@ pub(crate) struct Fates {
 }
 
 impl Fates {
-    /// The lists of a session as sets.
+    /// Returns the lists of a session as sets.
     pub(crate) fn of(alloc: Global, session: &Session) -> Result<Fates, AllocError>
         ensures { IfOk result (λ fates. AreFates fates session.now) }
     {
@@ -30,7 +30,7 @@ impl Fates {
         })
     }
 
-    /// What becomes of the block with this number.
+    /// Returns what happens to the block with this number.
     pub(crate) fn of_block(&self, number: u64) -> Event<'static>
         ensures { (s : Session) → AreFates self.now s → event_of result ≡ fate s number }
     {
@@ -46,7 +46,7 @@ impl Fates {
     }
 }
 
-/// The blocks that a list names.
+/// Returns the blocks that a list names.
 fn set(alloc: Global, blocks: &BlockNumbers) -> Result<HashSet<u64>, AllocError>
     ensures { IfOk result (λ set. HasBlocks set blocks.now) }
 {

@@ -8,15 +8,15 @@ use std::fmt::{self, Display, Formatter, Write};
 /// Why there is no exchange of a session.
 #[derive(Clone, Copy, Debug, PartialEq, Eq)]
 pub enum SimulationFault {
-    /// The answer to reset can't be used, for what replay names.
+    /// The answer to reset can't be used, with the fault that replay names.
     Refused(AtrFault),
-    /// The session went on after so many events that its text has too many octets.
+    /// The session didn't end before so many events that its text has too many octets.
     TooLarge,
     /// Out of memory.
     Memory,
 }
 
-/// `Refused: ` and the name that replay gives, `TooLarge`, or `memory`.
+/// `Refused: ` and the name that replay uses, `TooLarge`, or `memory`.
 impl Display for SimulationFault {
     ghost use Rattle.std.specs.Prelude.{Some};
     ghost use Rattle.simulator.specs.Faults.{simulation_fault_text};

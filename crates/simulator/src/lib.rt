@@ -1,8 +1,8 @@
-//! Sessions of a terminal and a card that are told beforehand, and the exchanges that they make.
+//! Simulates sessions of a terminal and a card that are given in advance, and records their exchanges.
 //!
-//! A session is an answer to reset, commands with the replies to them, and what becomes of each block on
-//! the line. `specs/Simulation.antt` says which event happens next, as a function of the last turn; what
-//! an event does is said by the recorder of exchange_core. [`simulate`] gives the exchange.
+//! A session is an answer to reset, commands with their replies, and what happens to each block on the line.
+//! [`simulate`] returns the exchange. `specs/Simulation.antt` says which event happens next, as a function of the last
+//! turn. The recorder of exchange_core says what an event does.
 #![tactic(auto)]
 
 mod fates;

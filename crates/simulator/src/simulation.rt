@@ -19,18 +19,20 @@ use std::alloc::Global;
 use std::marker::Model;
 use t1_core::{CardTurn, TerminalTurn};
 
-/// The exchange of a session, in version 1.
+/// Returns the exchange of a session, in version 1.
 ///
-/// The terminal asks for the session's size first, where it has one, and then sends one command after
-/// another, also where it gave one up. The card's host gives each command the reply of its pair. A block
-/// that a list names by its number, from 1, is lost, damaged or spoilt; where several lists name it, the
-/// first of these counts. The session ends where no command is left, where the terminal found the card dead,
-/// and before an event that an end refuses, as a command that is too long.
+/// If the session has a size, the terminal asks for that first. Then it sends the commands one after another, even
+/// after it gave one up. The card's host replies to each command with the reply of its pair. A block that a list names
+/// by its number, from 1, is lost, damaged or spoiled. If several lists name it, the first of these counts.
 ///
-/// `Refused` where the answer to reset can't be used, `Memory` where memory runs out. `TooLarge` where
-/// `largest` events happened and the session hasn't ended: its text has more octets than that, and `largest`
-/// is below `most_events`, by which each session ends. The exchange replays at both ends, and each `answer`
-/// line has the octets of the `reply` line to the same command.
+/// The session ends if no command is left, or if the terminal finds the card dead. It also ends before an event that an
+/// end refuses, such as a command that is too long.
+///
+/// `Refused` if the answer to reset can't be used, `Memory` if memory runs out. `TooLarge` if `largest` events happened
+/// and the session hasn't ended. Its text has more octets than `largest` then, and `largest` is below `most_events`,
+/// within which each session ends.
+///
+/// The exchange replays at both ends, and each `answer` line has the octets of the `reply` line to the same command.
 pub fn simulate(
     alloc: Global,
     session: &Session,
@@ -52,9 +54,9 @@ pub fn simulate(
 /// How far a session has come.
 #[derive(Drop)]
 struct Place<'a> {
-    /// The pairs that weren't begun yet.
+    /// The pairs that haven't begun yet.
     left: &'a [Pair],
-    /// The reply of the pair that was begun last.
+    /// The reply of the pair that began last.
     reply: &'a [u8],
     /// How many blocks were sent.
     sent: usize,
@@ -68,7 +70,7 @@ impl<'a> Model for Place<'a> {
     ghost view = { λ p. record { left = p.left.now; reply = p.reply.now; sent = p.sent } };
 }
 
-/// The session runs from its start to its end.
+/// Runs the session from its start to its end.
 fn run(
     recorder: &mut Recorder,
     session: &Session,
@@ -98,7 +100,7 @@ fn run(
     Err(SimulationFault::TooLarge)
 }
 
-/// An event is refused: the session ends, unless memory ran out.
+/// Takes the refusal of an event: the session ends, unless memory ran out.
 fn refused(fault: EventFault) -> Result<(), SimulationFault>
     ensures other { OnOk result (fault ≢ EventFault.Memory) }
     ensures memory { IfErr result (λ why. why ≡ SimulationFault.Memory) }
@@ -110,7 +112,7 @@ fn refused(fault: EventFault) -> Result<(), SimulationFault>
     }
 }
 
-/// What happens next, none where the session ends.
+/// Returns the next event, or `None` if the session ends.
 fn next<'a>(
     session: &'a Session,
     fates: &Fates,
@@ -135,7 +137,7 @@ fn next<'a>(
     }
 }
 
-/// The next command, where a pair is left.
+/// Returns the next command, if a pair is left.
 fn begins<'a>(at: &mut Place<'a>) -> Option<Event<'a>>
     ensures { begins at.old at.old.left ≡ option_map (λ event. (event_of event, at.new)) result }
 {
@@ -145,7 +147,7 @@ fn begins<'a>(at: &mut Place<'a>) -> Option<Event<'a>>
     Some(Event::Transmit(pair.command.get()))
 }
 
-/// The next block is sent.
+/// Returns the event of the next block.
 fn sends(fates: &Fates, at: &mut Place<'_>) -> Event<'static>
     requires { at.old.sent + 1 < 2 ^ 64 }
     ensures { (s : Session) → AreFates fates.now s

@@ -11,7 +11,7 @@ use octet_core::Refused;
 use std::alloc::{AllocError, Global};
 use tlv_core::{Dol, Forest, LARGEST_FOREST};
 
-/// The block that the octets of a block are.
+/// Encodes a block and decodes the octets. The result is the block.
 pub fn block_again(block: &Block) -> Block
     ensures { result ≡ block.now }
 {
@@ -23,7 +23,7 @@ pub fn block_again(block: &Block) -> Block
     }
 }
 
-/// The answer to reset that the octets of one are.
+/// Encodes an answer to reset and decodes the octets. The result is the answer to reset.
 pub fn atr_again(atr: &Atr) -> Atr
     ensures { result ≡ atr.now }
 {
@@ -35,7 +35,7 @@ pub fn atr_again(atr: &Atr) -> Atr
     }
 }
 
-/// The command that the octets of a command are.
+/// Encodes a command and decodes the octets. The result is the command.
 pub fn command_again(alloc: Global, command: &Command) -> Result<Command, AllocError>
     ensures { IfOk result (λ again. again ≡ command.now) }
 {
@@ -48,7 +48,7 @@ pub fn command_again(alloc: Global, command: &Command) -> Result<Command, AllocE
     }
 }
 
-/// The response that the octets of a response are.
+/// Encodes a response and decodes the octets. The result is the response.
 pub fn response_again(alloc: Global, response: &Response) -> Result<Response, AllocError>
     ensures { IfOk result (λ again. again ≡ response.now) }
 {
@@ -61,7 +61,7 @@ pub fn response_again(alloc: Global, response: &Response) -> Result<Response, Al
     }
 }
 
-/// The forest that the octets of a forest are.
+/// Encodes a forest and decodes the octets. The result is the forest.
 pub fn forest_again(alloc: Global, forest: &Forest) -> Result<Forest, AllocError>
     ensures { IfOk result (λ again. again ≡ forest.now) }
 {
@@ -74,7 +74,7 @@ pub fn forest_again(alloc: Global, forest: &Forest) -> Result<Forest, AllocError
     }
 }
 
-/// The data object list that the octets of one are.
+/// Encodes a data object list and decodes the octets. The result is the list.
 pub fn dol_again(alloc: Global, dol: &Dol) -> Result<Dol, AllocError>
     ensures { IfOk result (λ again. again ≡ dol.now) }
 {

@@ -1,4 +1,4 @@
-//! One exchange over a line, by what the calls of both its ends promise.
+//! One exchange over a line, from what the calls of both its ends promise.
 
 ghost use Rattle.std.specs.Prelude.{◌≡◌, ◌≤◌, ℕ, List, [], length};
 ghost use Rattle.apdu_core.specs.Command.{spelling};
@@ -16,11 +16,11 @@ use line_core::{TerminalLine, TransceiveFault, UntimedLine, exchange_command};
 use octet_core::{Sink, Source};
 use t1_core::Terminal;
 
-/// Hands a command to `exchange_command`, at a terminal that begins.
+/// Passes a command to `exchange_command`, at a terminal that begins a session.
 ///
-/// Where a card that begins too serves at the other end of the line, and each end is given what the other one
-/// sent, but for what is lost or damaged, the card's host was given the command at most once, and no other. At
-/// `Ok` it was given it, and the terminal's answer is its reply.
+/// Assume that a card that begins too serves at the other end of the line. Each end receives what the other one sent,
+/// except for what is lost or damaged. Then the card's host got the command at most once, and no other command. At `Ok`
+/// it got the command, and the terminal's answer is its reply.
 pub fn acted_on_once<L: TerminalLine>(
     terminal: &mut Terminal,
     params: T1Params,
@@ -43,8 +43,10 @@ pub fn acted_on_once<L: TerminalLine>(
     exchange_command(terminal, line, command, buffer, most_blocks)
 }
 
-/// Hands a command to `exchange_command` over a reader and a writer: all that was written and read meanwhile,
-/// with what each call of them was taken for, is a run of the terminal's table.
+/// Passes a command to `exchange_command` over a reader and a writer.
+///
+/// Everything that was written and read meanwhile, with what each call of them was taken for, is a run of the
+/// terminal's table.
 pub fn exchanged_over_streams<R: Source, W: Sink>(
     terminal: &mut Terminal,
     line: &mut UntimedLine<R, W>,

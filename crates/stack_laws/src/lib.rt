@@ -1,7 +1,7 @@
-//! What a caller can know of the codecs together, from their public contracts and laws alone: what one
-//! encodes it decodes as the same value, and an APDU whose chain is fed in two pieces arrives.
+//! What a caller can know about the codecs together, only from their public contracts and laws. A value that is encoded
+//! decodes as the same value, and an APDU whose chain is fed in two pieces arrives.
 //!
-//! Each function does it and has the statement as its contract. Out of memory is all that can come instead.
+//! Each function does this, and has the statement as its contract. Its only other result is out of memory.
 #![tactic(auto)]
 
 pub mod again;

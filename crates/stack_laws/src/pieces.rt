@@ -16,8 +16,8 @@ use chain_core::Receiver;
 use octet_core::{Counted, Refused};
 use std::alloc::{AllocError, Global};
 
-/// The command that arrives where one is sent as a chain and a receiver is fed this chain in two pieces, of
-/// which the first ends at the place `cut`, or with the chain.
+/// Sends a command as a chain, feeds the chain to a receiver in two pieces, and returns the command that arrives. The
+/// first piece ends at the place `cut`, or with the chain.
 pub fn command_in_two_pieces(
     alloc: Global,
     command: &Command,
@@ -40,8 +40,8 @@ pub fn command_in_two_pieces(
     }
 }
 
-/// The response that arrives where one is sent as a chain and a receiver is fed this chain in two pieces, of
-/// which the first ends at the place `cut`, or with the chain.
+/// Sends a response as a chain, feeds the chain to a receiver in two pieces, and returns the response that arrives. The
+/// first piece ends at the place `cut`, or with the chain.
 pub fn response_in_two_pieces(
     alloc: Global,
     response: &Response,
@@ -64,7 +64,7 @@ pub fn response_in_two_pieces(
     }
 }
 
-/// The octets that are sent for a command.
+/// Returns the octets that are sent for a command.
 fn command_chain(
     alloc: Global,
     command: &Command,
@@ -83,7 +83,7 @@ fn command_chain(
     }
 }
 
-/// The octets that are sent for a response.
+/// Returns the octets that are sent for a response.
 fn response_chain(
     alloc: Global,
     response: &Response,
@@ -102,7 +102,7 @@ fn response_chain(
     }
 }
 
-/// A receiver that was fed octets in two pieces: where they are the cut of a message it is done, with this
+/// Returns a receiver that was fed octets in two pieces. If they are the cut of a message, it is done, with this
 /// message. The longest message of an APDU is that of a command.
 fn fed_in_two(
     alloc: Global,

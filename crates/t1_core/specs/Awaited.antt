@@ -1,4 +1,4 @@
--- What the readers of the ends tell of the state that they wait in: no octets of a message.
+-- What an end waits for, as its readers return it. It has no octets of a message.
 use Rattle.std.specs.Prelude.{Bool, true, false}
 use Rattle.t1_core.specs.declared.turns.TerminalAwaits.{TerminalAwaits}
 use Rattle.t1_core.specs.declared.turns.TerminalAwaits.TheVariants as terminal_awaits
@@ -16,7 +16,7 @@ awaited_by_terminal (ifs n) = terminal_awaits.Size n
 awaited_by_terminal (resynch asked) = terminal_awaits.Resynch asked
 awaited_by_terminal dead = terminal_awaits.Nothing
 
--- a block is awaited, or that none comes
+-- whether the terminal waits for a block
 abbrev pub terminal_awaits_block : Waits → Bool
 terminal_awaits_block idle = false
 terminal_awaits_block dead = false

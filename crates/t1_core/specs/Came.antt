@@ -15,17 +15,17 @@ use Rattle.block_core.specs.declared.pcb.Pcb.TheVariants.{Info, Ready, Request, 
 use Rattle.block_core.specs.declared.reason.BlockReason.{BlockReason}
 use Rattle.block_core.specs.declared.reason.BlockReason.TheVariants.{BadLrc}
 
--- What came: a whole block with node address 0; a block that only its check octet contradicts; another invalid block;
--- or nothing within the waiting time, which the terminal alone notices (error handling, clause 11.6).
+-- What came: a whole block with node address 0; a block whose check octet is wrong; another invalid block; or nothing
+-- within the waiting time, which only the terminal notices (error handling, clause 11.6).
 pub data Came : Type 0 where
   got : (pcb : Pcb) (inf : List ℕ) → Came
   damaged : Came
   invalid : Came
   quiet : Came
 
--- The octets that the line delivered as one block are this to an end that takes information fields of at most size
--- octets. It goes by the verdict on them as a block: what the check octet alone contradicts is damaged, whatever
--- follows it; octets left over and another node address are invalid.
+-- What these octets, delivered by the line as one block, are to an end that takes information fields of at most size
+-- octets. The verdict on them as a block decides. They are damaged if it is BadLrc, whatever follows the block. They
+-- are invalid if octets are left over, or if the node address is another one.
 abbrev pub IsClass : ℕ → List ℕ → Came → Type 0
 IsClass size b (got pcb inf) = Accepts self_ended (IsBlock size) b (record { nad = 0; pcb = pcb; inf = inf }) (length b)
 IsClass size b damaged = (place : ℕ) × Refuses self_ended (IsBlock size) (IsReason size) b (At place BadLrc)
@@ -45,11 +45,11 @@ same One One = true
 abbrev pub carried : List ℕ → ℕ
 carried inf = slice_index inf 0
 
--- Blocks that the ends send, all with node address 0.
+-- The blocks that the ends send. All have node address 0.
 abbrev pub info : Number → Bool → List ℕ → Parts
 info number more inf = record { nad = 0; pcb = Info number more; inf = inf }
 
--- an R-block with the number of the I-block that is expected
+-- an R-block: it has the number of the I-block that its sender expects
 abbrev pub ready : Number → Fault → Parts
 ready number fault = record { nad = 0; pcb = Ready number fault; inf = [] }
 
@@ -59,7 +59,7 @@ request kind inf = record { nad = 0; pcb = Request kind; inf = inf }
 abbrev pub response : S → List ℕ → Parts
 response kind inf = record { nad = 0; pcb = Response kind; inf = inf }
 
--- The same class, computed: b has the control byte pcb, and its third octet says that n octets stand before the check octet
+-- The class, computed: b has the control byte pcb, and its third octet says that n octets are before the check octet
 abbrev pub class_with : ℕ → List ℕ → ℕ → Option Pcb → Came
 class_with size b n None = invalid
 class_with size b n (Some pcb) =

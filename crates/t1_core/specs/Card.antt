@@ -15,40 +15,40 @@ use Rattle.block_core.specs.Block.{other}
 use Rattle.t1_core.specs.Came.{Came, got, damaged, same, carried, info, ready, request, response}
 use Rattle.t1_core.specs.Terminal.{Limits, longest, first_ifsd, is_reserved, is_more}
 
--- What the card has asked the terminal for on its host's behalf.
+-- What the card has asked the terminal for, for its host.
 pub data CardRequest : Type 0 where
   size : (size : ℕ) → CardRequest
   time : (multiple : ℕ) → CardRequest
 
--- What the card waits in.
+-- What the card waits for.
 pub data Waits : Type 0 where
-  -- for a command, of which these octets came
+  -- a command: these octets of it came so far
   command : (joined : List ℕ) → Waits
-  -- for its host, which owes the reply to the command
+  -- its host, which owes the reply to the command
   host : Waits
-  -- the I-block with this field is under way, and the rest of the reply follows it
+  -- the R-block after the I-block with this field, which the rest of the reply follows
   reply : (field rest : List ℕ) → Waits
-  -- for the response to a request, while the host still owes the reply
+  -- the response to a request; the host still owes the reply
   asking : (asked : CardRequest) → Waits
 
 -- What the card holds.
 pub record CardState : Type 0 where
-  -- the number of its I-block under way or next, and the one that it expects from the terminal
+  -- the number of the I-block that it has sent or sends next, and the number that it expects from the terminal
   pub number : Number
   pub expected : Number
-  -- the field of its last I-block, while nothing has acknowledged it
+  -- the field of its last I-block, until something acknowledges it
   pub saved : Option (List ℕ)
-  -- the most octets of a field that it takes, that the terminal takes, and that it takes at the start
+  -- the most octets of a field that the card takes, that the terminal takes, and that the card takes at the start
   pub ifsc : ℕ
   pub ifsd : ℕ
   pub first_ifsc : ℕ
-  -- the whole command that its host was given last, until the next one begins
+  -- the last whole command that its host got, until the next command begins
   pub command : List ℕ
   pub waits : Waits
   -- the most octets of a command, and of a reply
   pub limits : Limits
 
--- at the start, with room for messages of so many octets
+-- the card at the start, with room for messages of so many octets
 abbrev pub card_with : Limits → ℕ → CardState
 card_with limits ifsc = record {
   number = Zero;
@@ -68,7 +68,7 @@ new_card ifsc = card_with longest ifsc
 abbrev pub CardStep : Type 0
 CardStep = Result (CardTurn × CardState) CardFault
 
--- the last block of a reply is saved, and what the card then waits in
+-- the last block of a reply is saved; then what the card waits for
 abbrev pub saving : Option (List ℕ) → List ℕ → List ℕ → Option (List ℕ)
 saving saved field [] = Some field
 saving saved field (octet ∷ rest) = saved
@@ -77,7 +77,7 @@ abbrev pub waiting : List ℕ → List ℕ → Waits
 waiting field [] = command []
 waiting field (octet ∷ rest) = reply field (octet ∷ rest)
 
--- The next I-block of what is left of the reply, cut at the present IFSD.
+-- It sends the next I-block of the rest of the reply, cut at the present IFSD.
 abbrev pub sends_info : CardState → List ℕ → List ℕ → CardStep
 sends_info c field rest = Ok (
   Send (info c.number (is_more rest) field),
@@ -87,12 +87,12 @@ sends_info c field rest = Ok (
 abbrev pub sends_next : CardState → List ℕ → CardStep
 sends_next c octets = sends_info c (take c.ifsd octets) (drop c.ifsd octets)
 
--- An I-block of the terminal acknowledges the saved block.
+-- The number after an I-block of the terminal, which acknowledges a saved block.
 abbrev pub number_after : Option (List ℕ) → Number → Number
 number_after None number = number
 number_after (Some field) number = other number
 
--- An I-block of the command that fits is joined.
+-- An I-block of the command that fits is joined to it.
 abbrev pub joins : CardState → List ℕ → Bool → CardStep
 joins c joined true = Ok (
   Send (ready (other c.expected) Free),
@@ -115,18 +115,18 @@ joins c joined false = Ok (
   },
 )
 
--- an R-block with its own number: the saved block is sent again
+-- after an R-block with its own number it sends the saved block again
 abbrev pub sends_saved : CardState → Option (List ℕ) → Bool → CardStep
 sends_saved c (Some field) true = Ok (Send (info c.number false field), c)
 sends_saved c saved is_own = Ok (Send (ready c.expected Free), c)
 
--- While it waits for a block of the command or for an R-block, what is taken alike.
+-- What the card does alike while it waits for a block of the command or for an R-block.
 abbrev pub in_either : CardState → Came → CardStep
 in_either c (got (Request Ifs) inf) = Ok (Send (response Ifs inf), record c { ifsd = carried inf })
 in_either c damaged = Ok (Send (ready c.expected Redundancy), c)
 in_either c came = Ok (Send (ready c.expected Other), c)
 
--- It waits for a command.
+-- The card waits for a command.
 abbrev pub in_command : CardState → List ℕ → Came → CardStep
 in_command c joined (got (Info number goes_on) inf) =
     if same number c.expected && nat_le (length joined + length inf) c.limits.command
@@ -135,7 +135,7 @@ in_command c joined (got (Info number goes_on) inf) =
 in_command c joined (got (Ready number fault) inf) = sends_saved c c.saved (same number c.number)
 in_command c joined came = in_either c came
 
--- An I-block of the reply with M=1 is under way.
+-- The card has sent an I-block of the reply with M=1.
 abbrev pub in_reply : CardState → List ℕ → List ℕ → Came → CardStep
 in_reply c field rest (got (Ready number fault) inf) =
     if same number c.number
@@ -147,7 +147,7 @@ abbrev pub request_block : CardRequest → Parts
 request_block (size n) = request Ifs (n ∷ [])
 request_block (time n) = request Wtx (n ∷ [])
 
--- It waits for the response to a request.
+-- The card waits for the response to a request.
 abbrev pub in_asking : CardState → CardRequest → Came → CardStep
 in_asking c (size n) (got (Response Ifs) inf) =
     if carried inf == n
@@ -159,7 +159,7 @@ in_asking c (time n) (got (Response Wtx) inf) =
     else Ok (Send (request_block (time n)), c)
 in_asking c asked came = Ok (Send (request_block asked), c)
 
--- RESYNCH: as at the start, with no command.
+-- RESYNCH: the card is as at the start, with no command.
 abbrev pub resynched : CardState → CardStep
 resynched c = Ok (Send (response Resynch []), card_with c.limits c.first_ifsc)
 
@@ -171,14 +171,14 @@ card_came c (command joined) came = in_command c joined came
 card_came c (reply field rest) came = in_reply c field rest came
 card_came c (asking asked) came = in_asking c asked came
 
--- What the host calls, and what came.
+-- The calls of the host, and what the line delivered.
 pub data CardInput : Type 0 where
   replies : (octets : List ℕ) → CardInput
   more_time : (multiple : ℕ) → CardInput
   ask_ifs : (size : ℕ) → CardInput
   takes : (came : Came) → CardInput
 
--- a call that is taken while the host owes its reply
+-- a call that the card accepts only while the host owes its reply
 abbrev pub if_host : Waits → CardStep → CardStep
 if_host host step = step
 if_host waits step = Err Order
@@ -197,7 +197,7 @@ card_turn c (ask_ifs n) =
     else Ok (Send (request_block (size n)), record c { waits = asking (size n) }))
 card_turn c (takes came) = card_came c c.waits came
 
--- What a call answers, and the state after it.
+-- What a call returns, and the state after it.
 abbrev pub turn_of : CardStep → Result CardTurn CardFault
 turn_of (Ok step) = Ok step.0
 turn_of (Err fault) = Err fault

@@ -1,4 +1,4 @@
--- The lent card and its buffers, seen as its state.
+-- The card over caller-owned buffers, seen as its state.
 use Rattle.std.specs.Prelude.{◌≡◌, ◌≤◌, List, [], ℕ, take, Option, Some, None}
 use Rattle.t1_core.specs.declared.turns.Cut.{Cut}
 use Rattle.t1_core.specs.declared.turns.CardAsked.{CardAsked}
@@ -9,7 +9,7 @@ use Rattle.t1_core.specs.declared.lent.LentCard.{LentCard}
 use Rattle.t1_core.specs.Card.{CardState, CardRequest, size, time, Waits, command, host, reply, asking}
 use Rattle.t1_core.specs.Views.{field_at, rest_at, IsSize, IsInner, IsLast}
 
--- its last I-block, while nothing has acknowledged it
+-- the field of its last I-block, until something acknowledges it
 abbrev pub saved_of : Option Cut → List ℕ → Option (List ℕ)
 saved_of None message = None
 saved_of (Some cut) message = Some (field_at cut message)
@@ -35,12 +35,12 @@ abbrev pub taken_of : Waits → List ℕ
 taken_of (command joined) = joined
 taken_of waits = []
 
--- an I-block of a command can be joined
+-- the card waits for a command, so an I-block of a command can be joined
 abbrev pub IsTaking : Waits → Type 0
 IsTaking (command joined) = Unit {0}
 IsTaking waits = ⊥
 
--- the command that the host owes the reply to
+-- the command that the host owes the reply to, if any
 abbrev pub owed : CardState → Waits → Option (List ℕ)
 owed c host = Some c.command
 owed c (asking asked) = Some c.command
@@ -50,7 +50,7 @@ abbrev pub IsSaved : Option Cut → ℕ → Type 0
 IsSaved None octets = Unit {0}
 IsSaved (Some cut) octets = IsLast cut octets
 
--- nothing is saved from the host's turn on until the last block of the reply, which has so many octets
+-- nothing is saved from the host's turn until the last block of the reply, which has so many octets
 abbrev pub IsCardWait : CardWait → Option Cut → ℕ → Type 0
 IsCardWait Command saved octets = Unit {0}
 IsCardWait Joining saved octets = Unit {0}
@@ -63,7 +63,7 @@ abbrev pub IsRequest : CardAsked → Type 0
 IsRequest (Size n) = IsSize n
 IsRequest (Time n) = Unit {0}
 
--- the field of the reply's I-block under way, and what follows it
+-- the field of the reply's unacknowledged I-block, and the octets after it
 abbrev pub field_of : Waits → List ℕ
 field_of (reply field rest) = field
 field_of waits = []
@@ -72,7 +72,7 @@ abbrev pub rest_of : Waits → List ℕ
 rest_of (reply field rest) = rest
 rest_of waits = []
 
--- ---- the lent card and its two buffers, whoever owns those
+-- ---- the card and its two buffers, whether it or its caller owns them
 
 abbrev pub card_seen : LentCard → List ℕ → List ℕ → CardState
 card_seen p buffer message = record {
@@ -87,7 +87,7 @@ card_seen p buffer message = record {
   limits = record { command = p.most_command; answer = p.most_reply };
 }
 
--- the same, where its messages are the first octets of two buffers
+-- the card's state, if its messages are the first octets of two buffers
 abbrev pub card_held : LentCard → List ℕ → List ℕ → CardState
 card_held p buffer message = card_seen p (take p.command_len buffer) (take p.reply_len message)
 
@@ -98,7 +98,7 @@ pub record IsLentCard (p : LentCard) (room reply_room : ℕ) : Type 0 where
   pub ifsc : IsSize p.ifsc
   pub ifsd : IsSize p.ifsd
   pub first_ifsc : IsSize p.first_ifsc
-  -- what the buffers hold, and the most that they are to hold
+  -- what the buffers hold, and the most that they may hold
   pub command_held : p.command_len ≤ room
   pub reply_held : p.reply_len ≤ reply_room
   pub most_command : p.most_command ≤ room

@@ -1,4 +1,4 @@
--- The names of reasons and faults, each that of its variant.
+-- The names of reasons and faults: each is its variant's name.
 use Rattle.std.specs.Prelude.{ℕ, List, codes}
 use Rattle.t1_core.specs.declared.turns.TerminalFault.{TerminalFault}
 use Rattle.t1_core.specs.declared.turns.TerminalFault.TheVariants as terminal

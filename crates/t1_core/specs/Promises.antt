@@ -1,4 +1,4 @@
--- What is promised of a terminal and a card that talk over a line, whatever is lost or damaged on it.
+-- What is promised of a terminal and a card over a line, whatever the line loses or damages.
 use Rattle.std.specs.Prelude.{◌≡◌, ℕ, ◌*◌, ◌<◌, ◌≤◌, ◌⊎◌, List, [], ◌∷◌, ◌++◌, length, map, Some, Ok}
 use Rattle.block_core.specs.Block.{spelling}
 use Rattle.octet_core.specs.Octets.{AreOctets}
@@ -11,8 +11,8 @@ use Rattle.t1_core.specs.Terminal.{TerminalState, Mark, turn_of, TerminalInput, 
 use Rattle.t1_core.specs.Card.{CardState, CardInput, host}
 use Rattle.t1_core.specs.Link.{Tables, Link, UnderWay, nothing, to_card, to_terminal, Exchange, answered, unanswered, given_up, command_of, Event, transmits, asks_ifsd, host_replies, host_asks_time, host_asks_ifsc, run, link_with}
 
--- The card's host was given each command that was answered, once and in order, and gave that answer; a command without
--- an answer was given to the host once or not at all. Newest first.
+-- The card's host got each answered command once, in order, and gave that answer. It got a command without an answer
+-- once or not at all. The lists have the newest first.
 abbrev pub Matches : List Exchange → List Exchange → Type 0
 Matches [] [] = Unit {0}
 Matches [] (h ∷ hs) = ⊥
@@ -36,7 +36,7 @@ abbrev pub FitsSize : ℕ → Pcb → List ℕ → Type 0
 FitsSize size (Info number goes_on) inf = length inf ≤ size
 FitsSize size pcb inf = Unit {0}
 
--- the I-block under way fits the size that its receiver holds
+-- the I-block on the line fits the size that its receiver holds
 abbrev pub Fits : Link → UnderWay → Type 0
 Fits l nothing = Unit {0}
 Fits l (to_card block) = FitsSize l.card.ifsc block.pcb block.inf
@@ -59,20 +59,20 @@ answered_only [] = []
 answered_only (answered m a ∷ es) = answered m a ∷ answered_only es
 answered_only (e ∷ es) = answered_only es
 
--- The commands that the host was given are the first of those that the terminal took, and the exchanges that were
--- answered are the first of the host's services, with its replies. The lists have the newest first.
+-- The commands that the host got are the first that the terminal accepted. The answered exchanges are the first of the
+-- host's services, with its replies. The lists have the newest first.
 pub record Serves (es hs : List Exchange) : Type 0 where
   pub commands : (newer : List (List ℕ)) × (newer ++ map command_of hs ≡ map command_of es)
   pub answers : (newer : List Exchange) × (newer ++ answered_only es ≡ hs)
 
--- Whatever the limits of both ends, and whatever is lost or damaged, each answer is the reply to its command, and no
--- command is acted on twice.
+-- This holds whatever the limits of both ends, and whatever is lost or damaged. Each answer is the reply to its
+-- command, and no command is acted on twice.
 abbrev pub AlwaysMatches : Tables → Type 0
 AlwaysMatches by = (at_terminal at_card : Limits) (ifsc : ℕ) (events : List Event)
     → Matches (run by events (link_with at_terminal at_card ifsc)).exchanges
     (run by events (link_with at_terminal at_card ifsc)).services
 
--- Where no exchange was given up, the host was given the commands in their order, and each answer is its reply.
+-- If no exchange was given up, the host got the commands in their order, and each answer is its reply.
 abbrev pub ServesInOrder : Tables → Type 0
 ServesInOrder by = (at_terminal at_card : Limits) (ifsc : ℕ) (events : List Event)
     → NoneGivenUp (run by events (link_with at_terminal at_card ifsc)).exchanges
@@ -85,28 +85,27 @@ InStepWhenIdle by = (at_terminal at_card : Limits) (ifsc : ℕ) (events : List E
     → IsIdle (run by events (link_with at_terminal at_card ifsc)).terminal.waits
     → InStep (run by events (link_with at_terminal at_card ifsc))
 
--- At every moment the I-block under way fits the size that its receiver holds.
+-- At every moment the I-block on the line fits the size that its receiver holds.
 abbrev pub AlwaysFits : Tables → Type 0
 AlwaysFits by = (at_terminal at_card : Limits) (ifsc : ℕ) (events : List Event)
     → Fits (run by events (link_with at_terminal at_card ifsc))
     (run by events (link_with at_terminal at_card ifsc)).under_way
 
--- The turn Answered leaves an answer, and Asked leaves the host its turn: so the histories miss no turn. This holds of
+-- The turn Answered leaves an answer, and Asked leaves the host its turn, so the histories miss no turn. This holds in
 -- every state.
 pub record Tells (by : Tables) : Type 0 where
   pub answer : (t next : TerminalState) (mark : Mark) (input : TerminalInput)
       → by.terminal t input ≡ Ok (Answered, next, mark) → (octets : List ℕ) × (next.answered ≡ Some octets)
   pub host : (c next : CardState) (input : CardInput) → by.card c input ≡ Ok (Asked, next) → next.waits ≡ host
 
--- The terminal gives up, whatever comes or is called, only where at least two blocks were lost or damaged since the
--- exchange, or the question about a size, was begun; it is dead only where at least five were; and its failures since
--- then are at most twice those blocks.
+-- After any input, the terminal gives up only if two blocks or more were lost or damaged since its exchange or question
+-- began. It is dead only if five or more were. Its failures since then are at most twice those blocks.
 pub record IsPatient (by : Tables) (l : Link) : Type 0 where
   pub given_up : (input : TerminalInput) → turn_of (by.terminal l.terminal input) ≡ Ok GivenUp → 2 ≤ l.disturbed
   pub dead : IsDead l.terminal.waits → 5 ≤ l.disturbed
   pub failures : l.failed ≤ 2 * l.disturbed
 
--- A message that its sender takes fits the limit of its receiver.
+-- Each message that its sender accepts fits the limit of its receiver.
 abbrev pub FitsReceiver : Limits → Limits → Event → Type 0
 FitsReceiver at_terminal at_card (transmits m) = length m ≤ at_terminal.command → length m ≤ at_card.command
 FitsReceiver at_terminal at_card (host_replies octets) =
@@ -117,18 +116,18 @@ abbrev pub AllFit : Limits → Limits → List Event → Type 0
 AllFit at_terminal at_card [] = Unit {0}
 AllFit at_terminal at_card (e ∷ es) = FitsReceiver at_terminal at_card e × AllFit at_terminal at_card es
 
--- Where each message fits its receiver. Else the receiver takes its last blocks for an error, until the exchange is
--- given up.
+-- The terminal is patient if each message fits its receiver. Else the receiver takes the message's last blocks for an
+-- error, until the exchange is given up.
 abbrev pub AlwaysPatient : Tables → Type 0
 AlwaysPatient by = (at_terminal at_card : Limits) (ifsc : ℕ) (events : List Event) → AllFit at_terminal at_card events
     → IsPatient by (run by events (link_with at_terminal at_card ifsc))
 
--- Between ends with the same limits each message does.
+-- The terminal is patient between ends with the same limits, since each message fits there.
 abbrev pub PatientWhereAlike : Tables → Type 0
 PatientWhereAlike by = (limits : Limits) (ifsc : ℕ) (events : List Event)
     → IsPatient by (run by events (link_with limits limits ifsc))
 
--- The calls of an event hand over octets.
+-- The calls of an event pass octets.
 abbrev pub HandsOctets : Event → Type 0
 HandsOctets (transmits m) = AreOctets m
 HandsOctets (asks_ifsd n) = n < 256
@@ -141,8 +140,8 @@ abbrev pub AllHandOctets : List Event → Type 0
 AllHandOctets [] = Unit {0}
 AllHandOctets (e ∷ es) = HandsOctets e × AllHandOctets es
 
--- The octets of the block under way are that block to its receiver, so that what is delivered whole is never damaged or
--- invalid.
+-- The octets of the block on the line are that block to its receiver. So a block that is delivered whole is never
+-- damaged or invalid.
 abbrev pub IsTaken : Link → UnderWay → Type 0
 IsTaken l nothing = Unit {0}
 IsTaken l (to_card block) = IsClass l.card.ifsc (spelling block) (got block.pcb block.inf)

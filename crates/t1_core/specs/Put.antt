@@ -1,5 +1,5 @@
--- What a call answers that puts the octets of its block to the front of the caller's buffer; a call that sends none
--- leaves the buffer.
+-- What a call with `_into` returns. It puts the octets of its block at the front of the caller's buffer; a call that
+-- sends no block leaves the buffer unchanged.
 use Rattle.std.specs.Prelude.{◌≡◌, ◌≤◌, ℕ, List, Result, Ok, Err}
 use Rattle.block_core.specs.Block.{IsPut}
 use Rattle.t1_core.specs.declared.turns.TerminalTurn.{TerminalTurn}
@@ -30,7 +30,7 @@ IsCardPut (Ok (card_turns.Send block)) old new answer =
 IsCardPut (Ok card_turns.Asked) old new answer = (answer ≡ Ok card_put.Asked) × (new ≡ old)
 IsCardPut (Err fault) old new answer = (answer ≡ Err fault) × (new ≡ old)
 
--- the octets of a block are at least 4 and at most 258
+-- a block has at least 4 and at most 258 octets
 abbrev pub IsBlockLen : ℕ → Type 0
 IsBlockLen count = (4 ≤ count) × (count ≤ 258)
 

@@ -1,4 +1,4 @@
--- The block that an end sends, by what the end keeps.
+-- The block that an end sends, from what the end keeps.
 use Rattle.std.specs.Prelude.{ℕ, List, [], true, false, Option, Some, None, Result, Ok, Err}
 use Rattle.block_core.specs.Block.{Parts}
 use Rattle.block_core.specs.declared.pcb.Number.{Number}
@@ -19,13 +19,13 @@ use Rattle.t1_core.specs.Terminal.{TerminalState, Waits, ack, answer}
 use Rattle.t1_core.specs.Card.{CardState}
 use Rattle.t1_core.specs.CardViews.{field_of}
 
--- the block, where the I-block under way has this number and one of these fields
+-- the block, if the last I-block has this number and one of these fields
 abbrev pub sent_by : Number → List ℕ → List ℕ → Sent → Parts
 sent_by number inner last Inner = info number true inner
 sent_by number inner last Last = info number false last
 sent_by number inner last (Other block) = block
 
--- the field of the command's I-block under way
+-- the field of the command's unacknowledged I-block
 abbrev pub field_sent : Waits → List ℕ
 field_sent (ack field rest) = field
 field_sent (answer field) = field
@@ -34,7 +34,7 @@ field_sent waits = []
 abbrev pub terminal_sends : TerminalState → Sent → Parts
 terminal_sends t sent = sent_by t.number (field_sent t.waits) (field_sent t.waits) sent
 
--- what the terminal does next, once it is in this state
+-- the terminal's next action, in this state
 abbrev pub terminal_does : TerminalState → TerminalAct → TerminalTurn
 terminal_does t (act.Send sent) = Send (terminal_sends t sent)
 terminal_does t act.Answered = Answered
@@ -46,7 +46,7 @@ abbrev pub terminal_answers : TerminalState → Result TerminalAct TerminalFault
 terminal_answers t (Ok act) = Ok (terminal_does t act)
 terminal_answers t (Err fault) = Err fault
 
--- the field of the last I-block, while nothing has acknowledged it
+-- the field of the last I-block, until something acknowledges it
 abbrev pub field_saved : Option (List ℕ) → List ℕ
 field_saved None = []
 field_saved (Some field) = field
@@ -54,7 +54,7 @@ field_saved (Some field) = field
 abbrev pub card_sends : CardState → Sent → Parts
 card_sends c sent = sent_by c.number (field_of c.waits) (field_saved c.saved) sent
 
--- what the card does next, once it is in this state
+-- the card's next action, in this state
 abbrev pub card_does : CardState → CardAct → CardTurn
 card_does c (card_act.Send sent) = card_turns.Send (card_sends c sent)
 card_does c card_act.Asked = card_turns.Asked

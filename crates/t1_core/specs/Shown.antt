@@ -1,4 +1,4 @@
--- What an end prints of itself: states, sizes, limits and how many octets it holds, and no octet of a message.
+-- What an end prints of itself: states, sizes, limits and how many octets it holds. It prints no octet of a message.
 use Rattle.std.specs.Prelude.{ℕ, ◌+◌, List, ◌++◌, length, Bool, Option, Some, None, is_some, codes, decimal, if◌then◌else◌}
 use Rattle.block_core.specs.declared.pcb.Number.{Number}
 use Rattle.block_core.specs.declared.pcb.Number.TheVariants.{Zero, One}
@@ -45,13 +45,13 @@ abbrev pub sizes_text : Number → Number → ℕ → ℕ → List ℕ
 sizes_text number expected ifsc ifsd = codes "number: " ++ (number_name number ++ (codes ", expected: "
     ++ (number_name expected ++ (codes ", ifsc: " ++ (decimal ifsc ++ (codes ", ifsd: " ++ decimal ifsd))))))
 
--- how many octets there are and may be
+-- how many octets there are, and how many there may be
 abbrev pub limits_text : ℕ → List ℕ → ℕ → List ℕ
 limits_text command other most = codes ", most_command: " ++ (decimal command ++ (other ++ decimal most))
 
 -- ---- a terminal
 
--- of the answer: the octets of one that is whole, or of one that goes on
+-- how many octets of the answer it holds: the whole answer, or what came so far
 abbrev pub octets_of_answer : Option (List ℕ) → Waits → ℕ
 octets_of_answer (Some answer) waits = length answer
 octets_of_answer None waits = length (joined_of waits)
@@ -70,7 +70,7 @@ terminal_text t = codes "Terminal { awaits: " ++ (terminal_awaits_text (awaited_
 
 -- ---- a card
 
--- of the reply: the octets that the terminal has yet to acknowledge before its last block
+-- how many octets of the reply aren't acknowledged yet, until the last block is sent
 abbrev pub octets_of_reply : CardState → ℕ
 octets_of_reply c = length (field_of c.waits) + length (rest_of c.waits)
 

@@ -16,21 +16,21 @@ use Rattle.t1_core.specs.declared.turns.TerminalFault.TheVariants.{Dead as IsDea
 use Rattle.block_core.specs.Block.{other}
 use Rattle.t1_core.specs.Came.{Came, got, damaged, quiet, same, carried, info, ready, request, response}
 
--- What the terminal waits in.
+-- What the terminal waits for.
 pub data Waits : Type 0 where
-  -- nothing is under way
+  -- a call: nothing is in progress
   idle : Waits
-  -- the I-block with this field is under way, and the rest of the command follows it
+  -- the R-block after the I-block with this field, which the rest of the command follows
   ack : (field rest : List ℕ) → Waits
-  -- the last I-block of the command is under way
+  -- the first block of the answer; the command's last I-block has this field
   answer : (field : List ℕ) → Waits
-  -- the card's answer goes on after these octets
+  -- the next block of the answer, which has these octets so far
   more : (joined : List ℕ) → Waits
-  -- a size of information fields was asked for
+  -- the response to its request for a size of information fields
   ifs : (size : ℕ) → Waits
-  -- RESYNCH was asked for so many times
+  -- the response to RESYNCH, after so many requests
   resynch : (asked : ℕ) → Waits
-  -- the card answers no more
+  -- nothing: the card doesn't answer any more
   dead : Waits
 
 -- The most octets of a message that an end has room for.
@@ -42,7 +42,7 @@ pub record Limits : Type 0 where
 abbrev pub longest : Limits
 longest = record { command = longest_command; answer = longest_response }
 
--- So many octets, and no more than the longest have.
+-- Limits of so many octets, but no more than the longest messages have.
 abbrev pub at_most : ℕ → ℕ → Limits
 at_most m n = record { command = min m longest_command; answer = min n longest_response }
 
@@ -50,26 +50,26 @@ at_most m n = record { command = min m longest_command; answer = min n longest_r
 abbrev pub first_ifsd : ℕ
 first_ifsd = 32
 
--- Failures in a row that a block which is sent meets: the next one leads to RESYNCH.
+-- How many failures in a row the terminal meets with a block. The next failure leads to RESYNCH.
 abbrev pub most_repeats : ℕ
 most_repeats = 3
 
--- How many times in a row RESYNCH is asked for, before the card is found dead.
+-- How many times in a row the terminal asks for RESYNCH before it finds the card dead.
 abbrev pub most_resynchs : ℕ
 most_resynchs = 3
 
 -- What the terminal holds.
 pub record TerminalState : Type 0 where
-  -- the number of its I-block under way or next, and the one that it expects from the card
+  -- the number of the I-block that it has sent or sends next, and the number that it expects from the card
   pub number : Number
   pub expected : Number
   -- failures in a row
   pub failures : ℕ
-  -- the most octets of a field that the card takes, that it takes itself, and that the card takes at the start
+  -- the most octets of a field that the card takes, that the terminal takes, and that the card takes at the start
   pub ifsc : ℕ
   pub ifsd : ℕ
   pub first_ifsc : ℕ
-  -- the whole command of its exchange, which stays until the next exchange begins
+  -- the whole command of its exchange, until the next exchange begins
   pub command : List ℕ
   pub waits : Waits
   -- the last answer
@@ -77,7 +77,7 @@ pub record TerminalState : Type 0 where
   -- the most octets of a command, and of an answer
   pub limits : Limits
 
--- at the start, with room for messages of so many octets
+-- the terminal at the start, with room for messages of so many octets
 abbrev pub terminal_with : Limits → ℕ → TerminalState
 terminal_with limits ifsc = record {
   number = Zero;
@@ -95,17 +95,17 @@ terminal_with limits ifsc = record {
 abbrev pub new_terminal : ℕ → TerminalState
 new_terminal ifsc = terminal_with longest ifsc
 
--- Whether a step is a failure: the rows that repeat a block, or ask for RESYNCH in place of a fourth repeat, are
--- marked.
+-- Whether a step is a failure. The rows that repeat a block, or that ask for RESYNCH instead of a fourth repeat, are
+-- failures.
 pub data Mark : Type 0 where
   failure : Mark
   no_failure : Mark
 
--- What a call does: a turn, the state after it and its mark, or a refusal, which changes nothing.
+-- What a call does: a turn, the state after it and its mark; or a refusal, which changes nothing.
 abbrev pub TerminalStep : Type 0
 TerminalStep = Result (TerminalTurn × TerminalState × Mark) TerminalFault
 
--- whether a block follows, and what the terminal then waits in
+-- whether a block follows; then what the terminal waits for
 abbrev pub is_more : List ℕ → Bool
 is_more [] = false
 is_more (octet ∷ rest) = true
@@ -114,7 +114,7 @@ abbrev pub waiting : List ℕ → List ℕ → Waits
 waiting field [] = answer field
 waiting field (octet ∷ rest) = ack field (octet ∷ rest)
 
--- The next I-block of what is left of the command, cut at the present IFSC (chaining, clause 11.6).
+-- It sends the next I-block of the rest of the command, cut at the present IFSC (chaining, clause 11.6).
 abbrev pub sends_info : TerminalState → List ℕ → List ℕ → TerminalStep
 sends_info t field rest = Ok (
   Send (info t.number (is_more rest) field),
@@ -125,14 +125,15 @@ sends_info t field rest = Ok (
 abbrev pub sends_next : TerminalState → List ℕ → TerminalStep
 sends_next t octets = sends_info t (take t.ifsc octets) (drop t.ifsc octets)
 
--- After the most repeats in a row the next failure leads to RESYNCH (clause 11.6; the count is this project's).
+-- A failure: the terminal sends the block. After the most repeats in a row it asks for RESYNCH instead (clause 11.6;
+-- the count is this project's).
 abbrev pub fails : TerminalState → Parts → TerminalStep
 fails t block =
     if nat_lt t.failures most_repeats
     then Ok (Send block, record t { failures = t.failures + 1 }, failure)
     else Ok (Send (request Resynch []), record t { waits = resynch 1 }, failure)
 
--- An I-block of the answer that fits is joined.
+-- An I-block of the answer that fits is joined to it.
 abbrev pub joins : TerminalState → List ℕ → Bool → TerminalStep
 joins t joined true = Ok (
   Send (ready (other t.expected) Free),
@@ -145,8 +146,8 @@ joins t joined false = Ok (
   no_failure,
 )
 
--- In an exchange, what is taken alike whatever it waits for: the card's requests are answered with what they carry, all
--- else is a failure.
+-- What the terminal does alike in each state of an exchange. It answers the card's requests with what they carry;
+-- everything else is a failure.
 abbrev pub in_exchange : TerminalState → Came → TerminalStep
 in_exchange t (got (Request Ifs) inf) = Ok (Send (response Ifs inf), record t { ifsc = carried inf }, no_failure)
 in_exchange t (got (Request Wtx) inf) = Ok (Send (response Wtx inf), t, no_failure)
@@ -154,7 +155,7 @@ in_exchange t damaged = fails t (ready t.expected Redundancy)
 in_exchange t quiet = fails t (ready t.expected Free)
 in_exchange t came = fails t (ready t.expected Other)
 
--- An I-block with M=1 is under way.
+-- The terminal has sent an I-block with M=1.
 abbrev pub in_ack : TerminalState → List ℕ → List ℕ → Came → TerminalStep
 in_ack t field rest (got (Ready number fault) inf) =
     if same number t.number
@@ -162,7 +163,7 @@ in_ack t field rest (got (Ready number fault) inf) =
     else sends_next (record t { failures = 0; number = other t.number }) rest
 in_ack t field rest came = in_exchange t came
 
--- The last I-block of the command is under way.
+-- The terminal has sent the last I-block of the command.
 abbrev pub in_answer : TerminalState → List ℕ → Came → TerminalStep
 in_answer t field (got (Ready number fault) inf) =
     if same number t.number
@@ -174,7 +175,7 @@ in_answer t field (got (Info number goes_on) inf) =
     else in_exchange t (got (Info number goes_on) inf)
 in_answer t field came = in_exchange t came
 
--- The answer goes on.
+-- A part of the answer came, and more follows.
 abbrev pub in_more : TerminalState → List ℕ → Came → TerminalStep
 in_more t joined (got (Ready number fault) inf) = fails t (ready t.expected Free)
 in_more t joined (got (Info number goes_on) inf) =
@@ -183,7 +184,7 @@ in_more t joined (got (Info number goes_on) inf) =
     else in_exchange t (got (Info number goes_on) inf)
 in_more t joined came = in_exchange t came
 
--- A size was asked for.
+-- The terminal has asked for a size.
 abbrev pub in_ifs : TerminalState → ℕ → Came → TerminalStep
 in_ifs t size (got (Response Ifs) inf) =
     if carried inf == size
@@ -191,7 +192,7 @@ in_ifs t size (got (Response Ifs) inf) =
     else fails t (request Ifs (size ∷ []))
 in_ifs t size came = fails t (request Ifs (size ∷ []))
 
--- RESYNCH was asked for.
+-- The terminal has asked for RESYNCH.
 abbrev pub in_resynch : TerminalState → ℕ → Came → TerminalStep
 in_resynch t asked (got (Response Resynch) inf) =
     Ok (
@@ -221,13 +222,13 @@ terminal_came t (ifs size) came = in_ifs t size came
 terminal_came t (resynch asked) came = in_resynch t asked came
 terminal_came t dead came = Err IsDead
 
--- What the application calls, and what came.
+-- The calls of the application, and what the line delivered.
 pub data TerminalInput : Type 0 where
   transmit : (command : List ℕ) → TerminalInput
   ask_ifs : (size : ℕ) → TerminalInput
   takes : (came : Came) → TerminalInput
 
--- a call that only an idle terminal takes
+-- a call that only an idle terminal accepts
 abbrev pub if_idle : Waits → TerminalStep → TerminalStep
 if_idle idle step = step
 if_idle dead step = Err IsDead
@@ -246,7 +247,7 @@ terminal_turn t (ask_ifs size) =
     else Ok (Send (request Ifs (size ∷ [])), record t { failures = 0; waits = ifs size }, no_failure))
 terminal_turn t (takes came) = terminal_came t t.waits came
 
--- What a call answers, and the state after it.
+-- What a call returns, and the state after it.
 abbrev pub turn_of : TerminalStep → Result TerminalTurn TerminalFault
 turn_of (Ok step) = Ok step.0
 turn_of (Err fault) = Err fault

@@ -1,4 +1,4 @@
--- The engines' buffers and lent ends, seen as states.
+-- The ends' buffers, and ends over caller-owned buffers, seen as states.
 use Rattle.std.specs.Prelude.{◌≡◌, ℕ, ◌+◌, ◌<◌, ◌≤◌, ◌==◌, List, [], take, drop, Bool, true, false, Option, Some, None}
 use Rattle.t1_core.specs.declared.turns.Cut.{Cut}
 use Rattle.t1_core.specs.declared.turns.TerminalWait.{TerminalWait}
@@ -18,14 +18,14 @@ came_of (Whole block) = got block.pcb block.inf
 came_of Damaged = damaged
 came_of Invalid = invalid
 
--- the field of the I-block under way, and what follows it
+-- the field of the last I-block, and the octets after it
 abbrev pub field_at : Cut → List ℕ → List ℕ
 field_at cut message = take cut.size (drop cut.place message)
 
 abbrev pub rest_at : Cut → List ℕ → List ℕ
 rest_at cut message = drop cut.size (drop cut.place message)
 
--- what the terminal waits in
+-- what the terminal waits for
 abbrev pub waits_of : TerminalWait → List ℕ → List ℕ → Waits
 waits_of Idle command joined = idle
 waits_of (Ack cut) command joined = ack (field_at cut command) (rest_at cut command)
@@ -44,21 +44,21 @@ abbrev pub joined_of : Waits → List ℕ
 joined_of (more joined) = joined
 joined_of waits = []
 
--- an I-block of the answer can be joined
+-- the terminal waits for the answer, so an I-block of it can be joined
 abbrev pub IsJoining : Waits → Type 0
 IsJoining (answer field) = Unit {0}
 IsJoining (more joined) = Unit {0}
 IsJoining waits = ⊥
 
--- the cut is that of a block of a message of so many octets, and more follows it, or nothing does
+-- this cut is a block of a message of so many octets, and more of the message follows it, or nothing does
 abbrev pub IsInner : Cut → ℕ → Type 0
 IsInner cut octets = IsSize cut.size × (cut.place + cut.size < octets)
 
 abbrev pub IsLast : Cut → ℕ → Type 0
 IsLast cut octets = IsSize cut.size × (cut.place ≤ octets) × (octets ≤ cut.place + cut.size)
 
--- an exchange has no answer yet, and nothing is joined before the answer's first block: by how many octets the two
--- messages have
+-- an unfinished exchange has no answer yet, and nothing is joined before the answer's first block; the numbers are the
+-- octets of the two messages
 abbrev pub IsWait : TerminalWait → ℕ → ℕ → Bool → Type 0
 IsWait Idle command joined is_answered = Unit {0}
 IsWait (Ack cut) command joined is_answered = IsInner cut command × (joined ≡ 0) × (is_answered ≡ false)
@@ -68,7 +68,7 @@ IsWait (Ifs size) command joined is_answered = IsSize size
 IsWait (Resynch asked) command joined is_answered = asked ≤ most_resynchs
 IsWait Dead command joined is_answered = Unit {0}
 
--- the slice that a call hands out, where there is one
+-- the slice that a call returns, if any
 abbrev pub IsSlice : Option (Bor (List ℕ)) → Option (List ℕ) → Type 0
 IsSlice None None = Unit {0}
 IsSlice None (Some octets) = ⊥
@@ -80,7 +80,7 @@ abbrev pub is_response_with : ℕ → Came → Bool
 is_response_with size (got (Response Size) inf) = carried inf == size
 is_response_with size came = false
 
--- ---- the lent terminal and its two buffers, whoever owns those
+-- ---- the terminal and its two buffers, whether it or its caller owns them
 
 abbrev pub terminal_seen : LentTerminal → List ℕ → List ℕ → TerminalState
 terminal_seen p command joined = record {
@@ -96,7 +96,7 @@ terminal_seen p command joined = record {
   limits = record { command = p.most_command; answer = p.most_answer };
 }
 
--- the same, where its messages are the first octets of two buffers
+-- the terminal's state, if its messages are the first octets of two buffers
 abbrev pub terminal_held : LentTerminal → List ℕ → List ℕ → TerminalState
 terminal_held p command joined = terminal_seen p (take p.command_len command) (take p.answer_len joined)
 
@@ -106,7 +106,7 @@ pub record IsLentTerminal (p : LentTerminal) (room answer_room : ℕ) : Type 0 w
   pub ifsc : IsSize p.ifsc
   pub ifsd : IsSize p.ifsd
   pub first_ifsc : IsSize p.first_ifsc
-  -- what the buffers hold, and the most that they are to hold
+  -- what the buffers hold, and the most that they may hold
   pub command_held : p.command_len ≤ room
   pub answer_held : p.answer_len ≤ answer_room
   pub most_command : p.most_command ≤ room

@@ -1,8 +1,8 @@
-//! The two buffers of an end: a message is the first octets of its buffer.
+//! The two buffers of an end. A message is the first octets of its buffer.
 
 ghost use Rattle.std.specs.Prelude.{◌≡◌, ◌≤◌, ◌+◌, ◌++◌, length, take};
 
-/// Octets come after the first `count` of a buffer; how many there are then.
+/// Writes octets after the first `count` of a buffer, and returns how many there are then.
 pub(crate) fn append(buffer: &mut [u8], count: usize, octets: &[u8]) -> usize
     requires { count + length octets.now ≤ length buffer.old }
     ensures count { result ≡ count + length octets.now }

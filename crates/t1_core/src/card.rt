@@ -1,4 +1,4 @@
-//! The card: the end that answers, and counts no failures.
+//! The card: the end that answers. It counts no failures.
 
 ghost use Rattle.std.specs.Prelude.{◌≡◌, IfOk};
 ghost use Rattle.t1_core.specs.Came.{class_of};
@@ -19,8 +19,10 @@ use chain_core::{LONGEST_COMMAND, LONGEST_RESPONSE as LONGEST_ANSWER, Wiped, ove
 use std::alloc::{AllocError, Global};
 use std::marker::Model;
 
-/// A card and its host's side of it. Contracts see its state, `CardState` in `specs/Card.antt`, and each
-/// call does what `card_turn` says there; a refused call changes nothing (ISO/IEC 7816-3, clause 11.6).
+/// The card of a session, with its host's calls.
+///
+/// Contracts see its state, `CardState` in `specs/Card.antt`, and each call does what `card_turn` says there. A refused
+/// call changes nothing (ISO/IEC 7816-3, clause 11.6).
 ///
 /// Dropping a card overwrites its buffers before it frees their memory.
 #[derive(Drop)]
@@ -43,24 +45,26 @@ impl Model for Card {
 }
 
 impl Card {
-    /// A new card that waits for a command, with buffers for the longest command and reply; `Err` for
-    /// lack of memory. No later call takes any. It takes information fields of IFSC octets, and the
+    /// Returns a new card that waits for a command, with buffers for the longest command and reply.
+    ///
+    /// `Err` if memory runs out; no later call allocates. The card takes information fields of IFSC octets, and the
     /// terminal those of [`FIRST_IFSD`](crate::FIRST_IFSD).
     ///
-    /// A new card and a new terminal begin together, at a reset of the card: [`Terminal::new`](crate::Terminal::new)
-    /// says what happens else.
+    /// A new card and a new terminal begin together, at a reset of the card. [`Terminal::new`](crate::Terminal::new)
+    /// says what happens otherwise.
     pub fn new(alloc: Global, params: T1Params) -> Result<Card, AllocError>
         ensures { IfOk result (λ card. card ≡ new_card params.ifsc) }
     {
         Card::with_limits(alloc, params, LONGEST_COMMAND, LONGEST_ANSWER)
     }
 
-    /// A new card with buffers for commands of at most `command` octets and replies of at most `answer`
-    /// octets; `Err` for lack of memory. No later call takes any.
+    /// Returns a new card with buffers for commands of at most `command` octets and replies of at most `answer` octets.
     ///
-    /// More than [`LONGEST_COMMAND`] or [`LONGEST_ANSWER`] is taken for these. A longer reply is refused
-    /// `TooLong`; a block of a longer command is answered as an error until the terminal gives it up, and
-    /// its host isn't asked.
+    /// `Err` if memory runs out; no later call allocates. Numbers above [`LONGEST_COMMAND`] or [`LONGEST_ANSWER`] count
+    /// as these.
+    ///
+    /// `reply` refuses a longer reply as `TooLong`. The card answers a block of a longer command as an error, until the
+    /// terminal gives the command up; the host isn't asked.
     pub fn with_limits(
         alloc: Global,
         params: T1Params,
@@ -79,9 +83,10 @@ impl Card {
         })
     }
 
-    /// Begins a new session, from any state: the card is a new one with these parameters and the same
-    /// limits. It takes no memory, and the octets that it held are overwritten. Only together with a new
-    /// terminal, as [`Card::new`] says.
+    /// Begins a new session, from any state. The card becomes a new one with these parameters and the same limits.
+    ///
+    /// It allocates nothing, and overwrites the octets that the card held. Call it only together with a new terminal,
+    /// as [`Card::new`] says.
     pub fn reset(&mut self, params: T1Params)
         ensures { self.new ≡ card_with self.old.limits params.ifsc }
     {
@@ -92,19 +97,20 @@ impl Card {
         self.state = LentCard::new(params, command, reply);
     }
 
-    /// The command, while the host owes its reply: in its turn, and while the card asks the terminal for
-    /// a size or for time; else `None`.
+    /// Returns the command while the host owes its reply, else `None`.
+    ///
+    /// The host owes it in its turn, and while the card asks the terminal for a size or for time.
     pub fn command(&self) -> Option<&[u8]>
         ensures { IsSlice result (owed self.now self.now.waits) }
     {
         self.state.command(self.command.as_slice())
     }
 
-    /// The line delivered these octets as one block: a whole one, or what came of one that broke off, where
-    /// no further octet came within CWT.
+    /// Takes the octets that the line delivered as one block: a whole block, or the part that came before CWT passed
+    /// without a further octet.
     ///
-    /// They are classed by `class_of` under the size that the card takes. Refused `Order` in the host's
-    /// turn: what came is then dropped.
+    /// `class_of` classes them under the size that the card takes. In the host's turn it refuses them as `Order`; drop
+    /// them then.
     pub fn received(&mut self, octets: &[u8]) -> Result<CardTurn, CardFault>
         ensures turn { result ≡ turn_of
             (card_turn self.old (takes (class_of self.old.ifsc octets.now))) }
@@ -118,10 +124,10 @@ impl Card {
             .answered(self.command.as_slice(), self.reply.as_slice(), acted)
     }
 
-    /// The host hands over its reply: its first I-block is sent.
+    /// Takes the host's reply, and sends its first I-block.
     ///
-    /// Refused `Order` outside the host's turn, then `TooLong` for more octets than the card has room for,
-    /// 65,538 if it was made by `new`.
+    /// Refused as `Order` outside the host's turn. Then a reply with more octets than the card has room for is refused
+    /// as `TooLong`: more than 65,538 if `new` made the card.
     pub fn reply(&mut self, octets: &[u8]) -> Result<CardTurn, CardFault>
         ensures turn { result ≡ turn_of (card_turn self.old (replies octets.now)) }
         ensures state { self.new ≡ state_after self.old (card_turn self.old (replies octets.now)) }
@@ -133,7 +139,7 @@ impl Card {
             .answered(self.command.as_slice(), self.reply.as_slice(), acted)
     }
 
-    /// The host asks for more waiting time, by any multiple of it. Refused `Order` outside its turn.
+    /// Asks the terminal for more waiting time, any multiple of it. Refused as `Order` outside the host's turn.
     pub fn more_time(&mut self, multiple: u8) -> Result<CardTurn, CardFault>
         ensures turn { result ≡ turn_of (card_turn self.old (more_time multiple)) }
         ensures state { self.new ≡ state_after self.old (card_turn self.old (more_time multiple)) }
@@ -145,9 +151,9 @@ impl Card {
             .answered(self.command.as_slice(), self.reply.as_slice(), acted)
     }
 
-    /// The host asks the terminal to send information fields of up to `size` octets.
+    /// Asks the terminal to send information fields of up to `size` octets.
     ///
-    /// Refused `Order` outside the host's turn, then `Reserved` for the sizes 0 and 255.
+    /// Refused as `Order` outside the host's turn, and then as `Reserved` for the sizes 0 and 255.
     pub fn ask_ifs(&mut self, size: u8) -> Result<CardTurn, CardFault>
         ensures turn { result ≡ turn_of (card_turn self.old (ask_ifs size)) }
         ensures state { self.new ≡ state_after self.old (card_turn self.old (ask_ifs size)) }

@@ -1,4 +1,4 @@
-//! What the octets that came are to an end.
+//! What octets that came are to an end.
 
 ghost use Rattle.std.specs.Prelude.{◌≡◌, ◌≤◌};
 ghost use Rattle.t1_core.specs.Came.{IsClass, class_of};
@@ -7,12 +7,12 @@ ghost use Rattle.t1_core.specs.Views.{came_of, is_response_with};
 use block_core::{BlockReason, BlockRef, Pcb, S};
 use octet_core::Stop;
 
-/// What came. A block stays in the octets that came, so its field is copied once, into an end's buffer.
+/// What came. A block borrows the octets that came, so its field is copied only once, into an end's buffer.
 #[derive(Debug, Drop)]
 pub(crate) enum Arrived<'a> {
     /// A whole block with node address 0.
     Whole(BlockRef<'a>),
-    /// A block that its check octet contradicts.
+    /// A block whose check octet is wrong, whatever its node address is and whatever follows it.
     Damaged,
     /// Anything else.
     Invalid,
@@ -36,7 +36,7 @@ impl<'a> Arrived<'a> {
     }
 }
 
-/// What these octets are to an end that takes information fields of so many octets.
+/// Returns what these octets are to an end that takes information fields of at most so many octets.
 #[inline(always)]
 pub(crate) fn classify(octets: &[u8], ifs: u8) -> Arrived<'_>
     requires least { 1 ≤ ifs }
@@ -46,7 +46,7 @@ pub(crate) fn classify(octets: &[u8], ifs: u8) -> Arrived<'_>
     by_verdict(octets, ifs)
 }
 
-/// The same, by the verdict on the octets as a block.
+/// Returns what the octets are, from the verdict on them as a block.
 #[inline(always)]
 fn by_verdict(octets: &[u8], ifs: u8) -> Arrived<'_>
     requires least { 1 ≤ ifs }

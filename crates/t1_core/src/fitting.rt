@@ -1,4 +1,4 @@
-//! Whether a lent end fits buffers of given sizes: for an end that something else may have written to.
+//! Whether an end fits caller-owned buffers of given sizes. It is for an end that other code may have changed.
 
 ghost use Rattle.std.specs.Prelude.{◌≡◌, true};
 ghost use Rattle.t1_core.specs.Views.{IsLentTerminal, IsSize, IsInner, IsLast, IsWait};
@@ -36,7 +36,7 @@ impl Cut {
 }
 
 impl TerminalWait {
-    /// Whether a terminal that holds so many octets may wait in this.
+    /// Whether a terminal that holds so many octets may be in this state.
     fn fits(self, command: usize, joined: usize, is_answered: bool) -> bool
         ensures yes { result ≡ true → IsWait self command joined is_answered }
         ensures no { IsWait self command joined is_answered → result ≡ true }
@@ -71,7 +71,7 @@ impl LentTerminal {
 }
 
 impl CardWait {
-    /// Whether a card whose reply has so many octets may wait in this.
+    /// Whether a card whose reply has so many octets may be in this state.
     fn fits(self, saved: Option<Cut>, octets: usize) -> bool
         ensures yes { result ≡ true → IsCardWait self saved octets }
         ensures no { IsCardWait self saved octets → result ≡ true }

@@ -1,4 +1,4 @@
-//! Which call an end refuses for what it waits for, or for a reserved size: each guard is here, once.
+//! Which calls an end refuses in its state, or for a reserved size. Each guard is here, once.
 //!
 //! A guard changes nothing, so a call that it refuses changes nothing.
 
@@ -10,7 +10,7 @@ ghost use Rattle.t1_core.specs.CardViews.{card_waits_of};
 
 use crate::turns::{CardFault, CardWait, TerminalFault, TerminalWait};
 
-/// `Err` unless the terminal is idle: `Dead` of a dead one, else `Busy`.
+/// Returns `Err` unless the terminal is idle: `Dead` for a dead terminal, else `Busy`.
 pub(crate) fn if_idle(wait: TerminalWait) -> Result<(), TerminalFault>
     ensures idle { OnOk result (wait ≡ TerminalWait.Idle) }
     ensures refused { IfErr result (λ fault. (command joined : List ℕ) (step : TerminalStep)
@@ -27,7 +27,7 @@ pub(crate) fn if_idle(wait: TerminalWait) -> Result<(), TerminalFault>
     }
 }
 
-/// `Err` unless the card's host owes a reply: `Order`.
+/// Returns `Err` unless the card's host owes a reply: `Order`.
 pub(crate) fn if_host(wait: CardWait) -> Result<(), CardFault>
     ensures host { OnOk result (wait ≡ CardWait.Host) }
     ensures refused { IfErr result (λ fault. (command reply : List ℕ) (step : CardStep)

@@ -1,7 +1,7 @@
-//! What an end holds beside its two buffers: a few dozen octets, and none of a message.
+//! What an end holds beside its two buffers: a few dozen octets, and no octet of a message.
 //!
-//! An end is that and two buffers. `Terminal` and `Card` own all three. A program that has no allocator keeps a
-//! `LentTerminal` or a `LentCard` itself, and lends the buffers to each call: that is the whole end, too.
+//! `Terminal` and `Card` own this and their two buffers. A program without an allocator keeps a `LentTerminal` or a
+//! `LentCard` and the buffers itself, and passes the buffers to each call. That is a whole end, too.
 
 ghost use Rattle.std.specs.Prelude.{◌≡◌, List, ℕ, length, replicate};
 ghost use Rattle.t1_core.specs.Terminal.{terminal_with, at_most};
@@ -15,11 +15,11 @@ use atr_core::T1Params;
 use block_core::Number;
 use chain_core::{LONGEST_COMMAND, LONGEST_RESPONSE as LONGEST_ANSWER, overwrite};
 
-/// The terminal's numbers, sizes and limits, and what it waits in: a whole terminal, where its caller keeps
-/// the two buffers and lends them to each call.
+/// A terminal over two buffers that its caller owns and passes to each call. It has the terminal's numbers, sizes,
+/// limits and state.
 ///
-/// [`LentTerminal::begin`] makes one, and each call keeps it fit. Where something else may have written to it or
-/// to the buffers' sizes, [`LentTerminal::fits`] says whether it still is one.
+/// [`LentTerminal::begin`] makes one, and each call keeps it fit. If other code may have changed it or the buffers'
+/// sizes, [`LentTerminal::fits`] says whether it is still a terminal.
 #[derive(Clone, Copy, Debug)]
 pub struct LentTerminal {
     pub number: Number,
@@ -32,17 +32,17 @@ pub struct LentTerminal {
     pub is_answered: bool,
     pub most_command: usize,
     pub most_answer: usize,
-    /// So many octets at the front of the command's buffer are the command.
+    /// How many octets the command has, at the front of its buffer.
     pub command_len: usize,
-    /// So many octets at the front of the answer's buffer came of the answer.
+    /// How many octets of the answer came so far, at the front of its buffer.
     pub answer_len: usize,
 }
 
 impl LentTerminal {
-    /// A new terminal over these buffers, for messages of at most as many octets as they have
-    /// room for, and no more than the longest. Their octets are overwritten with 0.
+    /// Returns a new terminal over these buffers, and overwrites them with 0.
     ///
-    /// It begins a session, or a further one over the buffers of an earlier one.
+    /// It takes messages of at most as many octets as the buffers have room for, and no more than the longest have. It
+    /// begins a session, over new buffers or over those of an earlier one.
     pub fn begin(
         params: T1Params,
         command_buffer: &mut [u8],
@@ -61,7 +61,8 @@ impl LentTerminal {
         LentTerminal::new(params, command, answer)
     }
 
-    /// At the start, for messages of at most as many octets as these have room for, which were overwritten.
+    /// Returns a terminal at the start, for messages of at most as many octets as these buffers have. The buffers were
+    /// overwritten.
     pub(crate) fn new(params: T1Params, command: &[u8], answer: &[u8]) -> LentTerminal
         requires overwritten { (command.now ≡ replicate (length command.now) 0)
             × (answer.now ≡ replicate (length answer.now) 0) }
@@ -87,8 +88,8 @@ impl LentTerminal {
     }
 }
 
-/// The card's numbers, sizes and limits, and what it waits in and holds saved: a whole card, where its
-/// caller keeps the two buffers and lends them to each call, as [`LentTerminal`] of a terminal.
+/// A card over two buffers that its caller owns and passes to each call, like [`LentTerminal`]. It has the card's
+/// numbers, sizes, limits and state, and which block is saved.
 #[derive(Clone, Copy, Debug)]
 pub struct LentCard {
     pub number: Number,
@@ -100,17 +101,17 @@ pub struct LentCard {
     pub wait: CardWait,
     pub most_command: usize,
     pub most_reply: usize,
-    /// So many octets at the front of the command's buffer came of the command.
+    /// How many octets of the command came so far, at the front of its buffer.
     pub command_len: usize,
-    /// So many octets at the front of the reply's buffer are the reply.
+    /// How many octets the reply has, at the front of its buffer.
     pub reply_len: usize,
 }
 
 impl LentCard {
-    /// A new card over these buffers, for messages of at most as many octets as they have
-    /// room for, and no more than the longest. Their octets are overwritten with 0.
+    /// Returns a new card over these buffers, and overwrites them with 0.
     ///
-    /// It begins a session, or a further one over the buffers of an earlier one.
+    /// It takes messages of at most as many octets as the buffers have room for, and no more than the longest have. It
+    /// begins a session, over new buffers or over those of an earlier one.
     pub fn begin(params: T1Params, command_buffer: &mut [u8], reply_buffer: &mut [u8]) -> LentCard
         ensures state { card_held result command_buffer.new reply_buffer.new
             ≡ card_with (at_most (length command_buffer.old) (length reply_buffer.old)) params.ifsc }
@@ -125,7 +126,8 @@ impl LentCard {
         LentCard::new(params, command, reply)
     }
 
-    /// At the start, for messages of at most as many octets as these have room for, which were overwritten.
+    /// Returns a card at the start, for messages of at most as many octets as these buffers have. The buffers were
+    /// overwritten.
     pub(crate) fn new(params: T1Params, command: &[u8], reply: &[u8]) -> LentCard
         requires overwritten { (command.now ≡ replicate (length command.now) 0)
             × (reply.now ≡ replicate (length reply.now) 0) }

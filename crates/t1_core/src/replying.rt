@@ -13,7 +13,7 @@ use crate::sending::Sent;
 use crate::turns::{CardWait, Cut};
 use block_core::Number;
 
-/// The next I-block of a reply, and what the card then waits in and holds saved.
+/// The next I-block of a reply, and what the card then waits for and holds saved.
 #[derive(Drop)]
 pub(crate) struct Next {
     pub(crate) sent: Sent,
@@ -21,7 +21,7 @@ pub(crate) struct Next {
     pub(crate) saved: Option<Cut>,
 }
 
-/// The number after an I-block of the other end, which acknowledges a saved block.
+/// Returns the number after an I-block of the other end, which acknowledges a saved block.
 pub(crate) fn acknowledged(saved: Option<Cut>, number: Number) -> Number
     ensures { (message : List ℕ) → result ≡ number_after (saved_of saved message) number }
 {
@@ -31,7 +31,7 @@ pub(crate) fn acknowledged(saved: Option<Cut>, number: Number) -> Number
     }
 }
 
-/// The I-block of a reply from a place on, cut at this size.
+/// Returns the I-block of a reply from a place on, cut at this size.
 pub(crate) fn next_block(reply: &[u8], place: usize, size: u8) -> Next
     requires size { IsSize size }
     requires place { place ≤ length reply.now }

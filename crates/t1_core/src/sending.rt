@@ -1,5 +1,4 @@
-//! The block that an end sends, by what the end keeps: its octets are put together once, where they are
-//! handed out.
+//! The block that an end sends, from what the end keeps. It is encoded once, when it is returned.
 
 ghost use Rattle.std.specs.Prelude.{◌≡◌};
 ghost use Rattle.block_core.specs.Block.{Suits};
@@ -10,7 +9,7 @@ use block_core::{BlockRef, Fault, Number, Pcb, S};
 use std::marker::Model;
 use std::slice;
 
-/// An R-block or an S-block with node address 0: a field of at most one octet.
+/// An R-block or an S-block with node address 0. Its field has at most one octet.
 #[derive(Drop)]
 pub(crate) struct Short {
     pcb: Pcb,
@@ -29,7 +28,7 @@ impl Model for Short {
 }
 
 impl Short {
-    /// An R-block.
+    /// Returns an R-block.
     pub(crate) fn ready(number: Number, fault: Fault) -> Short
         ensures { result ≡ ready number fault }
     {
@@ -39,7 +38,7 @@ impl Short {
         }
     }
 
-    /// An S-block that asks, with the field that it calls for.
+    /// Returns an S-block that asks, with the field that its kind has.
     pub(crate) fn request(about: S, inf: &[u8]) -> Short
         requires { Suits 254 (Request about) inf.now }
         ensures { result ≡ request about inf.now }
@@ -50,7 +49,7 @@ impl Short {
         }
     }
 
-    /// An S-block that answers, with the field that the request calls for.
+    /// Returns an S-block that answers, with the field that the request calls for.
     pub(crate) fn response(about: S, inf: &[u8]) -> Short
         requires { Suits 254 (Response about) inf.now }
         ensures { result ≡ response about inf.now }
@@ -61,7 +60,7 @@ impl Short {
         }
     }
 
-    /// The block.
+    /// Returns the block, borrowed.
     pub(crate) fn lent(&self) -> BlockRef<'_>
         ensures { result ≡ self.now }
     {
@@ -76,7 +75,7 @@ impl Short {
 /// The block that an end sends.
 #[derive(Drop)]
 pub(crate) enum Sent {
-    /// The I-block under way, which more follow.
+    /// The present I-block, which isn't the last of its message.
     Inner,
     /// The last I-block of a message.
     Last,
@@ -91,11 +90,11 @@ pub(crate) enum TerminalAct {
     Send(Sent),
     /// The answer is complete.
     Answered,
-    /// The card took the size that was asked for.
+    /// The card accepted the size that the terminal asked for.
     IfsSet,
     /// The exchange or the question is given up.
     GivenUp,
-    /// The card answers no more.
+    /// The card doesn't answer any more.
     Dead,
 }
 

@@ -95,7 +95,7 @@ impl Display for CardMessages {
     }
 }
 
-/// The name of a number.
+/// Returns the name of a number.
 fn name_of(number: Number) -> &'static str
     ensures { result.now ≡ number_name number }
 {

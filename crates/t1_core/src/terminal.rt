@@ -1,4 +1,4 @@
-//! The terminal: the end that begins each exchange, and asks for RESYNCH where its repeats fail.
+//! The terminal: the end that begins each exchange, and asks for RESYNCH after its repeats failed.
 
 ghost use Rattle.std.specs.Prelude.{◌≡◌, IfOk};
 ghost use Rattle.t1_core.specs.Came.{class_of, quiet};
@@ -18,20 +18,24 @@ use chain_core::{LONGEST_COMMAND, LONGEST_RESPONSE as LONGEST_ANSWER, Wiped, ove
 use std::alloc::{AllocError, Global};
 use std::marker::Model;
 
-/// The most octets of an information field that a terminal takes, IFSD, at the start of a session and after
-/// RESYNCH, until the card takes another size (ISO/IEC 7816-3, clause 11.4).
+/// The most octets of an information field that a terminal takes (IFSD) at the start of a session and after RESYNCH.
+///
+/// It holds until the card accepts another size (ISO/IEC 7816-3, clause 11.4).
 pub const FIRST_IFSD: u8 = 32;
 
-/// How many failures in a row a terminal meets by sending a block again, or by an R-block; the next one leads to
-/// RESYNCH (ISO/IEC 7816-3, clause 11.6; the count is this project's).
+/// How many failures in a row a terminal meets by sending a block again, or an R-block.
+///
+/// The next failure leads to RESYNCH (ISO/IEC 7816-3, clause 11.6; the count is this project's).
 pub const MOST_REPEATS: u8 = 3;
 
-/// How many times in a row a terminal asks for RESYNCH, before it finds the card dead (ISO/IEC 7816-3, clause
-/// 11.6; the count is this project's).
+/// How many times in a row a terminal asks for RESYNCH before it finds the card dead (ISO/IEC 7816-3, clause 11.6; the
+/// count is this project's).
 pub const MOST_RESYNCHS: u8 = 3;
 
-/// The terminal of one card. Contracts see its state, `TerminalState` in `specs/Terminal.antt`, and each
-/// call does what `terminal_turn` says there; a refused call changes nothing (ISO/IEC 7816-3, clause 11.6).
+/// The terminal of a session with one card.
+///
+/// Contracts see its state, `TerminalState` in `specs/Terminal.antt`, and each call does what `terminal_turn` says
+/// there. A refused call changes nothing (ISO/IEC 7816-3, clause 11.6).
 ///
 /// Dropping a terminal overwrites its buffers before it frees their memory.
 #[derive(Drop)]
@@ -54,12 +58,13 @@ impl Model for Terminal {
 }
 
 impl Terminal {
-    /// A new terminal, idle, with buffers for the longest command and answer; `Err` out of memory.
-    /// No later call takes any. It takes information fields of [`FIRST_IFSD`] octets, and the card those of
-    /// IFSC.
+    /// Returns a new terminal, idle, with buffers for the longest command and answer.
     ///
-    /// A new terminal and a new card begin together, at a reset of the card. A card that goes on while its
-    /// terminal is new may take the first command for a repeat of the last, keep it from its host, and give
+    /// `Err` if memory runs out; no later call allocates. The terminal takes information fields of [`FIRST_IFSD`]
+    /// octets, and the card those of IFSC.
+    ///
+    /// A new terminal and a new card begin together, at a reset of the card. If the terminal is new and its card isn't,
+    /// the card may take the first command for a repeat of the last one. It doesn't pass it to its host then, and sends
     /// the last answer again, which looks like a good exchange.
     pub fn new(alloc: Global, params: T1Params) -> Result<Terminal, AllocError>
         ensures { IfOk result (λ terminal. terminal ≡ new_terminal params.ifsc) }
@@ -67,11 +72,14 @@ impl Terminal {
         Terminal::with_limits(alloc, params, LONGEST_COMMAND, LONGEST_ANSWER)
     }
 
-    /// A new terminal with buffers for commands of at most `command` octets and answers of at most `answer`
-    /// octets; `Err` out of memory. No later call takes any.
+    /// Returns a new terminal with buffers for commands of at most `command` octets and answers of at most `answer`
+    /// octets.
     ///
-    /// More than [`LONGEST_COMMAND`] or [`LONGEST_ANSWER`] is taken for these. A longer command is refused
-    /// `TooLong`; a block of a longer answer is answered as an error until the exchange is given up.
+    /// `Err` if memory runs out; no later call allocates. Numbers above [`LONGEST_COMMAND`] or [`LONGEST_ANSWER`] count
+    /// as these.
+    ///
+    /// `transmit` refuses a longer command as `TooLong`. The terminal answers a block of a longer answer as an error,
+    /// until the exchange is given up.
     pub fn with_limits(
         alloc: Global,
         params: T1Params,
@@ -91,9 +99,11 @@ impl Terminal {
         })
     }
 
-    /// Begins a new session, from any state and from `Dead` too: the terminal is a new one for a card with
-    /// these parameters, with the same limits. It takes no memory, and the octets that it held are
-    /// overwritten. Only together with a reset of the card, as [`Terminal::new`] says.
+    /// Begins a new session, from any state, even `Dead`. The terminal becomes a new one for a card with these
+    /// parameters, with the same limits.
+    ///
+    /// It allocates nothing, and overwrites the octets that the terminal held. Call it only together with a reset of
+    /// the card, as [`Terminal::new`] says.
     pub fn reset(&mut self, params: T1Params)
         ensures { self.new ≡ terminal_with self.old.limits params.ifsc }
     {
@@ -104,18 +114,17 @@ impl Terminal {
         self.state = LentTerminal::new(params, command, answer);
     }
 
-    /// The answer, from the turn `Answered` on until the next command is taken; else `None`.
+    /// Returns the answer, from the turn `Answered` until the next command is accepted; else `None`.
     pub fn answer(&self) -> Option<&[u8]>
         ensures { IsSlice result self.now.answered }
     {
         self.state.answer(self.answer.as_slice())
     }
 
-    /// The application hands over a command: its first I-block is sent, and an earlier answer is
-    /// forgotten.
+    /// Takes the application's command, sends its first I-block, and forgets an earlier answer.
     ///
-    /// Refused `Dead`, `Busy`, then `TooLong` for more octets than the terminal has room for, 65,544 if it was
-    /// made by `new`.
+    /// Refused as `Dead` or `Busy`. Then a command with more octets than the terminal has room for is refused as
+    /// `TooLong`: more than 65,544 if `new` made the terminal.
     pub fn transmit(&mut self, command: &[u8]) -> Result<TerminalTurn, TerminalFault>
         ensures turn { result ≡ turn_of (terminal_turn self.old (transmit command.now)) }
         ensures state { self.new ≡ state_after self.old
@@ -130,9 +139,9 @@ impl Terminal {
             .answered(self.command.as_slice(), self.answer.as_slice(), acted)
     }
 
-    /// The application asks the card to send information fields of up to `size` octets.
+    /// Asks the card to send information fields of up to `size` octets.
     ///
-    /// Refused `Dead`, `Busy`, then `Reserved` for the sizes 0 and 255.
+    /// Refused as `Dead` or `Busy`, and then as `Reserved` for the sizes 0 and 255.
     pub fn ask_ifs(&mut self, size: u8) -> Result<TerminalTurn, TerminalFault>
         ensures turn { result ≡ turn_of (terminal_turn self.old (ask_ifs size)) }
         ensures state { self.new ≡ state_after self.old (terminal_turn self.old (ask_ifs size)) }
@@ -144,11 +153,11 @@ impl Terminal {
             .answered(self.command.as_slice(), self.answer.as_slice(), acted)
     }
 
-    /// The line delivered these octets as one block: a whole one, or what came of one that broke off, where
-    /// no further octet came within CWT.
+    /// Takes the octets that the line delivered as one block: a whole block, or the part that came before CWT passed
+    /// without a further octet.
     ///
-    /// They are classed by `class_of` under the size that the terminal takes. Refused `Dead` or `Idle`: what
-    /// came is then dropped.
+    /// `class_of` classes them under the size that the terminal takes. Refused as `Dead` or `Idle`; drop the octets
+    /// then.
     pub fn received(&mut self, octets: &[u8]) -> Result<TerminalTurn, TerminalFault>
         ensures turn { result ≡ turn_of
             (terminal_turn self.old (takes (class_of self.old.ifsd octets.now))) }
@@ -160,8 +169,10 @@ impl Terminal {
             .answered(self.command.as_slice(), self.answer.as_slice(), acted)
     }
 
-    /// Nothing came within the waiting time: `T1Params::bwt` times [`TerminalTurn::waiting`] of the turn
-    /// before. A block of which only the first octets came goes to `received`. Refused `Dead` or `Idle`.
+    /// Says to the terminal that nothing came within the waiting time: `T1Params::bwt` times [`TerminalTurn::waiting`]
+    /// of the last turn.
+    ///
+    /// If the first octets of a block came, call `received` instead. Refused as `Dead` or `Idle`.
     pub fn quiet(&mut self) -> Result<TerminalTurn, TerminalFault>
         ensures turn { result ≡ turn_of (terminal_turn self.old (takes quiet)) }
         ensures state { self.new ≡ state_after self.old (terminal_turn self.old (takes quiet)) }

@@ -1,4 +1,4 @@
-//! What a call of an end answers, and what an end waits in.
+//! What a call of an end returns, and what an end waits for.
 
 ghost use Rattle.std.specs.Prelude.{◌≡◌, ◌≤◌};
 ghost use Rattle.t1_core.specs.Waiting.{granted, waiting_times};
@@ -12,23 +12,23 @@ use std::fmt::{self, Debug, Display, Formatter, Write};
 /// What the terminal does next.
 #[derive(Debug, PartialEq, Eq, Drop)]
 pub enum TerminalTurn {
-    /// It sends this block and waits for the card.
+    /// Send this block, and wait for the card.
     Send(Block),
     /// The answer is complete, and `answer` has it.
     Answered,
-    /// The card took the information size that was asked for.
+    /// The card accepted the information size that the terminal asked for.
     IfsSet,
-    /// Both ends were resynchronized: the exchange or the question about a size is given up.
+    /// Both ends were resynchronized. The exchange, or the question about a size, is given up.
     GivenUp,
-    /// The card answers no more, not even RESYNCH.
+    /// The card doesn't answer any more, not even RESYNCH.
     Dead,
 }
 
 impl TerminalTurn {
-    /// How many block waiting times may go by after this turn before `quiet` is called: the
-    /// multiple that the card asked for where this turn grants it, else 1. A multiple of 0 counts as 1.
+    /// Returns how many block waiting times pass after this turn before `quiet` is called.
     ///
-    /// One such time is `T1Params::bwt` (ISO/IEC 7816-3, clause 11.4).
+    /// That is the multiple that this turn grants the card, else 1. A multiple of 0 counts as 1. One block waiting time
+    /// is `T1Params::bwt` (ISO/IEC 7816-3, clause 11.4).
     pub fn waiting(&self) -> u8
         ensures times { result ≡ waiting_times self.now }
         ensures least { 1 ≤ result }
@@ -40,7 +40,7 @@ impl TerminalTurn {
     }
 }
 
-/// The multiple that a block of this kind with this field grants; 1 where it grants none.
+/// Returns the multiple that a block of this kind with this field grants, or 1 if it grants none.
 pub(crate) fn granted(pcb: Pcb, inf: &[u8]) -> u8
     ensures times { result ≡ granted pcb inf.now }
     ensures least { 1 ≤ result }
@@ -51,34 +51,34 @@ pub(crate) fn granted(pcb: Pcb, inf: &[u8]) -> u8
     }
 }
 
-/// What the terminal does next, where the octets of its block are in the caller's buffer.
+/// What the terminal does next, with the octets of its block in the caller's buffer.
 #[derive(Clone, Copy, Debug, PartialEq, Eq)]
 pub enum EncodedTerminalTurn {
-    /// It sends the first `count` octets of the buffer, 4 to 258, and waits for the card. `waiting` is what
-    /// [`TerminalTurn::waiting`] says of that turn.
+    /// Send the first `count` octets of the buffer, 4 to 258, and wait for the card. `waiting` is as
+    /// [`TerminalTurn::waiting`] returns it.
     Send { count: usize, waiting: u8 },
     /// The answer is complete, and `answer` has it.
     Answered,
-    /// The card took the information size that was asked for.
+    /// The card accepted the information size that the terminal asked for.
     IfsSet,
-    /// Both ends were resynchronized: the exchange or the question about a size is given up.
+    /// Both ends were resynchronized. The exchange, or the question about a size, is given up.
     GivenUp,
-    /// The card answers no more, not even RESYNCH.
+    /// The card doesn't answer any more, not even RESYNCH.
     Dead,
 }
 
 /// Why the terminal refused a call. A refused call changes nothing.
 #[derive(Clone, Copy, Debug, PartialEq, Eq)]
 pub enum TerminalFault {
-    /// The card was found dead.
+    /// The terminal found the card dead.
     Dead,
-    /// An exchange, or a question about a size, is under way.
+    /// An exchange, or a question about a size, is in progress.
     Busy,
     /// The command has more octets than the terminal has room for.
     TooLong,
     /// The sizes 0 and 255 are reserved.
     Reserved,
-    /// No block is awaited.
+    /// The terminal doesn't wait for a block.
     Idle,
 }
 
@@ -115,25 +115,25 @@ impl Error for TerminalFault {}
 /// What the card does next.
 #[derive(Debug, PartialEq, Eq, Drop)]
 pub enum CardTurn {
-    /// It sends this block and waits for the terminal.
+    /// Send this block, and wait for the terminal.
     Send(Block),
-    /// It is the host's turn: it owes the reply to `command`.
+    /// It is the host's turn: the host owes the reply to `command`.
     Asked,
 }
 
-/// What the card does next, where the octets of its block are in the caller's buffer.
+/// What the card does next, with the octets of its block in the caller's buffer.
 #[derive(Clone, Copy, Debug, PartialEq, Eq)]
 pub enum EncodedCardTurn {
-    /// It sends the first so many octets of the buffer, 4 to 258, and waits for the terminal.
+    /// Send so many octets from the front of the buffer, 4 to 258, and wait for the terminal.
     Send(usize),
-    /// It is the host's turn: it owes the reply to `command`.
+    /// It is the host's turn: the host owes the reply to `command`.
     Asked,
 }
 
 /// Why the card refused a call. A refused call changes nothing.
 #[derive(Clone, Copy, Debug, PartialEq, Eq)]
 pub enum CardFault {
-    /// The call belongs to the host's turn, or a block came in it.
+    /// The call belongs to the host's turn and it isn't, or a block came in the host's turn.
     Order,
     /// The reply has more octets than the card has room for.
     TooLong,
@@ -172,9 +172,9 @@ impl Error for CardFault {}
 /// What the terminal waits for, without the octets that it holds.
 #[derive(Clone, Copy, PartialEq, Eq)]
 pub enum TerminalAwaits {
-    /// A call: nothing is under way.
+    /// A call: nothing is in progress.
     Call,
-    /// The R-block that acknowledges an I-block of the command which isn't its last.
+    /// The R-block that acknowledges an I-block of the command. That I-block isn't the command's last.
     Acknowledgement,
     /// The first I-block of the answer.
     Answer,
@@ -182,10 +182,9 @@ pub enum TerminalAwaits {
     MoreAnswer,
     /// The response to a question about this information size.
     Size(u8),
-    /// The response to RESYNCH, which was asked for so many times, 1 to
-    /// [`MOST_RESYNCHS`](crate::MOST_RESYNCHS).
+    /// The response to RESYNCH, after so many requests, 1 to [`MOST_RESYNCHS`](crate::MOST_RESYNCHS).
     Resynch(u8),
-    /// Nothing any more: the card was found dead.
+    /// Nothing any more: the terminal found the card dead.
     Nothing,
 }
 
@@ -215,7 +214,7 @@ pub enum CardAwaits {
     Command,
     /// A call of its host, which owes the reply to the command.
     Host,
-    /// The R-block that acknowledges an I-block of the reply which isn't its last.
+    /// The R-block that acknowledges an I-block of the reply. That I-block isn't the reply's last.
     Acknowledgement,
     /// The response to its host's question about this information size.
     Size(u8),
@@ -240,36 +239,36 @@ impl Debug for CardAwaits {
     }
 }
 
-/// Where the I-block under way begins in its message, and the information size under which it was cut.
+/// Where the present I-block begins in its message, and the information size at which it was cut.
 #[derive(Clone, Copy, Debug, PartialEq, Eq)]
 pub struct Cut {
     pub place: usize,
     pub size: u8,
 }
 
-/// What the terminal waits in.
+/// What the terminal waits for.
 #[derive(Clone, Copy, Debug, PartialEq, Eq)]
 pub enum TerminalWait {
-    /// For a call.
+    /// A call.
     Idle,
-    /// An I-block of the command that isn't its last is under way.
+    /// The acknowledgment of this I-block of the command, which isn't its last.
     Ack(Cut),
-    /// The last I-block of the command is under way.
+    /// The answer, after this last I-block of the command.
     Answer(Cut),
-    /// The answer goes on after what was joined.
+    /// The next block of the answer, after what was joined.
     More,
-    /// A size was asked for.
+    /// The response to a question about this size.
     Ifs(u8),
-    /// RESYNCH was asked for so many times.
+    /// The response to RESYNCH, after so many requests.
     Resynch(u8),
-    /// The card answers no more.
+    /// Nothing: the card doesn't answer any more.
     Dead,
 }
 
-/// What the card asked the terminal for on its host's behalf.
+/// What the card asked the terminal for, for its host.
 #[derive(Clone, Copy, Debug, PartialEq, Eq)]
 pub enum CardAsked {
-    /// The information size that the card is to take.
+    /// The information size that the card will take.
     Size(u8),
     /// A multiple of the waiting time.
     Time(u8),
@@ -279,7 +278,7 @@ impl CardAsked {
     ghost use Rattle.t1_core.specs.CardViews.{request_of, IsRequest};
     ghost use Rattle.t1_core.specs.Card.{request_block};
 
-    /// The S-block that asks.
+    /// Returns the S-block that asks for it.
     pub(crate) fn block(self) -> Short
         requires { IsRequest self }
         ensures { result ≡ request_block (request_of self) }
@@ -291,17 +290,17 @@ impl CardAsked {
     }
 }
 
-/// What the card waits in.
+/// What the card waits for.
 #[derive(Clone, Copy, Debug, PartialEq, Eq)]
 pub enum CardWait {
-    /// For the first block of a command.
+    /// The first block of a command.
     Command,
-    /// For a further block of the command that came so far.
+    /// A further block of the command that came so far.
     Joining,
-    /// For its host, which owes a reply.
+    /// Its host, which owes a reply.
     Host,
-    /// An I-block of the reply that isn't its last is under way.
+    /// The acknowledgment of this I-block of the reply, which isn't its last.
     Reply(Cut),
-    /// For the response to a request, while the host still owes its reply.
+    /// The response to a request. The host still owes its reply.
     Asking(CardAsked),
 }

@@ -1,12 +1,11 @@
-//! A case of a program that goes through lists of them, and what becomes of one that goes wrong.
+//! A case of a program that tests lists of cases, and the text for a case that fails.
 
 use octet_core::{HexFault, hex_upper};
 use std::alloc::{AllocError, AllocFailed, Global};
 use std::fmt::{self, Display, Formatter, Write};
 use std::io;
 
-/// A case: what is tried, over which octets, at which place in them, and with which value or piece
-/// there.
+/// A case: what is tested, the octets, a place in them, and the value or piece there.
 #[derive(Clone, Copy)]
 pub struct Case<'a> {
     pub what: &'static str,
@@ -15,20 +14,20 @@ pub struct Case<'a> {
     pub piece: usize,
 }
 
-/// Why a list of cases ended before its end.
+/// Why a list of cases stopped early.
 #[derive(Debug, Drop)]
 pub enum Fault {
-    /// A case gave another answer than it should: what is said of it, as one text, since each way out of a function
-    /// gives back a fault.
+    /// A case gave a wrong answer. The fault is one text about the case, since each way out of a function returns a
+    /// fault.
     Wrong(String),
     /// Out of memory.
     Memory,
-    /// A file couldn't be read, or a line not be printed.
+    /// A file couldn't be read, or a line couldn't be printed.
     Stream,
 }
 
 impl Case<'_> {
-    /// Nothing where the case came out right.
+    /// Succeeds if the answer to the case is right.
     pub fn expect(self, alloc: Global, is_right: bool) -> Result<(), Fault> {
         if is_right {
             return Ok(());
@@ -36,7 +35,7 @@ impl Case<'_> {
         Err(Fault::Wrong(self.text(alloc)?))
     }
 
-    /// What is said of the case where it went wrong; the octets in hexadecimal.
+    /// Returns the text on a case that failed, with its octets in hexadecimal.
     fn text(self, alloc: Global) -> Result<String, Fault> {
         let Case {
             what,

@@ -1,4 +1,4 @@
-//! What the tests of several crates share, and the programs of the gate.
+//! Helpers for the tests of several crates, and for the programs of the gate.
 #![tactic(auto)]
 
 mod case;
@@ -12,15 +12,15 @@ pub use size::Size;
 use std::alloc::{AllocError, Global};
 use std::fmt::{Debug, Display};
 
-/// Whether a call gave what is wanted.
+/// Whether a call gave the expected value.
 ///
-/// It has no contract on purpose: the checker of a test then carries nothing of the comparison, and takes a
-/// tenth of the time that it takes with the comparison written there.
+/// It deliberately has no contract: the checker of a test then carries nothing of the comparison, and takes a tenth of
+/// the time that it takes with the comparison written there.
 pub fn same<T: PartialEq + Drop>(found: T, wanted: T) -> bool {
     found == wanted
 }
 
-/// Whether `{}` writes this text for a value.
+/// Whether `{}` formats a value as this text.
 pub fn shows<D: Display>(alloc: Global, value: &D, wanted: &str) -> bool {
     match format!(in alloc; "{value}") {
         Ok(text) => text.as_str() == wanted,
@@ -28,7 +28,7 @@ pub fn shows<D: Display>(alloc: Global, value: &D, wanted: &str) -> bool {
     }
 }
 
-/// Whether `{:?}` writes this text for a value.
+/// Whether `{:?}` formats a value as this text.
 pub fn debugs<D: Debug>(alloc: Global, value: &D, wanted: &str) -> bool {
     match format!(in alloc; "{value:?}") {
         Ok(text) => text.as_str() == wanted,
@@ -36,12 +36,12 @@ pub fn debugs<D: Debug>(alloc: Global, value: &D, wanted: &str) -> bool {
     }
 }
 
-/// The octets of a hexadecimal text. It has no contract, as [`same`] has none.
+/// Returns the octets of a hexadecimal text. It has no contract, for the reason that [`same`] has none.
 pub fn of_hex(alloc: Global, text: &str) -> Result<Vec<u8>, Fault> {
     Ok(octets_of(alloc, text)?)
 }
 
-/// The octets with the one at a place set to a value; as they are where there is none.
+/// Returns the octets with the one at a place set to a value. They are unchanged if there is no such place.
 pub fn with_octet(
     alloc: Global,
     octets: &[u8],

@@ -1,9 +1,9 @@
-//! How much of its lists a program tries.
+//! The share of its lists that a program tests.
 
 use crate::Fault;
 use std::env::{self, Env};
 
-/// How many cases of the long lists are tried.
+/// How many cases of the long lists are tested.
 #[derive(Clone, Copy)]
 pub enum Share {
     All,
@@ -12,12 +12,12 @@ pub enum Share {
 }
 
 impl Share {
-    /// Whether the case with this number is tried.
+    /// Whether the case with this number is tested.
     pub fn has(self, number: usize) -> bool {
         matches!(self, Share::All) || number % 256 == 0
     }
 
-    /// How many of so many long cases are tried.
+    /// Returns how many of this many long cases are tested.
     pub fn most(self, cases: usize) -> usize {
         match self {
             Share::All => cases,
@@ -26,7 +26,7 @@ impl Share {
     }
 }
 
-/// What the program's words ask for: a few cases on the word few, else all.
+/// Returns the share that the program's words ask for: a few cases for the word `few`, else all.
 pub fn asked<R: Env + AllocGlobal>(rt: &R) -> Result<Share, Fault> {
     let words: Vec<String> = env::args(rt)?.collect(rt.alloc())?;
     Ok(match words.as_slice() {

@@ -11,7 +11,7 @@ pub enum Size {
 }
 
 impl Size {
-    /// How many octets a field has at most.
+    /// Returns the most octets of a field.
     pub fn octets(self) -> u8
         ensures least { 1 ≤ result }
         ensures most { result ≤ 254 }

@@ -9,10 +9,10 @@ use denote.Bor.{Bor}
 use Rattle.tlv_core.specs.declared.known.Known.{Known}
 use Rattle.tlv_core.specs.Fill.{known_for}
 
--- the order of the map: that of the octets, the first that differ deciding
+-- the order of the map: the first octets that differ decide
 abbrev pub tag_cmp : Bor (List ℕ) → Bor (List ℕ) → Ordering
 tag_cmp a b = slice_cmp nat_cmp a.now b.now
 
--- at each tag the map has the known value with that tag, and nothing where none has it
+-- at each tag the map has the known value with that tag, or nothing if there is none
 abbrev pub HasAll : List Known → BTreeMap (Bor (List ℕ)) (Bor Known) → Type 0
 HasAll known placed = (tag : Bor (List ℕ)) → option_copied (get tag_cmp placed tag) ≡ known_for tag.now known

@@ -14,30 +14,30 @@ use Rattle.tlv_core.specs.declared.reason.DolReason.TheVariants.{TagZero, TagSec
 abbrev pub entry_octets : List ℕ × ℕ → List ℕ
 entry_octets e = e.0 ++ e.1 ∷ []
 
--- each has a tag, and a length in one octet
+-- each entry has a tag, and a length of one octet
 abbrev pub AreEntries : List (List ℕ × ℕ) → Type 0
 AreEntries [] = Unit {0}
 AreEntries (e ∷ entries) = IsTag e.0 × (e.1 < 256) × AreEntries entries
 
--- the octets of a list are those of its entries, in their order
+-- the encoding of a list is the octets of its entries, in their order
 abbrev pub dol_spelling : List (List ℕ × ℕ) → List ℕ
 dol_spelling [] = []
 dol_spelling (e ∷ entries) = entry_octets e ++ dol_spelling entries
 
--- the octets b spell the list
+-- the octets b encode the list
 pub record IsDol (entries : List (List ℕ × ℕ)) (b : List ℕ) : Type 0 where
   pub each : AreEntries entries
   pub is : b ≡ dol_spelling entries
 
 -- ---- a walk over the entries
 
--- A walk over the octets b that is at this place has given these entries: the octets before it are theirs.
+-- A walk over the octets b at this place has returned these entries, whose octets are those before the place.
 pub record HasListed (b : List ℕ) (place : ℕ) (entries : List (List ℕ × ℕ)) : Type 0 where
   pub within : place ≤ length b
   pub each : AreEntries entries
   pub is : take place b ≡ dol_spelling entries
 
--- what one call of a walk gives
+-- the entries that one call of a walk returns: one or none
 abbrev pub listed_by : Result (Option (List ℕ × ℕ)) (Stop DolReason) → List (List ℕ × ℕ)
 listed_by (Ok (Some entry)) = entry ∷ []
 listed_by (Ok None) = []
@@ -49,7 +49,7 @@ place_after place entry = place + (length entry.0 + 1)
 
 -- ---- refusals
 
--- h is a part of an entry: nothing, or its first octets without the last
+-- h is the start of an entry: nothing, or its first octets without the last
 pub record IsBegunEntry (h : List ℕ) : Type 0 where
   pub entry : List ℕ × ℕ
   pub next : ℕ
@@ -57,8 +57,8 @@ pub record IsBegunEntry (h : List ℕ) : Type 0 where
   pub is_tag : IsTag entry.0
   pub is : h ++ next ∷ more ≡ entry_octets entry
 
--- What is wrong with the octet x after a part h of an entry: no tag begins with 00; the low seven bits of a second tag
--- octet are 0; a third tag octet says that a fourth follows.
+-- What is wrong with the octet x after the start h of an entry: no tag begins with 00; the low seven bits of a second
+-- tag octet are 0; a third tag octet says that a fourth follows.
 abbrev pub IsWrongEntry : List ℕ → ℕ → DolReason → Type 0
 IsWrongEntry h x TagZero = (h ≡ []) × (x ≡ 0)
 IsWrongEntry h x TagSecond = AwaitsSecond h × (x % 128 ≡ 0)
@@ -68,16 +68,16 @@ IsWrongEntry h x TagLong = AwaitsThird h × (128 ≤ x)
 abbrev pub dol_reasons : List DolReason
 dol_reasons = TagZero ∷ TagSecond ∷ TagLong ∷ []
 
--- what the octet x leaves of a part of an entry: nothing where that is a whole tag, else a longer part
+-- the start of an entry after the octet x: nothing if the old start was a whole tag, else one octet more
 abbrev pub IsPartAfter : TagPart → ℕ → TagPart → Type 0
 IsPartAfter (part.Tagged tag) x next = next ≡ part.Nothing
 IsPartAfter begun x next = IsTagPart next × (part_octets next ≡ part_octets begun ++ x ∷ [])
 
--- the octets before a place are these entries, and a part of one more
+-- the octets before a place are these entries, and the start of one more
 abbrev pub AreAllBefore : List ℕ → List (List ℕ × ℕ) → ℕ → Type 0
 AreAllBefore b entries place = (h : List ℕ) × IsBegunEntry h × (take place b ≡ dol_spelling entries ++ h)
 
--- b is whole entries, a part of one, and an octet
+-- b is whole entries, the start of one, and an octet
 pub record EndsInEntry (b : List ℕ) : Type 0 where
   pub done : List (List ℕ × ℕ)
   pub each : AreEntries done

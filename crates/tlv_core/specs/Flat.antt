@@ -21,7 +21,7 @@ pub record PartValue : Type 0 where
   pub place : ℕ
   pub value : List ℕ
 
--- the object that is placed so in the octets b
+-- the object at this place in the octets b
 abbrev pub part_in : List ℕ → Placed → PartValue
 part_in b p = record {
   depth = p.depth;
@@ -32,11 +32,12 @@ part_in b p = record {
       take p.len (drop p.place b);
 }
 
--- the parts of the forest that the octets b spell
+-- the parts of the forest that the octets b encode
 abbrev pub parts_in : List ℕ → Tree → List PartValue
 parts_in b t = map (part_in b) (preorder 1 0 t)
 
--- the objects of a list at depth d whose octets begin at this place, each before its nodes; the value of a constructed one is the octets of its nodes
+-- the objects of a list at depth d whose octets begin at this place, each before its nodes; the value of a constructed
+-- one is the encoding of its nodes
 abbrev pub parts_of : ℕ → ℕ → Tree → List PartValue
 parts_of d at End = []
 parts_of d at (Filler rest) = parts_of d (at + 1) rest
@@ -55,7 +56,7 @@ parts_of d at (Constructed tag form nodes rest) =
     ∷ (parts_of (d + 1) (value_place at tag form (length (spelling nodes))) nodes
     ++ parts_of d (value_place at tag form (length (spelling nodes)) + length (spelling nodes)) rest)
 
--- what contracts see of the parts that are lent
+-- what contracts see of a part with a borrowed value
 abbrev pub part_seen : Part → PartValue
 part_seen part = record {
   depth = part.depth;
@@ -66,7 +67,7 @@ part_seen part = record {
       part.value.now;
 }
 
--- and of those that are kept by their places alone
+-- what contracts see of a part that is kept by its place alone
 abbrev pub placed_of : PlacedPart → Placed
 placed_of part = record { depth = part.depth; tag = part.tag; form = part.form; place = part.place; len = part.len }
 
@@ -74,9 +75,9 @@ placed_of part = record { depth = part.depth; tag = part.tag; form = part.form; 
 abbrev pub placed_from : ℕ → ℕ → ObjectHeader → Placed
 placed_from d place o = record { depth = d; tag = o.tag; form = o.form; place = place; len = o.len }
 
--- ---- the objects so far, in a list at depth d whose octets begin at this place
+-- ---- the objects so far
 
--- an object whose header begins at this place
+-- an object at depth d whose header begins at this place
 abbrev pub placed_at : ℕ → ℕ → List ℕ → Form → ℕ → Placed
 placed_at d place tag form n = record {
   depth = d;
@@ -87,12 +88,12 @@ placed_at d place tag form n = record {
       n;
 }
 
--- the object whose value is under way, with its header at this place, if there is one
+-- the object whose value is being read, if there is one, with its header at this place
 abbrev pub placed_value : ℕ → ℕ → Option ValueSoFar → List Placed
 placed_value d place None = []
 placed_value d place (Some v) = placed_at d place v.tag v.form v.len ∷ []
 
--- the open objects, each after the list before it, and then what is placed in the innermost list
+-- the open objects, each after the objects of the list before it, and then those of the innermost list
 abbrev pub placed_in : ℕ → ℕ → List Opened → (ℕ → ℕ → List Placed) → List Placed
 placed_in d place [] inner = inner d place
 placed_in d place (o ∷ opened) inner =
@@ -100,18 +101,18 @@ placed_in d place (o ∷ opened) inner =
     ++ (placed_at d (place + length (spelling o.before)) o.tag o.form o.len ∷ placed_in (d + 1)
     (value_place (place + length (spelling o.before)) o.tag o.form o.len) opened inner)
 
--- a list, and the value that is under way after it
+-- the objects of a list, and the object after it whose value is being read
 abbrev pub placed_list : Tree → Option ValueSoFar → ℕ → ℕ → List Placed
 placed_list list value d place = preorder d place list ++ placed_value d (place + length (spelling list)) value
 
--- the objects of the tree so far, also those that are open or whose value is under way
+-- the objects of the tree so far, including those that are open or whose value is being read
 abbrev pub placed : Grown → List Placed
 placed g = placed_in 1 0 g.opened (placed_list g.list g.value)
 
 -- ---- a walk over the objects of a forest
 
--- What a walk over the octets b that keeps this has given: the first octets were taken, and these are the objects whose
--- header is among them.
+-- A walk over the octets b with this state has returned these parts. The state has taken the first octets, and the
+-- parts are the objects whose header is among them.
 pub record HasGiven (b : List ℕ) (k : Kept) (parts : List Placed) : Type 0 where
   pub within : k.count ≤ length b
   pub taken : HasTaken (take k.count b) k
@@ -125,12 +126,12 @@ pub record AreAllParts (max : ℕ) (b : List ℕ) (parts : List Placed) : Type 0
   pub forest : IsForest max tree b
   pub are : parts ≡ preorder 1 0 tree
 
--- what one call of a walk gives
+-- the parts that one call of a walk returns: one or none
 abbrev pub given_by : Result (Option PlacedPart) (Stop TlvReason) → List Placed
 given_by (Ok (Some part)) = placed_of part ∷ []
 given_by (Ok None) = []
 given_by (Err stop) = []
 
--- the header of the object is in the octets b, and says its length in its form
+-- the header of the object is in the octets b, and its length fits its form
 abbrev pub IsInside : List ℕ → PlacedPart → Type 0
 IsInside b part = (part.place ≤ length b) × (part.len < capacity part.form)

@@ -12,7 +12,7 @@ further Three = 2
 further Four = 3
 further Five = 4
 
--- the form with so many octets after the first one
+-- the form with this many octets after the first one
 abbrev pub form_of : ℕ → Form
 form_of zero = One
 form_of (suc zero) = Two
@@ -20,12 +20,12 @@ form_of (suc (suc zero)) = Three
 form_of (suc (suc (suc zero))) = Four
 form_of (suc (suc (suc (suc n)))) = Five
 
--- the lengths that a form can say are those below this one
+-- the least length that is too large for a form
 abbrev pub capacity : Form → ℕ
 capacity One = 128
 capacity form = 256 ^ further form
 
--- the form of fewest octets that can say n
+-- the shortest form that the length n fits
 abbrev pub shortest : ℕ → Form
 shortest n =
     cond (nat_lt n (capacity One)) One (cond (nat_lt n (capacity Two)) Two

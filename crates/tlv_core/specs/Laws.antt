@@ -8,7 +8,7 @@ use Rattle.tlv_core.specs.Forest.{IsForest, deepest}
 use Rattle.tlv_core.specs.Reasons.{Opens, Meets, IsReason, Kept, HasTaken, IsIdle}
 use Rattle.tlv_core.specs.declared.reason.TlvReason.{TlvReason}
 
--- no octets spell two forests
+-- octets encode at most one forest
 abbrev pub OneForest : Type 0
 OneForest = (m n : ℕ) (s t : Tree) (b : List ℕ) → IsForest m s b → IsForest n t b → s ≡ t
 
@@ -25,11 +25,11 @@ pub record EndsInLong (b : List ℕ) : Type 0 where
   pub opens : Opens 1 rooms [] before
   pub long : IsLong octet
 
--- b, these octets and some number of octets 00 are a forest
+-- b, then `middle`, then some number of octets 00 are a forest
 abbrev pub IsCompletedBy : ℕ → List ℕ → List ℕ → Type 0
 IsCompletedBy max b middle = (t : Tree) × (count : ℕ) × IsForest max t ((b ++ middle) ++ zeros count)
 
--- A forest begins with b exactly where no octet of b meets a reason. Then zeros complete b, after one octet 01 where b
+-- A forest begins with b if and only if no octet of b meets a reason. Then zeros complete b, after one octet 01 if b
 -- ends in a first tag octet that others follow.
 abbrev pub Completion : ℕ → List ℕ → Type 0
 Completion max b = (Begins (IsForest max) b ↔ MeetsNone max b)
@@ -40,8 +40,8 @@ Completion max b = (Begins (IsForest max) b ↔ MeetsNone max b)
 abbrev pub ForestVerdict : ℕ → List ℕ → Type 0
 ForestVerdict max b = OneVerdict whole (IsForest max) (IsReason max) b
 
--- What a check keeps is one for the octets that it has taken, and is there where a forest begins with them. They are a
--- forest exactly where nothing is under way. At most 16 objects are open.
+-- If a forest begins with b, a check that has taken b has a state, and only one. The octets are a forest if and only
+-- if nothing is unfinished in it. At most 16 objects are open.
 pub record TakenLaws (max : ℕ) (b : List ℕ) : Type 0 where
   pub some : Begins (IsForest max) b → (k : Kept) × (k.max ≡ max) × HasTaken b k
   pub one : (k l : Kept) → k.max ≡ l.max → HasTaken b k → HasTaken b l → k ≡ l

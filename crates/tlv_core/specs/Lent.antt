@@ -1,4 +1,4 @@
--- A check of a forest as its caller keeps it.
+-- The state of a check of a forest, as its caller keeps it.
 use Rattle.std.specs.Prelude.{◌≢◌, ℕ, ◌+◌, ◌<◌, ◌≤◌, List, take}
 use Rattle.tlv_core.specs.declared.header.Header.TheVariants.{Nothing}
 use Rattle.tlv_core.specs.declared.lent.LentCheck.{LentCheck}
@@ -11,9 +11,9 @@ use Rattle.tlv_core.specs.Check.{Checked, MayRefuse, refusal_at}
 abbrev pub ends_at : LentCheck → List ℕ
 ends_at p = take p.level p.ends
 
--- They are in the range of those of a check: open objects end after the octets that came, within the limit, none after the
--- one that it is in; the value under way ends within the limit; and no header is under way inside an object of the greatest
--- depth.
+-- The numbers are in the ranges that a check keeps to. Open objects end after the octets that came, within the limit,
+-- and no later than the object around them. The unfinished value ends within the limit. No header is unfinished inside
+-- an object of the greatest depth.
 pub record AreInRange (p : LentCheck) : Type 0 where
   pub limit : p.max ≤ 1048576
   pub within : p.count + p.value_left ≤ p.max
@@ -23,7 +23,7 @@ pub record AreInRange (p : LentCheck) : Type 0 where
   pub well : IsWell p.header
   pub shallow : p.header ≢ Nothing → p.level < 16
 
--- what they keep
+-- what the octets so far leave open
 abbrev pub kept_at : LentCheck → Kept
 kept_at p = record {
   max = p.max;
@@ -34,11 +34,11 @@ kept_at p = record {
   value_left = p.value_left;
 }
 
--- and the check that they are
+-- the check with this state
 abbrev pub checked_at : LentCheck → Checked
 checked_at p = record { kept = kept_at p; refusal = refusal_at p.count p.refused }
 
--- They are those of a check: some octets lead to what they keep, and where the next octet was refused, some octet is for this
+-- This is the state of a check: some octets lead to it. If the next octet was refused, some octet is refused for this
 -- reason.
 pub record IsLentCheck (p : LentCheck) : Type 0 where
   pub range : AreInRange p

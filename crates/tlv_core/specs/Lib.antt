@@ -11,7 +11,7 @@ pub mod Tidy
 pub mod Dol
 pub mod Fill
 pub mod Laws
--- what the code keeps between calls, what calls answer, and what is printed
+-- what the code keeps between calls, what calls return, and what is printed
 pub mod TagView
 pub mod TagPart
 pub mod Nodes
@@ -33,7 +33,7 @@ pub mod TidyForm
 pub mod Read
 pub mod Same
 pub mod Names
--- proofs, and what proofs compute by: here since the model or a field of a type names them
+-- proofs, and what they compute with; they are here since the model or a field of a type names them
 pub mod TreeCode
 pub mod NodesFall
 pub mod WellProp

@@ -4,7 +4,7 @@ use Rattle.tlv_core.specs.Tree.{Tree, End, Filler, Primitive, Constructed}
 use Rattle.tlv_core.specs.declared.node.Node.{Node}
 use Rattle.tlv_core.specs.declared.node.Node.TheVariants as node
 
--- a list of nodes, where each constructed one shows its own list
+-- a list of nodes as a tree, with the lists inside it
 abbrev pub tree_of : List Node → Tree
 tree_of [] = End
 tree_of (node.Filler ∷ rest) = Filler (tree_of rest)

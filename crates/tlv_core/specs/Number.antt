@@ -12,7 +12,7 @@ abbrev pub high_first : ℕ → ℕ → List ℕ
 high_first zero n = []
 high_first (suc k) n = (n / 256 ^ k) ∷ high_first k (n % 256 ^ k)
 
--- so many octets 00
+-- n octets 00
 abbrev pub zeros : ℕ → List ℕ
 zeros zero = []
 zeros (suc n) = 0 ∷ zeros n

@@ -4,11 +4,11 @@ use Rattle.tlv_core.specs.declared.open_ends.OpenEnds.{OpenEnds}
 use Rattle.tlv_core.specs.Reasons.{Kept}
 use Rattle.tlv_core.specs.Open.{rooms_to}
 
--- they, outermost first
+-- these places, outermost first
 abbrev pub ends_of : OpenEnds → List ℕ
 ends_of e = take e.level e.places
 
--- what is kept where no header and no value is under way
+-- the state with no unfinished header and no unfinished value
 abbrev pub kept_idle : OpenEnds → Kept
 kept_idle e = record {
   max = e.max;

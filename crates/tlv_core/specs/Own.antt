@@ -5,7 +5,7 @@ use Rattle.tlv_core.specs.declared.form.Form.{Form}
 use Rattle.tlv_core.specs.declared.node.Node.{Node}
 use Rattle.tlv_core.specs.declared.node.Node.TheVariants as node
 
--- the node is an object, and is so by itself
+-- the node is an object, and `Is` holds for it
 abbrev pub OwnIs : (ℕ → ℕ → List ℕ → Form → ℕ → Type 0) → ℕ → Node → Type 0
 OwnIs Is d node.Filler = ⊥
 OwnIs Is d (node.Primitive tag form value) = Is d 0 tag form (length value)

@@ -7,7 +7,8 @@ use Rattle.tlv_core.specs.declared.form.Form.{Form}
 use Rattle.tlv_core.specs.declared.node.Node.{Node}
 use Rattle.tlv_core.specs.declared.node.Node.TheVariants as node
 
--- an object, and where its value stands in the octets of the forest: the value of a constructed one is the octets of its nodes
+-- an object, and the place of its value in the octets of the forest; the value of a constructed one is the encoding of
+-- its nodes
 pub record Placed : Type 0 where
   pub depth : ℕ
   pub tag : List ℕ
@@ -38,13 +39,13 @@ preorder d place (Constructed tag form nodes rest) =
     ∷ (preorder (d + 1) (value_place place tag form (length (spelling nodes))) nodes
     ++ preorder d (value_place place tag form (length (spelling nodes)) + length (spelling nodes)) rest)
 
--- the first that there is
+-- the first one if there is one, else the other
 abbrev pub or_else : Option Node → Option Node → Option Node
 or_else None other = other
 or_else (Some n) other = Some n
 
--- The first object with the tag of a path of one. On a longer path, the first that the rest of the path finds in the nodes
--- of an object with the first tag, these tried in order. On the empty path there is none.
+-- A path of one tag finds the first object with that tag. A longer path tries the objects with its first tag in order,
+-- and finds the first object that the rest of the path finds in their nodes. The empty path finds nothing.
 abbrev pub first_on : List (List ℕ) → Tree → Option Node
 first_on [] t = None
 first_on (tag ∷ []) End = None

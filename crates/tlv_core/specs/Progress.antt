@@ -1,11 +1,11 @@
--- What the code keeps, as contracts see it.
+-- The state in the code, as contracts see it.
 use Rattle.tlv_core.specs.declared.progress.Progress.{Progress}
 use Rattle.tlv_core.specs.Header.{header_octets}
 use Rattle.tlv_core.specs.Reasons.{Kept}
 use Rattle.tlv_core.specs.Open.{rooms_to}
 use Rattle.tlv_core.specs.OpenEnds.{ends_of}
 
--- its places at which objects end are kept as rooms, its header as octets
+-- the state, with the ends of open objects as rooms, and the header as octets
 abbrev pub kept_of : Progress → Kept
 kept_of p = record {
   max = p.ends.max;

@@ -1,5 +1,5 @@
--- Why octets are no forest, and what a part of a forest leaves open (EMV 4.3 Book 3, Annex B; ISO/IEC 7816-4, clause
--- 5.2.2; the limits of depth, of a tag and of the whole are this project's).
+-- Why octets aren't a forest, and what the start of a forest leaves open (EMV 4.3 Book 3, Annex B; ISO/IEC 7816-4,
+-- clause 5.2.2; the limits of depth, of a tag and of the whole are this project's).
 use Rattle.std.specs.Prelude.{◌≡◌, ℕ, ◌+◌, ◌-◌, ◌*◌, ◌%◌, ◌^◌, ◌<◌, ◌≤◌, ◌≢◌, List, [], ◌∷◌, ◌++◌, length, nat_lt, nat_eq, cond}
 use Rattle.std.proofs.Common.{zero, suc}
 use Rattle.octet_core.specs.Octets.{AreOctets}
@@ -15,8 +15,8 @@ use Rattle.tlv_core.specs.declared.reason.TlvReason.TheVariants.{TooDeep, TagSec
 
 -- ---- what octets leave open
 
--- The octets b, in a list at depth d, are whole objects and fillers, and then the header of a constructed object with
--- the octets `value`, after which so many more octets of its value are to come.
+-- The octets b, in a list at depth d, are whole objects and fillers, the header of a constructed object, and the octets
+-- `value`. Then `room` more octets of its value are still to come.
 pub record OpensOne (d room : ℕ) (value b : List ℕ) : Type 0 where
   pub done : Tree
   pub proper : IsProper d done
@@ -26,19 +26,19 @@ pub record OpensOne (d room : ℕ) (value b : List ℕ) : Type 0 where
   pub open_yet : 0 < room
   pub is : b ≡ spelling done ++ (header_of tag form (length value + room) ++ value)
 
--- the octets b, in a list at depth d, are whole objects and fillers, and then these
+-- the octets b, in a list at depth d, are whole objects and fillers, and then the octets `last`
 pub record EndsIn (d : ℕ) (last b : List ℕ) : Type 0 where
   pub done : Tree
   pub proper : IsProper d done
   pub is : b ≡ spelling done ++ last
 
--- The octets b, in a list at depth d, leave constructed objects open, each inside the one before: these are the rooms
--- left in them, outermost first. In the innermost list they end in whole objects and fillers, and then the octets `last`.
+-- The octets b, in a list at depth d, leave constructed objects open, each inside the one before. These rooms are left
+-- in them, outermost first. In the innermost list b ends in whole objects and fillers, and then the octets `last`.
 abbrev pub Opens : ℕ → List ℕ → List ℕ → List ℕ → Type 0
 Opens d [] last b = EndsIn d last b
 Opens d (room ∷ rooms) last b = (value : List ℕ) × OpensOne d room value b × Opens (d + 1) rooms last value
 
--- h is a part of a header: nothing, or its first octets without the last
+-- h is the start of a header: nothing, or its first octets without the last
 pub record IsBegun (h : List ℕ) : Type 0 where
   pub tag : List ℕ
   pub form : Form
@@ -49,7 +49,7 @@ pub record IsBegun (h : List ℕ) : Type 0 where
   pub fits : n < capacity form
   pub is : h ++ next ∷ more ≡ header_of tag form n
 
--- ---- the least number of octets that must still come
+-- ---- the least number of octets of an object that must still come
 
 -- after these first octets of a length field
 abbrev pub need_in_length : List ℕ → ℕ
@@ -75,32 +75,32 @@ need (x ∷ more) = cond (nat_eq (x % 32) 31) (need_after_one more) (need_in_len
 
 -- ---- reasons
 
--- the room at the next octet: to the end of the innermost open object, or what is left of the whole
+-- the room at the next octet: to the end of the innermost open object, or to the limit if none is open
 abbrev pub room_of : ℕ → List ℕ → ℕ
 room_of left [] = left
 room_of left (room ∷ rooms) = room_of room rooms
 
--- one octet is there, a first tag octet that a second one follows
+-- one octet was read: a first tag octet that a second one follows
 abbrev pub AwaitsSecond : List ℕ → Type 0
 AwaitsSecond [] = ⊥
 AwaitsSecond (x ∷ []) = IsLong x
 AwaitsSecond (x ∷ y ∷ more) = ⊥
 
--- two octets are there, and a third tag octet follows
+-- two octets were read, and a third tag octet follows
 abbrev pub AwaitsThird : List ℕ → Type 0
 AwaitsThird [] = ⊥
 AwaitsThird (x ∷ []) = ⊥
 AwaitsThird (x ∷ y ∷ []) = IsLong x × (128 ≤ y)
 AwaitsThird (x ∷ y ∷ z ∷ more) = ⊥
 
--- a length field begins with this octet
+-- this octet can begin a length field
 abbrev pub BeginsLength : ℕ → Type 0
 BeginsLength x = (form : Form) × (n : ℕ) × (more : List ℕ) × (n < capacity form) × (length_field form n ≡ x ∷ more)
 
--- What is wrong with the octet x after a part h of a header, where so many objects are open, with this room at the
--- octet: an object would begin inside the deepest one; a second tag octet says number 0 to 127 with leading zeros, so
--- that its low seven bits are 0; a third tag octet says that a fourth follows; no length field begins so, as 80 or 85;
--- the object ends after the one that it is in; the whole gets longer than the limit.
+-- What is wrong with the octet x after the start h of a header. `level` objects are open, and `room` is the room at the
+-- octet. An object would begin inside the deepest one; or a second tag octet has only zeros in its low seven bits, so
+-- that the tag number has leading zeros; or a third tag octet says that a fourth follows; or no length field begins so,
+-- such as with 80 or 85; or the object ends after the one around it; or the whole gets longer than the limit.
 abbrev pub IsWrong : ℕ → ℕ → List ℕ → ℕ → TlvReason → Type 0
 IsWrong level room h x TooDeep = (h ≡ []) × (level ≡ deepest) × (x ≢ 0)
 IsWrong level room h x TagSecond = AwaitsSecond h × (x % 128 ≡ 0)
@@ -113,7 +113,7 @@ IsWrong level room h x TooLong = (level ≡ 0) × (room < 1 + need (h ++ x ∷ [
 abbrev pub tlv_reasons : List TlvReason
 tlv_reasons = TooDeep ∷ TagSecond ∷ TagLong ∷ LengthForm ∷ Overrun ∷ TooLong ∷ []
 
--- those that look at the octet and the header alone
+-- those that depend on the octet and the header alone
 abbrev pub octet_reasons : List TlvReason
 octet_reasons = TagSecond ∷ TagLong ∷ LengthForm ∷ []
 
@@ -137,10 +137,11 @@ abbrev pub IsReason : ℕ → TlvReason → List ℕ → Type 0
 IsReason max r b = (e : EndsInHeader b) × IsFirst tlv_reasons
     (IsWrong (length e.rooms) (room_of (max - length e.before) e.rooms) e.header e.octet) r
 
--- ---- what a check of octets in pieces keeps
+-- ---- the state of a check of octets that come in pieces
 
--- What a check keeps after some octets: its limit, how many came, the rooms of the objects that they leave open, the part of
--- a header that they end in, and how many octets are to come of the primitive value that they end in, or 0.
+-- The state of a check after some octets: its limit, how many octets came, and the rooms of the objects that they leave
+-- open. If they end in an unfinished header, the state has it. If they end in a primitive value, the state has how many
+-- of its octets are still to come, otherwise 0.
 pub record Kept : Type 0 where
   pub max : ℕ
   pub count : ℕ
@@ -148,7 +149,7 @@ pub record Kept : Type 0 where
   pub header : List ℕ
   pub value_left : ℕ
 
--- the octets are the header of a primitive object at depth d, and its value but for so many octets
+-- the octets are the header of a primitive object at depth d, and its value without the last `left` octets
 pub record IsValuePart (d left : ℕ) (b : List ℕ) : Type 0 where
   pub tag : List ℕ
   pub form : Form
@@ -157,12 +158,12 @@ pub record IsValuePart (d left : ℕ) (b : List ℕ) : Type 0 where
   pub object : IsObject d 0 tag form (length value + left)
   pub is : b ≡ header_of tag form (length value + left) ++ value
 
--- they are the part of a header that is kept; or, where a value is under way, no header is, and they are a part of that object
+-- `last` is the unfinished header; or, if a value is being read, it is the object so far, and no header is unfinished
 abbrev pub IsKept : ℕ → List ℕ → ℕ → List ℕ → Type 0
 IsKept d header zero last = IsBegun header × (last ≡ header)
 IsKept d header (suc n) last = (header ≡ []) × IsValuePart d (suc n) last
 
--- A check that keeps this has taken the octets b, and refused none of them.
+-- A check with this state has taken the octets b, and refused none of them.
 pub record HasTaken (b : List ℕ) (k : Kept) : Type 0 where
   pub begun : Begins (IsForest k.max) b
   pub count : length b ≡ k.count
@@ -170,6 +171,6 @@ pub record HasTaken (b : List ℕ) (k : Kept) : Type 0 where
   pub opens : Opens 1 k.rooms last b
   pub kept : IsKept (1 + length k.rooms) k.header k.value_left last
 
--- nothing is under way, so the octets that a check has taken are whole objects and fillers
+-- nothing is unfinished, so the octets that a check has taken are whole objects and fillers
 abbrev pub IsIdle : Kept → Type 0
 IsIdle k = (k.rooms ≡ []) × (k.header ≡ []) × (k.value_left ≡ 0)

@@ -1,4 +1,4 @@
--- When two lists of objects, or two parts, are the same.
+-- When two lists of objects, or two parts, are equal.
 use Rattle.std.specs.Prelude.{Bool, [], ◌∷◌, ◌==◌}
 use Rattle.std.specs.Ordering.{on, eq_of_both}
 use Rattle.std.specs.Cmp.{IsEquivalence}
@@ -11,21 +11,21 @@ use Rattle.tlv_core.specs.TreeCode.{Item, items_of}
 use Rattle.tlv_core.specs.Nodes.{tree_of}
 use Rattle.tlv_core.specs.Flat.{PartValue}
 
--- an item is of the same kind, with the same tag, form and value
+-- the items have the same kind, tag, form and value
 abbrev pub same_item : Item → Item → Bool
 same_item = eq_of_both (on (λ i. i.0) ◌==◌)
     (eq_of_both (on (λ i. i.1.0) (pointwise ◌==◌))
     (eq_of_both (on (λ i. further i.1.1.0) ◌==◌) (on (λ i. i.1.1.1) (pointwise ◌==◌))))
 
--- the items are the same, in their order
+-- the lists have the same items, in the same order
 abbrev pub same_tree : Tree → Tree → Bool
 same_tree = on items_of (pointwise same_item)
 
--- two nodes are the same where lists of one are
+-- two nodes are equal if the lists of each alone are
 abbrev pub same_node : Node → Node → Bool
 same_node = on (λ node. tree_of (node ∷ [])) same_tree
 
--- parts of the same depth, tag, form, place and value
+-- the parts have the same depth, tag, form, place and value
 abbrev pub same_part : PartValue → PartValue → Bool
 same_part = eq_of_both (on (λ p. p.depth) ◌==◌)
     (eq_of_both (on (λ p. p.tag) (pointwise ◌==◌))
@@ -39,15 +39,15 @@ items_equiv = lists_equiv (and_equiv (on_equiv (λ i. i.0) nat_eq_equiv)
     (and_equiv (on_equiv (λ i. i.1.0) nat_list_eq_equiv)
     (and_equiv (on_equiv (λ i. further i.1.1.0) nat_eq_equiv) (on_equiv (λ i. i.1.1.1) nat_list_eq_equiv))))
 
--- being the same is an equivalence of lists of objects
+-- `same_tree` is an equivalence of lists of objects
 pub tree_equiv : IsEquivalence same_tree
 tree_equiv = on_equiv items_of items_equiv
 
--- and of nodes
+-- `same_node` is an equivalence of nodes
 pub node_equiv : IsEquivalence same_node
 node_equiv = on_equiv (λ node. tree_of (node ∷ [])) tree_equiv
 
--- and of lists of parts
+-- `same_part`, item by item, is an equivalence of lists of parts
 pub parts_equiv : IsEquivalence (pointwise same_part)
 parts_equiv = lists_equiv (and_equiv (on_equiv (λ p. p.depth) nat_eq_equiv)
     (and_equiv (on_equiv (λ p. p.tag) nat_list_eq_equiv)

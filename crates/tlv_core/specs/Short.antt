@@ -8,15 +8,15 @@ use Rattle.tlv_core.specs.Tag.{IsTag, constructed_bit, header_of, length_field}
 use Rattle.tlv_core.specs.Reasons.{Kept, room_of}
 use Rattle.tlv_core.specs.Steps.{spent}
 
--- how many octets are taken at once: all of a primitive object, the header of a constructed one
+-- how many octets are taken in one step: all of a primitive object, or the header of a constructed one
 abbrev pub taken_of : ShortHeader → ℕ
 taken_of o = cond o.is_constructed o.header (o.header + o.len)
 
--- those of them that are octets of its value
+-- those of them that are octets of the value
 abbrev pub value_in : List ℕ → ShortHeader → List ℕ
 value_in octets o = take (taken_of o - o.header) (drop o.header octets)
 
--- and how many the object has
+-- how many octets the whole object has
 abbrev pub whole_of : ShortHeader → ℕ
 whole_of o = o.header + o.len
 
@@ -35,13 +35,13 @@ pub record IsShort (octets : List ℕ) (o : ShortHeader) : Type 0 where
   pub is : take o.header octets ≡ header_of o.tag o.form o.len
   pub bit : constructed_bit o.tag ≡ cond o.is_constructed 1 0
 
--- the room in the object, where it is open then
+-- the room in the object, if it is open after its header
 abbrev pub opened : Bool → ℕ → List ℕ
 opened false len = []
 opened true zero = []
 opened true (suc n) = suc n ∷ []
 
--- what is kept after such an object, or its header
+-- the state after such an object, or after its header
 abbrev pub after_short : Kept → ShortHeader → Kept
 after_short k o = record {
   max = k.max;
@@ -52,7 +52,7 @@ after_short k o = record {
   value_left = 0;
 }
 
--- after what is kept these octets begin with this header, and what is taken at once of the object is here and fits
+-- after this state the octets begin with this header, and what is taken of the object in one step is here and fits
 pub record MayCome (k : Kept) (octets : List ℕ) (o : ShortHeader) : Type 0 where
   pub nothing : k.header ≡ []
   pub idle : k.value_left ≡ 0

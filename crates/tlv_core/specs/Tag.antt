@@ -9,8 +9,9 @@ use Rattle.tlv_core.specs.Form.{further}
 abbrev pub IsLong : ℕ → Type 0
 IsLong x = x % 32 ≡ 31
 
--- A tag: one octet that is not 00; or a first octet whose low five bits are all 1, and then one octet with bit 8
--- clear, or two of which only the first has bit 8 set. The low seven bits of a second octet are not all 0.
+-- A tag is one octet that isn't 00 and whose low five bits aren't all 1; or a first octet whose low five bits are
+-- all 1, and then one or two octets. Bit 8 is set in the first of two, and clear in the last. The low seven bits of
+-- a second octet aren't all 0.
 abbrev pub IsTag : List ℕ → Type 0
 IsTag [] = ⊥
 IsTag (x ∷ []) = (0 < x) × (x < 256) × (x % 32 ≢ 31)
@@ -30,8 +31,8 @@ abbrev pub constructed_bit : List ℕ → ℕ
 constructed_bit [] = 0
 constructed_bit (x ∷ more) = x / 32 % 2
 
--- The length field that says n: n itself in the form of one octet, else 80 and the number of octets that follow, and
--- these, with n in them, high octet first.
+-- The length field for n. In the form of one octet it is n itself. Otherwise it is 80 plus the number of octets that
+-- follow, and then n in these octets, high octet first.
 abbrev pub length_field : Form → ℕ → List ℕ
 length_field One n = n ∷ []
 length_field form n = (128 + further form) ∷ high_first (further form) n

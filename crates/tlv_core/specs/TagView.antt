@@ -4,15 +4,15 @@ use Rattle.std.proofs.Common.{ap, ◌∙◌}
 use Rattle.tlv_core.specs.Tag.{IsTag}
 use Rattle.tlv_core.specs.declared.tag.Tag.TheInside.{Inside}
 
--- as many of its octets as it counts
+-- the first `count` octets
 abbrev pub octets_of_tag : Inside → List ℕ
 octets_of_tag a = take a.count a.octets
 
--- three octets, the last of them 0 where the tag has fewer
+-- the octets of a tag, with zeros after them up to three
 abbrev pub padded : List ℕ → List ℕ
 padded b = take 3 (b ++ 0 ∷ 0 ∷ 0 ∷ [])
 
--- a whole tag, and the fields are made of it alone
+-- the octets are a whole tag, and the fields are what its octets give
 pub record IsWholeTag (a : Inside) : Type 0 where
   pub tag : IsTag (octets_of_tag a)
   pub count : length (octets_of_tag a) ≡ a.count

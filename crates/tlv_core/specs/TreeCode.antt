@@ -7,11 +7,11 @@ use Rattle.tlv_core.specs.declared.form.Form.TheVariants.{One}
 use Rattle.tlv_core.specs.Form.{form_code}
 use Rattle.tlv_core.specs.Tree.{Tree, End, Filler, Primitive, Constructed}
 
--- an item: its kind, and its tag, form and value where it has them
+-- an item: its kind, and its tag, form and value if it has them
 abbrev pub Item : Type 0
 Item = ℕ × (List ℕ × (Form × List ℕ))
 
--- the items of a list, the end among them, each constructed one before its nodes
+-- the items of a list and its end, each constructed object before its nodes
 abbrev pub items_of : Tree → List Item
 items_of End = (0, ([], (One, []))) ∷ []
 items_of (Filler rest) = (1, ([], (One, []))) ∷ items_of rest
@@ -50,12 +50,12 @@ trees-back (Constructed tag form nodes rest) items =
     ∙ ap (with_item 3 (3, (tag, (form, []))))
     (trees-back nodes (items_of rest ++ items) ∙ ap (λ (ts : List Tree). nodes ∷ ts) (trees-back rest items))
 
--- the items of a list make that list again
+-- the items of a list give the list again
 pub tree-back : (t : Tree) → first_tree (trees_of (items_of t)) ≡ t
 tree-back t = ap (λ (is : List Item). first_tree (trees_of is)) (sym (append-nil (items_of t)))
     ∙ ap first_tree (trees-back t [])
 
--- lists with the same items are one
+-- lists with the same items are equal
 pub one_tree : (s t : Tree) → items_of s ≡ items_of t → s ≡ t
 one_tree s t e = sym (tree-back s) ∙ ap (λ (is : List Item). first_tree (trees_of is)) e ∙ tree-back t
 

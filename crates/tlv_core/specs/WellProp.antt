@@ -1,4 +1,4 @@
--- What is known of a header under way is true in one way only. A proof, which is in specs/ since a field cites it.
+-- What is known of an unfinished header is true in one way only. This proof is in specs/ since a field cites it.
 use Rattle.std.specs.Prelude.{List, [], ◌∷◌, ℕ}
 use Rattle.std.specs.Coded.{le_prop}
 use Rattle.std.proofs.Math.Nat.{ℕ_set}
@@ -14,7 +14,7 @@ IsTag-prop (x ∷ y ∷ []) = hlevel (le_prop, ℕ_set)
 IsTag-prop (x ∷ y ∷ z ∷ []) = hlevel (le_prop, ℕ_set)
 IsTag-prop (x ∷ y ∷ z ∷ w ∷ more) = hlevel (le_prop, ℕ_set)
 
--- a part of a header is of the kind that is said in one way only
+-- there is only one proof that a header is consistent
 pub IsWell-prop : (h : Header) → IsProp (IsWell h)
 IsWell-prop header.Nothing = hlevel (le_prop, ℕ_set)
 IsWell-prop (header.First first) = hlevel (le_prop, ℕ_set)

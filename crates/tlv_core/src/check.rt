@@ -1,4 +1,4 @@
-//! The check of a forest that comes in pieces.
+//! A check of a forest that comes in pieces.
 
 ghost use Rattle.std.specs.Prelude.{◌≡◌, ℕ, ◌≤◌, ◌↔◌, List, [], ◌++◌, length, OnOk, IfErr, OnSome, MatchResult, None, Ok};
 ghost use Rattle.octet_core.specs.Grammar.{Refuses, RefusesAt, whole};
@@ -13,10 +13,10 @@ use octet_core::Stop;
 use std::fmt::{self, Debug, Formatter, Write};
 use std::marker::Model;
 
-/// A check of the octets of a forest that come in pieces. It takes no memory: it keeps the places at
-/// which open objects end, at most 16, and the octets of a header, at most seven.
+/// A check of the octets of a forest that come in pieces. It allocates nothing: it keeps the places at
+/// which open objects end, at most 16, and the octets of an unfinished header, at most seven.
 ///
-/// Contracts see what the octets so far leave open, and the refusal that is kept.
+/// Contracts see what the octets so far leave open, and the refusal that was kept.
 #[derive(Drop)]
 pub struct ForestCheck {
     checking: Checking,
@@ -40,7 +40,7 @@ impl Model for ForestCheck {
 impl ForestCheck {
     ghost use Rattle.tlv_core.specs.Check.{HasChecked, answer_of};
 
-    /// A check of a forest of at most `max` octets, itself at most 1,048,576, before its first octet.
+    /// Starts a check of a forest of at most `max` octets; `max` is at most 1,048,576.
     pub fn new(max: usize) -> Self
         requires { max ≤ 1048576 }
         ensures limit { result.kept.max ≡ max }
@@ -54,9 +54,9 @@ impl ForestCheck {
         }
     }
 
-    /// Takes the next piece, or refuses an octet of it: `At` with the place of the first octet after
-    /// which no forest goes on, counted from the first octet ever fed, and why. From then on each
-    /// call answers the same refusal and changes nothing. It never answers `Short`.
+    /// Takes the next piece, or refuses an octet of it. The error is `At` the first octet after which
+    /// no forest can continue, with the reason. It is never `Short`. Its place counts from the first
+    /// octet ever fed. From then on each call returns the same refusal and changes nothing.
     pub fn feed(&mut self, piece: &[u8]) -> Result<(), Stop<TlvReason>>
         ensures limit { self.new.kept.max ≡ self.old.kept.max }
         ensures answer { result ≡ answer_of self.new.refusal }
@@ -69,20 +69,20 @@ impl ForestCheck {
         self.checking.feed(piece)
     }
 
-    /// The verdict on all pieces fed: `Ok` where they are a forest, `Short` at their end where one goes
-    /// on, and the refusal that is kept.
+    /// Returns the verdict on all pieces fed: `Ok` if they are a forest, `Short` at their end if one
+    /// could continue there, or the refusal that was kept.
     pub fn finish(&self) -> Result<(), Stop<TlvReason>>
         ensures repeats { OnSome self.now.refusal (result ≡ answer_of self.now.refusal) }
         ensures verdict { (b : List ℕ) → HasChecked b self.now
             → MatchResult result (λ _. (t : Tree) × IsForest self.now.kept.max t b)
             (Refuses whole (IsForest self.now.kept.max) (IsReason self.now.kept.max) b) }
-        // so what is said of every list that it may have taken is said of some
+        // so what holds for every list that it may have taken holds for at least one
         ensures some_taken { self.now.refusal ≡ None → (b : List ℕ) × HasChecked b self.now }
     {
         self.checking.finish()
     }
 
-    /// How many octets were taken; where one was refused, those before it.
+    /// Returns how many octets were taken: those before the refused one, if one was refused.
     pub fn taken(&self) -> usize
         ensures count { result ≡ self.now.kept.count }
         ensures octets { (b : List ℕ) → HasChecked b self.now → result ≡ length b }
@@ -92,7 +92,8 @@ impl ForestCheck {
     }
 }
 
-/// How far the octets have come, and the refusal that is kept: no octet is shown.
+/// Shows how many octets were taken, how many objects are open, how many octets of a value are left,
+/// and the refusal, but no octet.
 impl Debug for ForestCheck {
     fn fmt<W: Write>(&self, f: &mut Formatter<W>) -> fmt::Result {
         f.debug_struct("ForestCheck")

@@ -1,4 +1,4 @@
-//! The steps of a check of a forest in pieces, whoever keeps what it keeps.
+//! The steps of a check of a forest that comes in pieces, for a state that this crate or the caller keeps.
 
 ghost use Rattle.std.specs.Prelude.{◌≡◌, ◌≤◌, ℕ, List, length, take, ◌++◌, OnOk, IfErr, OnSome, MatchResult, None};
 ghost use Rattle.octet_core.specs.Grammar.{Refuses, RefusesAt, whole};
@@ -13,7 +13,7 @@ use crate::progress::Progress;
 use crate::reason::TlvReason;
 use octet_core::{Refusal, Stop};
 
-/// What a check keeps: what the octets so far leave open, and why the next one was refused, if it was.
+/// The state of a check: what the octets so far leave open, and why the next one was refused, if it was.
 #[derive(Drop)]
 pub(crate) struct Checking {
     pub(crate) progress: Progress,
@@ -21,8 +21,8 @@ pub(crate) struct Checking {
 }
 
 impl Checking {
-    /// Takes the next piece, or refuses an octet of it. It says nothing of octets that nobody fed: some of
-    /// the clauses are about all those that it may have taken.
+    /// Takes the next piece, or refuses an octet of it. Contracts don't know which octets were fed before.
+    /// So some of the clauses hold for every list of octets that may have led to this state.
     pub(crate) fn feed(&mut self, piece: &[u8]) -> Result<(), Stop<TlvReason>>
         ensures limit { self.new.progress.ends.max ≡ self.old.progress.ends.max }
         ensures answer { result ≡ answer_of (checked_of self.new).refusal }
@@ -54,8 +54,8 @@ impl Checking {
         Ok(())
     }
 
-    /// The verdict on all octets: `Ok` where they are a forest, `Short` at their end where one goes on, and
-    /// the refusal that is kept.
+    /// Returns the verdict on all octets: `Ok` if they are a forest, `Short` at their end if one could
+    /// continue there, or the refusal that was kept.
     pub(crate) fn finish(&self) -> Result<(), Stop<TlvReason>>
         ensures repeats { OnSome self.now.refused
             (result ≡ answer_of (checked_of self.now).refusal) }
@@ -75,7 +75,7 @@ impl Checking {
         })
     }
 
-    /// The refusal that is kept.
+    /// Returns the refusal that was kept.
     pub(crate) fn refusal(&self) -> Option<Refusal<TlvReason>>
         ensures { result ≡ (checked_of self.now).refusal }
     {

@@ -1,4 +1,4 @@
-//! Forests from octets.
+//! Decoding of forests.
 
 ghost use Rattle.std.specs.Prelude.{◌≡◌, ◌≤◌, length, IfOk, IfErr};
 ghost use Rattle.octet_core.specs.Grammar.{Accepts, RefusesUnlessMemory, whole};
@@ -11,9 +11,11 @@ use crate::reason::TlvReason;
 use octet_core::Refused;
 use std::alloc::Global;
 
-/// The forest that all the octets spell, at most `max` of them, itself at most 1,048,576; or why they
-/// spell none: `Short` at their end where a forest goes on, `At` the first octet after which none does,
-/// or lack of memory, which may come before either.
+/// Decodes all the octets as one forest of at most `max` octets; `max` is at most 1,048,576.
+///
+/// The error is `Short` at the end of the octets if a forest could continue there, or `At` the first
+/// octet after which none can. It is `Memory` if an allocation fails, which may happen before either is
+/// found.
 pub fn decode(alloc: Global, octets: &[u8], max: usize) -> Result<Forest, Refused<TlvReason>>
     requires { max ≤ 1048576 }
     ensures found { IfOk result (λ forest.

@@ -12,8 +12,7 @@ use octet_core::Refused;
 use std::alloc::{AllocError, Global};
 use std::marker::Model;
 
-/// A data object list: tags, each with the length that its value is to have (EMV 4.3 Book 3,
-/// clause 5.4).
+/// A data object list: tags, each with the length that its value is to have (EMV 4.3 Book 3, clause 5.4).
 #[derive(Debug, Drop)]
 pub struct Dol {
     entries: Vec<(Tag, u8)>,
@@ -35,15 +34,15 @@ impl Dol {
         Self { entries }
     }
 
-    /// Borrows the entries: each a tag and a length in octets.
+    /// Borrows the entries. Each is a tag and a length in octets.
     pub fn entries(&self) -> &[(Tag, u8)]
         ensures { result.now ≡ self.now }
     {
         self.entries.as_slice()
     }
 
-    /// Decodes all the octets as one list. The error is `Short` at their end where a list goes on, `At` the
-    /// first octet after which no list goes on, or lack of memory.
+    /// Decodes all the octets as one list. The error is `Short` at their end if a list could continue
+    /// there, `At` the first octet after which none can, or `Memory` if an allocation fails.
     pub fn decode(alloc: Global, octets: &[u8]) -> Result<Self, Refused<DolReason>>
         ensures found { IfOk result
             (λ dol. Accepts whole IsDol octets.now dol (length octets.now)) }
@@ -59,7 +58,7 @@ impl Dol {
         Ok(Dol { entries })
     }
 
-    /// The octets that spell the list, or lack of memory.
+    /// Encodes the list. The error is a failed allocation.
     pub fn encode(&self, alloc: Global) -> Result<Vec<u8>, AllocError>
         ensures { IfOk result (λ octets. IsDol self.now octets.items) }
     {
@@ -94,7 +93,7 @@ impl Eq for Dol {
     ghost laws = { Prim.search (comparing, rules) };
 }
 
-/// Adds the octets of an entry.
+/// Appends the octets of an entry.
 fn append_entry(out: &mut Vec<u8>, tag: &Tag, length: u8) -> Result<(), AllocError>
     ensures tag { IsTag tag.now }
     ensures length { length < 256 }

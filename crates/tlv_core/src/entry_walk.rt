@@ -1,4 +1,4 @@
-//! A walk over the entries of a data object list, whose caller keeps it.
+//! A walk over the entries of a data object list, with a state that the caller keeps.
 
 ghost use Rattle.std.specs.Prelude.{◌≡◌, ℕ, ◌<◌, ◌≤◌, ◌++◌, ◌∷◌, [], List, length, IfOk, IfErr, IfSome, IfNone};
 ghost use Rattle.octet_core.specs.Grammar.{Refuses, IsFirst, whole};
@@ -12,7 +12,7 @@ use crate::tag_part::{TagPart, tag_first, tag_second, tag_third};
 use octet_core::Stop;
 use std::marker::Model;
 
-/// A walk over the entries of a data object list, in their order. It takes no memory: it keeps a place.
+/// A walk over the entries of a data object list, in their order. It allocates nothing: it keeps a place.
 ///
 /// Contracts see the place at which the next entry begins.
 #[derive(Drop)]
@@ -29,17 +29,18 @@ impl Model for EntryWalk {
 }
 
 impl EntryWalk {
-    /// A walk before the first entry.
+    /// Starts a walk before the first entry.
     pub fn new() -> EntryWalk
         ensures { (b : List ℕ) → HasListed b result [] }
     {
         EntryWalk { place: 0 }
     }
 
-    /// The next entry, its tag and its length, or `None` after the last where all the octets are a list; or why they
-    /// are none: `Short` at their end where one goes on, `At` the first octet after which none does. The octets are
-    /// the same in each call. A refusal comes after each whole entry before its place was given. After the last entry,
-    /// and after a refusal, the walk stays where it is, so each call answers the same.
+    /// Returns the next entry, its tag and its length, or `None` after the last one. Each call takes the same octets.
+    ///
+    /// `None` means that all the octets are a list. The error says why they aren't: `Short` at their end if a list
+    /// could continue there, or `At` the first octet after which none can. It comes after each whole entry before its
+    /// place was returned. After `None` or an error the walk stays where it is, so each further call returns the same.
     pub fn next_entry(&mut self, octets: &[u8]) -> Result<Option<(Tag, u8)>, Stop<DolReason>>
         ensures more { IfOk result (λ next. IfSome next (λ _. self.old < self.new)) }
         ensures given { (entries : List (List ℕ × ℕ)) → HasListed octets.now self.old entries
@@ -64,7 +65,7 @@ impl EntryWalk {
     }
 }
 
-/// Reads the entry that begins at `from`, if octets are left there, or says why no entry begins there.
+/// Reads the entry that begins at `from`, if octets are left there. The error says why no entry begins there.
 fn entry_at(octets: &[u8], from: usize) -> Result<Option<(Tag, u8)>, Stop<DolReason>>
     ensures inside { IfOk result
         (λ next. IfSome next (λ entry. place_after from entry ≤ length octets.now)) }
@@ -96,8 +97,8 @@ fn entry_at(octets: &[u8], from: usize) -> Result<Option<(Tag, u8)>, Stop<DolRea
     })
 }
 
-/// What is under way after the octet, or why it is refused. The octet after a tag is its length, and then
-/// nothing is.
+/// Returns the unfinished part of an entry after the octet, or why the octet is refused. The octet after a whole tag
+/// is its length, and ends the entry.
 fn entry_next(part: TagPart, octet: u8) -> Result<TagPart, DolReason>
     requires { IsTagPart part }
     ensures ok { IfOk result (IsPartAfter part octet) }

@@ -15,16 +15,16 @@ use std::collections::BTreeMap;
 use std::error::Error;
 use std::fmt::{self, Display, Formatter, Write};
 
-/// Why a data object list isn't filled.
+/// Why a data object list couldn't be filled.
 #[derive(Clone, Copy, Debug, PartialEq, Eq)]
 pub enum FillFault {
     /// Two known values have one tag.
     Duplicate,
-    /// A growth was refused.
+    /// An allocation failed.
     Memory,
 }
 
-/// `Duplicate`, or `memory`.
+/// Writes `Duplicate`, or `memory`.
 impl Display for FillFault {
     ghost use Rattle.std.specs.Prelude.{Some};
     ghost use Rattle.tlv_core.specs.Names.{fill_fault_text};
@@ -52,18 +52,18 @@ impl From<AllocError> for FillFault {
     }
 }
 
-/// The octets that the list asks for: for each entry in order a part of its length, which is the known
-/// value of its tag, cut and padded by its format; or zeros, where the tag is that of a constructed
-/// object or has no known value (EMV 4.3 Book 3, clause 5.4).
+/// Returns the octets that the list asks for. Each entry, in order, gives as many octets as its length says: the
+/// known value of its tag, cut or padded by its format; or zeros, if the tag belongs to a constructed object or
+/// has no known value (EMV 4.3 Book 3, clause 5.4).
 ///
-/// A numeric value loses its leftmost octets or gets leading 00; a compressed numeric one loses its
-/// rightmost or gets trailing FF; any other loses its rightmost or gets trailing 00.
+/// A numeric value loses its leftmost octets or gets leading 00. A compressed numeric one loses its rightmost
+/// octets or gets trailing FF. Any other loses its rightmost octets or gets trailing 00.
 ///
-/// `Duplicate` where two known values have one tag, also where the list doesn't name it; else the
-/// octets or `Memory`.
+/// The error is `Duplicate` if two known values have one tag, even a tag that isn't in the list. Otherwise it is
+/// `Memory` if an allocation fails.
 ///
-/// With n known values and m entries it makes some (n + m) log n comparisons of tags, and it allocates a map of n
-/// places beside the octets. Where that allocation fails, it compares all known values pair by pair, n²
+/// With n known values and m entries, the call makes about (n + m) log n comparisons of tags. It allocates a map
+/// of n places besides the octets. If that allocation fails, it compares all pairs of known values, n²
 /// comparisons, to choose between `Duplicate` and `Memory`.
 pub fn fill(alloc: Global, dol: &Dol, known: &[Known]) -> Result<Vec<u8>, FillFault>
     ensures filled { IfOk result (λ octets. octets.items ≡ filled known.now dol.now) }
@@ -81,7 +81,7 @@ pub fn fill(alloc: Global, dol: &Dol, known: &[Known]) -> Result<Vec<u8>, FillFa
 /// Known values by the octets of their tags.
 type ByTag<'a> = BTreeMap<&'a [u8], &'a Known>;
 
-/// All known values by their tags.
+/// Returns all known values by their tags.
 fn by_tag<'a>(alloc: Global, known: &'a [Known]) -> Result<ByTag<'a>, FillFault>
     ensures all { IfOk result (HasAll known.now) }
     ensures unique { IfOk result (λ _. HasDuplicate known.now → ⊥) }
@@ -98,7 +98,7 @@ fn by_tag<'a>(alloc: Global, known: &'a [Known]) -> Result<ByTag<'a>, FillFault>
     Ok(placed)
 }
 
-/// The fault where a growth was refused before all tags were compared.
+/// Returns the fault if an allocation failed before all tags were compared.
 fn fault_without_memory(known: &[Known]) -> FillFault
     ensures { IsFillFault known.now result }
 {
@@ -121,14 +121,14 @@ fn has_duplicate(known: &[Known]) -> bool
     false
 }
 
-/// The first known value with this tag.
+/// Returns the first known value with this tag.
 fn find<'a>(known: &'a [Known], tag: &Tag) -> Option<&'a Known>
     ensures { option_copied result ≡ known_for tag.now known.now }
 {
     known.iter().find(|one| *tag == one.tag)
 }
 
-/// Adds the part of an entry.
+/// Appends the octets of an entry.
 fn append_part<'a>(
     out: &mut Vec<u8>,
     placed: &ByTag<'a>,
@@ -147,7 +147,7 @@ fn append_part<'a>(
     }
 }
 
-/// Adds a value in this many octets.
+/// Appends a value, cut or padded to this many octets.
 fn append_fitted(
     out: &mut Vec<u8>,
     format: Format,
@@ -162,7 +162,7 @@ fn append_fitted(
     Ok(())
 }
 
-/// Adds so many of one octet.
+/// Appends this many copies of one octet.
 fn append_copies(out: &mut Vec<u8>, octet: u8, count: usize) -> Result<(), AllocError>
     ensures { OnOk result (out.new.items ≡ out.old.items ++ replicate count octet) }
 {

@@ -1,13 +1,13 @@
-//! Values that are cut and padded to the length that a list asks for.
+//! Cutting and padding of values to the length that a data object list asks for.
 
 ghost use Rattle.std.specs.Prelude.{◌≡◌, ◌-◌, ◌++◌, length, take, drop, replicate};
 ghost use Rattle.tlv_core.specs.Fill.{fitted};
 
 use octet_core::Format;
 
-/// Fills these octets with a value, cut and padded by its format (EMV 4.3 Book 3, clause 5.4): a numeric value loses
-/// its leftmost octets or gets leading 00; a compressed numeric one loses its rightmost or gets trailing FF; any other
-/// loses its rightmost or gets trailing 00.
+/// Fills `part` with a value, cut or padded by its format (EMV 4.3 Book 3, clause 5.4). A numeric value loses its
+/// leftmost octets or gets leading 00. A compressed numeric one loses its rightmost octets or gets trailing FF. Any
+/// other loses its rightmost octets or gets trailing 00.
 pub fn put_fitted(part: &mut [u8], format: Format, value: &[u8])
     ensures { part.new ≡ fitted format (length part.old) value.now }
 {
@@ -18,7 +18,7 @@ pub fn put_fitted(part: &mut [u8], format: Format, value: &[u8])
     }
 }
 
-/// Fills octets with the last of a value, and 00 before them where it has fewer.
+/// Fills octets with the last octets of a value. If the value has fewer, octets 00 precede it.
 fn put_last(part: &mut [u8], value: &[u8])
     ensures { part.new ≡ replicate (length part.old - length value.now) 0
         ++ drop (length value.now - length part.old) value.now }
@@ -29,7 +29,7 @@ fn put_last(part: &mut [u8], value: &[u8])
     part[missing..].copy_from_slice(&value[value.len() - kept..]);
 }
 
-/// Fills octets with the first of a value, and this octet after them where it has fewer.
+/// Fills octets with the first octets of a value. If the value has fewer, copies of `octet` follow it.
 fn put_first(part: &mut [u8], value: &[u8], octet: u8)
     ensures { part.new ≡ take (length part.old) value.now
         ++ replicate (length part.old - length value.now) octet }
@@ -39,7 +39,7 @@ fn put_first(part: &mut [u8], value: &[u8], octet: u8)
     put_copies(&mut part[kept..], octet);
 }
 
-/// Fills octets with copies of one.
+/// Fills octets with copies of one octet.
 pub fn put_copies(part: &mut [u8], octet: u8)
     ensures { part.new ≡ replicate (length part.old) octet }
 {

@@ -1,4 +1,4 @@
-//! The parts of a forest, flat and without copies.
+//! The parts of a forest as a flat list, without copies.
 
 ghost use Rattle.std.specs.Prelude.{◌≡◌, ◌↔◌, IsTrue, ℕ, ◌≤◌, length, map, IfOk, IfErr};
 ghost use Rattle.octet_core.specs.Grammar.{Accepts, RefusesUnlessMemory, whole};
@@ -16,8 +16,8 @@ use std::alloc::Global;
 use std::fmt::{self, Debug, Formatter, Write};
 use std::marker::Model;
 
-/// The objects of a forest in the order of their headers, each before those inside it, without the
-/// fillers. Their values are borrowed from the octets of the forest.
+/// The objects of a forest in the order of their headers, each before those inside it, without the fillers. Their
+/// values are borrowed from the octets of the forest.
 ///
 /// Contracts see the list of parts, each with the octets of its value and their place.
 #[derive(Drop)]
@@ -35,9 +35,9 @@ impl<'a> Model for FlatForest<'a> {
 }
 
 impl<'a> FlatForest<'a> {
-    /// Reads all the octets as one forest of at most `max` octets; `max` is at most 1,048,576. The error is
-    /// `Short` at their end where a forest goes on, `At` the first octet after which no forest goes on, or lack of
-    /// memory.
+    /// Reads all the octets as one forest of at most `max` octets; `max` is at most 1,048,576. The error is `Short` at
+    /// their end if a forest could continue there, `At` the first octet after which none can, or `Memory` if an
+    /// allocation fails.
     pub fn read(
         alloc: Global,
         octets: &'a [u8],
@@ -85,7 +85,7 @@ impl Eq for FlatForest<'_> {
     ghost laws = { parts_equiv };
 }
 
-/// How many parts there are.
+/// Shows how many parts there are.
 impl Debug for FlatForest<'_> {
     fn fmt<W: Write>(&self, f: &mut Formatter<W>) -> fmt::Result {
         f.debug_struct("FlatForest")
@@ -94,9 +94,9 @@ impl Debug for FlatForest<'_> {
     }
 }
 
-/// The objects of the forest that all the octets spell, in the order of their headers, each before those inside it,
-/// without the fillers and by their places alone; the forest at most `max` octets, itself at most 1,048,576. Or why they
-/// spell none, as [`FlatForest::read`] says it.
+/// Reads all the octets as one forest of at most `max` octets, and returns its objects by their places alone; `max` is
+/// at most 1,048,576. The objects are in the order of their headers, each before those inside it, without the fillers.
+/// The errors are those of [`FlatForest::read`].
 pub fn placed_parts(
     alloc: Global,
     octets: &[u8],
@@ -113,7 +113,7 @@ pub fn placed_parts(
     walk(alloc, octets, max)
 }
 
-/// Whether the parts are the same, in the same order.
+/// Whether two lists have equal parts in the same order.
 fn have_same(parts: &[Part<'_>], others: &[Part<'_>]) -> bool
     ensures { IsTrue result ↔ (map part_seen parts.now ≡ map part_seen others.now) }
 {
@@ -128,7 +128,7 @@ fn have_same(parts: &[Part<'_>], others: &[Part<'_>]) -> bool
     true
 }
 
-/// Whether two parts are the same.
+/// Whether two parts are equal.
 fn is_same(one: &Part<'_>, other: &Part<'_>) -> bool
     ensures { IsTrue result ↔ (part_seen one.now ≡ part_seen other.now) }
 {

@@ -9,10 +9,10 @@ use std::error::Error;
 use std::fmt::{self, Display, Formatter, Write};
 use std::marker::Model;
 
-/// How many octets a forest has at most.
+/// The greatest number of octets of a forest.
 pub const LARGEST_FOREST: usize = 1_048_576;
 
-/// Why a list of nodes is no forest.
+/// Why a list of nodes isn't a forest.
 #[derive(Clone, Copy, Debug, PartialEq, Eq)]
 pub enum Improper {
     /// An object is inside one of depth 16.
@@ -40,7 +40,7 @@ impl Named for Improper {
     }
 }
 
-/// The reason's name.
+/// Writes the reason's name.
 impl Display for Improper {
     ghost use Rattle.std.specs.Prelude.{Some};
     ghost use Rattle.tlv_core.specs.Names.{improper_name};
@@ -54,8 +54,8 @@ impl Display for Improper {
 
 impl Error for Improper {}
 
-/// A list of data objects and fillers that has a spelling of at most 1,048,576 octets, with its
-/// outermost objects at depth 1 and its innermost at depth 16 at most.
+/// A list of data objects and fillers with an encoding of at most 1,048,576 octets. Its outermost objects
+/// have depth 1, and no object is deeper than 16.
 #[derive(Debug, Drop)]
 pub struct Forest {
     nodes: Nodes,
@@ -100,8 +100,8 @@ impl Forest {
     ghost use Rattle.tlv_core.specs.Forest.{HasSpelling, largest};
     ghost use Rattle.tlv_core.specs.Improper.{IsFirstImproper};
 
-    /// Makes a forest of a list of nodes. The error has the list, and the first of these reasons that holds
-    /// anywhere in it: `Depth`, `Tag`, `Form`, `Size`.
+    /// Makes a forest of a list of nodes. The error returns the list, with the first of these reasons that
+    /// holds anywhere in it: `Depth`, `Tag`, `Form`, `Size`.
     pub fn new(nodes: Nodes) -> Result<Forest, (Nodes, Improper)>
         ensures forest { IfOk result (λ forest. (forest ≡ nodes) × HasSpelling largest forest) }
         ensures refused { IfErr result
@@ -122,7 +122,7 @@ impl Forest {
         Ok(Forest { nodes })
     }
 
-    /// The forest of nodes that have a spelling.
+    /// Makes a forest of nodes that have an encoding.
     pub(crate) fn of(nodes: Nodes) -> Forest
         requires { HasSpelling largest nodes }
         ensures { result ≡ nodes }

@@ -6,7 +6,7 @@ ghost use Rattle.tlv_core.specs.Reasons.{BeginsLength};
 use arrayvec::ArrayVec;
 
 /// The form of a length field, by its number of octets (EMV 4.3 Book 3, Annex B; ISO/IEC 7816-4,
-/// clause 5.2.2). A form that is longer than its length needs is a form as well.
+/// clause 5.2.2). A length may have a longer form than it needs.
 #[derive(Clone, Copy, Debug, PartialEq, Eq)]
 pub enum Form {
     /// One octet, 00 to 7F, which is the length.
@@ -25,7 +25,7 @@ impl Form {
     ghost use Rattle.tlv_core.specs.Form.{further, capacity, shortest};
     ghost use Rattle.tlv_core.specs.Tag.{length_field};
 
-    /// How many octets a length field of this form has, 1 to 5.
+    /// Returns how many octets a length field of this form has, 1 to 5.
     pub fn octets(self) -> usize
         ensures field { (len : ℕ) → result ≡ length (length_field self len) }
         ensures some { 1 ≤ result }
@@ -34,7 +34,7 @@ impl Form {
         1 + usize::from(self.further())
     }
 
-    /// The number of octets after the first one.
+    /// Returns the number of octets after the first one.
     pub(crate) fn further(self) -> u8
         ensures value { result ≡ further self }
         ensures most { result ≤ 4 }
@@ -48,8 +48,8 @@ impl Form {
         }
     }
 
-    /// The form of a length field that begins with this octet, which is no length by itself: `None`
-    /// for 80, and from 85 on.
+    /// Returns the form of a length field of two or more octets that begins with this octet. It is
+    /// `None` for 80, and for 85 and above.
     pub(crate) fn begun_by(first: u8) -> Option<Form>
         requires { 128 ≤ first }
         ensures { MatchOption result (BeginsLength first → ⊥)
@@ -64,7 +64,7 @@ impl Form {
         }
     }
 
-    /// The lengths that the form can say are those below this one.
+    /// Returns the least length that is too large for this form.
     pub(crate) fn capacity(self) -> usize
         ensures { result ≡ capacity self }
     {
@@ -77,7 +77,7 @@ impl Form {
         }
     }
 
-    /// The length field of this form that says `len`, which the form can say: one to five octets.
+    /// Returns the length field of this form for `len`, which must fit: one to five octets.
     pub(crate) fn field(self, len: usize) -> ArrayVec<u8, 5>
         requires { len < capacity self }
         ensures { result.items ≡ length_field self len }
@@ -98,7 +98,7 @@ impl Form {
         octets
     }
 
-    /// The shortest length field that says `len`: one to five octets.
+    /// Returns the shortest length field for `len`: one to five octets.
     pub(crate) fn shortest_field(len: usize) -> ArrayVec<u8, 5>
         requires { len < 2 ^ 32 }
         ensures { result.items ≡ length_field (shortest len) len }
@@ -106,7 +106,7 @@ impl Form {
         Form::shortest(len).field(len)
     }
 
-    /// The form of fewest octets that can say the length.
+    /// Returns the shortest form that a length fits.
     pub(crate) fn shortest(len: usize) -> Form
         ensures { result ≡ shortest len }
     {

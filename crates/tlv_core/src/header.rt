@@ -1,4 +1,4 @@
-//! The header of an object, tag and length field, taken octet by octet.
+//! The header of an object (its tag and its length field), parsed octet by octet.
 
 ghost use Rattle.std.specs.Prelude.{◌≡◌, ◌+◌, ◌*◌, ◌^◌, ◌<◌, ◌≤◌, [], ◌∷◌, length, ◌↔◌, IsTrue, true, IfOk, IfErr, MatchOption, ◌%◌};
 ghost use Rattle.octet_core.specs.Grammar.{IsFirst};
@@ -12,10 +12,10 @@ use crate::reason::TlvReason;
 use crate::tag::{Tag, is_long, is_tag};
 use crate::tag_part::{TagPart, tag_first, tag_second, tag_third};
 
-/// The octets of a header so far.
+/// The octets of a header that were read so far.
 #[derive(Clone, Copy, Debug)]
 pub enum Header {
-    /// None.
+    /// No octets.
     Nothing,
     /// A first tag octet that a second one follows.
     First(u8),
@@ -23,8 +23,8 @@ pub enum Header {
     Second(u8, u8),
     /// A whole tag.
     Tagged(Tag),
-    /// A tag and the first octet of a long length field, and `read` of the octets that follow it.
-    /// These say `number`.
+    /// A tag, the first octet of a long length field, and `read` of the octets that follow it. These stand
+    /// for `number`.
     Sized {
         tag: Tag,
         form: Form,
@@ -33,19 +33,19 @@ pub enum Header {
     },
 }
 
-/// What one more octet makes of a header.
+/// The result of one more octet of a header.
 #[derive(Drop)]
 pub(crate) enum Next {
     /// The octet was a filler.
     Filler,
-    /// A longer part of a header.
+    /// The octet made the header longer, but not whole.
     Under(Header),
-    /// The whole header of an object.
+    /// The octet ended the header of an object.
     Object(ObjectHeader),
 }
 
-/// The header of an object: its tag, and the form of its length field, which says that its value has
-/// `len` octets.
+/// The header of an object: its tag, the form of its length field, and the length `len` of its value in
+/// octets.
 #[derive(Clone, Copy)]
 pub(crate) struct ObjectHeader {
     pub(crate) tag: Tag,
@@ -54,7 +54,7 @@ pub(crate) struct ObjectHeader {
 }
 
 impl Header {
-    /// The header of which these are the first octets.
+    /// Makes a header that has only octets of a tag so far.
     fn of(part: TagPart) -> Header
         ensures { result ≡ header_from part }
     {
@@ -66,7 +66,7 @@ impl Header {
         }
     }
 
-    /// Whether they are a part of a header, of the kind that is said.
+    /// Whether the fields are consistent: octets that can begin a header, in the variant for them.
     pub(crate) fn is_well(&self) -> bool
         ensures yes { result ≡ true → IsWell self.now }
         ensures no { IsWell self.now → result ≡ true }
@@ -85,7 +85,7 @@ impl Header {
         }
     }
 
-    /// Whether no octet of a header is under way.
+    /// Whether no octet of a header was read.
     pub(crate) fn is_nothing(&self) -> bool
         requires { IsWell self.now }
         ensures { IsTrue result ↔ (header_octets self.now ≡ []) }
@@ -97,8 +97,8 @@ impl Header {
         }
     }
 
-    /// What the octet makes of this header: `TagSecond`, `TagLong` or `LengthForm` where no header has
-    /// it at its place.
+    /// Takes one more octet of the header. The error is `TagSecond`, `TagLong` or `LengthForm` if no header
+    /// has this octet in its place.
     pub(crate) fn next(self, octet: u8) -> Result<Next, TlvReason>
         requires { IsWell self }
         ensures ok { IfOk result (IsNext (header_octets self) octet) }
@@ -119,7 +119,7 @@ impl Header {
         }
     }
 
-    /// How many octets they are.
+    /// Returns how many octets were read.
     pub(crate) fn count(&self) -> usize
         ensures { result ≡ length (header_octets self.now) }
     {
@@ -132,7 +132,7 @@ impl Header {
         }
     }
 
-    /// The least number of octets that must still come of the object.
+    /// Returns the least number of octets of the object that must still come.
     pub(crate) fn need(self) -> usize
         requires { IsWell self }
         ensures { result ≡ header_need self }
@@ -152,7 +152,7 @@ impl Header {
 }
 
 impl Next {
-    /// The header that is under way then.
+    /// Returns the unfinished header after the octet: an empty one after a filler or a whole header.
     pub(crate) fn header(&self) -> Header
         ensures { result ≡ header_in self.now }
     {
@@ -162,7 +162,7 @@ impl Next {
         }
     }
 
-    /// The object whose header is whole then.
+    /// Returns the object if the octet ended its header.
     pub(crate) fn object(&self) -> Option<ObjectHeader>
         ensures { result ≡ object_in self.now }
     {
@@ -172,8 +172,8 @@ impl Next {
         }
     }
 
-    /// The least number of octets that must still come: none after a filler, and the value after a
-    /// whole header.
+    /// Returns the least number of octets that must still come: 0 after a filler, and the length of the
+    /// value after a whole header.
     pub(crate) fn need(&self) -> usize
         requires { IsWellNext self.now }
         ensures { result ≡ next_need self.now }
@@ -186,7 +186,7 @@ impl Next {
     }
 }
 
-/// A filler, or the first tag octet of an object.
+/// Takes a filler, or the first octet of a tag.
 fn after_nothing(octet: u8) -> Next
     ensures { IsNext [] octet result }
 {
@@ -196,7 +196,7 @@ fn after_nothing(octet: u8) -> Next
     }
 }
 
-/// The second octet of a tag.
+/// Takes the second octet of a tag.
 fn after_first(first: u8, octet: u8) -> Result<Next, TlvReason>
     requires { IsLong first }
     ensures ok { IfOk result (IsNext (first ∷ []) octet) }
@@ -208,7 +208,7 @@ fn after_first(first: u8, octet: u8) -> Result<Next, TlvReason>
     }
 }
 
-/// The third octet of a tag.
+/// Takes the third octet of a tag.
 fn after_second(first: u8, second: u8, octet: u8) -> Result<Next, TlvReason>
     requires long { IsLong first }
     requires more { 128 < second }
@@ -221,7 +221,7 @@ fn after_second(first: u8, second: u8, octet: u8) -> Result<Next, TlvReason>
     }
 }
 
-/// The first octet of a length field.
+/// Takes the first octet of a length field.
 fn after_tag(tag: Tag, octet: u8) -> Result<Next, TlvReason>
     requires { IsTag tag }
     ensures ok { IfOk result (IsNext tag octet) }
@@ -245,7 +245,7 @@ fn after_tag(tag: Tag, octet: u8) -> Result<Next, TlvReason>
     }
 }
 
-/// A further octet of a length field.
+/// Takes a further octet of a length field.
 fn after_part(tag: Tag, form: Form, read: u8, number: u32, octet: u8) -> Next
     requires { IsWell (Header.Sized tag form read number) }
     ensures { IsNext (header_octets (Header.Sized tag form read number)) octet result }
@@ -267,8 +267,8 @@ fn after_part(tag: Tag, form: Form, read: u8, number: u32, octet: u8) -> Next
     }
 }
 
-/// The least number of octets that must still come, where `left` octets of a length field do and
-/// those before them say `number`: the field is filled with zeros.
+/// Returns the least number of octets that must still come. `left` octets of a length field do, and those
+/// before them stand for `number`. The length is least if the rest of the field is zeros.
 fn least_length(left: u8, number: u32) -> usize
     requires left { left ≤ 4 }
     requires fits { number * 256 ^ left < 2 ^ 32 }
@@ -277,8 +277,8 @@ fn least_length(left: u8, number: u32) -> usize
     usize::from(left) + number as usize * 0x100_usize.pow(u32::from(left))
 }
 
-/// Whether a length field of this form goes on after `read` of its octets after the first, and these can say
-/// `number`.
+/// Whether a length field of this form continues after `read` of its octets after the first, and these can
+/// stand for `number`.
 fn is_part(form: Form, read: u8, number: u32) -> bool
     ensures yes { result ≡ true → (read < further form) × (number < 256 ^ read) }
     ensures no { (read < further form) × (number < 256 ^ read) → result ≡ true }

@@ -10,19 +10,20 @@ ghost use Rattle.tlv_core.specs.Tidy.{TidyLaws};
 
 use crate::forest::Forest;
 
-/// `==` says whether two forests are the same list of objects, with the forms and fillers as they came.
+/// `==` says whether two forests are the same list of objects, with the same forms and fillers.
 pub fn are_equal(a: &Forest, b: &Forest) -> bool
     ensures { IsTrue result ↔ (a.now ≡ b.now) }
 {
     a == b
 }
 
-/// No octets spell two forests.
+/// Octets encode at most one forest.
 pub fn one_forest()
     ensures { OneForest }
 {}
 
-/// Octets begin a forest exactly where no octet meets a reason. Zeros then complete them.
+/// A forest begins with these octets if and only if no octet meets a reason. Zeros then complete it, after
+/// one octet 01 if the octets end in a first tag octet that others follow.
 pub fn completion()
     ensures { (max : ℕ) (b : List ℕ) → AreOctets b → Completion max b }
 {}
@@ -32,22 +33,24 @@ pub fn one_verdict()
     ensures { (max : ℕ) (b : List ℕ) → AreOctets b → ForestVerdict max b }
 {}
 
-/// Tidying twice is once, what is said stays, and no forest that says the same is shorter.
+/// Tidying twice changes no more than tidying once, the objects say the same, and no forest that says the
+/// same is shorter.
 pub fn tidy_laws()
     ensures { TidyLaws }
 {}
 
-/// What a check keeps is one for the octets that it has taken, and nothing is under way exactly after a forest.
+/// A check's state is determined by the octets that it has taken. The state is idle if and only if they
+/// are a forest.
 pub fn taken_laws()
     ensures { (max : ℕ) (b : List ℕ) → AreOctets b → TakenLaws max b }
 {}
 
-/// A list of objects has a spelling exactly where nothing is improper.
+/// A list of objects has an encoding if and only if nothing in it is improper.
 pub fn improper_law()
     ensures { (max : ℕ) (t : Tree) → AreObjects t → ImproperLaw max t }
 {}
 
-/// No octets spell two data object lists.
+/// Octets encode at most one data object list.
 pub fn one_list()
     ensures { (v w : List (List ℕ × ℕ)) (b : List ℕ) → IsDol v b → IsDol w b → v ≡ w }
 {}

@@ -1,5 +1,5 @@
-//! A check of a forest whose state the caller keeps: some eighty octets. Of the octets that came it holds only
-//! those of an unfinished header.
+//! A check of a forest whose state the caller keeps, some eighty octets. Of the octets that were fed, the state holds
+//! only those of an unfinished header.
 
 ghost use Rattle.std.specs.Prelude.{◌≡◌, ℕ, ◌+◌, length, take, ◌≤◌, ◌<◌, ◌↔◌, List, [], ◌++◌, OnOk, IfErr, OnSome, MatchResult, IsTrue, true};
 ghost use Rattle.octet_core.specs.Grammar.{Refuses, RefusesAt, whole};
@@ -19,20 +19,20 @@ use std::fmt::{self, Debug, Formatter, Write};
 
 /// The whole state of a check of a forest, as plain numbers that the caller keeps.
 ///
-/// [`LentCheck::begin`] makes a state, and each call keeps it valid. Where something else may have written to it,
+/// [`LentCheck::begin`] makes a state, and each call keeps it valid. If something else may have written to it,
 /// [`LentCheck::fit`] says whether it is still valid.
 #[derive(Clone, Copy)]
 pub struct LentCheck {
-    /// The limit of the whole, in octets.
+    /// The limit of the whole forest, in octets.
     pub max: u32,
     /// How many octets were taken.
     pub count: u32,
-    /// The first `level` are the places at which the open constructed objects end, outermost first.
+    /// The first `level` elements are the places at which the open constructed objects end, outermost first.
     pub ends: [u32; DEEPEST],
     pub level: u8,
-    /// The header under way.
+    /// The unfinished header.
     pub header: Header,
-    /// How many octets are to come of the primitive value under way.
+    /// How many octets of a primitive value are still to come.
     pub value_left: u32,
     /// Why the next octet was refused, if it was.
     pub refused: Option<TlvReason>,
@@ -46,7 +46,7 @@ impl LentCheck {
     ghost use Rattle.tlv_core.specs.Led.{inner_at, room_at, IsAtHeader, IsInValue, CanCome};
     ghost use Rattle.tlv_core.specs.Lent.{IsLentCheck, AreInRange, checked_at, kept_at, ends_at};
 
-    /// A check of a forest of at most `max` octets, itself at most 1,048,576, before its first octet.
+    /// Starts a check of a forest of at most `max` octets; `max` is at most 1,048,576.
     pub fn begin(max: usize) -> LentCheck
         requires { max ≤ 1048576 }
         ensures fit { IsLentCheck result }
@@ -56,8 +56,8 @@ impl LentCheck {
         Progress::new(max).lent(None)
     }
 
-    /// Takes the next piece, or refuses an octet of it, as `ForestCheck::feed`. It can't know which octets
-    /// were fed before: what it says is so of all that such a check may have taken.
+    /// Takes the next piece, or refuses an octet of it, like `ForestCheck::feed`. Contracts don't know which octets
+    /// were fed before, so the clauses hold for all octets that may have led to this state.
     pub fn feed(&mut self, piece: &[u8]) -> Result<(), Stop<TlvReason>>
         requires { IsLentCheck self.old }
         ensures fit { IsLentCheck self.new }
@@ -69,7 +69,7 @@ impl LentCheck {
             → OnOk result (HasChecked (b ++ piece.now) (checked_at self.new)) }
         ensures refused { (b : List ℕ) → HasChecked b (checked_at self.old) →
             IfErr result (RefusesAt whole (IsForest self.old.max) (IsReason self.old.max) (b ++ piece.now)) }
-        // the octets that led to what was kept, and those of the piece before a refused one, lead to what is kept then
+        // the octets that led to the old state, and those of the piece before a refused one, lead to the new state
         ensures led { (b : List ℕ) → HasTaken b (kept_at self.old) → (n : ℕ)
             × (n ≤ length piece.now) × HasTaken (b ++ take n piece.now) (kept_at self.new) }
     {
@@ -79,7 +79,7 @@ impl LentCheck {
         answer
     }
 
-    /// The verdict on all pieces fed, as `ForestCheck::finish`.
+    /// Returns the verdict on all pieces fed, like `ForestCheck::finish`.
     pub fn finish(&self) -> Result<(), Stop<TlvReason>>
         requires { IsLentCheck self.now }
         ensures repeats { OnSome (checked_at self.now).refusal
@@ -91,7 +91,7 @@ impl LentCheck {
         self.checking().finish()
     }
 
-    /// The check that it is.
+    /// Returns the check with this state.
     fn checking(&self) -> Checking
         requires { AreInRange self.now }
         ensures { checked_of result ≡ checked_at self.now }
@@ -102,7 +102,8 @@ impl LentCheck {
         }
     }
 
-    /// Whether some octets lead a check to this state, from `begin` on. Of `ends` only the first `level` count.
+    /// Whether some octets lead a check from `begin` to this state. Elements of `ends` after the first `level` may
+    /// have any value.
     pub fn fit(&self) -> bool
         ensures yes { result ≡ true → IsLentCheck self.now }
         ensures no { IsLentCheck self.now → result ≡ true }
@@ -116,7 +117,7 @@ impl LentCheck {
         self.may_refuse()
     }
 
-    /// Whether these are in the range of those of a check.
+    /// Whether the numbers are in the ranges that a check keeps to.
     fn are_in_range(&self) -> bool
         ensures yes { result ≡ true → AreInRange self.now }
         ensures no { AreInRange self.now → result ≡ true }
@@ -132,7 +133,7 @@ impl LentCheck {
             && are_nested(&self.ends[..level])
     }
 
-    /// Whether octets can have led to this state, by its numbers.
+    /// Whether the numbers allow that some octets led to this state.
     fn can_come(&self) -> bool
         requires { AreInRange self.now }
         ensures yes { result ≡ true → CanCome self.now }
@@ -148,7 +149,8 @@ impl LentCheck {
         }
     }
 
-    /// Whether the octets of the header under way can have come in the innermost list, and what it needs has room.
+    /// Whether the octets of the unfinished header can have come in the innermost list, and the octets that it still
+    /// needs have room.
     fn is_at_header(&self, inner: u32, room: usize) -> bool
         requires well { IsWell self.now.header }
         requires inner { inner ≡ inner_at self.now }
@@ -161,8 +163,8 @@ impl LentCheck {
             && self.header.need() <= room
     }
 
-    /// Whether the header of the value under way can have come in the innermost list, inside so many objects, and its
-    /// rest has room.
+    /// Whether the header of the unfinished value can have come in the innermost list, inside `level` objects, and the
+    /// rest of the value has room.
     fn is_in_value(&self, level: usize, inner: u32, room: usize) -> bool
         requires range { AreInRange self.now }
         requires level { level ≡ length (ends_at self.now) }
@@ -178,7 +180,7 @@ impl LentCheck {
             && self.value_left as usize <= room
     }
 
-    /// Whether the refusal that is kept, if any, is of some octet that can come next.
+    /// Whether the refusal that was kept, if any, is right for some next octet.
     fn may_refuse(&self) -> bool
         requires { AreInRange self.now }
         ensures yes { result ≡ true → MayRefuse (checked_at self.now) }
@@ -191,7 +193,8 @@ impl LentCheck {
     }
 }
 
-/// How far the octets have come, and why the next one was refused: no octet is shown.
+/// Shows how many octets were taken, how many objects are open, how many octets of a value are left, and the refusal,
+/// but no octet.
 impl Debug for LentCheck {
     fn fmt<W: Write>(&self, f: &mut Formatter<W>) -> fmt::Result {
         f.debug_struct("LentCheck")
@@ -211,7 +214,7 @@ fn are_ends(max: u32, count: u32, ends: &[u32]) -> bool
     ends.iter().all(|&end| count < end && end <= max)
 }
 
-/// Whether each object that ends at these places ends no later than the one before it.
+/// Whether each object, by its end, ends no later than the one before it.
 fn are_nested(ends: &[u32]) -> bool
     ensures yes { result ≡ true → AreNested ends.now }
     ensures no { AreNested ends.now → result ≡ true }
@@ -224,8 +227,8 @@ fn are_nested(ends: &[u32]) -> bool
     true
 }
 
-/// The first place at which the value of an object can begin that ends at this one, where its header comes from
-/// `place` on.
+/// Returns the first place at which the value of an object can begin. The object ends at `end`, and its header begins
+/// at `place` or later.
 fn value_from(place: u32, end: u32) -> u32
     requires { place ≤ 80 }
     ensures is { result ≡ value_from place end }
@@ -242,7 +245,7 @@ fn value_from(place: u32, end: u32) -> u32
     }
 }
 
-/// The first place at which the innermost list can begin, inside objects that end at these places.
+/// Returns the first place at which the innermost list can begin, inside objects that end at these places.
 fn inner_from(ends: &[u32]) -> u32
     requires { length ends.now ≤ 16 }
     ensures is { result ≡ inner_from 0 ends.now }

@@ -1,9 +1,9 @@
-//! BER-TLV data objects: forests of objects and fillers, their parts, and data object lists
-//! (EMV 4.3 Book 3, Annex B and clause 5.4; ISO/IEC 7816-4, clause 5.2.2).
+//! BER-TLV data objects: forests of objects and fillers, their parts, and data object lists (EMV
+//! 4.3 Book 3, Annex B and clause 5.4; ISO/IEC 7816-4, clause 5.2.2).
 //!
-//! A *forest* is a list of data objects and filler octets 00. Each spelling is kept as it came: the
-//! form of each length field, longer than needed or not, and each filler. Octets are refused at the
-//! first one after which no forest goes on.
+//! A *forest* is a list of data objects and filler octets 00. A decoded forest keeps its encoding:
+//! each filler, and the form of each length field, even if it is longer than needed. A decoder
+//! refuses octets at the first one after which no forest can continue.
 #![tactic(auto)]
 
 pub mod check;

@@ -9,7 +9,7 @@ use octet_core::Octets;
 use std::fmt::{self, Debug, Formatter, Write};
 use std::marker::Model;
 
-/// A list of data objects and fillers, which contracts see as a tree by its first item and the rest.
+/// A list of data objects and fillers. Contracts see it as a tree: its first item and the rest.
 #[derive(Drop)]
 #[cycle(tree)]
 pub struct Nodes {
@@ -38,21 +38,21 @@ impl Model for Nodes {
 impl Nodes {
     ghost use Rattle.tlv_core.specs.Nodes.{tree_of};
 
-    /// The list in a vector.
+    /// Makes a list of the nodes in a vector.
     pub fn of(list: Vec<Node>) -> Nodes
         ensures { result ≡ tree_of list.items }
     {
         Self { list }
     }
 
-    /// Borrows the list.
+    /// Borrows the nodes.
     pub fn get(&self) -> &[Node]
         ensures { tree_of result.now ≡ self.now }
     {
         self.list.as_slice()
     }
 
-    /// The vector back.
+    /// Returns the vector with the nodes.
     pub fn into_inner(self) -> Vec<Node>
         ensures { tree_of result.items ≡ self }
     {
@@ -111,7 +111,7 @@ impl Eq for Node {
     ghost laws = { node_equiv };
 }
 
-/// How many nodes there are: those inside aren't shown, nor is an octet of a value.
+/// Shows how many nodes the list has, but not those inside them, nor any octet of a value.
 impl Debug for Nodes {
     fn fmt<W: Write>(&self, f: &mut Formatter<W>) -> fmt::Result {
         f.debug_struct("Nodes")

@@ -1,4 +1,4 @@
-//! How far the octets of a forest have come, and where the open objects end.
+//! How many octets of a forest were taken, and where the open objects end.
 
 ghost use Rattle.std.specs.Prelude.{nat_lt, ◌≡◌, ◌+◌, ◌-◌, ◌<◌, ◌≤◌, length, take, IfSome, count_by, slice_index, []};
 ghost use Rattle.tlv_core.specs.Open.{AreEnds, AreNested, AreReached, AreUpTo};
@@ -6,20 +6,22 @@ ghost use Rattle.tlv_core.specs.Open.{AreEnds, AreNested, AreReached, AreUpTo};
 use crate::progress::DEEPEST;
 use crate::short::{ShortHeader, short_header};
 
-/// The spare place, after one for each object that may be open. There goes the end of an object that isn't.
+/// The index of the spare place, after one place for each object that may be open. It takes the end of an object that
+/// doesn't stay open.
 const SPARE: usize = DEEPEST;
 
-/// How many places are kept.
+/// The number of places.
 const PLACES: usize = SPARE + 1;
 
-/// How many octets were taken, and the places at which open objects end.
+/// How many octets of a forest were taken, and the places at which open objects end.
 #[derive(Clone, Copy)]
 pub(crate) struct OpenEnds {
-    /// The limit of the whole, in octets.
+    /// The limit of the whole forest, in octets.
     max: usize,
     /// How many octets were taken.
     count: usize,
-    /// The places at which the open constructed objects end, outermost first. No place after these is after `count`.
+    /// The places at which the open constructed objects end, outermost first. No place from index `level` on is after
+    /// `count`.
     places: [u32; PLACES],
     /// How many objects are open.
     level: usize,
@@ -38,7 +40,7 @@ impl OpenEnds {
     ghost use Rattle.std.specs.Prelude.{◌++◌, ◌∷◌};
     ghost use Rattle.tlv_core.specs.OpenEnds.{ends_of, kept_idle};
 
-    /// Before the first octet of a forest of at most `max` octets.
+    /// Starts before the first octet of a forest of at most `max` octets.
     pub(crate) fn new(max: usize) -> Self
         requires { max ≤ 1048576 }
         ensures { kept_idle result ≡ record
@@ -52,7 +54,7 @@ impl OpenEnds {
         }
     }
 
-    /// After `count` octets that leave objects open which end at these places.
+    /// Restores the state after `count` octets that leave objects open. These objects end at the places in `ends`.
     pub(crate) fn of(max: usize, count: usize, ends: &[u32]) -> Self
         requires limit { max ≤ 1048576 }
         requires within { count ≤ max }
@@ -74,35 +76,36 @@ impl OpenEnds {
         }
     }
 
-    /// The limit of the whole.
+    /// Returns the limit of the whole forest, in octets.
     pub(crate) fn max(&self) -> usize
         ensures { result ≡ self.now.max }
     {
         self.max
     }
 
-    /// How many octets were taken.
+    /// Returns how many octets were taken.
     pub(crate) fn count(&self) -> usize
         ensures { result ≡ self.now.count }
     {
         self.count
     }
 
-    /// How many objects are open.
+    /// Returns how many objects are open.
     pub(crate) fn level(&self) -> usize
         ensures { result ≡ length (ends_of self.now) }
     {
         self.level
     }
 
-    /// The places at which they end, outermost first.
+    /// Returns the places at which the open objects end, outermost first.
     pub(crate) fn places(&self) -> &[u32]
         ensures { result.now ≡ ends_of self.now }
     {
         &self.places[..self.level]
     }
 
-    /// The octets from the next one to the end of the innermost open object, or to the limit.
+    /// Returns the number of octets from the next one to the end of the innermost open object, or to the limit if none
+    /// is open.
     #[inline(always)]
     pub(crate) fn room(&self) -> usize
         ensures { result ≡ room_of (self.now.max - self.now.count)
@@ -114,8 +117,8 @@ impl OpenEnds {
         self.places[self.level - 1] as usize - self.count
     }
 
-    /// The header of an object that comes next, where its length field has at most three octets, and all of it is here
-    /// and fits; and the value too where it is primitive.
+    /// Returns the header of the next object if its length field has at most three octets, and the whole header is here
+    /// and fits. The value must be here too if the object is primitive.
     #[inline(always)]
     pub(crate) fn next_short(&self, octets: &[u8]) -> Option<ShortHeader>
         ensures { IfSome result (MayCome (kept_idle self.now) octets.now) }
@@ -130,7 +133,7 @@ impl OpenEnds {
         Some(object)
     }
 
-    /// Passes over an object with a short header, or enters it where it is constructed and not empty.
+    /// Passes over an object with a short header, or enters it if it is constructed and not empty.
     #[inline(always)]
     pub(crate) fn pass(&mut self, object: ShortHeader)
         requires shallow { length (ends_of self.old) < 16 }
@@ -142,7 +145,7 @@ impl OpenEnds {
         self.enter(object.whole(), object.taken());
     }
 
-    /// Enters an object of so many octets, of which some are taken. It is open then where it has more.
+    /// Enters an object of `whole` octets, after `taken` of them. It is open then if it has more.
     #[inline(always)]
     pub(crate) fn enter(&mut self, whole: usize, taken: usize)
         requires shallow { length (ends_of self.old) < 16 }
@@ -156,8 +159,8 @@ impl OpenEnds {
             (ends_of self.old ++ (self.old.count + whole) ∷ []) }
     {
         if self.level == 0 && taken == whole {
-            // nothing was open, and nothing is; it is written again since the compiler counts many places in one step only
-            // where both ways write the number
+            // nothing was open, and nothing is; the number is written again, since the compiler counts several places
+            // in one step only if both paths write it
             self.count += taken;
             self.level = 0;
             return;
@@ -168,9 +171,9 @@ impl OpenEnds {
         self.level = number_after(&self.places, self.count);
     }
 
-    /// Which place is for the end of an object of so many octets, of which some are taken: the spare one where it is
-    /// taken whole, since the others are counted next, and a processor that reads four places at once waits for one
-    /// that was just written.
+    /// Returns the index of the place for the end of an object of `whole` octets, after `taken` of them. If the object
+    /// was taken whole, it is the spare place. The other places are counted next, and a processor that reads four
+    /// places at once waits for one that was just written.
     #[inline(always)]
     fn place_for(&self, whole: usize, taken: usize) -> usize
         ensures open { taken < whole → result ≡ self.now.level }
@@ -179,7 +182,7 @@ impl OpenEnds {
         if taken < whole { self.level } else { SPARE }
     }
 
-    /// Takes so many octets. The objects that end there are closed.
+    /// Takes this many octets, and closes the objects that end there.
     #[inline(always)]
     pub(crate) fn go(&mut self, taken: usize)
         requires { self.old.count + taken ≤ self.old.max }
@@ -197,8 +200,8 @@ impl OpenEnds {
     }
 }
 
-/// Counts the places after `count` octets; the spare one isn't counted. The ends follow no order, so the loop compares
-/// all of them without a branch. They are signed numbers, since a processor compares four of those in one step.
+/// Counts the places after `count` octets, without the spare one. The places follow no order here, so the loop compares
+/// all of them without a branch. It compares signed numbers, since a processor compares four of those in one step.
 #[inline(always)]
 fn number_after(places: &[u32; PLACES], count: usize) -> usize
     requires count { count ≤ 1048576 }

@@ -9,7 +9,7 @@ use crate::tag::Tag;
 use arrayvec::ArrayVec;
 use std::fmt::{self, Debug, Formatter, Write};
 
-/// An object of a forest, with its value as it is in the octets of the forest.
+/// An object of a forest, with its value borrowed from the octets of the forest.
 #[derive(Clone, Copy, PartialEq, Eq)]
 pub struct Part<'a> {
     /// The depth of the object, 1 to 16.
@@ -20,12 +20,12 @@ pub struct Part<'a> {
     pub form: Form,
     /// The place of its value in the octets of the forest, counted from 0.
     pub place: usize,
-    /// The octets of its value. For a constructed object they are those of its nodes.
+    /// The octets of its value. For a constructed object they encode its nodes.
     pub value: &'a [u8],
     ghost fits: { length value.now < capacity form },
 }
 
-/// An object of a forest by its place alone, in 16 octets: its value is the `len` octets from `place` on.
+/// An object of a forest by its place alone, in 16 octets. Its value is the `len` octets from `place` on.
 #[derive(Clone, Copy, Debug, PartialEq, Eq)]
 pub struct PlacedPart {
     /// Its tag.
@@ -43,7 +43,7 @@ pub struct PlacedPart {
 impl PlacedPart {
     ghost use Rattle.tlv_core.specs.Flat.{placed_of, placed_from};
 
-    /// An object at this depth, whose value begins at `place`.
+    /// Makes a part of an object at this depth, whose value begins at `place`.
     #[inline(always)]
     pub(crate) fn of(depth: usize, object: ObjectHeader, place: usize) -> PlacedPart
         requires depth { depth < 256 }
@@ -64,17 +64,18 @@ impl Part<'_> {
     ghost use Rattle.tlv_core.specs.Tag.{header_of, length_field};
     ghost use Rattle.tlv_core.specs.Parts.{value_place};
 
-    /// The octets of its length field, one to five.
+    /// Returns the octets of its length field, one to five.
     pub fn length_field(&self) -> ArrayVec<u8, 5>
         ensures { result.items ≡ length_field self.now.form (length self.now.value.now) }
     {
         self.form.field(self.value.len())
     }
 
-    /// The place of its header in the octets of the forest, which is that of the first octet of its tag. The
-    /// header ends where the value begins, at `place`.
+    /// Returns the place of its header in the octets of the forest: the place of the first octet of its tag.
+    /// The header ends where the value begins, at `place`.
     ///
-    /// 0 where `place` leaves no room for the header, as no part of a [`FlatForest`](crate::FlatForest) does.
+    /// The result is 0 if `place` leaves no room for the header. That is never so for a part of a
+    /// [`FlatForest`](crate::FlatForest).
     pub fn header_place(&self) -> usize
         ensures before { result ≡ self.now.place - length
             (header_of self.now.tag self.now.form (length self.now.value.now)) }
@@ -84,7 +85,7 @@ impl Part<'_> {
         self.place.saturating_sub(self.header_len())
     }
 
-    /// How many octets its header has: its tag and its length field.
+    /// Returns how many octets its header has: its tag and its length field.
     fn header_len(&self) -> usize
         ensures { result ≡ length (header_of self.now.tag self.now.form
             (length self.now.value.now)) }
@@ -93,8 +94,8 @@ impl Part<'_> {
     }
 }
 
-/// Its tag, where it is, and how many octets its value has. The value may be secret, so no octet of it is
-/// shown.
+/// Shows the depth, the tag, the form, the place, and how many octets the value has. The value may be secret,
+/// so none of its octets is shown.
 impl Debug for Part<'_> {
     fn fmt<W: Write>(&self, f: &mut Formatter<W>) -> fmt::Result {
         f.debug_struct("Part")

@@ -1,4 +1,4 @@
-//! A walk over the parts of a forest, whose caller keeps it.
+//! A walk over the parts of a forest, with a state that the caller keeps.
 
 ghost use Rattle.std.specs.Prelude.{◌≡◌, ℕ, ◌<◌, ◌≤◌, List, [], ◌∷◌, ◌++◌, length, IfOk, IfErr, OnOk, IfSome, IfNone};
 ghost use Rattle.octet_core.specs.Grammar.{Refuses, whole};
@@ -16,8 +16,8 @@ use octet_core::Stop;
 use std::marker::Model;
 
 /// A walk over the objects of a forest, in the order of their headers, each before those inside it, without the
-/// fillers. It takes no memory and has no recursion: it keeps how far it came in the octets, the places at which open
-/// objects end, at most 16, and the octets of a header, at most seven.
+/// fillers. It allocates nothing and doesn't recurse: it keeps how far it came in the octets, the places at which open
+/// objects end, at most 16, and the octets of an unfinished header, at most seven.
 ///
 /// Contracts see what the octets so far leave open.
 #[derive(Drop)]
@@ -35,7 +35,7 @@ impl Model for PartWalk {
 }
 
 impl PartWalk {
-    /// A walk over the octets of a forest of at most `max` octets, itself at most 1,048,576, before its first object.
+    /// Starts a walk over a forest of at most `max` octets; `max` is at most 1,048,576.
     pub fn new(max: usize) -> PartWalk
         requires { max ≤ 1048576 }
         ensures limit { result.max ≡ max }
@@ -46,10 +46,11 @@ impl PartWalk {
         }
     }
 
-    /// The next object by its place, or `None` after the last where all the octets are a forest; or why they are none:
-    /// `Short` at their end where a forest goes on, `At` the first octet after which none does. The octets are the same
-    /// in each call. A refusal comes after each object whose header is before its place was given, with the walk at that
-    /// place. After the last object, and after a refusal, each call answers the same.
+    /// Returns the next object by its place, or `None` after the last one. Each call takes the same octets.
+    ///
+    /// `None` means that all the octets are a forest. The error says why they aren't: `Short` at their end if a forest
+    /// could continue there, or `At` the first octet after which none can. It comes after each object whose header ends
+    /// before its place, and the walk stays at that place. After `None` or an error each further call returns the same.
     #[inline(always)]
     pub fn next_part(&mut self, octets: &[u8]) -> Result<Option<PlacedPart>, Stop<TlvReason>>
         ensures limit { self.new.max ≡ self.old.max }
@@ -70,11 +71,12 @@ impl PartWalk {
         next_part(&mut self.progress, octets)
     }
 
-    /// The next object where it has a short header, as most have, and all octets of it are here that are taken at once.
-    /// `None` says nothing, and then the walk stays where it is: [`next_part`](PartWalk::next_part) goes on from there.
+    /// Returns the next object if it has a short header, as most have, and if its octets are here: all of a primitive
+    /// object, the header of a constructed one. `None` says nothing about the octets. The walk then stays where it is,
+    /// and [`next_part`](PartWalk::next_part) continues from there.
     ///
-    /// A caller that is to be fast asks for these in a loop of their own: where one loop takes objects of both calls, each
-    /// object is packed into a form that both have.
+    /// A fast caller asks for these objects in a loop of their own. If one loop takes the objects of both calls, the
+    /// compiler packs each object into a form that both have.
     #[inline(always)]
     pub fn next_short(&mut self, octets: &[u8]) -> Option<PlacedPart>
         ensures limit { self.new.max ≡ self.old.max }
@@ -92,8 +94,8 @@ impl PartWalk {
     }
 }
 
-/// The next object, as [`PartWalk::next_part`] gives it. It is a function of its own, so that the objects with short
-/// headers are taken in line: they are most.
+/// Returns the next object, as [`PartWalk::next_part`] does. It is a separate function, so that objects with short
+/// headers, which are most, are taken inline.
 #[inline(never)]
 fn next_part(progress: &mut Progress, octets: &[u8]) -> Result<Option<PlacedPart>, Stop<TlvReason>>
     ensures limit { progress.new.ends.max ≡ progress.old.ends.max }
@@ -122,8 +124,8 @@ fn next_part(progress: &mut Progress, octets: &[u8]) -> Result<Option<PlacedPart
     })
 }
 
-/// Takes the next octets of a forest: a run of the value under way, an object with a short header, or one octet. Where
-/// that completes the header of an object, it is given.
+/// Takes the next octets of a forest: a run of the unfinished value, an object with a short header, or one octet. If they
+/// complete the header of an object, returns that object.
 #[inline(always)]
 fn advance(progress: &mut Progress, octets: &[u8]) -> Result<Option<PlacedPart>, Stop<TlvReason>>
     requires { progress.old.ends.count < length octets.now }
@@ -148,7 +150,7 @@ fn advance(progress: &mut Progress, octets: &[u8]) -> Result<Option<PlacedPart>,
     take_first(progress, octets)
 }
 
-/// Takes an object with a short header, if one comes next.
+/// Takes an object with a short header, if the next one has such a header.
 #[inline(always)]
 fn take_short(progress: &mut Progress, octets: &[u8]) -> Option<PlacedPart>
     requires here { progress.old.ends.count ≤ length octets.now }
@@ -169,7 +171,7 @@ fn take_short(progress: &mut Progress, octets: &[u8]) -> Option<PlacedPart>
     Some(part)
 }
 
-/// Takes one octet of a header, or a filler. Where that completes the header of an object, it is given.
+/// Takes one octet of a header, or a filler. If it completes the header of an object, returns that object.
 #[inline(always)]
 fn take_first(progress: &mut Progress, octets: &[u8]) -> Result<Option<PlacedPart>, Stop<TlvReason>>
     requires here { progress.old.ends.count < length octets.now }

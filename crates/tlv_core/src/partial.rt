@@ -16,7 +16,7 @@ use octet_core::Octets;
 use std::alloc::{AllocError, Global};
 use std::mem;
 
-/// An object that is open: the list before it, which has room for one more node, and its header.
+/// An open object: its header, and the list before it, which has room for one more node.
 #[derive(Drop)]
 pub(crate) struct OpenObject {
     before: Vec<Node>,
@@ -24,15 +24,15 @@ pub(crate) struct OpenObject {
     ghost room: { vec_len before < vec_capacity before },
 }
 
-/// A primitive object whose value is under way: its header, and the octets of the value so far.
+/// A primitive object whose value is being read: its header, and the octets of the value so far.
 #[derive(Drop)]
 pub(crate) struct OpenValue {
     header: ObjectHeader,
     octets: Vec<u8>,
 }
 
-/// What the octets of a forest so far have come to: the objects that are open, outermost first, the
-/// innermost list, and the value under way after it, if one is.
+/// The tree of a forest's octets so far: the open objects, outermost first, the innermost list, and
+/// the value that is being read after it, if any.
 #[derive(Drop)]
 pub(crate) struct Partial {
     alloc: Global,
@@ -49,7 +49,7 @@ impl Partial {
     ghost use Rattle.tlv_core.specs.Read.{opened_of, grown_of, entering, extended, TakesNext, TakesShort, IsWholeNode};
     ghost use Rattle.tlv_core.specs.Short.{after_short, taken_of, value_in};
 
-    /// Before the first octet. It has the memory of its stack from then on.
+    /// Starts before the first octet, and allocates the stack.
     pub(crate) fn new(alloc: Global) -> Result<Self, AllocError>
         ensures { IfOk result (λ tree.
             grown_of tree ≡ record { opened = []; list = End; value = None }) }
@@ -70,7 +70,7 @@ impl Partial {
         self.list.reserve(1)
     }
 
-    /// Takes what an octet made of the header, after which `level` objects are open.
+    /// Takes what an octet made of the header. After it `level` objects are open.
     pub(crate) fn take(&mut self, next: &Next, level: usize)
         requires room { vec_len self.old.list < vec_capacity self.old.list }
         requires step { (b : List ℕ) × (k : Kept) × (x : ℕ)
@@ -109,14 +109,14 @@ impl Partial {
         }
     }
 
-    /// Copies the octets of a value, into memory for just these.
+    /// Copies the octets of a value into memory of exactly their size.
     pub(crate) fn copied(&self, octets: &[u8]) -> Result<Vec<u8>, AllocError>
         ensures { IfOk result (λ copy. copy.items ≡ octets.now) }
     {
         Vec::from_slice(self.alloc, octets)
     }
 
-    /// Takes an object with a short header, with these for the octets of its value, or the header of a
+    /// Takes an object with a short header: a primitive one with `value`, or the header of a
     /// constructed one. After it `level` objects are open.
     pub(crate) fn take_short(&mut self, short: ShortHeader, value: Vec<u8>, level: usize)
         requires room { vec_len self.old.list < vec_capacity self.old.list }
@@ -147,7 +147,7 @@ impl Partial {
         self.opened.push_reserved(OpenObject { before, header });
     }
 
-    /// An object that is whole: a primitive one with this value, or a constructed one that is empty.
+    /// Returns a whole object: a primitive one with this value, or an empty constructed one.
     fn whole(&self, header: ObjectHeader, value: Vec<u8>) -> Node
         ensures { IsWholeNode header value.items result }
     {
@@ -166,7 +166,7 @@ impl Partial {
         }
     }
 
-    /// Takes octets of the value under way. Lack of memory leaves it as it was.
+    /// Appends octets to the value that is being read. A failed allocation leaves the value as it was.
     pub(crate) fn extend(&mut self, octets: &[u8]) -> Result<(), AllocError>
         ensures ok { OnOk result (grown_of self.new ≡ extended (grown_of self.old) octets.now) }
         ensures err { OnErr result (grown_of self.new ≡ grown_of self.old) }
@@ -177,7 +177,7 @@ impl Partial {
         }
     }
 
-    /// Ends the value under way, after which `level` objects are open.
+    /// Ends the value that is being read. After it `level` objects are open.
     pub(crate) fn end_value(&mut self, level: usize)
         ensures idle { self.new.value ≡ None }
         ensures closed { (value : OpenValue) (b rooms : List ℕ) (closed : ℕ)
@@ -216,7 +216,7 @@ impl Partial {
         }
     }
 
-    /// The innermost list, which is the whole one where no object is open.
+    /// Returns the innermost list, which is the whole list if no object is open.
     pub(crate) fn into_nodes(self) -> Nodes
         ensures { result ≡ (grown_of self).list }
     {

@@ -1,4 +1,4 @@
-//! Objects by a path of tags.
+//! Finding objects by a path of tags.
 
 ghost use Rattle.std.specs.Prelude.{◌≡◌, ◌∷◌, []};
 ghost use Rattle.std.specs.Option.{option_copied};
@@ -11,14 +11,14 @@ use crate::tag::Tag;
 
 /// Finds the first object on a path of tags. A path of one tag finds the first object of the forest with that
 /// tag. A longer path goes through the objects with its first tag in order, and looks for the rest of the path
-/// in their nodes. It returns `None` where no object is on the path, and for an empty path.
+/// in their nodes. The result is `None` if no object is on the path, or if the path is empty.
 pub fn first<'a>(forest: &'a Forest, path: &[Tag]) -> Option<&'a Node>
     ensures { option_copied result ≡ first_on path.now forest.now }
 {
     first_in(forest.nodes(), path)
 }
 
-/// The first object on a path from a list.
+/// Finds the first object on a path that begins in this list.
 fn first_in<'a>(nodes: &'a Nodes, path: &[Tag]) -> Option<&'a Node>
     ensures { option_copied result ≡ first_on path.now nodes.now }
 {
@@ -46,7 +46,7 @@ fn first_in<'a>(nodes: &'a Nodes, path: &[Tag]) -> Option<&'a Node>
     }
 }
 
-/// The first object of a list with this tag.
+/// Returns the first object of a list with this tag.
 fn with_tag<'a>(nodes: &'a Nodes, tag: &Tag) -> Option<&'a Node>
     ensures { option_copied result ≡ first_on (tag.now ∷ []) nodes.now }
 {

@@ -1,4 +1,4 @@
-//! How far the octets of a forest have come, and what they leave open.
+//! How many octets of a forest were taken, and what they leave open.
 
 ghost use Rattle.std.specs.Prelude.{nat_eq, if◌then◌else◌, ◌≡◌, ◌≢◌, ℕ, ◌+◌, ◌<◌, ◌≤◌, List, ◌++◌, length, take, slice_index, IfOk, IfErr, IfSome, IfNone, IsTrue, ◌↔◌, ◌-◌, true, false};
 ghost use Rattle.tlv_core.specs.declared.header.Header.TheVariants.{Nothing};
@@ -15,17 +15,17 @@ use crate::reason::TlvReason;
 use crate::short::ShortHeader;
 use octet_core::Refusal;
 
-/// The greatest depth of an object; the outermost objects have depth 1.
+/// The greatest depth of an object. The outermost objects have depth 1.
 pub(crate) const DEEPEST: usize = 16;
 
-/// What is kept of the octets of a forest that were taken so far.
+/// The state after the octets of a forest that were taken so far.
 #[derive(Drop)]
 pub(crate) struct Progress {
     /// How many octets were taken, and where the open constructed objects end.
     ends: OpenEnds,
-    /// The header under way.
+    /// The unfinished header.
     header: Header,
-    /// How many octets are to come of the primitive value under way.
+    /// How many octets of a primitive value are still to come.
     value_left: usize,
     ghost within: { ends.count + value_left ≤ ends.max },
     ghost well: { IsWell header } by { IsWell-prop header },
@@ -44,7 +44,7 @@ impl Progress {
     ghost use Rattle.tlv_core.specs.Progress.{kept_of};
     ghost use Rattle.tlv_core.specs.Lent.{AreInRange, kept_at};
 
-    /// Before the first octet of a forest of at most `max` octets.
+    /// Starts before the first octet of a forest of at most `max` octets.
     pub(crate) fn new(max: usize) -> Self
         requires { max ≤ 1048576 }
         ensures { kept_of result ≡ record
@@ -53,7 +53,7 @@ impl Progress {
         Progress::between(OpenEnds::new(max))
     }
 
-    /// Between objects, where these are open.
+    /// Makes the state between objects, while these are open.
     pub(crate) fn between(ends: OpenEnds) -> Self
         ensures kept { kept_of result ≡ kept_idle ends }
         ensures ends { result.ends ≡ ends }
@@ -65,7 +65,7 @@ impl Progress {
         }
     }
 
-    /// What a check keeps.
+    /// Restores the state from a check that the caller keeps.
     pub(crate) fn of(check: &LentCheck) -> Self
         requires { AreInRange check.now }
         ensures { kept_of result ≡ kept_at check.now }
@@ -78,7 +78,7 @@ impl Progress {
         }
     }
 
-    /// The check that keeps this, and why the next octet was refused, if it was.
+    /// Returns the check with this state, for a caller to keep, and why the next octet was refused, if it was.
     pub(crate) fn lent(&self, refused: Option<TlvReason>) -> LentCheck
         ensures range { AreInRange result }
         ensures kept { kept_at result ≡ kept_of self.now }
@@ -98,7 +98,8 @@ impl Progress {
         }
     }
 
-    /// The octets from the next one to the end of the innermost open object, or to the limit.
+    /// Returns the number of octets from the next one to the end of the innermost open object, or to the limit if none
+    /// is open.
     pub(crate) fn room(&self) -> usize
         ensures { result ≡ room_of (self.now.ends.max - self.now.ends.count)
             (rooms_to self.now.ends.count (ends_of self.now.ends)) }
@@ -106,7 +107,7 @@ impl Progress {
         self.ends.room()
     }
 
-    /// Whether some next octet would be refused for this reason, where no octet of a value is due.
+    /// Whether some next octet would be refused for this reason, assuming that no octet of a value is due.
     pub(crate) fn may_refuse(&self, reason: TlvReason) -> bool
         ensures yes { result ≡ true → (x : ℕ) × (x < 256)
             × IsFirst tlv_reasons (IsWrongAfter (kept_of self.now) x) reason }
@@ -122,7 +123,7 @@ impl Progress {
         false
     }
 
-    /// Whether this octet is refused next for this reason.
+    /// Whether this next octet is refused for this reason.
     fn refuses(&self, octet: u8, reason: TlvReason) -> bool
         ensures yes { result ≡ true
             → IsFirst tlv_reasons (IsWrongAfter (kept_of self.now) octet) reason }
@@ -135,49 +136,49 @@ impl Progress {
         }
     }
 
-    /// How many octets were taken.
+    /// Returns how many octets were taken.
     pub(crate) fn count(&self) -> usize
         ensures { result ≡ self.now.ends.count }
     {
         self.ends.count()
     }
 
-    /// How many objects are open.
+    /// Returns how many objects are open.
     pub(crate) fn level(&self) -> usize
         ensures { result ≡ length (kept_of self.now).rooms }
     {
         self.ends.level()
     }
 
-    /// How many octets are to come of the primitive value under way, or 0.
+    /// Returns how many octets of a primitive value are still to come, or 0 if none is being read.
     pub(crate) fn value_left(&self) -> usize
         ensures { result ≡ self.now.value_left }
     {
         self.value_left
     }
 
-    /// Whether nothing is under way: whole objects and fillers were taken, and no object is open.
+    /// Whether nothing is unfinished: whole objects and fillers were taken, and no object is open.
     pub(crate) fn is_idle(&self) -> bool
         ensures { IsTrue result ↔ IsIdle (kept_of self.now) }
     {
         self.ends.level() == 0 && self.header.is_nothing() && self.value_left == 0
     }
 
-    /// Whether no header and no value is under way.
+    /// Whether no header and no value is unfinished.
     pub(crate) fn is_between(&self) -> bool
         ensures { result ≡ true → kept_of self.now ≡ kept_idle self.now.ends }
     {
         self.header.is_nothing() && self.value_left == 0
     }
 
-    /// How many octets were taken, and where the open objects end.
+    /// Returns how many octets were taken, and where the open objects end.
     pub(crate) fn ends(&self) -> OpenEnds
         ensures { result ≡ self.now.ends }
     {
         self.ends
     }
 
-    /// The refusal of the next octet.
+    /// Returns the refusal of the next octet.
     pub(crate) fn refusal(&self, reason: TlvReason) -> Refusal<TlvReason>
         ensures { result ≡ record { place = self.now.ends.count; reason = reason } }
     {
@@ -187,8 +188,8 @@ impl Progress {
         }
     }
 
-    /// Takes octets: a run of the value under way, the objects that are here with short headers, or one octet
-    /// of a header. How many were taken, at least one; or why the first one is refused, which changes nothing.
+    /// Takes octets: a run of the value that is being read, the objects with short headers that are here, or one octet
+    /// of a header. Returns how many were taken, at least one; or why the first one is refused, which changes nothing.
     pub(crate) fn advance(&mut self, octets: &[u8]) -> Result<usize, TlvReason>
         requires { 0 < length octets.now }
         ensures max { self.new.ends.max ≡ self.old.ends.max }
@@ -213,7 +214,7 @@ impl Progress {
         self.take_first(octets)
     }
 
-    /// Takes the first octet, which is one of a header, or a filler.
+    /// Takes the first octet, which is a filler or belongs to a header.
     fn take_first(&mut self, octets: &[u8]) -> Result<usize, TlvReason>
         requires some { 0 < length octets.now }
         requires idle { self.old.value_left ≡ 0 }
@@ -231,8 +232,8 @@ impl Progress {
         }
     }
 
-    /// Takes as many objects with a short header as are here one after another: of a primitive one all, of a
-    /// constructed one the header. How many octets were taken; where there is no such object, nothing changes.
+    /// Takes as many objects with a short header as follow one another here: all of a primitive one, the header of a
+    /// constructed one. Returns how many octets were taken. If there is no such object, nothing changes.
     fn take_shorts(&mut self, octets: &[u8]) -> Option<usize>
         requires idle { self.old.value_left ≡ 0 }
         requires nothing { self.old.header ≡ Nothing }
@@ -255,8 +256,8 @@ impl Progress {
         Some(taken)
     }
 
-    /// The header of an object that comes next, where its length field has at most three octets, and all of it is here
-    /// and fits; and the value too where it is primitive.
+    /// Returns the header of the next object if its length field has at most three octets, and the whole header is
+    /// here and fits. The value must be here too if the object is primitive.
     #[inline(always)]
     pub(crate) fn next_short(&self, octets: &[u8]) -> Option<ShortHeader>
         requires { self.now.value_left ≡ 0 }
@@ -270,7 +271,7 @@ impl Progress {
         self.ends.next_short(octets)
     }
 
-    /// Passes over an object with a short header, or enters it where it is constructed and not empty.
+    /// Passes over an object with a short header, or enters it if it is constructed and not empty.
     #[inline(always)]
     pub(crate) fn pass(&mut self, object: ShortHeader)
         requires idle { self.old.value_left ≡ 0 }
@@ -285,7 +286,7 @@ impl Progress {
         self.ends.pass(object);
     }
 
-    /// Takes a run of the value under way.
+    /// Takes a run of the value that is being read.
     pub(crate) fn skip(&mut self, run: usize)
         requires { run ≤ self.old.value_left }
         ensures { kept_of self.new ≡ after_run (kept_of self.old) run }
@@ -294,8 +295,8 @@ impl Progress {
         self.ends.go(run);
     }
 
-    /// Takes one octet of a header, or a filler, and says what it made of the header. A refused octet
-    /// changes nothing.
+    /// Takes one octet of a header, or a filler, and returns what it made of the header. A refused octet changes
+    /// nothing.
     pub(crate) fn take(&mut self, octet: u8) -> Result<Next, TlvReason>
         requires { self.old.value_left ≡ 0 }
         ensures ok { IfOk result (IsStep (kept_of self.old) octet) }
@@ -310,7 +311,7 @@ impl Progress {
         Ok(next)
     }
 
-    /// Takes an octet that makes this of the header.
+    /// Takes an octet with this result.
     fn accept(&mut self, next: &Next)
         requires idle { self.old.value_left ≡ 0 }
         requires well { IsWellNext next.now }
@@ -326,7 +327,7 @@ impl Progress {
         }
     }
 
-    /// What the octet makes of the header under way, or why it is refused.
+    /// Returns what the octet makes of the unfinished header, or why it is refused.
     fn next(&self, octet: u8) -> Result<Next, TlvReason>
         ensures ok { IfOk result (IsStep (kept_of self.now) octet) }
         ensures err { IfErr result (IsFirst tlv_reasons (IsWrongAfter (kept_of self.now) octet)) }
@@ -351,7 +352,7 @@ impl Progress {
         }
     }
 
-    /// Why more octets than there is room for are refused.
+    /// Returns the reason if more octets must come than there is room for.
     fn overrun(&self) -> TlvReason
         ensures { result ≡
             (if nat_eq (length (ends_of self.now.ends)) 0 then TooLong else Overrun) }

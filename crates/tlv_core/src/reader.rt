@@ -1,4 +1,4 @@
-//! Forests that come in pieces, with their tree.
+//! Reading of a forest that comes in pieces, with its tree.
 
 ghost use Rattle.std.specs.Prelude.{◌≡◌, ℕ, ◌+◌, ◌<◌, ◌≤◌, ◌↔◌, List, [], ◌++◌, length, Some, None, Ok, Err, IfOk, IfErr, IfSome, IfNone, OnOk, OnErr, MatchResult};
 ghost use Rattle.octet_core.specs.Grammar.{Refuses, whole};
@@ -17,10 +17,10 @@ use std::alloc::{AllocError, Global};
 use std::fmt::{self, Debug, Formatter, Write};
 use std::marker::Model;
 
-/// A reader of a forest that is fed in pieces of any length. It keeps the tree that its octets make so
-/// far: the objects that are open, at most 16, the lists before them, and the value under way.
+/// A reader of a forest that is fed in pieces of any length. It keeps the tree of its octets so far: the objects
+/// that are open, at most 16, the lists before them, and the value that is being read.
 ///
-/// Contracts see that tree, what the octets so far leave open, and the refusal that is kept.
+/// Contracts see that tree, what the octets so far leave open, and the refusal that was kept.
 #[derive(Drop)]
 pub struct ForestReader {
     progress: Progress,
@@ -47,8 +47,8 @@ impl Model for ForestReader {
 impl ForestReader {
     ghost use Rattle.tlv_core.specs.Read.{HasBegun, HasRead, HasAdvanced, IsEndedFeed, stop_of};
 
-    /// A reader of a forest of at most `max` octets, itself at most 1,048,576, before its first octet; or
-    /// lack of memory for its stack, which it takes once.
+    /// Makes a reader of a forest of at most `max` octets; `max` is at most 1,048,576. The error is a failed
+    /// allocation of the reader's stack, which is allocated once.
     pub fn new(alloc: Global, max: usize) -> Result<ForestReader, AllocError>
         requires { max ≤ 1048576 }
         ensures limit { IfOk result (λ reader. reader.kept.max ≡ max) }
@@ -61,11 +61,11 @@ impl ForestReader {
         })
     }
 
-    /// Takes the next piece. A refusal comes with the number of octets of the piece that were taken.
+    /// Takes the next piece. The error has the number of octets of the piece that were taken.
     ///
-    /// `Memory` is lack of memory: the reader is as after those octets, and may be fed the rest. A
-    /// stop is `At` the first octet after which no forest goes on, counted from the first octet ever
-    /// fed, and never `Short`; from then on each call takes no octet and answers the same.
+    /// After `Memory`, which is a failed allocation, the reader has taken those octets, and may be fed the rest. A
+    /// stop is always `At`, never `Short`: the first octet after which no forest can continue, counted from the
+    /// first octet ever fed. From then on each call takes no octet and returns the same stop.
     pub fn feed(&mut self, piece: &[u8]) -> Result<(), (usize, Refused<TlvReason>)>
         ensures limit { self.new.kept.max ≡ self.old.kept.max }
         ensures repeats { (refusal : Refusal TlvReason) → self.old.refusal ≡ Some refusal
@@ -89,15 +89,15 @@ impl ForestReader {
         Ok(())
     }
 
-    /// That no more octets come: the forest that the octets taken spell, the refusal that is kept, or
-    /// `Short` at their end.
+    /// Ends the octets. Returns the forest that they encode, the refusal that was kept, or `Short` at their end if
+    /// they end inside an object.
     pub fn finish(self) -> Result<Forest, Stop<TlvReason>>
         ensures repeats { (refusal : Refusal TlvReason) → self.refusal ≡ Some refusal
             → result ≡ Err (stop_of refusal) }
         ensures verdict { (b : List ℕ) → HasRead b self
             → MatchResult result (λ forest. IsForest self.kept.max forest b)
             (Refuses whole (IsForest self.kept.max) (IsReason self.kept.max) b) }
-        // so what is said of every list that it may have taken is said of some
+        // so what holds for every list that it may have taken holds for at least one
         ensures some_taken { self.refusal ≡ None → (b : List ℕ) × HasRead b self }
     {
         let ForestReader {
@@ -116,8 +116,8 @@ impl ForestReader {
         })
     }
 
-    /// Takes octets: a run of the value under way, an object that is here with a short header, or one
-    /// octet of a header. How many were taken, at least one; or why none was.
+    /// Takes octets: a run of the value that is being read, an object with a short header that is here, or one
+    /// octet of a header. Returns how many were taken, at least one; or why none was.
     fn advance(&mut self, octets: &[u8]) -> Result<usize, Refused<TlvReason>>
         requires { 0 < length octets.now }
         ensures limit { self.new.kept.max ≡ self.old.kept.max }
@@ -132,7 +132,7 @@ impl ForestReader {
         self.take_first(octets)
     }
 
-    /// Takes a run of the value under way: as many octets as are here of it.
+    /// Takes a run of the value that is being read: as many of its octets as are here.
     fn take_run(&mut self, octets: &[u8]) -> Result<usize, Refused<TlvReason>>
         requires some { 0 < length octets.now }
         requires under_way { 0 < self.old.kept.value_left }
@@ -151,7 +151,8 @@ impl ForestReader {
         Ok(run)
     }
 
-    /// Takes an object with a short header, if one is here: how many octets. `Memory` is lack of it for the object.
+    /// Takes an object with a short header, if one is here, and returns the number of octets taken. The error is a
+    /// failed allocation for the object.
     fn take_short(&mut self, octets: &[u8]) -> Result<Option<usize>, AllocError>
         requires { self.old.kept.value_left ≡ 0 }
         ensures limit { self.new.kept.max ≡ self.old.kept.max }
@@ -193,7 +194,8 @@ impl ForestReader {
     }
 }
 
-/// How far the octets have come, and the refusal that is kept: no octet is shown.
+/// Shows how many octets were taken, how many objects are open, how many octets of a value are left, and the
+/// refusal, but no octet.
 impl Debug for ForestReader {
     fn fmt<W: Write>(&self, f: &mut Formatter<W>) -> fmt::Result {
         f.debug_struct("ForestReader")

@@ -4,8 +4,8 @@ use octet_core::Named;
 use std::error::Error;
 use std::fmt::{self, Display, Formatter, Write};
 
-/// Why octets are no forest: what is wrong with the first octet after which none goes on. Where two
-/// of them hold, the one that is first here is the reason.
+/// Why octets aren't a forest: what is wrong with the first octet after which no forest can
+/// continue. If two reasons hold, the one that is listed first here is returned.
 #[derive(Clone, Copy, Debug, PartialEq, Eq)]
 pub enum TlvReason {
     /// An object begins inside an object of depth 16.
@@ -16,9 +16,10 @@ pub enum TlvReason {
     TagLong,
     /// A length field begins with an octet other than 00 to 7F and 81 to 84.
     LengthForm,
-    /// What must still come passes the end of the object that is open.
+    /// The octets that must still come would pass the end of the innermost open object.
     Overrun,
-    /// No object is open, and what must still come passes the limit of the whole.
+    /// No object is open, and the octets that must still come would pass the limit of the whole
+    /// forest.
     TooLong,
 }
 
@@ -39,7 +40,7 @@ impl Named for TlvReason {
     }
 }
 
-/// The reason's name.
+/// Writes the reason's name.
 impl Display for TlvReason {
     ghost use Rattle.std.specs.Prelude.{Some};
     ghost use Rattle.tlv_core.specs.Names.{reason_name};
@@ -53,8 +54,8 @@ impl Display for TlvReason {
 
 impl Error for TlvReason {}
 
-/// Why octets are no data object list. Where two of them hold, the one that is first here is the
-/// reason.
+/// Why octets aren't a data object list. If two reasons hold, the one that is listed first here is
+/// returned.
 #[derive(Clone, Copy, Debug, PartialEq, Eq)]
 pub enum DolReason {
     /// A tag begins with 00.
@@ -79,7 +80,7 @@ impl Named for DolReason {
     }
 }
 
-/// The reason's name.
+/// Writes the reason's name.
 impl Display for DolReason {
     ghost use Rattle.std.specs.Prelude.{Some};
     ghost use Rattle.tlv_core.specs.Names.{dol_reason_name};

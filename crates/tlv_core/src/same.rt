@@ -1,10 +1,11 @@
-//! Whether two lists of objects are the same, without memory and in time that grows with the shorter one.
+//! Equality of two lists of objects. The comparison allocates nothing, and its time grows with the
+//! shorter list.
 
 ghost use Rattle.std.specs.Prelude.{◌≡◌, ◌↔◌, IsTrue};
 
 use crate::node::{Node, Nodes};
 
-/// Whether two lists have the same nodes in the same order.
+/// Whether two lists have equal nodes in the same order.
 #[cycle(same)]
 pub(crate) fn are_same(one: &Nodes, other: &Nodes) -> bool
     ensures { IsTrue result ↔ (one.now ≡ other.now) }
@@ -22,7 +23,7 @@ pub(crate) fn are_same(one: &Nodes, other: &Nodes) -> bool
     true
 }
 
-/// Whether two nodes are the same, with the nodes inside them.
+/// Whether two nodes are equal, including the nodes inside them.
 #[cycle(same)]
 pub(crate) fn is_same(one: &Node, other: &Node) -> bool
     ensures { IsTrue result ↔ (one.now ≡ other.now) }

@@ -1,4 +1,4 @@
-//! Objects whose header is short, taken at once.
+//! Objects with a short header, which are taken in one step.
 
 ghost use Rattle.std.specs.Prelude.{◌≡◌, ◌<◌, ◌≤◌, ◌+◌, [], ◌∷◌, take, drop, length, IfSome, IfNone};
 ghost use Rattle.tlv_core.specs.Tag.{IsTag};
@@ -15,7 +15,7 @@ pub(crate) struct ShortHeader {
     pub(crate) tag: Tag,
     /// The form of its length field.
     pub(crate) form: Form,
-    /// The number of its octets, 2 to 6.
+    /// The number of octets of the header, 2 to 6.
     pub(crate) header: u8,
     pub(crate) is_constructed: bool,
     /// The length of the value.
@@ -26,12 +26,12 @@ pub(crate) struct ShortHeader {
 #[derive(Clone, Copy)]
 pub(crate) struct ShortLength {
     pub(crate) form: Form,
-    /// The length that it says.
+    /// The length that it stands for.
     pub(crate) len: u16,
 }
 
 impl ShortHeader {
-    /// How many octets are taken at once: all of a primitive object, the header of a constructed one.
+    /// Returns how many octets are taken in one step: all of a primitive object, or the header of a constructed one.
     pub(crate) fn taken(&self) -> usize
         ensures { result ≡ taken_of self.now }
     {
@@ -42,7 +42,7 @@ impl ShortHeader {
         }
     }
 
-    /// The length of the value, where the object is open once its header was taken.
+    /// Returns the length of the value if the object is open after its header.
     pub(crate) fn opens(&self) -> Option<usize>
         ensures some { IfSome result
             (λ n. (0 < n) × (n ≡ self.now.len)
@@ -57,15 +57,15 @@ impl ShortHeader {
         }
     }
 
-    /// The number of octets of the whole object.
+    /// Returns the number of octets of the whole object.
     pub(crate) fn whole(&self) -> usize
         ensures { result ≡ whole_of self.now }
     {
         usize::from(self.header) + usize::from(self.len)
     }
 
-    /// The octets of the value of a primitive object, whose header is at the front of `octets`. A constructed
-    /// object has no such octets.
+    /// Returns the value of a primitive object whose header is at the front of `octets`. For a constructed object the
+    /// result is empty.
     pub(crate) fn value<'a>(&self, octets: &'a [u8]) -> &'a [u8]
         requires { taken_of self.now ≤ length octets.now }
         ensures { result.now ≡ value_in octets.now self.now }
@@ -73,7 +73,7 @@ impl ShortHeader {
         &octets[usize::from(self.header)..self.taken()]
     }
 
-    /// What the header says of its object.
+    /// Returns the header as that of any object.
     pub(crate) fn object(&self) -> ObjectHeader
         ensures { result ≡ record { tag = self.now.tag; form = self.now.form; len = self.now.len } }
     {
@@ -85,10 +85,10 @@ impl ShortHeader {
     }
 }
 
-/// So many octets are copied to read a short header, which has at most six: eight are copied at once.
+/// How many octets are copied to read a short header. It has at most six, and eight are copied in one step.
 const FRONT: usize = 8;
 
-/// The short header with which these octets begin, where all of the object that is taken at once is here.
+/// Returns the short header at the front of these octets, if they have all that is taken of the object in one step.
 #[inline(always)]
 pub(crate) fn short_header(octets: &[u8]) -> Option<ShortHeader>
     ensures { IfSome result
@@ -101,8 +101,8 @@ pub(crate) fn short_header(octets: &[u8]) -> Option<ShortHeader>
     Some(found)
 }
 
-/// The first octets, with zeros after the last where there are fewer. They are copied, so that the header is read
-/// from places that are always there: read from the octets themselves it takes a quarter longer.
+/// Returns the first octets, with zeros after the last if there are fewer. They are copied so that the header is read
+/// from places that always exist. Reading from the octets themselves takes a quarter longer.
 #[inline(always)]
 fn front_of(octets: &[u8]) -> [u8; FRONT]
     ensures { take (length octets.now) result ≡ take 8 octets.now }
@@ -113,7 +113,8 @@ fn front_of(octets: &[u8]) -> [u8; FRONT]
     front_of_few(octets)
 }
 
-/// Fewer octets, with zeros after them. It is a function of its own: in line, its array is cleared for every header.
+/// Returns fewer octets, with zeros after them. This is a separate function: inlined, its array would be cleared for
+/// every header.
 #[cold]
 #[inline(never)]
 fn front_of_few(octets: &[u8]) -> [u8; FRONT]
@@ -125,7 +126,7 @@ fn front_of_few(octets: &[u8]) -> [u8; FRONT]
     front
 }
 
-/// The short header with which so many octets begin, if they do.
+/// Returns the short header at the front, if there is one.
 #[inline(always)]
 fn header_at(front: &[u8; FRONT]) -> Option<ShortHeader>
     ensures { IfSome result (IsShort front.now) }
@@ -141,7 +142,8 @@ fn header_at(front: &[u8; FRONT]) -> Option<ShortHeader>
     })
 }
 
-/// The number of octets of the tag at the front. Objects differ in it with no rule, so it is counted without a branch.
+/// Returns the number of octets of the tag at the front. It varies from object to object, so it is counted without a
+/// branch.
 #[inline(always)]
 fn tag_at(front: &[u8; FRONT]) -> Option<u8>
     ensures tag { IfSome result (λ n. IsTag (take n front.now)) }
@@ -157,7 +159,7 @@ fn tag_at(front: &[u8; FRONT]) -> Option<u8>
     Some(1 + u8::from(is_long) + u8::from(is_longer))
 }
 
-/// The length field of at most three octets after a tag of so many.
+/// Returns the length field after a tag of `tag` octets, if it has at most three octets.
 #[inline(always)]
 fn length_at(front: &[u8; FRONT], tag: u8) -> Option<ShortLength>
     requires { tag ≤ 3 }

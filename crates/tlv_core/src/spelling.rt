@@ -1,4 +1,4 @@
-//! Forests as octets.
+//! Encoding of forests.
 
 ghost use Rattle.std.specs.Prelude.{◌≡◌, ℕ, ◌<◌, ◌≤◌, ◌++◌, length, OnOk, IfOk};
 ghost use Rattle.tlv_core.specs.Form.{capacity};
@@ -12,7 +12,7 @@ use crate::survey::octets_of;
 use crate::tag::Tag;
 use std::alloc::{AllocError, Global};
 
-/// The octets that spell the forest, or lack of memory.
+/// Encodes the forest. The error is a failed allocation.
 pub fn encode(alloc: Global, forest: &Forest) -> Result<Vec<u8>, AllocError>
     ensures { IfOk result (λ octets. IsForest largest forest.now octets.items) }
 {
@@ -21,7 +21,7 @@ pub fn encode(alloc: Global, forest: &Forest) -> Result<Vec<u8>, AllocError>
     Ok(out)
 }
 
-/// Adds the octets of a list of nodes.
+/// Appends the encoding of a list of nodes.
 fn append_nodes(out: &mut Vec<u8>, nodes: &Nodes) -> Result<(), AllocError>
     requires proper { (depth : ℕ) × IsProper depth nodes.now }
     requires size { length (spelling nodes.now) ≤ largest }
@@ -43,7 +43,7 @@ fn append_nodes(out: &mut Vec<u8>, nodes: &Nodes) -> Result<(), AllocError>
     Ok(())
 }
 
-/// Adds the header of an object whose value has `len` octets.
+/// Appends the header of an object whose value has `len` octets.
 fn append_header(out: &mut Vec<u8>, tag: &Tag, form: Form, len: usize) -> Result<(), AllocError>
     requires { len < capacity form }
     ensures { OnOk result (out.new.items ≡ out.old.items ++ header_of tag.now form len) }

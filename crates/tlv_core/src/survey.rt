@@ -1,4 +1,4 @@
-//! What a list of nodes is like at every depth: its length in octets, and what is improper in it.
+//! Surveys of a list of nodes at every depth: its encoded length, and what is improper in it.
 
 ghost use Rattle.std.specs.Prelude.{◌≡◌, ℕ, ◌+◌, ◌-◌, ◌^◌, ◌≤◌, ◌↔◌, IsTrue, length, min};
 ghost use Rattle.octet_core.specs.Octets.{AreOctets};
@@ -14,7 +14,7 @@ use crate::progress::DEEPEST;
 use crate::tag::Tag;
 use octet_core::Octets;
 
-/// The number of octets that spell the list, or the greatest `usize` where there are more.
+/// Returns the number of octets that encode the list, or the greatest `usize` if there are more.
 pub(crate) fn octets_of(nodes: &Nodes) -> usize
     ensures count { result ≡ min (length (spelling nodes.now)) (2 ^ 64 - 1) }
     ensures objects { AreObjects nodes.now }
@@ -31,7 +31,7 @@ pub(crate) fn octets_of(nodes: &Nodes) -> usize
     total
 }
 
-/// The number of octets of a value.
+/// Returns the number of octets of a value.
 fn value_len(value: &Octets) -> usize
     ensures count { result ≡ length value.now }
     ensures octets { AreOctets value.now }
@@ -40,7 +40,8 @@ fn value_len(value: &Octets) -> usize
     held.len()
 }
 
-/// The number of octets of an object whose value has `len` octets, or the greatest `usize`.
+/// Returns the number of octets of an object whose value has `len` octets, at most the greatest
+/// `usize`.
 fn octets_with(tag: &Tag, form: Form, len: usize) -> usize
     ensures count { result ≡ min (length tag.now + 1 + further form + len) (2 ^ 64 - 1) }
     ensures tag { IsTag tag.now }
@@ -60,7 +61,7 @@ pub(crate) enum Fault {
     Form,
 }
 
-/// Whether an object has this fault, where the list is at this depth.
+/// Whether an object of the list, at any depth, has this fault. The list is at `depth`.
 pub(crate) fn has_fault(fault: Fault, nodes: &Nodes, depth: usize) -> bool
     ensures { IsTrue result ↔ SomeObject (HasFault fault) depth nodes.now }
 {
@@ -82,7 +83,7 @@ pub(crate) fn has_fault(fault: Fault, nodes: &Nodes, depth: usize) -> bool
     false
 }
 
-/// Whether the node is an object with this fault, at this depth.
+/// Whether the node at this depth is an object with this fault.
 fn is_faulty(fault: Fault, node: &Node, depth: usize) -> bool
     ensures { IsTrue result ↔ OwnIs (HasFault fault) depth node.now }
 {
@@ -93,7 +94,7 @@ fn is_faulty(fault: Fault, node: &Node, depth: usize) -> bool
     }
 }
 
-/// Whether the node is an object that is too deep, at this depth.
+/// Whether the node at this depth is an object that is too deep.
 fn is_deep(node: &Node, depth: usize) -> bool
     ensures { IsTrue result ↔ OwnIs IsDeep depth node.now }
 {
@@ -103,7 +104,7 @@ fn is_deep(node: &Node, depth: usize) -> bool
     }
 }
 
-/// Whether bit 6 of the tag of the node disagrees with its kind.
+/// Whether bit 6 of the node's tag disagrees with its kind.
 fn is_other_kind(node: &Node) -> bool
     ensures { (d : ℕ) → IsTrue result ↔ OwnIs IsOtherKind d node.now }
 {

@@ -6,21 +6,21 @@ ghost use Rattle.tlv_core.specs.TagView.{padded};
 
 use std::marker::Model;
 
-/// Whether further octets follow the first one of a tag: its low five bits are all 1.
+/// Whether further octets follow the first octet of a tag: its low five bits are all 1.
 pub(crate) fn is_long(first: u8) -> bool
     ensures { IsTrue result ↔ IsLong first }
 {
     first % 0x20 == 0x1F
 }
 
-/// Whether an octet ends a tag that has two: bit 8 is 0, and not all of its low seven bits are.
+/// Whether a second octet ends its tag: bit 8 is 0, and the low seven bits aren't all 0.
 pub(crate) fn is_last(second: u8) -> bool
     ensures { IsTrue result ↔ ((0 < second) × (second < 128)) }
 {
     second != 0 && second < 0x80
 }
 
-/// Whether a tag with this first octet is that of a constructed object: bit 6.
+/// Whether a tag with this first octet belongs to a constructed object: bit 6.
 pub(crate) fn is_constructed(first: u8) -> bool
     ensures { IsTrue result ↔ (first / 32 % 2 ≡ 1) }
 {
@@ -39,8 +39,8 @@ pub(crate) fn is_tag(octets: &[u8]) -> bool
     }
 }
 
-/// A tag of one to three octets, the first of them not 00, which contracts see as its octets
-/// (EMV 4.3 Book 3, Annex B; ISO/IEC 7816-4, clause 5.2.2).
+/// A tag of one to three octets, the first of them not 00 (EMV 4.3 Book 3, Annex B; ISO/IEC 7816-4, clause
+/// 5.2.2). Contracts see its octets.
 #[derive(Clone, Copy, Debug)]
 pub struct Tag {
     octets: [u8; 3],
@@ -64,9 +64,9 @@ impl Model for Tag {
 }
 
 impl Tag {
-    /// Returns the tag that the octets spell, or `None` where they aren't one whole tag: they are empty, begin
-    /// with 00, have a second octet whose low seven bits are 0, end too early, go on after the tag, or announce
-    /// a fourth octet.
+    /// Returns the tag with these octets, or `None` if they aren't one whole tag. They aren't if they are empty,
+    /// begin with 00, end too early, continue after the tag, or announce a fourth octet. A second octet whose
+    /// low seven bits are 0 isn't in a tag either.
     pub fn new(octets: &[u8]) -> Option<Tag>
         ensures { MatchOption result (IsTag octets.now → ⊥)
             (λ tag. IsTag octets.now × (tag ≡ octets.now)) }
@@ -78,7 +78,7 @@ impl Tag {
         }
     }
 
-    /// The tag that the octets spell.
+    /// Returns the tag with these octets.
     pub(crate) fn of(octets: &[u8]) -> Tag
         requires { IsTag octets.now }
         ensures { result ≡ octets.now }
@@ -100,7 +100,8 @@ impl Tag {
         }
     }
 
-    /// The tag of the first `count` of three octets, made without a branch: a mask clears the octets after it.
+    /// Returns the tag in the first `count` of three octets. It has no branch: a mask clears the octets after
+    /// the tag.
     #[inline(always)]
     pub(crate) fn front(first: u8, second: u8, third: u8, count: u8) -> Tag
         requires few { count ≤ 3 }
@@ -116,7 +117,7 @@ impl Tag {
         }
     }
 
-    /// The octets of the tag, one to three.
+    /// Returns the octets of the tag, one to three.
     pub fn octets(&self) -> &[u8]
         ensures value { result.now ≡ self.now }
         ensures tag { IsTag result.now }
@@ -124,7 +125,7 @@ impl Tag {
         &self.octets[..self.count as usize]
     }
 
-    /// The octets of the tag, and zeros after them up to three.
+    /// Returns the octets of the tag, with zeros after them up to three.
     #[inline(always)]
     pub fn padded(&self) -> [u8; 3]
         ensures { result ≡ padded self.now }
@@ -133,7 +134,7 @@ impl Tag {
         octets
     }
 
-    /// Whether the tag is that of a constructed object: bit 6 of its first octet.
+    /// Whether the tag belongs to a constructed object: bit 6 of its first octet.
     pub fn is_constructed(&self) -> bool
         ensures { IsTrue result ↔ (constructed_bit self.now ≡ 1) }
     {

@@ -1,4 +1,4 @@
-//! Tags octet by octet.
+//! Reading tags octet by octet.
 
 ghost use Rattle.std.specs.Prelude.{◌≡◌, ◌<◌, ◌≤◌, ◌%◌, [], ◌∷◌, MatchOption};
 ghost use Rattle.tlv_core.specs.Tag.{IsLong};
@@ -6,10 +6,10 @@ ghost use Rattle.tlv_core.specs.TagPart.{part_octets, IsTagPart};
 
 use crate::tag::{Tag, is_long};
 
-/// The octets of a tag so far.
+/// The octets of a tag that were read so far.
 #[derive(Clone, Copy)]
 pub(crate) enum TagPart {
-    /// None.
+    /// No octets.
     Nothing,
     /// A first octet that a second one follows.
     First(u8),
@@ -19,7 +19,7 @@ pub(crate) enum TagPart {
     Tagged(Tag),
 }
 
-/// The first octet of a tag, unless it is 00.
+/// Takes the first octet of a tag. The result is `None` if it is 00.
 pub(crate) fn tag_first(octet: u8) -> Option<TagPart>
     ensures { MatchOption result (octet ≡ 0)
         (λ longer. IsTagPart longer × (part_octets longer ≡ octet ∷ [])) }
@@ -33,7 +33,7 @@ pub(crate) fn tag_first(octet: u8) -> Option<TagPart>
     }
 }
 
-/// The second octet of a tag, unless its low seven bits are all 0.
+/// Takes the second octet of a tag. The result is `None` if its low seven bits are all 0.
 pub(crate) fn tag_second(first: u8, octet: u8) -> Option<TagPart>
     requires { IsLong first }
     ensures { MatchOption result (octet % 128 ≡ 0)
@@ -48,7 +48,7 @@ pub(crate) fn tag_second(first: u8, octet: u8) -> Option<TagPart>
     }
 }
 
-/// The third octet of a tag, unless a fourth would follow.
+/// Takes the third octet of a tag. The result is `None` if a fourth would follow.
 pub(crate) fn tag_third(first: u8, second: u8, octet: u8) -> Option<TagPart>
     requires long { IsLong first }
     requires more { 128 < second }

@@ -1,4 +1,4 @@
-//! The tidy form of a forest, put into a buffer of the caller's.
+//! The tidy form of a forest, written to a buffer of the caller.
 
 ghost use Rattle.std.specs.Prelude.{◌≡◌, ℕ, ◌+◌, ◌-◌, ◌^◌, ◌<◌, ◌≤◌, List, [], ◌∷◌, ◌++◌, length, take, drop, IfOk, IfErr};
 ghost use Rattle.octet_core.specs.Grammar.{Refuses, whole};
@@ -17,15 +17,15 @@ use crate::walk::Keep;
 use arrayvec::ArrayVec;
 use octet_core::Stop;
 
-/// Writes the tidy form of the forest that all the octets spell, at most `max` of them, itself at most 1,048,576, to
-/// the front of a buffer, and says how many octets it has. Or why they spell none: `Short` at their end where a forest
-/// goes on, `At` the first octet after which none does.
+/// Writes the tidy form of a forest to the front of a buffer, and returns how many octets it has. `octets` are the
+/// encoding of the forest, at most `max` of them; `max` is at most 1,048,576. The error is `Short` at their end if a
+/// forest could continue there, or `At` the first octet after which none can.
 ///
-/// The buffer stays as it was where it has less room than that, and where the octets are refused. The tidy form never
-/// has more octets than the forest.
+/// The buffer stays as it was if it is too small, or if the octets are refused. The tidy form never has more octets
+/// than the forest.
 ///
-/// It takes no memory and has no recursion. It goes over the octets twice, and moves those of an object once for each
-/// object that it is in, by the length field of that one.
+/// The call allocates nothing and doesn't recurse. It goes over the octets twice. It moves the octets of an object
+/// once for each object around it, by the size of that one's length field.
 pub fn put_tidy(octets: &[u8], max: usize, out: &mut [u8]) -> Result<usize, Stop<TlvReason>>
     requires { max ≤ 1048576 }
     ensures tidied { IfOk result (PutsTidy max octets.now out.old out.new) }
@@ -39,7 +39,8 @@ pub fn put_tidy(octets: &[u8], max: usize, out: &mut [u8]) -> Result<usize, Stop
     Ok(count)
 }
 
-/// Writes the tidy form as far as the buffer has room for what is written by then, and says how many octets it has.
+/// Writes the tidy form while the buffer has room for all that is written by then. Returns how many octets the whole
+/// form has.
 fn put_objects(octets: &[u8], max: usize, out: &mut [u8]) -> Result<usize, Stop<TlvReason>>
     requires { max ≤ 1048576 }
     ensures ok { IfOk result (IsTidyOf max octets.now out.old out.new) }
@@ -54,17 +55,17 @@ fn put_objects(octets: &[u8], max: usize, out: &mut [u8]) -> Result<usize, Stop<
     Ok(form.end as usize)
 }
 
-/// What is kept of a tidy form under way, whose octets are in a buffer.
+/// The state of a tidy form that is being written to a buffer.
 #[derive(Drop)]
 struct TidyForm {
-    /// The places after the tags of the open objects, outermost first. There go their length fields.
+    /// The places after the tags of the open objects, outermost first. Their length fields go there.
     starts: ArrayVec<u32, DEEPEST>,
-    /// How many octets there are so far, also where the buffer has no room for them.
+    /// How many octets the form has so far, whether or not the buffer has room for them.
     end: u32,
 }
 
 impl TidyForm {
-    /// Before the first object.
+    /// Starts before the first object.
     fn new() -> TidyForm
         ensures { (old : List ℕ) → IsKeptOf old old result nothing_yet }
     {
@@ -74,7 +75,7 @@ impl TidyForm {
         }
     }
 
-    /// Writes the next object: all of it where it is primitive, its tag where it is constructed.
+    /// Writes the next object: the whole object if it is primitive, its tag if it is constructed.
     fn take(&mut self, part: &Part<'_>, out: &mut [u8])
         ensures { (old : List ℕ) (g : Growing) → IsKeptOf old out.old self.old g
             → IsKeptOf old out.new self.new (with_part g (part_seen part.now)) }
@@ -88,7 +89,7 @@ impl TidyForm {
         }
     }
 
-    /// Opens the object whose tag was written last. No object of a forest stands deeper than there is place for.
+    /// Opens the object whose tag was written last. No object of a forest is too deep for `starts`.
     fn open(&mut self)
         ensures { (old new : List ℕ) (g : Growing) → IsKeptOf old new self.old g
             → IsKeptOf old new self.new (open_after g.opened g.list) }
@@ -112,7 +113,7 @@ impl TidyForm {
     }
 }
 
-/// Writes octets after those that end at this place, if the buffer has room, and says where they end.
+/// Writes octets after those that end at `end`, if the buffer has room. Returns where they end.
 fn append(octets: &[u8], end: u32, out: &mut [u8]) -> u32
     requires { length octets.now < 2 ^ 32 }
     ensures { (old before : List ℕ) → MayBePut old out.old end before
@@ -126,7 +127,7 @@ fn append(octets: &[u8], end: u32, out: &mut [u8]) -> u32
     kept_place(end)
 }
 
-/// Writes a value after the shortest field that says its length.
+/// Writes the shortest length field for a value, and the value after it.
 fn append_value(value: &[u8], end: u32, out: &mut [u8]) -> u32
     requires { length value.now < 2 ^ 32 }
     ensures { (old before : List ℕ) → MayBePut old out.old end before
@@ -137,7 +138,7 @@ fn append_value(value: &[u8], end: u32, out: &mut [u8]) -> u32
     append(value, end, out)
 }
 
-/// Puts the shortest length field before a value, which is all that is written from this place on.
+/// Inserts the shortest length field before a value. The value is all that is written from `start` on.
 fn close(start: u32, end: u32, out: &mut [u8]) -> u32
     ensures { (old before value : List ℕ) → start ≡ length before
         → MayBePut old out.old end (before ++ value)
@@ -153,7 +154,7 @@ fn close(start: u32, end: u32, out: &mut [u8]) -> u32
     kept_place(end)
 }
 
-/// Puts octets before others, which move on by as many; the last of those are lost.
+/// Inserts octets at the front. The others move back, and the last ones are lost.
 fn insert(octets: &[u8], out: &mut [u8])
     requires { length octets.now ≤ length out.old }
     ensures { out.new ≡ octets.now ++ take (length out.old - length octets.now) out.old }
@@ -163,7 +164,7 @@ fn insert(octets: &[u8], out: &mut [u8])
     out[..octets.len()].copy_from_slice(octets);
 }
 
-/// A place in the tidy form as it is kept. No forest has one that is beyond the greatest.
+/// Returns a place in the tidy form as the state keeps it. No tidy form has a place beyond the greatest `u32`.
 fn kept_place(place: usize) -> u32
     ensures { place < 2 ^ 32 → result ≡ place }
 {

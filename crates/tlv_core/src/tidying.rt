@@ -1,4 +1,4 @@
-//! The tidy form of a forest.
+//! The shortest encoding of a forest's objects, which this project calls its tidy form.
 
 ghost use Rattle.std.specs.Prelude.{◌≡◌, length, IfOk};
 ghost use Rattle.tlv_core.specs.Form.{shortest};
@@ -13,8 +13,11 @@ use crate::tag::Tag;
 use octet_core::Octets;
 use std::alloc::{AllocError, Global};
 
-/// The same objects without fillers, each in the shortest form of its length, its nodes before itself;
-/// or lack of memory. No forest that says the same has fewer octets.
+/// Returns the tidy form of a forest: the same objects without fillers, each in the shortest form of
+/// its length. The nodes of an object are tidied before its length is computed. No forest with the
+/// same objects has fewer octets.
+///
+/// The error is a failed allocation.
 pub fn tidy(alloc: Global, forest: &Forest) -> Result<Forest, AllocError>
     ensures { IfOk result (λ tidied. tidied ≡ tidy_form forest.now) }
 {
@@ -22,7 +25,7 @@ pub fn tidy(alloc: Global, forest: &Forest) -> Result<Forest, AllocError>
     Ok(Forest::of(nodes))
 }
 
-/// The same nodes, tidied.
+/// Returns the same nodes, tidied.
 fn tidy_nodes(alloc: Global, nodes: &Nodes) -> Result<Nodes, AllocError>
     ensures { IfOk result (λ tidied. tidied ≡ tidy_form nodes.now) }
 {
@@ -53,7 +56,7 @@ fn tidy_nodes(alloc: Global, nodes: &Nodes) -> Result<Nodes, AllocError>
     Ok(Nodes::of(list))
 }
 
-/// A primitive object in the shortest form, with a copy of the value.
+/// Returns a primitive object with a copy of the value, in the shortest form.
 fn primitive(alloc: Global, tag: Tag, value: &[u8]) -> Result<Node, AllocError>
     ensures { IfOk result (λ node. node ≡ Primitive tag (shortest (length value.now)) value.now) }
 {

@@ -1,4 +1,4 @@
-//! The objects of a forest, of each of which something is kept.
+//! Reading of all objects of a forest, for results that keep something of each.
 
 ghost use Rattle.std.specs.Prelude.{◌≡◌, ℕ, List, ◌≤◌, length, map, IfOk, IfErr};
 ghost use Rattle.octet_core.specs.Grammar.{Accepts, RefusesUnlessMemory, whole};
@@ -14,24 +14,24 @@ use crate::reason::TlvReason;
 use octet_core::Refused;
 use std::alloc::Global;
 
-/// What is kept of an object.
+/// What is kept of each object.
 pub(crate) trait Keep<'a>: Copy {
     /// What contracts see of it.
     ghost Seen: { Type 0 };
 
-    /// That of what is kept.
+    /// Maps what is kept to what contracts see.
     ghost seen: { Self → Seen };
 
-    /// That of an object that is placed so in the octets of the forest.
+    /// Maps an object, by its place in the octets of the forest, to what contracts see.
     ghost seen_in: { List ℕ → Placed → Seen };
 
-    /// What is kept of an object of the octets.
+    /// Returns what is kept of an object of the octets.
     fn kept(part: PlacedPart, octets: &'a [u8]) -> Self
         requires { IsInside octets.now part }
         ensures { seen result ≡ seen_in octets.now (placed_of part) };
 }
 
-/// Borrows the value. Where the octets end before the value does, the part has the octets that are there.
+/// Borrows the value. If the octets end before the value does, the part has the octets that are there.
 impl<'a> Keep<'a> for Part<'a> {
     ghost use Rattle.tlv_core.specs.Flat.{PartValue};
 
@@ -53,7 +53,7 @@ impl<'a> Keep<'a> for Part<'a> {
     }
 }
 
-/// Its place alone is kept.
+/// Keeps the place alone.
 impl<'a> Keep<'a> for PlacedPart {
     ghost Seen = { Placed };
 
@@ -66,7 +66,8 @@ impl<'a> Keep<'a> for PlacedPart {
     }
 }
 
-/// What is kept of the objects of the forest that all the octets spell, in the order of their headers.
+/// Returns what is kept of the objects of the forest that all the octets encode, in the order of their
+/// headers.
 pub(crate) fn walk<'a, K: Keep<'a>>(
     alloc: Global,
     octets: &'a [u8],

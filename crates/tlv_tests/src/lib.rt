@@ -1,4 +1,4 @@
-//! The tests of [`tlv_core`], apart from it so that the gate proves it once.
+//! The tests of [`tlv_core`], in a separate crate so that the gate proves it once.
 #![tactic(auto)]
 
 #[cfg(test)]

@@ -1,4 +1,5 @@
-//! What no clause says, and each call once with ample memory. The verdicts on octets are in the folder `vectors`.
+//! Tests of what no clause says, and of each call once with ample memory. The verdicts on octets are in the
+//! folder `vectors`.
 
 use as_value::{
     come_back, deep, forest, list, lists, made, nested, octets, one, primitive, spells, tag,
@@ -21,7 +22,7 @@ mod pieces;
 mod printed;
 mod tidied;
 
-/// Octets that are no tag.
+/// Octets that aren't a tag.
 const NO_TAGS: [&[u8]; 6] = [
     &[],
     &[0x00],
@@ -38,7 +39,7 @@ fn octets_that_are_no_tag(rt: HostRuntime) {
     }
 }
 
-/// How many octets tags have, whether their objects are constructed, and their octets filled up to three.
+/// How many octets each tag has, whether its object is constructed, and its octets padded to three.
 const TAGS: [(usize, bool, [u8; 3]); 5] = [
     (1, false, [0x5A, 0x00, 0x00]),
     (1, true, [0x6F, 0x00, 0x00]),
@@ -47,7 +48,7 @@ const TAGS: [(usize, bool, [u8; 3]); 5] = [
     (3, false, [0xDF, 0x81, 0x01]),
 ];
 
-/// Whether octets are a tag that is constructed or not, and is filled up so.
+/// Whether octets are a tag that is constructed or not, with these padded octets.
 fn is_whole(octets: &[u8], constructed: bool, padded: [u8; 3]) -> bool {
     match Tag::new(octets) {
         Some(tag) => {
@@ -74,13 +75,13 @@ fn tags_are_told_apart(rt: HostRuntime) {
     assert!(rt; !same(short, tag(&rt, &[0x9F, 0x5A])));
 }
 
-/// Two fillers and two nodes.
+/// Returns two fillers and two nodes.
 fn behind_fillers(rt: &impl Abort, alloc: Global, one: Node, other: Node) -> Nodes {
     let nodes = Vec::from_array(alloc, [Node::Filler, Node::Filler, one, other]);
     Nodes::of(nodes.ok().expect(rt, "a list"))
 }
 
-/// A forest with fillers and forms that are longer than needed.
+/// Returns a forest with fillers and forms that are longer than needed.
 fn untidy(rt: &impl Abort, alloc: Global) -> Forest {
     let inner = tag(rt, &[0x5A]);
     let value = primitive(rt, alloc, inner, Form::Two, 1);
@@ -89,7 +90,7 @@ fn untidy(rt: &impl Abort, alloc: Global) -> Forest {
     made(rt, behind_fillers(rt, alloc, value, outer))
 }
 
-/// Whether the tidied forest is written in the octets of this text.
+/// Whether the tidied forest encodes as this text.
 fn tidies(alloc: Global, forest: &Forest, text: &str) -> bool {
     match tidy(alloc, forest) {
         Ok(tidied) => spells(alloc, &tidied, text),
@@ -105,7 +106,7 @@ fn forests_are_written_and_tidied(rt: HostRuntime) {
     assert!(rt; tidies(rt.alloc(), &forest, "5A011270025A00"));
 }
 
-/// Whether a list of one node comes back for this reason.
+/// Whether a list of one node is returned for this reason.
 fn comes_back(rt: &impl Abort, alloc: Global, node: Node, why: Improper) -> bool {
     come_back(one(rt, alloc, node), 1, why)
 }
@@ -134,7 +135,7 @@ fn lists_are_read_and_written(rt: HostRuntime) {
     assert!(rt; lists(rt.alloc(), &dol, &octets));
 }
 
-/// A list with one entry.
+/// Makes a list with one entry.
 fn one_entry(rt: &impl Abort, alloc: Global) -> Dol {
     let entries = Vec::from_array(alloc, [(tag(rt, &[0x9A]), 3_u8)]);
     Dol::of(entries.ok().expect(rt, "a list"))
@@ -160,17 +161,17 @@ fn has_one_inside(node: Option<&Node>) -> bool {
     }
 }
 
-/// Whether the object at a path is there, and has one inside.
+/// Whether there is an object at a path, with one object inside.
 fn finds_one(forest: &Forest, path: &[Tag]) -> bool {
     has_one_inside(first(forest, path))
 }
 
-/// Whether no object is at a path.
+/// Whether there is no object at a path.
 fn finds_none(forest: &Forest, path: &[Tag]) -> bool {
     first(forest, path).is_none()
 }
 
-/// A forest with an object A5 in an object 6F, and an object BF0C in that.
+/// Returns a forest with an object A5 in an object 6F, and an object BF0C in that one.
 fn template(rt: &impl Abort, alloc: Global) -> Forest {
     let octets = octets(rt, alloc, "6F108407A0000000041010A505BF0C025000");
     forest(rt, alloc, octets.as_slice())
@@ -186,7 +187,7 @@ fn objects_are_found_by_their_path(rt: HostRuntime) {
     assert!(rt; finds_none(&forest, &[inner]));
 }
 
-/// Octets of a value with the limit's length and with one more, and where they stop.
+/// Octets of a value that is as long as the limit or one octet longer, and their stop.
 const LIMITS: [(&[u8], Stop<TlvReason>); 2] = [
     (&[0x5A, 0x82, 0xFF, 0xFC], Stop::Short { place: 4 }),
     (
@@ -198,7 +199,7 @@ const LIMITS: [(&[u8], Stop<TlvReason>); 2] = [
     ),
 ];
 
-/// Whether octets stop so in a check, a tree and a list of parts with at most 65,536 octets.
+/// Whether octets have this stop in a check, a tree and a list of parts with at most 65,536 octets.
 fn stop_so(alloc: Global, octets: &[u8], stop: Stop<TlvReason>) -> bool {
     let mut check = ForestCheck::new(65_536);
     let _ = check.feed(octets);

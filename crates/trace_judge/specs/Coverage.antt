@@ -1,5 +1,4 @@
--- How often each end of a trace kept each rule and broke it, how often what was due from it was this, and the lines that
--- say so.
+-- The counts of a trace and their lines: how often each end kept and broke each rule, and how often each state was due.
 use Rattle.std.specs.Prelude.{ℕ, ◌==◌, ◌&&◌, List, [], ◌∷◌, ◌++◌, codes, decimal, replicate, slice_index, slice_set, Bool, true, false, Option, Some, None, if◌then◌else◌}
 use Rattle.block_core.specs.declared.side.Side.{Side}
 use Rattle.block_core.specs.declared.side.Side.TheVariants.{Terminal, Card}
@@ -23,11 +22,11 @@ no_counts = record { kept = replicate 22 0; broken = replicate 22 0; states = re
 abbrev pub nothing_covered : Coverage
 nothing_covered = record { terminal = no_counts; card = no_counts }
 
--- one more at a place
+-- the counts with one more at a place
 abbrev pub bumped : ℕ → List ℕ → List ℕ
 bumped place counts = slice_set counts place (number_after (slice_index counts place))
 
--- one more at the place of a rule that was at stake
+-- the counts with one more at the place of a rule, if the rule was at stake
 abbrev pub kept_one : Stakes → Rule → List ℕ → List ℕ
 kept_one stakes r counts = if at_stake stakes r then bumped (rule_place r) counts else counts
 
@@ -39,7 +38,7 @@ abbrev pub came : Option State → List ℕ → List ℕ
 came None counts = counts
 came (Some state) counts = bumped (state_place state) counts
 
--- what a block of an end adds
+-- the counts after a block of an end
 abbrev pub counted_by : Exercise → Counts → Counts
 counted_by Unknown counts = counts
 counted_by (Keeps stakes) counts = record counts {
@@ -60,7 +59,7 @@ covered Card exercise coverage = record coverage { card = counted_by exercise co
 abbrev pub kept_and_broken : ℕ → ℕ → List ℕ
 kept_and_broken kept broken = codes " kept " ++ (decimal kept ++ (codes " broken " ++ decimal broken))
 
--- a rule that nobody kept or broke was never exercised
+-- a rule that no end kept or broke is reported as never
 abbrev pub of_rule : ℕ → ℕ → ℕ → ℕ → List ℕ
 of_rule terminal_kept terminal_broken card_kept card_broken =
     if (terminal_kept == 0 && terminal_broken == 0) && (card_kept == 0 && card_broken == 0) then codes ": never\n"
@@ -92,7 +91,7 @@ state_lines coverage (state ∷ more) = state_line coverage state ++ state_lines
 abbrev pub coverage_text : Coverage → List ℕ
 coverage_text coverage = rule_lines coverage rules ++ state_lines coverage states
 
--- these lines, if rules and states are counted
+-- the lines of the counts, if rules and states are counted
 abbrev pub coverage_part : Bool → Coverage → List ℕ
 coverage_part true coverage = coverage_text coverage
 coverage_part false coverage = []

@@ -1,4 +1,4 @@
--- What is said of a whole trace: line by line, and at its end.
+-- What is reported about a whole trace, line by line and at its end.
 use Rattle.std.specs.Prelude.{◌≡◌, ◌⊎◌, ◌+◌, ◌/◌, ◌%◌, ◌<◌, ◌≤◌, ◌==◌, ◌&&◌, not, min, ℕ, List, [], ◌∷◌, ◌++◌, length, slice_index, slice_index_or, codes, decimal, Bool, true, false, Option, Some, None, Result, Ok, Err, if◌then◌else◌, bit_and, count_ones, MatchResult}
 use Rattle.std.specs.List.{slice_split}
 use Rattle.octet_core.specs.Octets.{xor_of}
@@ -40,19 +40,19 @@ use Rattle.trace_judge.specs.Reading.{entry_said, words_of}
 use Rattle.trace_judge.specs.Saying.{certain_text, deviation_text, late_text, neither_text, possible_text, unseen_text}
 use Rattle.trace_judge.specs.Waiting.{lateness, new_timing, past, timed, Offered, Rates}
 
--- What was judged so far.
+-- The state of the judgment after the lines so far.
 pub record Standing : Type 0 where
   pub monitor : Monitor
-  -- what the card offers after a reset
+  -- what the card's answer to reset offers
   pub offered : Offered
-  -- what is judged
+  -- which parts of the trace are judged
   pub scope : Scope
-  -- whether blocks began
+  -- whether a block has come
   pub begun : Bool
   -- the last moment, and the number of the next line
   pub least : ℕ
   pub number : ℕ
-  -- what is known of the time on the line
+  -- what is known about the times on the line
   pub timing : Timing
   pub tally : Tally
   -- which rules and states were exercised
@@ -76,14 +76,14 @@ start offered scope = record {
   text = [];
 }
 
--- ---- what is told
+-- ---- reports
 
 -- whether this end is judged
 abbrev pub is_judged : Option Side → Side → Bool
 is_judged None side = true
 is_judged (Some only) side = same_side only side
 
--- one deviation more of an end
+-- the tally with one more deviation of an end
 abbrev pub deviation_of : Side → Tally → Tally
 deviation_of Terminal tally = record tally { terminal = number_after tally.terminal }
 deviation_of Card tally = record tally { card = number_after tally.card }
@@ -94,24 +94,24 @@ unseen_in tally = record tally { unseen = number_after tally.unseen }
 abbrev pub late_in : Tally → Tally
 late_in tally = record tally { late = number_after tally.late }
 
--- a line more, with what it counts, where this end is judged
+-- the standing with one more line and this tally, if this end is judged
 abbrev pub tells : Standing → Side → Tally → List ℕ → Standing
 tells s side tally line =
     if is_judged s.scope.only side then record s { tally = tally; text = s.text ++ line } else s
 
--- what a block of an end exercised, where this end is judged
+-- the standing with what a block of an end exercised, if this end is judged
 abbrev pub told_exercise : Standing → Side → Exercise → Standing
 told_exercise s side exercise =
     if is_judged s.scope.only side then record s { coverage = covered side exercise s.coverage } else s
 
--- a card that sent no block
+-- the standing after a card sent no block
 abbrev pub told_silence : Standing → Silence → Standing
 told_silence s No = s
 told_silence s (Possible number) = tells s Card (unseen_in s.tally) (possible_text number)
 told_silence s (Certain number) =
     told_exercise (tells s Card (deviation_of Card s.tally) (certain_text number)) Card (Breaks SilenceRule None)
 
--- a block of an end
+-- the standing after a block of an end
 abbrev pub told_verdict : Standing → Side → ℕ → Verdict → Standing
 told_verdict s from before Permitted = s
 told_verdict s from before Unseen =
@@ -126,7 +126,7 @@ told_said s from before (Judged verdict) = told_verdict s from before verdict
 abbrev pub told_report : Standing → Side → Report → Standing
 told_report s from report = told_said (told_silence s report.silence) from report.before report.said
 
--- A card's block, perhaps late: by what was known before it.
+-- Whether a card's block is late, from what was known before it.
 abbrev pub late_from : Standing → Side → Option Late
 late_from s Terminal = None
 late_from s Card = lateness s.offered.values s.scope.clock s.timing s.monitor.card.heard
@@ -137,11 +137,11 @@ told_late s before (Some late) = tells s Card (late_in s.tally) (late_text s.mon
 
 -- ---- before the first block: PPS (ISO/IEC 7816-3:2006, clause 9)
 
--- PPSS, PPS0, an octet for each of three bits of it, and PCK, by which the exclusive-or of all is 00
+-- PPSS, PPS0, an octet for each set bit of three in PPS0, and PCK, which makes the exclusive-or of all octets 00
 abbrev pub is_pps : List ℕ → Bool
 is_pps octets = (length octets == 3 + count_ones (bit_and (slice_index octets 1) 112)) && (xor_of octets == 0)
 
--- PPS1, which has the indexes of F and D as TA1 has them; those in use else
+-- PPS1, which has the indexes of F and D as TA1 has them; without it, the indexes of the values in use
 abbrev pub pps1_of : List ℕ → ℕ
 pps1_of octets = if bit_and (slice_index octets 1) 16 == 0 then 0x11 else slice_index octets 2
 
@@ -149,7 +149,7 @@ abbrev pub rate_text : Option ℕ → List ℕ
 rate_text None = codes "reserved"
 rate_text (Some rate) = decimal rate
 
--- F and D by the tables of TA1
+-- F and D from the tables of TA1
 abbrev pub rates_at : ℕ → Rates
 rates_at pps1 = (slice_index_or clock_rates (pps1 / 16) None, slice_index_or baud_rates (pps1 % 16) None)
 
@@ -157,11 +157,11 @@ abbrev pub pps_text : ℕ → List ℕ
 pps_text pps1 = codes "pps F " ++ (rate_text (rates_at pps1).0
     ++ (codes " D " ++ (rate_text (rates_at pps1).1 ++ codes "\n")))
 
--- octets with FF in place of a node address, before the first block
+-- octets before the first block, with FF instead of a node address
 abbrev pub is_before : Standing → List ℕ → Bool
 is_before s octets = not s.begun && (slice_index octets 0 == 255)
 
--- What the card answers holds.
+-- The line of PPS: the card's answer is in force.
 abbrev pub pps_said : Side → List ℕ → List ℕ
 pps_said Terminal octets = []
 pps_said Card octets = pps_text (pps1_of octets)
@@ -188,14 +188,15 @@ abbrev pub ExercisesIf : Bool → Monitor → Side → List ℕ → Exercise →
 ExercisesIf true monitor from octets exercise = Exercises monitor from octets exercise
 ExercisesIf false monitor from octets exercise = exercise ≡ Unknown
 
--- What the block exercised is counted, what the monitor says is told, and then whether it was late.
+-- The standing after a block: it counts what the block exercised, reports what the monitor says, and then whether the
+-- block was late.
 abbrev pub told_block : Standing → Monitor → Side → ℕ → Exercise → Report → Standing
 told_block s monitor from octets exercise report = told_late
     (told_report (told_exercise (record s { monitor = monitor; begun = true; timing = timed s.timing from octets })
     from exercise) from report)
     s.monitor.terminal.number (late_from s from)
 
--- The monitor takes octets of an end, and what it says is told.
+-- The monitor takes octets of an end, and s' is the standing with its report.
 pub record IsTold (s : Standing) (from : Side) (octets : List ℕ) (reach : Reach) (s' : Standing) : Type 0 where
   pub arrival : Arrival
   pub is_arrival : IsArrival reach arrival
@@ -238,7 +239,7 @@ IsFalling s Reset = ⊥
 IsFalling s (Moment moment) = moment < s.least
 IsFalling s (Block from octets reach) = ⊥
 
--- A line is taken, or is at fault.
+-- A line is taken, or has a fault.
 abbrev pub JudgesLine : Standing → List ℕ → Standing → Type 0
 JudgesLine s line s' = MatchResult (entry_said s.number (words_of line))
     (λ entry. (m : Standing) × IsEntered s entry m × (s' ≡ record m { number = s.number + 1 }))
@@ -266,7 +267,7 @@ unseen_part unseen = codes ", unseen " ++ decimal unseen
 abbrev pub late_part : ℕ → List ℕ
 late_part late = if late == 0 then [] else codes ", late " ++ decimal late
 
--- a number of things with this name
+-- a number with the name of what it counts
 abbrev pub counted : ℕ → List ℕ → List ℕ
 counted number name = decimal number ++ (name ++ (if number == 1 then [] else codes "s"))
 
@@ -286,7 +287,7 @@ abbrev pub summary : ℕ → Tally → List ℕ
 summary blocks tally =
     if deviations tally == 0 then ok_text blocks tally.unseen else deviations_text blocks tally
 
--- a card that owes a block at the end of the trace
+-- the standing at the end of the trace, where the card may owe a block
 abbrev pub ended : Standing → Standing
 ended s = told_silence s (silence_of s.monitor.card.heard s.monitor.terminal.number)
 
@@ -302,7 +303,7 @@ Concludes (Err fault) result = result ≡ Err fault
 abbrev pub is_line_end : ℕ → Bool
 is_line_end x = x == 10
 
--- What a text comes to, for a card that offers this: its lines, or the first fault; or out of memory.
+-- The judgment on a text for a card that offers this: its lines, or the first fault; or out of memory.
 abbrev pub Judges : Offered → Scope → List ℕ → Result Judgment ExchangeFault → Type 0
 Judges offered scope text result = (result ≡ Err Memory)
     ⊎ ((all : Result Standing ExchangeFault)

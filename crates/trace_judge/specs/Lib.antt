@@ -1,4 +1,4 @@
--- to be believed: what a text says, and what is said of it
+-- to be believed: what a text says, and what is reported about it
 pub mod Reading
 pub mod Saying
 pub mod Waiting

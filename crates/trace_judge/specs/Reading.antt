@@ -16,17 +16,17 @@ use Rattle.trace_judge.specs.declared.entry.Entry.TheVariants.{Nothing, Block, Q
 use Rattle.trace_judge.specs.declared.entry.Reach.{Reach}
 use Rattle.trace_judge.specs.declared.entry.Reach.TheVariants.{Unsaid, Lost, Came}
 
--- the first fault counts
+-- the first fault is the result
 infixl 10 ◌>>=◌
 abbrev pub ◌>>=◌ : {A B : Type 0} → Result A ExchangeFault → (A → Result B ExchangeFault) → Result B ExchangeFault
 (Ok x) >>= f = f x
 (Err e) >>= f = Err e
 
--- the same, or out of memory
+-- the result is the expected one, or out of memory
 abbrev pub UnlessMemory : {X : Type 0} → Result X ExchangeFault → Result X ExchangeFault → Type 0
 UnlessMemory result expected = (result ≡ Err Memory) ⊎ (result ≡ expected)
 
--- the first four words of a line, empty where it has fewer, and the next one
+-- the first four words of a line, empty if the line has fewer, and the next word
 pub record Words : Type 0 where
   pub first : List ℕ
   pub second : List ℕ
@@ -45,7 +45,7 @@ words_of line =
 abbrev pub is_empty : List ℕ → Bool
 is_empty word = length word == 0
 
--- octets in hexadecimal of either case
+-- octets in upper-case or lower-case hexadecimal
 abbrev pub octets_by : ℕ → Result (List ℕ) FromHexError → Result (List ℕ) ExchangeFault
 octets_by number (Ok octets) = Ok octets
 octets_by number (Err e) = Err (Hex number)
@@ -53,7 +53,7 @@ octets_by number (Err e) = Err (Hex number)
 abbrev pub hex_said : ℕ → List ℕ → Result (List ℕ) ExchangeFault
 hex_said number word = octets_by number (decode_of word)
 
--- octets of an end, and perhaps how they reached the other one: lost, or as which octets
+-- octets of an end, and how they reached the other end if the line says so: lost, or as other octets
 abbrev pub reach_said : ℕ → Words → Result Reach ExchangeFault
 reach_said number w =
     if is_empty w.second || not (is_empty w.more) then Err (Word number)
@@ -72,7 +72,7 @@ moment_by number true (Some moment) = Ok (Moment moment)
 moment_by number false (Some moment) = Err (Word number)
 moment_by number alone None = Err (Word number)
 
--- what the words of a line say, of which the first names it; a number sign begins a remark
+-- what the words of a line say; the first word names the line, and a number sign begins a remark
 abbrev pub named_said : ℕ → Words → Result Entry ExchangeFault
 named_said number w =
     if bytes_eq w.first (name_text name.FromTerminal) then block_said number Terminal w
@@ -83,7 +83,7 @@ named_said number w =
     then moment_by number (is_empty w.third) (decimal_number w.second)
     else Err (Word number)))))
 
--- 35 is the number sign
+-- what a line says; 35 is the number sign
 abbrev pub entry_said : ℕ → Words → Result Entry ExchangeFault
 entry_said number w =
     if is_empty w.first || (slice_index w.first 0 == 35) then Ok Nothing else named_said number w

@@ -1,4 +1,4 @@
--- What is said of the blocks of a trace: the words of a rule, of what was due, and of what can't be seen.
+-- The texts about the blocks of a trace: rules, what was due, and what nobody can see.
 use Rattle.std.specs.Prelude.{ℕ, List, ◌++◌, codes, decimal, Option, Some, None}
 use Rattle.block_core.specs.Block.{other}
 use Rattle.block_core.specs.declared.pcb.Number.{Number}
@@ -48,7 +48,7 @@ r_block e = codes "R-block " ++ digit_text e.expects
 abbrev pub either_block : End → List ℕ
 either_block e = i_block e ++ (codes " or R-block " ++ digit_text e.expects)
 
--- an end and what is due from it
+-- what is due from an end
 abbrev pub due_text : End → Owed → List ℕ
 due_text e NewMessage = i_block e
 due_text e NextBlock = i_block e
@@ -83,7 +83,7 @@ condition_text before = codes ": permitted if block " ++ (decimal before ++ code
 abbrev pub unseen_text : ℕ → Side → ℕ → List ℕ
 unseen_text number side before = block_text number side ++ condition_text before
 
--- a card that sent nothing
+-- a card that sent nothing, and may not have received the block
 abbrev pub possible_text : ℕ → List ℕ
 possible_text number =
     codes "card: no answer to block " ++ (decimal number ++ codes ", permitted if that was lost unseen\n")
@@ -106,6 +106,6 @@ abbrev pub late_text : ℕ → ℕ → Late → List ℕ
 late_text number before late =
     block_text number Card ++ (elapsed_text late.elapsed ++ (after_text before ++ permitted_text late.permitted))
 
--- octets before the first block that are neither, by the line of the trace
+-- octets before the first block that aren't PPS and aren't a block, by the line of the trace
 abbrev pub neither_text : ℕ → List ℕ
 neither_text number = codes "line " ++ (decimal number ++ codes ": neither PPS nor a block\n")

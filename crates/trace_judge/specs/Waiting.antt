@@ -19,7 +19,7 @@ use Rattle.trace_judge.specs.declared.timing.Sent.{Sent}
 use Rattle.trace_judge.specs.declared.timing.Timing.{Timing}
 use Rattle.trace_judge.specs.declared.timing.Interval.{Interval}
 
--- F and D, each where it is known
+-- F and D, each if it is known
 abbrev pub Rates : Type 0
 Rates = Option ℕ × Option ℕ
 
@@ -35,7 +35,7 @@ abbrev pub second_ta : List Indicated → Option ℕ
 second_ta [] = None
 second_ta (second ∷ more) = second.bytes.ta
 
--- Those of TA1 hold from the start where TA2 says so; with bit 5 of TA2 nothing says which do; without TA2 372 and 1 do.
+-- F and D from a reset: those of TA1 if TA2 says so; unknown if bit 5 of TA2 is set; 372 and 1 without TA2.
 abbrev pub rates_by : Option ℕ → Rates → Rates
 rates_by None offered = (Some 372, Some 1)
 rates_by (Some ta2) offered = if bit_and ta2 16 == 0 then offered else (None, None)
@@ -45,7 +45,7 @@ rates_before a = rates_by (second_ta a.indicated) (rates_of a)
 
 -- ---- moments
 
--- a moment counts for what comes directly after it
+-- a moment counts only for what comes directly after it
 abbrev pub past : Timing → Timing
 past timing = record timing { now = None }
 
@@ -56,20 +56,20 @@ abbrev pub sent_by : Option ℕ → ℕ → Option Sent
 sent_by None octets = None
 sent_by (Some now) octets = Some (record { moment = now; octets = octets })
 
--- after a block of so many octets
+-- the timing after a block of so many octets
 abbrev pub timed : Timing → Side → ℕ → Timing
 timed timing Terminal octets = record timing { now = None; sent = sent_by timing.now octets }
 timed timing Card octets = past timing
 
--- ---- what is known of a card's block
+-- ---- what is known about a card's block
 
--- F and D in force, where both are known
+-- F and D in force, if both are known
 abbrev pub etu_of : Rates → Option Etu
 etu_of (Some fi, Some di) = Some (record { fi = fi; di = di })
 etu_of (Some fi, None) = None
 etu_of (None, di) = None
 
--- the multiple of the block waiting time after a block: a response to a request for time grants one
+-- the multiple of the block waiting time after a block: a response to a request for time grants it
 abbrev pub multiple_of : Pcb → ℕ → ℕ
 multiple_of (Response Wtx) octet = max octet 1
 multiple_of (Response Resynch) octet = 1
@@ -79,7 +79,7 @@ multiple_of (Info number more) octet = 1
 multiple_of (Ready number fault) octet = 1
 multiple_of (Request _) octet = 1
 
--- the one that the card has, where it heard a block, perhaps
+-- the multiple that the card has, if it heard a block or may have
 abbrev pub granted : Heard → Option ℕ
 granted (Whole pcb octet) = Some (multiple_of pcb octet)
 granted (Perhaps pcb octet) = Some (multiple_of pcb octet)
@@ -87,7 +87,7 @@ granted Beginning = None
 granted Broken = None
 granted Nothing = None
 
--- from the beginning of the terminal's block to that of the card's
+-- the interval from the beginning of the terminal's block to that of the card's, if both are known
 abbrev pub waited_by : Option ℕ → Option Sent → Option Interval
 waited_by (Some now) (Some sent) = Some (record { elapsed = now - sent.moment; octets = sent.octets })
 waited_by (Some now) None = None
@@ -98,13 +98,13 @@ waited timing = waited_by timing.now timing.sent
 
 -- ---- what is permitted
 
--- BWT as often as it was granted, after the last of so many octets, none of which came later than CWT after the one
--- before; in parts, F of which are an elementary time unit
+-- The multiple of BWT, counted from the last octet of the terminal's block. Each octet of that block came at most CWT
+-- after the one before. The result is in parts of an etu, F of them in one etu.
 abbrev pub permitted_parts : T1Values → ℕ → ℕ → Etu → ℕ
 permitted_parts v multiple octets etu =
     multiple * block_waiting v etu.fi etu.di + (octets - 1) * (character_waiting v * etu.fi)
 
--- the same in microseconds, rounded up; D times the clock's frequency are the parts of a second
+-- the permitted time in microseconds, rounded up; one second has D times the clock's frequency of these parts
 abbrev pub permitted_time : T1Values → ℕ → ℕ → ℕ → Etu → ℕ
 permitted_time v clock multiple octets etu =
     div_ceil (permitted_parts v multiple octets etu * 1000000) (max (etu.di * clock) 1)
@@ -113,7 +113,7 @@ abbrev pub late_after : ℕ → ℕ → Option Late
 late_after permitted elapsed =
     if nat_lt permitted elapsed then Some (record { elapsed = elapsed; permitted = permitted }) else None
 
--- A block is late where all of this is known, and it came after what is permitted.
+-- A block is late if all of this is known, and it came after the permitted time.
 abbrev pub late_by : T1Values → Option ℕ → Option ℕ → Option Etu → Option Interval → Option Late
 late_by v (Some clock) (Some multiple) (Some etu) (Some w) =
     late_after (permitted_time v clock multiple w.octets etu) w.elapsed

@@ -29,7 +29,7 @@ impl Counts {
         }
     }
 
-    /// What a block of the end adds.
+    /// Adds what a block of the end exercised.
     fn count(&mut self, exercise: &Exercise)
         ensures { self.new ≡ counted_by exercise.now self.old }
     {
@@ -46,7 +46,7 @@ impl Counts {
         }
     }
 
-    /// How often the end kept this rule, and how often it broke it.
+    /// Returns how often the end kept this rule, and how often it broke it.
     fn of(&self, rule: Rule) -> (u64, u64)
         ensures kept { result.0 ≡ slice_index self.now.kept (rule_place rule) }
         ensures broken { result.1 ≡ slice_index self.now.broken (rule_place rule) }
@@ -69,7 +69,7 @@ pub(crate) struct Coverage {
 }
 
 impl Coverage {
-    /// Nothing yet.
+    /// Returns the coverage before the first block.
     pub(crate) fn new() -> Coverage
         ensures { result ≡ nothing_covered }
     {
@@ -89,7 +89,7 @@ impl Coverage {
         }
     }
 
-    /// Adds a line for each rule, and one for each state.
+    /// Appends a line for each rule, and a line for each state.
     fn push(&self, alloc: Global, text: &mut String) -> Result<(), AllocError>
         ensures { OnOk result (string_bytes text.new
             ≡ string_bytes text.old ++ coverage_text self.now) }
@@ -98,7 +98,7 @@ impl Coverage {
         self.push_states(alloc, text, &STATES)
     }
 
-    /// The same, if rules and states are counted.
+    /// Appends these lines, if rules and states are counted.
     pub(crate) fn push_if(
         &self,
         alloc: Global,
@@ -161,7 +161,7 @@ impl Coverage {
     }
 }
 
-/// One more at the place of each of these rules that was at stake.
+/// Adds one at the place of each of these rules that was at stake.
 fn keep(kept: &mut [u64; 22], stakes: &Stakes, rules: &[Rule])
     ensures { kept.new ≡ kept_of stakes.now rules.now kept.old }
 {
@@ -178,7 +178,7 @@ fn keep_one(kept: &mut [u64; 22], stakes: &Stakes, rule: Rule)
     }
 }
 
-/// One more at the place of the state, if there is one.
+/// Adds one at the place of the state, if there is one.
 fn come(counts: &mut [u64; 16], state: Option<State>)
     ensures { counts.new ≡ came state counts.old }
 {
@@ -195,7 +195,7 @@ fn bump_rule(counts: &mut [u64; 22], rule: Rule)
     *count = count.saturating_add(1);
 }
 
-/// Adds how often both ends kept a rule and broke it, and the end of its line.
+/// Appends how often each end kept a rule and broke it, and the end of its line.
 fn push_of_rule(
     alloc: Global,
     text: &mut String,
@@ -235,7 +235,7 @@ fn push_kept_and_broken(
     push_number(alloc, text, counts.1)
 }
 
-/// Adds how often a state came at both ends, and the end of its line.
+/// Appends how often a state came at each end, and the end of its line.
 fn push_of_state(
     alloc: Global,
     text: &mut String,

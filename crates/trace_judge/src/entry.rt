@@ -12,10 +12,10 @@ use judge_core::{Arrival, Side};
 use octet_core::{Octets, decimal_of};
 use std::alloc::Global;
 
-/// The word for a block that didn't get to its receiver, after its octets.
+/// The word for a block that didn't reach its receiver, after its octets.
 const LOST: &[u8] = b"lost";
 
-/// The word before the octets that got there.
+/// The word before the octets that arrived.
 const AS: &[u8] = b"as";
 
 /// The word for a reset of the card.
@@ -24,16 +24,16 @@ const RESET: &[u8] = b"reset";
 /// How a block reached the other end.
 #[derive(Debug, Drop)]
 pub(crate) enum Reach {
-    /// Nothing is said of it.
+    /// The trace doesn't say.
     Unsaid,
     /// It was lost.
     Lost,
-    /// As these octets.
+    /// It arrived as these octets.
     Came(Octets),
 }
 
 impl Reach {
-    /// The same, as the monitor takes it.
+    /// Returns how the block arrived, as the monitor takes it.
     pub(crate) fn arrival(&self) -> Arrival<'_>
         ensures { IsArrival self.now result }
     {
@@ -64,7 +64,7 @@ pub(crate) enum Entry {
     Moment(u64),
 }
 
-/// What the words of the line with this number say.
+/// Parses the words of the line with this number.
 pub(crate) fn entry_said(
     alloc: Global,
     number: usize,
@@ -79,7 +79,7 @@ pub(crate) fn entry_said(
     }
 }
 
-/// The entry that the words say, of which the first names it.
+/// Returns the entry of these words. The first word names it.
 fn named_said(alloc: Global, number: usize, words: &LineWords<'_>) -> Result<Entry, ExchangeFault>
     ensures { UnlessMemory result (named_said number words.now) }
 {
@@ -99,7 +99,7 @@ fn named_said(alloc: Global, number: usize, words: &LineWords<'_>) -> Result<Ent
     }
 }
 
-/// The block of this end that the words say.
+/// Returns the block of this end in these words.
 fn block_said(
     alloc: Global,
     number: usize,
@@ -117,7 +117,7 @@ fn block_said(
     })
 }
 
-/// How the block that the words say reached the other end.
+/// Returns how the block in these words reached the other end.
 fn reach_said(alloc: Global, number: usize, words: &LineWords<'_>) -> Result<Reach, ExchangeFault>
     ensures { UnlessMemory result (reach_said number words.now) }
 {
@@ -135,7 +135,7 @@ fn reach_said(alloc: Global, number: usize, words: &LineWords<'_>) -> Result<Rea
     }
 }
 
-/// A moment, if it is alone in its line.
+/// Returns a moment, if it is alone in its line.
 fn moment_by(number: usize, alone: bool, moment: Option<u64>) -> Result<Entry, ExchangeFault>
     ensures { result ≡ moment_by number alone moment }
 {
@@ -145,7 +145,7 @@ fn moment_by(number: usize, alone: bool, moment: Option<u64>) -> Result<Entry, E
     }
 }
 
-/// The octets that a word gives in hexadecimal of either case.
+/// Returns the octets of a word in upper-case or lower-case hexadecimal.
 fn hex_said(alloc: Global, number: usize, word: &[u8]) -> Result<Octets, ExchangeFault>
     ensures { UnlessMemory result (hex_said number word.now) }
 {

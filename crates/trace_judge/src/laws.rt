@@ -1,4 +1,4 @@
-//! What holds of the definitions alone, as contracts.
+//! What holds for the definitions alone, as contracts.
 
 ghost use Rattle.std.specs.Prelude.{◌≡◌, ◌≢◌, ◌⊎◌, ℕ, List, Ok, Err};
 ghost use Rattle.exchange_text.specs.declared.fault.ExchangeFault.{ExchangeFault as AnyFault};
@@ -8,7 +8,7 @@ ghost use Rattle.trace_judge.specs.declared.standing.Judgment.{Judgment as AnyJu
 ghost use Rattle.trace_judge.specs.declared.standing.Scope.{Scope as AnyScope};
 ghost use Rattle.trace_judge.specs.Waiting.{Offered};
 
-/// The text of a trace has one judgment or one fault, and no other, but for memory.
+/// The text of a trace has one judgment or one fault, and no other result except out of memory.
 pub fn one_judgment()
     ensures some { (offered : Offered) (scope : AnyScope) (text : List ℕ)
         → ((judgment : AnyJudgment) × Judges offered scope text (Ok judgment))

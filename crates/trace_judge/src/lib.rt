@@ -1,8 +1,9 @@
-//! A trace of a line judged: who broke the T=1 protocol, where, and by which clause (ISO/IEC 7816-3:2006, clause 11).
+//! Judges the trace of a line: which end broke the T=1 protocol, at which block, and by which clause (ISO/IEC
+//! 7816-3:2006, clause 11).
 //!
-//! [`judge_trace`] reads the text of a trace line by line, has a `Monitor` of judge_core judge each block, and gives a line
-//! for each deviation and a last one with the counts. It also counts which rules and states of the protocol a trace
-//! exercises.
+//! [`judge_trace`] reads the text of a trace line by line. It passes each block to a `Monitor` of judge_core, and
+//! returns a line for each deviation and a last line with the counts. It can also count which rules and states of the
+//! protocol the trace exercises.
 #![tactic(auto)]
 
 mod coverage;

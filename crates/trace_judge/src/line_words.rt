@@ -6,7 +6,7 @@ ghost use Rattle.trace_judge.specs.Reading.{words_of};
 use octet_core::first_word;
 use std::marker::Model;
 
-/// The first four words of a line, empty where it has fewer, and the next one.
+/// The first four words of a line, empty if the line has fewer, and the next word.
 #[derive(Drop)]
 pub(crate) struct LineWords<'a> {
     pub(crate) first: &'a [u8],
@@ -31,7 +31,7 @@ impl<'a> Model for LineWords<'a> {
 }
 
 impl<'a> LineWords<'a> {
-    /// The words of a line.
+    /// Splits a line into its words.
     pub(crate) fn of(line: &'a [u8]) -> LineWords<'a>
         ensures { result ≡ words_of line.now }
     {

@@ -14,12 +14,12 @@ use std::alloc::{AllocError, Global};
 /// The bits of PPS0 that say which of PPS1, PPS2 and PPS3 follow.
 const FOLLOWING: u8 = 0x70;
 
-/// The bit for PPS1, and the value of one that says nothing new.
+/// The bit of PPS0 for PPS1, and the PPS1 that changes nothing.
 const HAS_PPS1: u8 = 0x10;
 
 const DEFAULT_PPS1: u8 = 0x11;
 
-/// Whether these octets are a PPS request or its answer: PPSS, PPS0, what that announces, and PCK.
+/// Whether these octets are a PPS request or its answer: PPSS, PPS0, the octets that PPS0 announces, and PCK.
 pub(crate) fn is_pps(octets: &[u8]) -> bool
     ensures { result ≡ is_pps octets.now }
 {
@@ -27,7 +27,7 @@ pub(crate) fn is_pps(octets: &[u8]) -> bool
     octets.len() == 3 + (pps0 & FOLLOWING).count_ones() as usize && lrc(octets) == 0
 }
 
-/// PPS1, or the value of one that says nothing new.
+/// Returns PPS1, or without it the value that changes nothing.
 fn pps1_of(octets: &[u8]) -> u8
     ensures { result ≡ pps1_of octets.now }
 {
@@ -38,7 +38,7 @@ fn pps1_of(octets: &[u8]) -> u8
     }
 }
 
-/// Adds the line of F and D that PPS1 says, by the tables of TA1.
+/// Appends the line of F and D in PPS1, from the tables of TA1.
 fn push_pps(alloc: Global, text: &mut String, pps1: u8) -> Result<(), AllocError>
     ensures { OnOk result (string_bytes text.new ≡ string_bytes text.old ++ pps_text pps1) }
 {
@@ -50,7 +50,7 @@ fn push_pps(alloc: Global, text: &mut String, pps1: u8) -> Result<(), AllocError
     text.push_str("\n")
 }
 
-/// Adds what a card's answer to a PPS request says, and nothing of the request.
+/// Appends the line of a card's answer to a PPS request. It appends nothing for the request.
 pub(crate) fn push_answered_pps(
     alloc: Global,
     text: &mut String,
@@ -66,7 +66,7 @@ pub(crate) fn push_answered_pps(
     }
 }
 
-/// What is known of the time after a PPS request or its answer: that has F and D from now on.
+/// Returns what is known about the times after a PPS request or its answer. The answer has F and D from then on.
 pub(crate) fn pps_timed(timing: Timing, from: Side, octets: &[u8]) -> Timing
     ensures { result ≡ pps_timed timing from octets.now }
 {
@@ -83,7 +83,7 @@ pub(crate) fn pps_timed(timing: Timing, from: Side, octets: &[u8]) -> Timing
     }
 }
 
-/// F and D by the tables of TA1, whose form PPS1 has.
+/// Returns F and D from the tables of TA1. PPS1 has the form of TA1.
 fn rates_of(pps1: u8) -> Rates
     ensures { result ≡ rates_at pps1 }
 {
@@ -96,7 +96,7 @@ fn rates_of(pps1: u8) -> Rates
     rates(&atr)
 }
 
-/// Adds a rate, or that its index is reserved.
+/// Appends a rate, or that its index is reserved.
 fn push_rate(alloc: Global, text: &mut String, rate: Option<u16>) -> Result<(), AllocError>
     ensures { OnOk result (string_bytes text.new ≡ string_bytes text.old ++ rate_text rate) }
 {
@@ -106,7 +106,7 @@ fn push_rate(alloc: Global, text: &mut String, rate: Option<u16>) -> Result<(), 
     }
 }
 
-/// The octet at a place, or 0.
+/// Returns the octet at a place, or 0 if there is none.
 pub(crate) fn octet_at(octets: &[u8], place: usize) -> u8
     ensures { result ≡ slice_index octets.now place }
 {

@@ -1,4 +1,4 @@
-//! What is said of the blocks of a trace, as lines of a text.
+//! The texts about the blocks of a trace, as lines.
 
 ghost use Rattle.std.specs.Prelude.{◌≡◌, ◌++◌, OnOk, codes, decimal, string_bytes};
 ghost use Rattle.judge_core.specs.Rules.{rule_name};
@@ -10,10 +10,10 @@ use judge_core::{After, Asked, End, Owed, Rule, Side};
 use octet_core::Named;
 use std::alloc::{AllocError, Global};
 
-/// How the line of a card begins that sent nothing.
+/// How the line about a card that sent nothing begins.
 const NO_ANSWER: &str = "card: no answer to block ";
 
-/// Adds the line of a block that breaks a rule.
+/// Appends the line of a block that breaks a rule.
 pub(crate) fn push_deviation(
     alloc: Global,
     text: &mut String,
@@ -33,7 +33,7 @@ pub(crate) fn push_deviation(
     push_clause(text, broken)
 }
 
-/// Adds the line of a block that is permitted only after unseen damage.
+/// Appends the line of a block that is permitted only after unseen damage.
 pub(crate) fn push_unseen(
     alloc: Global,
     text: &mut String,
@@ -48,7 +48,7 @@ pub(crate) fn push_unseen(
     push_condition(alloc, text, before)
 }
 
-/// Adds the condition on which a block is permitted.
+/// Appends the condition on which a block is permitted.
 fn push_condition(alloc: Global, text: &mut String, before: u64) -> Result<(), AllocError>
     ensures { OnOk result (string_bytes text.new ≡ string_bytes text.old ++ condition_text before) }
 {
@@ -61,14 +61,14 @@ fn push_condition(alloc: Global, text: &mut String, before: u64) -> Result<(), A
     )
 }
 
-/// Adds the line of octets before the first block that are neither PPS nor a block.
+/// Appends the line of octets before the first block that aren't PPS and aren't a block.
 pub(crate) fn push_neither(alloc: Global, text: &mut String, number: u64) -> Result<(), AllocError>
     ensures { OnOk result (string_bytes text.new ≡ string_bytes text.old ++ neither_text number) }
 {
     push_around(alloc, text, "line ", number, ": neither PPS nor a block\n")
 }
 
-/// Adds the line of a card that sent no block, unless the terminal's was lost.
+/// Appends the line of a card that sent no block, which is permitted if the terminal's block was lost.
 pub(crate) fn push_possible(alloc: Global, text: &mut String, number: u64) -> Result<(), AllocError>
     ensures { OnOk result (string_bytes text.new ≡ string_bytes text.old ++ possible_text number) }
 {
@@ -81,7 +81,7 @@ pub(crate) fn push_possible(alloc: Global, text: &mut String, number: u64) -> Re
     )
 }
 
-/// Adds the line of a card that sent no block in answer to one that it got.
+/// Appends the line of a card that sent no block, although it received one.
 pub(crate) fn push_certain(alloc: Global, text: &mut String, number: u64) -> Result<(), AllocError>
     ensures { OnOk result (string_bytes text.new ≡ string_bytes text.old ++ certain_text number) }
 {
@@ -89,7 +89,7 @@ pub(crate) fn push_certain(alloc: Global, text: &mut String, number: u64) -> Res
     push_clause(text, Rule::Silence)
 }
 
-/// Adds the line of a card's block that came too late after the terminal's block with the number `before`.
+/// Appends the line of a card's block that came too late after the terminal's block with the number `before`.
 pub(crate) fn push_late(
     alloc: Global,
     text: &mut String,
@@ -106,21 +106,21 @@ pub(crate) fn push_late(
     push_permitted(alloc, text, late.permitted)
 }
 
-/// Adds how many microseconds after the terminal's block it came.
+/// Appends how many microseconds after the terminal's block it came.
 fn push_elapsed(alloc: Global, text: &mut String, elapsed: u64) -> Result<(), AllocError>
     ensures { OnOk result (string_bytes text.new ≡ string_bytes text.old ++ elapsed_text elapsed) }
 {
     push_around(alloc, text, ": late, ", elapsed, " microseconds")
 }
 
-/// Adds the number of the terminal's block.
+/// Appends the number of the terminal's block.
 fn push_after(alloc: Global, text: &mut String, before: u64) -> Result<(), AllocError>
     ensures { OnOk result (string_bytes text.new ≡ string_bytes text.old ++ after_text before) }
 {
     push_around(alloc, text, " after block ", before, ", ")
 }
 
-/// Adds how many are permitted.
+/// Appends how many microseconds are permitted.
 fn push_permitted(alloc: Global, text: &mut String, permitted: u64) -> Result<(), AllocError>
     ensures { OnOk result (string_bytes text.new
         ≡ string_bytes text.old ++ permitted_text permitted) }
@@ -128,7 +128,7 @@ fn push_permitted(alloc: Global, text: &mut String, permitted: u64) -> Result<()
     push_around(alloc, text, "permitted ", permitted, "  (11.4.3)\n")
 }
 
-/// Adds a block with its number.
+/// Appends a block with its number.
 fn push_block(alloc: Global, text: &mut String, number: u64, side: Side) -> Result<(), AllocError>
     ensures { OnOk result (string_bytes text.new ≡ string_bytes text.old
         ++ block_text number side) }
@@ -139,7 +139,7 @@ fn push_block(alloc: Global, text: &mut String, number: u64, side: Side) -> Resu
     text.push_str(side_word(side))
 }
 
-/// Adds the clause of a rule, and the end of the line.
+/// Appends the clause of a rule, and the end of the line.
 fn push_clause(text: &mut String, broken: Rule) -> Result<(), AllocError>
     ensures { OnOk result (string_bytes text.new ≡ string_bytes text.old ++ clause_text broken) }
 {
@@ -148,7 +148,7 @@ fn push_clause(text: &mut String, broken: Rule) -> Result<(), AllocError>
     text.push_str(")\n")
 }
 
-/// Adds what is due from an end.
+/// Appends what is due from an end.
 fn push_due(text: &mut String, end: &End, owed: Owed) -> Result<(), AllocError>
     ensures { OnOk result (string_bytes text.new ≡ string_bytes text.old ++ due_text end.now owed) }
 {
@@ -173,7 +173,7 @@ fn push_due(text: &mut String, end: &End, owed: Owed) -> Result<(), AllocError>
     }
 }
 
-/// Adds a word, and the number of a block.
+/// Appends a word, and the number of a block.
 fn push_numbered(text: &mut String, word: &str, number: Number) -> Result<(), AllocError>
     ensures { OnOk result (string_bytes text.new
         ≡ string_bytes text.old ++ (word.now ++ digit_text number)) }
@@ -182,7 +182,7 @@ fn push_numbered(text: &mut String, word: &str, number: Number) -> Result<(), Al
     text.push_str(digit(number))
 }
 
-/// Adds a number between two words.
+/// Appends a number between two words.
 fn push_around(
     alloc: Global,
     text: &mut String,
@@ -198,7 +198,7 @@ fn push_around(
     text.push_str(after)
 }
 
-/// Adds two words.
+/// Appends two words.
 fn push_words(text: &mut String, word: &str, after: &str) -> Result<(), AllocError>
     ensures { OnOk result (string_bytes text.new ≡ string_bytes text.old
         ++ (word.now ++ after.now)) }
@@ -207,14 +207,14 @@ fn push_words(text: &mut String, word: &str, after: &str) -> Result<(), AllocErr
     text.push_str(after)
 }
 
-/// Adds a number in decimal digits.
+/// Appends a number in decimal digits.
 pub(crate) fn push_number(alloc: Global, text: &mut String, number: u64) -> Result<(), AllocError>
     ensures { OnOk result (string_bytes text.new ≡ string_bytes text.old ++ decimal number) }
 {
     text.push_str(format!(in alloc; "{number}")?.as_str())
 }
 
-/// The word for an end.
+/// Returns the word for an end.
 fn side_word(side: Side) -> &'static str
     ensures { result.now ≡ side_text side }
 {

@@ -20,39 +20,44 @@ use octet_core::{Octets, Text};
 use std::alloc::{AllocError, Global};
 use std::marker::Model;
 
-/// What of a trace is judged.
+/// Which parts of a trace are judged.
 #[derive(Clone, Copy, Debug)]
 pub struct Scope {
-    /// The end that is judged, or both.
+    /// The one end that is judged, or `None` for both.
     pub only: Option<Side>,
-    /// The frequency of the card's clock in hertz, where the times of its blocks are judged.
+    /// The frequency of the card's clock in hertz, if the times of its blocks are judged.
     pub clock: Option<u64>,
-    /// Whether it is counted how often each end kept each rule and broke it, and what was due.
+    /// Whether to count how often each end kept and broke each rule, and what was due.
     pub rules: bool,
 }
 
-/// What is said of a trace.
+/// The judgment on a trace.
 #[derive(Debug, Drop)]
 pub struct Judgment {
-    /// A line for each deviation; one for each rule and each state, if they are counted; and the last one with the counts.
+    /// A line for each deviation; a line for each rule and each state, if they are counted; and a last line with the
+    /// counts.
     pub text: Text,
     /// Whether there was a deviation.
     pub deviates: bool,
 }
 
-/// What a trace comes to at a card that offers this: what both ends did, or one alone.
+/// Judges the text of a trace for a card that offers this: both ends, or one end alone.
 ///
-/// LF ends a line, and the last one needs no end; spaces, tabs and CR part words. A line is `t HEX` or `c HEX`, octets of
-/// the terminal or of the card in hexadecimal of either case, perhaps with `lost` or `as HEX` after it, how they reached
-/// the other end; or `quiet`, where the terminal's waiting time ended; `reset`, where the card was reset; or `at N`,
-/// microseconds with 1 to 15 digits that never fall. A line without a word, or whose first one begins with a number sign,
-/// says nothing.
+/// LF ends a line, and the last line needs none. Spaces, tabs and CR separate words. The lines are:
 ///
-/// With a clock a card's block is late where the moments directly before it and before the terminal's last block say so.
-/// Each is taken for the moment at which the block began (ISO/IEC 7816-3:2006, 11.4.3).
+/// - `t HEX`, `c HEX`: octets of the terminal or of the card. HEX is in upper case or lower case.
+/// - `t HEX lost`, `c HEX lost`: the octets didn't reach the other end.
+/// - `t HEX as HEX`, `c HEX as HEX`: they reached the other end as the second octets.
+/// - `quiet`: the terminal's waiting time ended.
+/// - `reset`: the card was reset.
+/// - `at N`: microseconds, 1 to 15 digits, never below an earlier moment.
+/// - A line without a word, or whose first word begins with a number sign, says nothing.
 ///
-/// Of the first line that is wrong, counted from 1, `Word` where its words are none of these, then `Hex`, then `Falls` for
-/// a moment below an earlier one. `Memory` may be answered in place of any other answer.
+/// With a clock, a card's block can be late. That needs a moment directly before it and one directly before the
+/// terminal's last block. Each counts as the moment at which its block began (ISO/IEC 7816-3:2006, 11.4.3).
+///
+/// The error is the first fault of the first wrong line, counted from 1: `Word` if its words have none of these forms,
+/// then `Hex`, then `Falls` for a moment below an earlier one. `Memory` can replace any result.
 pub fn judge_trace(
     alloc: Global,
     offer: Offer,
@@ -68,7 +73,7 @@ pub fn judge_trace(
     standing.conclude(alloc)
 }
 
-/// What was judged so far.
+/// The state of the judgment after the lines so far.
 #[derive(Drop)]
 struct Standing {
     monitor: Monitor,
@@ -125,7 +130,7 @@ impl Standing {
         }
     }
 
-    /// Takes one more line, without its end.
+    /// Takes one more line, without its line feed.
     fn take(&mut self, alloc: Global, line: &[u8]) -> Result<(), ExchangeFault>
         requires { self.old.number + 1 < 2 ^ 64 }
         ensures said { OnOk result (JudgesLine self.old line.now self.new) }
@@ -161,7 +166,7 @@ impl Standing {
         }
     }
 
-    /// The card was reset.
+    /// Takes a reset of the card.
     fn reset(&mut self)
         ensures { self.new ≡ renewed self.old }
     {
@@ -184,7 +189,7 @@ impl Standing {
         Ok(())
     }
 
-    /// The terminal's waiting time ended.
+    /// Takes the end of the terminal's waiting time.
     fn quiet(&mut self, alloc: Global) -> Result<(), AllocError>
         ensures said { OnOk result (self.new ≡ quietened self.old) }
         ensures number { OnOk result (self.new.number ≡ self.old.number) }
@@ -194,7 +199,7 @@ impl Standing {
         self.silence(alloc, silence)
     }
 
-    /// Octets that were on the line as one block.
+    /// Takes octets that were on the line as one block.
     fn octets(
         &mut self,
         alloc: Global,
@@ -237,7 +242,7 @@ impl Standing {
         Ok(())
     }
 
-    /// What the octets of an end exercise, if that is counted.
+    /// Returns what the octets of an end exercise, if that is counted.
     fn exercise(&self, from: Side, octets: &[u8]) -> Exercise
         ensures { ExercisesIf self.now.scope.rules self.now.monitor from octets.now result }
     {
@@ -258,7 +263,7 @@ impl Standing {
         }
     }
 
-    /// Octets with FF in place of a node address, before the first block.
+    /// Takes octets before the first block, with FF instead of a node address.
     fn before(&mut self, alloc: Global, from: Side, octets: &[u8]) -> Result<(), AllocError>
         ensures said { OnOk result (self.new ≡ told_before self.old from octets.now) }
         ensures number { OnOk result (self.new.number ≡ self.old.number) }
@@ -283,7 +288,7 @@ impl Standing {
         }
     }
 
-    /// A card that sent no block.
+    /// Reports a card that sent no block.
     fn silence(&mut self, alloc: Global, silence: Silence) -> Result<(), AllocError>
         ensures said { OnOk result (self.new ≡ told_silence self.old silence) }
         ensures number { OnOk result (self.new.number ≡ self.old.number) }
@@ -327,7 +332,7 @@ impl Standing {
         }
     }
 
-    /// Whether a block of this end is late, and by how much.
+    /// Returns whether a block of this end is late, and by how much.
     fn late_from(&self, from: Side) -> Option<Late>
         ensures { result ≡ late_from self.now from }
     {
@@ -342,7 +347,7 @@ impl Standing {
         }
     }
 
-    /// A card's block that came too late, after the terminal's block with this number.
+    /// Reports a card's block that came too late, after the terminal's block with this number.
     fn late(&mut self, alloc: Global, before: u64, late: Option<Late>) -> Result<(), AllocError>
         ensures said { OnOk result (self.new ≡ told_late self.old before late) }
         ensures number { OnOk result (self.new.number ≡ self.old.number) }
@@ -365,7 +370,7 @@ impl Standing {
         }
     }
 
-    /// The judgment at the end of the trace.
+    /// Returns the judgment at the end of the trace.
     fn conclude(mut self, alloc: Global) -> Result<Judgment, ExchangeFault>
         ensures { MatchResult result (IsConcluded self) (λ fault. fault ≡ Memory) }
     {

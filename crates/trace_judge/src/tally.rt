@@ -7,8 +7,7 @@ use crate::saying::push_number;
 use judge_core::Side;
 use std::alloc::{AllocError, Global};
 
-/// How many deviations there were of each end, and of the card in time, and how many blocks have to have been damaged or
-/// lost unseen.
+/// How many deviations each end has, and the card in time, and how many blocks must have been damaged or lost unseen.
 #[derive(Clone, Copy, Debug)]
 pub(crate) struct Tally {
     pub(crate) terminal: u64,
@@ -18,7 +17,7 @@ pub(crate) struct Tally {
 }
 
 impl Tally {
-    /// Nothing was told.
+    /// Returns the tally before the first report.
     pub(crate) fn new() -> Tally
         ensures { result ≡ nothing_told }
     {
@@ -30,7 +29,7 @@ impl Tally {
         }
     }
 
-    /// One deviation more of this end.
+    /// Counts one more deviation of this end.
     pub(crate) fn deviation_of(&mut self, side: Side)
         ensures { self.new ≡ deviation_of side self.old }
     {
@@ -40,21 +39,21 @@ impl Tally {
         }
     }
 
-    /// One deviation more in time.
+    /// Counts one more deviation in time.
     pub(crate) fn late_in(&mut self)
         ensures { self.new ≡ late_in self.old }
     {
         self.late = self.late.saturating_add(1);
     }
 
-    /// One block more that is permitted only after unseen damage.
+    /// Counts one more block that is permitted only after unseen damage.
     pub(crate) fn unseen_in(&mut self)
         ensures { self.new ≡ unseen_in self.old }
     {
         self.unseen = self.unseen.saturating_add(1);
     }
 
-    /// The deviations of both ends, and those in time.
+    /// Returns the number of deviations of both ends, with those in time.
     pub(crate) fn deviations(&self) -> u64
         ensures { result ≡ deviations self.now }
     {
@@ -63,7 +62,7 @@ impl Tally {
             .saturating_add(self.late)
     }
 
-    /// Adds the last line.
+    /// Appends the last line.
     pub(crate) fn push_summary(
         &self,
         alloc: Global,
@@ -140,7 +139,7 @@ impl Tally {
     }
 }
 
-/// Adds a number of things with this name.
+/// Appends a number with the name of what it counts.
 fn push_counted(alloc: Global, text: &mut String, number: u64, name: &str) -> Result<(), AllocError>
     ensures { OnOk result (string_bytes text.new ≡ string_bytes text.old
         ++ counted number name.now) }

@@ -8,13 +8,13 @@ use block_core::{Pcb, S};
 use judge_core::{Heard, Side};
 use std::marker::Model;
 
-/// F and D by the tables of TA1, each where it is known.
+/// F and D from the tables of TA1, each if it is known.
 pub type Rates = (Option<u16>, Option<u16>);
 
-/// F and D where nothing says others.
+/// F and D if nothing says others.
 const DEFAULT_RATES: Rates = (Some(372), Some(1));
 
-/// The bit of TA2 by which the interface bytes don't say F and D.
+/// The bit of TA2 that says that the interface bytes don't give F and D.
 const IMPLICIT: u8 = 0x10;
 
 /// What a card's answer to reset offers.
@@ -48,7 +48,7 @@ pub(crate) struct Etu {
     pub(crate) di: u16,
 }
 
-/// A terminal's block, whose moment is known.
+/// A terminal's block, if its moment is known.
 #[derive(Clone, Copy, Debug)]
 pub(crate) struct Sent {
     /// When it began, in microseconds.
@@ -57,7 +57,7 @@ pub(crate) struct Sent {
     pub(crate) octets: usize,
 }
 
-/// What is known of the time on the line.
+/// What is known about the times on the line.
 #[derive(Clone, Copy, Debug)]
 pub(crate) struct Timing {
     /// F and D in force.
@@ -69,7 +69,7 @@ pub(crate) struct Timing {
 }
 
 impl Timing {
-    /// At a reset of a card that offers these.
+    /// Returns the timing at a reset of a card that offers these rates.
     pub(crate) fn new(rates: Rates) -> Timing
         ensures { result ≡ new_timing rates }
     {
@@ -80,7 +80,7 @@ impl Timing {
         }
     }
 
-    /// After a block of so many octets.
+    /// Returns the timing after a block of so many octets.
     pub(crate) fn timed(self, from: Side, octets: usize) -> Timing
         ensures { result ≡ timed self from octets }
     {
@@ -95,7 +95,7 @@ impl Timing {
     }
 }
 
-/// A block of so many octets that began at this moment.
+/// Returns a block of so many octets that began at this moment, if there is one.
 fn sent_by(now: Option<u64>, octets: usize) -> Option<Sent>
     ensures { result ≡ sent_by now octets }
 {
@@ -105,10 +105,10 @@ fn sent_by(now: Option<u64>, octets: usize) -> Option<Sent>
     }
 }
 
-/// What was between a terminal's block and the card's.
+/// The interval between a terminal's block and the card's.
 #[derive(Clone, Copy, Debug)]
 pub(crate) struct Interval {
-    /// Microseconds from the beginning of one to that of the other.
+    /// Microseconds from the beginning of the terminal's block to that of the card's.
     pub(crate) elapsed: u64,
     /// How many octets the terminal's block had.
     pub(crate) octets: usize,
@@ -117,14 +117,16 @@ pub(crate) struct Interval {
 /// A card's block that came too late.
 #[derive(Clone, Copy, Debug)]
 pub(crate) struct Late {
-    /// Microseconds after the beginning of the terminal's block.
+    /// How many microseconds after the beginning of the terminal's block it came.
     pub(crate) elapsed: u64,
-    /// How many the standard permits.
+    /// How many microseconds the standard permits.
     pub(crate) permitted: u64,
 }
 
-/// F and D from a reset until an exchange of PPS: those of TA1 where TA2 says that they hold at once, 372 and 1 where
-/// there is no TA2; none where bit 5 of TA2 says that the interface bytes don't tell them (ISO/IEC 7816-3:2006, 8.3).
+/// Returns F and D from a reset until an exchange of PPS (ISO/IEC 7816-3:2006, 8.3).
+///
+/// They are those of TA1 if TA2 says that they hold at once, and 372 and 1 if there is no TA2. If bit 5 of TA2 says
+/// that the interface bytes don't give them, both are `None`.
 pub fn rates_before(atr: &Atr) -> Rates
     ensures { result ≡ rates_before atr.now }
 {
@@ -134,7 +136,7 @@ pub fn rates_before(atr: &Atr) -> Rates
     }
 }
 
-/// The same by TA2.
+/// Returns these rates from TA2.
 fn rates_by(ta2: Option<u8>, offered: Rates) -> Rates
     ensures { result ≡ rates_by ta2 offered }
 {
@@ -145,7 +147,8 @@ fn rates_by(ta2: Option<u8>, offered: Rates) -> Rates
     }
 }
 
-/// How much too late a card's block comes now, at a clock of so many hertz, after what it heard.
+/// Returns by how much a card's block is late if it comes now. It depends on what the card heard, and on the clock in
+/// hertz.
 pub(crate) fn lateness(
     params: T1Params,
     clock: Option<u64>,
@@ -163,7 +166,7 @@ pub(crate) fn lateness(
     )
 }
 
-/// The same, where all that has to be known is.
+/// Returns by how much a block is late, if everything that decides it is known.
 fn late_by(
     params: T1Params,
     clock: Option<u64>,
@@ -182,7 +185,7 @@ fn late_by(
     }
 }
 
-/// A block that came later than is permitted.
+/// Returns a block that came later than permitted, if it did.
 fn late_after(permitted: u128, elapsed: u64) -> Option<Late>
     ensures { result ≡ late_after permitted elapsed }
 {
@@ -196,7 +199,8 @@ fn late_after(permitted: u128, elapsed: u64) -> Option<Late>
     }
 }
 
-/// How many microseconds are permitted from the beginning of a terminal's block of so many octets to that of the card's.
+/// Returns how many microseconds are permitted from the beginning of a terminal's block of so many octets to that of
+/// the card's.
 fn permitted_time(params: T1Params, clock: u64, multiple: u8, octets: usize, etu: Etu) -> u128
     ensures { result ≡ permitted_time params clock multiple octets etu }
 {
@@ -205,7 +209,7 @@ fn permitted_time(params: T1Params, clock: u64, multiple: u8, octets: usize, etu
     (parts * 1_000_000).div_ceil(per_second)
 }
 
-/// The same in parts, `fi` of which are an elementary time unit.
+/// Returns the permitted time in parts of an elementary time unit, `fi` of them in one unit.
 fn permitted_parts(params: T1Params, multiple: u8, octets: usize, etu: Etu) -> u128
     ensures parts { result ≡ permitted_parts params multiple octets etu }
     ensures most { result < 2 ^ 100 }
@@ -215,7 +219,7 @@ fn permitted_parts(params: T1Params, multiple: u8, octets: usize, etu: Etu) -> u
     multiple as u128 * block as u128 + octets.saturating_sub(1) as u128 * character as u128
 }
 
-/// The multiple of the block waiting time that the card has after what it heard, where that is a block.
+/// Returns the multiple of the block waiting time that the card has after what it heard, if that is a block.
 fn granted(heard: Heard) -> Option<u8>
     ensures { result ≡ granted heard }
 {
@@ -225,7 +229,7 @@ fn granted(heard: Heard) -> Option<u8>
     }
 }
 
-/// The multiple that a block grants.
+/// Returns the multiple that a block grants.
 fn multiple_of(pcb: Pcb, octet: u8) -> u8
     ensures { result ≡ multiple_of pcb octet }
 {
@@ -235,7 +239,7 @@ fn multiple_of(pcb: Pcb, octet: u8) -> u8
     }
 }
 
-/// F and D, where both are known.
+/// Returns F and D, if both are known.
 fn etu_of(rates: Rates) -> Option<Etu>
     ensures { result ≡ etu_of rates }
 {
@@ -245,7 +249,7 @@ fn etu_of(rates: Rates) -> Option<Etu>
     }
 }
 
-/// What was between the terminal's last block and now, where both moments are known.
+/// Returns the interval between the terminal's last block and now, if both moments are known.
 fn waited(timing: Timing) -> Option<Interval>
     ensures { result ≡ waited timing }
 {

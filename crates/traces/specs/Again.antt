@@ -1,4 +1,4 @@
--- What a recorder recorded, made again from what was on its line.
+-- The exchange of a recorder, made again from what was on its line.
 use Rattle.std.specs.Prelude.{◌≡◌, ℕ, List, [], ◌∷◌, ◌++◌, Ok, true, false}
 use Rattle.t1_core.specs.Link.{Event}
 use Rattle.t1_core.specs.Promises.{AllHandOctets}
@@ -17,13 +17,13 @@ use Rattle.traces.specs.declared.trace.Item.TheVariants.{Block, Quiet, Moment}
 use Rattle.traces.specs.Recorded.{lines_of, noted_lines}
 use Rattle.traces.specs.Said.{application_is_cut, application_line, at_first, host_is_cut, host_line, numbers_after}
 
--- what was seen of a block: of a changed one the octets that arrived
+-- what was seen of a block; if it was changed, the octets that arrived
 abbrev pub block_items : Side → List ℕ → Arrival → List Item
 block_items from sent Whole = Block from sent false ∷ []
 block_items from sent Lost = Block from sent true ∷ []
 block_items from sent (Changed octets) = Block from octets false ∷ []
 
--- what was on the line where a line of an exchange says so
+-- what was on the line, by a line of an exchange
 abbrev pub line_items : Line → List Item
 line_items (line.FromTerminal sent arrival) = block_items side.Terminal sent arrival
 line_items (line.FromCard sent arrival) = block_items side.Card sent arrival
@@ -31,7 +31,7 @@ line_items line.Quiet = Quiet ∷ []
 line_items (line.Moment moment) = Moment moment ∷ []
 line_items line = []
 
--- All that was on the line, in its order: a trace of the exchange, in which no word of an application is left.
+-- Everything that was on the line, in order: a trace of the exchange, without the calls of the applications.
 abbrev pub items_of : List Line → List Item
 items_of [] = []
 items_of (line ∷ lines) = line_items line ++ items_of lines
@@ -41,8 +41,8 @@ abbrev pub numbers_over : Numbers → List Item → Numbers
 numbers_over n [] = n
 numbers_over n (item ∷ items) = numbers_over (numbers_after n item) items
 
--- A call of an application, where these items come after it, is the one that they tell: a message was sent whole, and
--- a request for a size or for time was sent.
+-- The call of an application is the one that the items after it show: a message was sent whole, and a request for a
+-- size or for time was sent.
 abbrev pub IsTold : Numbers → List Item → Line → Type 0
 IsTold n items (line.Command octets) = application_line n items ≡ line.Command octets
 IsTold n items (line.Ifsd size) = application_line n items ≡ line.Ifsd size
@@ -51,12 +51,12 @@ IsTold n items (line.Time multiple) = host_line n items ≡ line.Time multiple
 IsTold n items (line.Ifsc size) = host_line n items ≡ line.Ifsc size
 IsTold n items line = Unit {0}
 
--- each call of these lines is
+-- the items show each call of these lines
 abbrev pub AreTold : Numbers → List Line → Type 0
 AreTold n [] = Unit {0}
 AreTold n (line ∷ lines) = IsTold n (items_of lines) line × AreTold (numbers_over n (line_items line)) lines
 
--- The message of a call was seen to its end, where these items come after it: no octet stands for what nobody saw.
+-- The message of a call was seen to its end in the items after it: no octet stands for octets that nobody saw.
 abbrev pub IsSeenWhole : Numbers → List Item → Line → Type 0
 IsSeenWhole n items (line.Command octets) = application_is_cut n items ≡ false
 IsSeenWhole n items (line.Ifsd size) = application_is_cut n items ≡ false
@@ -65,21 +65,21 @@ IsSeenWhole n items (line.Time multiple) = host_is_cut n items ≡ false
 IsSeenWhole n items (line.Ifsc size) = host_is_cut n items ≡ false
 IsSeenWhole n items line = Unit {0}
 
--- each call of these lines is
+-- the message of each call of these lines was seen to its end
 abbrev pub AreSeenWhole : Numbers → List Line → Type 0
 AreSeenWhole n [] = Unit {0}
 AreSeenWhole n (line ∷ lines) =
     IsSeenWhole n (items_of lines) line × AreSeenWhole (numbers_over n (line_items line)) lines
 
--- Whatever happened to a recorder, what it recorded is what is recorded of the trace of its line, where the blocks tell
--- what both applications called.
+-- Whatever happened to a recorder, the trace of its line is recorded with the recorder's lines. This needs blocks that
+-- show what both applications called.
 abbrev pub MadeAgain : Type 0
 MadeAgain = (atr : List ℕ) (ifsc : ℕ) (events : List Event) → IsFound atr (Ok ifsc) → AllHandOctets events
     → AreTold at_first (closed (records.after_events events (records.begun atr ifsc)))
     → lines_of ifsc (items_of (closed (records.after_events events (records.begun atr ifsc))))
     ≡ closed (records.after_events events (records.begun atr ifsc))
 
--- And nobody needs to be told what nobody saw: no note is added, where each message was seen to its end too.
+-- If each message was also seen to its end, no note is added.
 abbrev pub GetsNoNote : Type 0
 GetsNoNote = (atr : List ℕ) (ifsc : ℕ) (events : List Event) → IsFound atr (Ok ifsc) → AllHandOctets events
     → AreTold at_first (closed (records.after_events events (records.begun atr ifsc)))

@@ -20,7 +20,7 @@ line_arrives (FromTerminal sent arrival) = arrives Terminal sent arrival
 line_arrives (FromCard sent arrival) = arrives Card sent arrival
 line_arrives line = []
 
--- the blocks that arrive in these lines, in their order
+-- the blocks that arrive in these lines, in order
 abbrev pub arrived_of : List Line → List (Side × List ℕ)
 arrived_of [] = []
 arrived_of (line ∷ lines) = line_arrives line ++ arrived_of lines

@@ -1,4 +1,4 @@
--- The item of which something was seen.
+-- The item that was decoded.
 use Rattle.traces.specs.declared.seen.What.{What}
 use Rattle.traces.specs.declared.seen.What.TheVariants as seen
 use Rattle.traces.specs.declared.trace.Item.{Item}

@@ -1,4 +1,4 @@
--- The words of faults.
+-- The texts of faults.
 use Rattle.std.specs.Prelude.{ℕ, List, ◌++◌, codes, decimal}
 use Rattle.exchange_core.specs.Faults.{atr_fault_name}
 use Rattle.traces.specs.declared.recording.RecordFault.{RecordFault}

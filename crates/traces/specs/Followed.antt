@@ -1,4 +1,4 @@
--- An end that did as it should replays what was recorded of it.
+-- An end that did as it should replays its recording.
 use Rattle.std.specs.Prelude.{◌≡◌, ℕ, List, Bool, true, false, None, Ok}
 use Rattle.exchange_core.specs.Replay.{replay_from}
 use Rattle.block_core.specs.declared.side.Side.{Side}

@@ -1,5 +1,5 @@
--- What each item adds: both ends are called with what came to them, and where an end needs a call of its application,
--- or the end of its waiting time, to send what was seen, the line of that comes before.
+-- What each item adds. Both ends are called with what came to them. An end may need a call of its application, or the
+-- end of its waiting time, to send what was seen. Then the line of that comes first.
 use Rattle.std.specs.Prelude.{ℕ, List, [], ◌∷◌, ◌++◌, Bool, true, false, not, ◌&&◌, ◌||◌, if◌then◌else◌, Option, Some, None, Result, Ok, Err, bytes_eq, is_none}
 use Rattle.block_core.specs.Block.{Parts, spelling}
 use Rattle.t1_core.specs.Awaited.{terminal_awaits_block, card_awaits_block}
@@ -26,7 +26,7 @@ use Rattle.traces.specs.declared.trace.Item.TheVariants.{Block, Quiet, Moment}
 use Rattle.traces.specs.Seen.{seen}
 use Rattle.traces.specs.Said.{application_line, at_first, host_line, is_resynch, numbers_after}
 
--- ---- an end and the next block that is seen of it
+-- ---- an end and its next block that is seen
 
 abbrev pub is_waiting : Standing → Bool
 is_waiting Waits = true
@@ -36,7 +36,7 @@ is_waiting (Sends block) = false
 abbrev pub is_spelled : Parts → List ℕ → Bool
 is_spelled block octets = bytes_eq (spelling block) octets
 
--- octets can be what came of a block: its own, or no block
+-- whether octets can be how a block was seen: its own octets, or octets that aren't a block
 abbrev pub meets : Parts → List ℕ → Bool
 meets block octets = is_spelled block octets || is_none (seen octets)
 
@@ -45,19 +45,19 @@ is_met (Sends block) octets = meets block octets
 is_met Left octets = false
 is_met Waits octets = false
 
--- a block of RESYNCH, by which both ends begin anew
+-- a block of RESYNCH, after which both ends begin again
 abbrev pub begins_anew : Option Parts → Bool
 begins_anew None = false
 begins_anew (Some block) = is_resynch block.pcb
 
--- It is about to send a block, and these octets are another one. A terminal that asks for RESYNCH before it is due does
--- otherwise than it should: no block that nobody saw is thought of for that.
+-- The end is about to send a block, and these octets are another one. A terminal that asks for RESYNCH before it is due
+-- differs from its table. For that, no block that nobody saw is assumed.
 abbrev pub misses : Standing → List ℕ → Bool
 misses (Sends block) octets = not (meets block octets) && not (begins_anew (seen octets))
 misses Left octets = false
 misses Waits octets = false
 
--- An end that did otherwise than it should isn't followed any more.
+-- The standing after these octets: an end that differs from its table isn't followed any more.
 abbrev pub standing_after : Standing → List ℕ → Standing
 standing_after standing octets = if is_met standing octets then Waits else Left
 
@@ -67,7 +67,7 @@ whole lost = if lost then Lost else Whole
 abbrev pub arrival : Parts → List ℕ → Bool → Arrival
 arrival block octets lost = if lost || is_spelled block octets then whole lost else Changed octets
 
--- what the end sent where these octets were seen, and what became of it
+-- what the end sent if these octets were seen, and how that arrived
 abbrev pub sent_as : Standing → List ℕ → Bool → List ℕ × Arrival
 sent_as (Sends block) octets lost =
     if meets block octets then (spelling block, arrival block octets lost) else (octets, whole lost)
@@ -76,8 +76,8 @@ sent_as Waits octets lost = (octets, whole lost)
 
 -- ---- both ends
 
--- Both ends, how each stands to the next block that is seen of it, the numbers of the last I-blocks that were seen, the
--- last moment, where no line tells it yet, and the lines so far.
+-- Both ends, and how each stands to its next block that is seen; the numbers of the last I-blocks that were seen; the
+-- last moment, if no line has it yet; and the lines so far.
 pub record Following : Type 0 where
   pub terminal : TerminalState
   pub card : CardState
@@ -105,7 +105,7 @@ adds f more = record f { lines = f.lines ++ more }
 abbrev pub writes : Following → Line → Following
 writes f line = adds f (line ∷ [])
 
--- the moment that no line tells yet is written
+-- the line of a moment that had none yet is written
 abbrev pub released_by : Following → Option ℕ → Following
 released_by f None = f
 released_by f (Some moment) = record f { held = None; lines = f.lines ++ line.Moment moment ∷ [] }
@@ -113,8 +113,8 @@ released_by f (Some moment) = record f { held = None; lines = f.lines ++ line.Mo
 unfoldable pub released : Following → Following
 released f = released_by f f.held
 
--- The terminal, in the state after a call, came to this: a block that it sends is kept until it is seen, and another
--- turn has its line at once. One that refuses the call isn't followed any more.
+-- The terminal's result after a call, in the state after it. A block that it sends is kept until it is seen; the line
+-- of another turn is written at once. After a refusal the terminal isn't followed any more.
 abbrev pub terminal_did : Following → Result TerminalTurn TerminalFault → Following
 terminal_did f (Ok (Send block)) = record f { terminal_is = Sends block }
 terminal_did f (Ok turn) = record f {
@@ -167,27 +167,27 @@ card_settled f Waits = f
 unfoldable pub settled_card : Following → Following
 settled_card f = card_settled f f.card_is
 
--- what was seen ends
+-- the end of what was seen
 abbrev pub ended : Following → Following
 ended f = released (settled_card (settled_terminal f))
 
 -- ---- items
 
--- where the card's host owes the card a call, it calls it
+-- if the card's host has to make a call, it makes the call
 unfoldable pub after_host : Following → List Item → Following
 after_host f items =
     if is_waiting f.card_is && not (card_awaits_block f.card.waits)
     then card_hears f (host_line f.numbers items)
     else f
 
--- where the terminal has no block to send, its waiting time ends, or its application asks for something
+-- if the terminal has no block to send, its waiting time ends, or its application makes a call
 unfoldable pub after_begins : Following → List Item → Following
 after_begins f items =
     if not (is_waiting f.terminal_is) then f
     else (if terminal_awaits_block f.terminal.waits then terminal_hears f line.Quiet
     else terminal_hears f (application_line f.numbers items))
 
--- where another block was seen than the one that the terminal is about to send, that one is lost, and its waiting time
+-- if another block was seen than the one that the terminal is about to send, that one is lost, and its waiting time
 -- ends
 abbrev pub goes_again : Following → Bool → List ℕ → Following
 goes_again f has_waited octets =
@@ -197,7 +197,7 @@ unfoldable pub after_moves : Following → List ℕ → List Item → Following
 after_moves f octets items =
     goes_again (after_begins f items) (is_waiting f.terminal_is && terminal_awaits_block f.terminal.waits) octets
 
--- the line of what goes to an end, which takes it where it got there and the end is followed
+-- the line of a block to an end; the end takes it if the block arrived and the end is followed
 unfoldable pub reaches_card : Following → Line → Bool → Following
 reaches_card f line lost = if not lost && is_waiting f.card_is then card_hears f line else writes f line
 
@@ -210,7 +210,8 @@ terminal_sent f octets lost =
     reaches_card (record f { terminal_is = standing_after f.terminal_is octets })
     (line.FromTerminal sent.0 sent.1) lost
 
--- A block of the terminal was seen: what the card has to do before comes first, then what makes the terminal send it.
+-- A block of the terminal was seen. First comes what the card has to do before it, then what makes the terminal send
+-- it.
 unfoldable pub from_terminal : Following → List ℕ → Bool → List Item → Following
 from_terminal f octets lost items =
     terminal_sent (released (after_moves (settled_card (after_host f items)) octets items)) octets lost
@@ -232,7 +233,7 @@ after_quiet f items =
 abbrev pub numbered : Following → Item → Following
 numbered f item = record f { numbers = numbers_after f.numbers item }
 
--- an item, with which these items begin; a moment is kept for the line of the next item
+-- an item, the first of these items; a moment is kept for the line of the next item
 abbrev pub after_item : Following → List Item → Item → Following
 after_item f items (Block side.Terminal octets lost) =
     numbered (from_terminal f octets lost items) (Block side.Terminal octets lost)

@@ -1,4 +1,4 @@
--- to be believed: what a text says, and what is recorded of it
+-- to be believed: what a text says, and what is recorded from it
 pub mod Rising
 pub mod Reading
 pub mod Seen

@@ -1,4 +1,4 @@
--- What a text says of a line: the items that were seen on it, or the first fault.
+-- What a text says about a line: the items that were seen on it, or the first fault.
 use Rattle.std.specs.Prelude.{◌≡◌, ◌≤◌, ◌⊎◌, ◌==◌, ◌||◌, ◌&&◌, not, ◌+◌, ℕ, nat_lt, List, [], ◌∷◌, ◌++◌, length, codes, Bool, true, false, Option, Some, None, Result, Ok, Err, if◌then◌else◌}
 use Rattle.std.specs.Str.{bytes_eq}
 use Rattle.std.specs.List.{slice_split}
@@ -17,19 +17,19 @@ use Rattle.traces.specs.Rising.{rises}
 use Rattle.traces.specs.declared.trace.Item.{Item}
 use Rattle.traces.specs.declared.trace.Item.TheVariants.{Block, Quiet, Moment}
 
--- the first fault counts
+-- the first fault is the result
 infixl 10 ◌>>=◌
 abbrev pub ◌>>=◌ : {A B : Type 0} → Result A ExchangeFault → (A → Result B ExchangeFault) → Result B ExchangeFault
 (Ok x) >>= f = f x
 (Err e) >>= f = Err e
 
--- the same, or out of memory
+-- the result is the expected one, or out of memory
 abbrev pub UnlessMemory : {X : Type 0} → Result X ExchangeFault → Result X ExchangeFault → Type 0
 UnlessMemory result expected = (result ≡ Err Memory) ⊎ (result ≡ expected)
 
--- ---- words, which spaces, tabs and CR part; a line has no LF
+-- ---- words, separated by spaces, tabs and CR; a line has no LF
 
--- the first three words of a line, empty where it has fewer, and the next one
+-- the first three words of a line, empty if the line has fewer, and the next word
 pub record Words : Type 0 where
   pub first : List ℕ
   pub second : List ℕ
@@ -48,7 +48,7 @@ is_empty word = length word == 0
 
 -- ---- lines, each with its number
 
--- octets in hexadecimal of either case
+-- octets in upper-case or lower-case hexadecimal
 abbrev pub octets_by : ℕ → Result (List ℕ) FromHexError → Result (List ℕ) ExchangeFault
 octets_by number (Ok octets) = Ok octets
 octets_by number (Err e) = Err (Hex number)
@@ -56,7 +56,7 @@ octets_by number (Err e) = Err (Hex number)
 abbrev pub hex_said : ℕ → List ℕ → Result (List ℕ) ExchangeFault
 hex_said number word = octets_by number (decode_of word)
 
--- octets alone, or with the word lost after them
+-- whether the word lost follows the octets
 abbrev pub is_lost : ℕ → Words → Result Bool ExchangeFault
 is_lost number w =
     if is_empty w.second || not (is_empty w.more) then Err (Word number)
@@ -73,11 +73,11 @@ moment_by number true (Some moment) = Ok (Moment moment)
 moment_by number false (Some moment) = Err (Word number)
 moment_by number alone None = Err (Word number)
 
--- one more word, which is a moment
+-- the one word that is left, as a moment
 abbrev pub moment_said : ℕ → Words → Result Item ExchangeFault
 moment_said number w = moment_by number (is_empty w.third) (decimal_number w.second)
 
--- the item that the words of a line say, of which the first names it
+-- the item of the words of a line; the first word names the line
 abbrev pub named_said : ℕ → Words → Result Item ExchangeFault
 named_said number w =
     if bytes_eq w.first (name_text name.FromTerminal) then block_said number Terminal w
@@ -92,19 +92,19 @@ item_said number w = if is_empty w.first then Ok None else named_said number w >
 
 -- ---- texts
 
--- what the lines so far said: their items, the number of the next line, and the last moment
+-- what the lines so far say: their items, the number of the next line, and the last moment
 pub record Taken : Type 0 where
   pub items : List Item
   pub number : ℕ
   pub least : ℕ
 
--- a moment that a file of an exchange may name
+-- a moment that the file of an exchange may have
 abbrev pub IsEarly : Item → Type 0
 IsEarly (Moment moment) = moment ≤ latest_moment
 IsEarly (Block from octets lost) = Unit {0}
 IsEarly Quiet = Unit {0}
 
--- the moments of these items never fall, and the last one is this
+-- no moment of these items is below an earlier one, and the last one is this
 abbrev pub Rises : List Item → ℕ → Type 0
 Rises items least = (more : List Item) → rises least more ≡ true → rises 0 (items ++ more) ≡ true
 
@@ -117,7 +117,7 @@ least_after least (Moment moment) = moment
 least_after least (Block from octets lost) = least
 least_after least Quiet = least
 
--- an item of the next line: a moment is never below an earlier one
+-- the items with the item of the next line, unless it is a moment below an earlier one
 abbrev pub taken_with : Taken → Option Item → Result Taken ExchangeFault
 taken_with t None = Ok t
 taken_with t (Some item) =
@@ -138,11 +138,11 @@ with_lines t (line ∷ lines) = with_line t line >>= (λ next. with_lines next l
 abbrev pub is_line_end : ℕ → Bool
 is_line_end x = x == 10
 
--- the items of a text; its last line needs no end
+-- the items of a text; its last line needs no line feed
 abbrev pub trace_of : List ℕ → Result (List Item) ExchangeFault
 trace_of text = with_lines nothing_taken (slice_split is_line_end text) >>= (λ t. Ok t.items)
 
--- what was taken became this, or the fault
+-- the result is the new value, or the fault
 abbrev pub Becomes : Result Taken ExchangeFault → Taken → Result (Unit {0}) ExchangeFault → Type 0
 Becomes expected new (Ok _) = expected ≡ Ok new
 Becomes expected new (Err fault) = UnlessMemory (Err fault) expected

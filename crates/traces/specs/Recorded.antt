@@ -1,4 +1,4 @@
--- The exchange that is recorded of what was seen on a line.
+-- The exchange that is recorded from what was seen on a line.
 use Rattle.std.specs.Prelude.{◌≡◌, ℕ, List, [], ◌∷◌, Some, None, Result, Ok, Err}
 use Rattle.exchange_text.specs.Exchange.{ExchangeParts}
 use Rattle.exchange_text.specs.declared.exchange.Version.{Version}
@@ -15,21 +15,21 @@ use Rattle.traces.specs.Marked.{marked}
 use Rattle.traces.specs.Unfit.{unfit_in}
 use Rattle.traces.specs.Unseen.{unseen_in}
 
--- version 2 where there is a moment
+-- the version of an exchange without notes: 2 if there is a moment
 abbrev pub version_of : List Item → Version
 version_of [] = One
 version_of (Moment moment ∷ items) = Two
 version_of (item ∷ items) = version_of items
 
--- the lines of what was seen, where the card takes fields of at most so many octets at first; no note is among them
+-- the lines of what was seen, without notes, if the card at first takes fields of at most so many octets
 unfoldable pub lines_of : ℕ → List Item → List Line
 lines_of ifsc items = (ended (after_items (begun ifsc) items)).lines
 
--- the same, with a note before each that tells what nobody saw
+-- these lines, with a note before each line that says what nobody saw
 abbrev pub noted_lines : ℕ → List Item → List Line
 noted_lines ifsc items = marked 0 (unseen_in ifsc items) (lines_of ifsc items)
 
--- version 2 where there is a note
+-- the version: 2 if there is a note
 abbrev pub version_with : List ℕ → Version → Version
 version_with [] version = version
 version_with (place ∷ places) version = Two
@@ -41,7 +41,7 @@ exchange_of ifsc atr items = record {
   lines = noted_lines ifsc items;
 }
 
--- What is recorded: the exchange, or why there is none. Memory can run out only where nothing is wrong.
+-- The result of recording: the exchange, or why there is none. It can be out of memory only if nothing else is wrong.
 abbrev pub IsRecorded : List ℕ → List Item → Result ExchangeParts RecordFault → Type 0
 IsRecorded atr items (Ok e) =
     (ifsc : ℕ) × IsFound atr (Ok ifsc) × (unfit_in items ≡ None) × (e ≡ exchange_of ifsc atr items)

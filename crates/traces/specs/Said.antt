@@ -1,4 +1,4 @@
--- What the applications said, by the blocks that are still to come: what the I-blocks of an end say, and which call
+-- What the applications said, from the blocks that are still to come: what the I-blocks of an end say, and which call
 -- made it send its next block.
 use Rattle.std.specs.Prelude.{ℕ, List, [], ◌∷◌, ◌++◌, Bool, true, false, not, if◌then◌else◌, Option, Some, None}
 use Rattle.block_core.specs.Block.{Parts, other}
@@ -17,9 +17,9 @@ use Rattle.traces.specs.declared.trace.Item.{Item}
 use Rattle.traces.specs.declared.said.Numbers.{Numbers}
 use Rattle.traces.specs.Seen.{block_in}
 
--- ---- numbers: those of the last I-blocks that were seen
+-- ---- the numbers of the last I-blocks that were seen
 
--- before any, and after RESYNCH, as if the last one of each end had the number 1
+-- before any I-block, and after RESYNCH, as if the last I-block of each end had the number 1
 abbrev pub at_first : Numbers
 at_first = record { terminal = One; card = One }
 
@@ -52,8 +52,8 @@ numbers_after n item = numbers_by n (block_in item)
 
 -- ---- messages
 
--- How much of a message was seen: the end whose message it is, the number of the last I-block of the other end before
--- it, the number of its next block, where one was seen, its octets, and whether its last block said that more comes.
+-- How much of a message was seen: the end that sends it; the number of the other end's last I-block before it; the
+-- number of its next block, if one was seen; its octets; and whether its last block said that more follows.
 pub record Said : Type 0 where
   pub from : Side
   pub last : Number
@@ -70,8 +70,8 @@ begun from n = record {
   more_comes = false;
 }
 
--- A block of the other end ends what is said: an I-block with another number than the last one, a response, or RESYNCH.
--- Each of them comes after the whole message.
+-- A block of the other end ends the message: an I-block with another number than the last one, a response, or RESYNCH.
+-- Each such block comes after the whole message.
 abbrev pub turns_over : Number → Pcb → Bool
 turns_over last (Info number more) = not (same number last)
 turns_over last (Response kind) = true
@@ -83,7 +83,7 @@ abbrev pub is_next : Option Number → Number → Bool
 is_next None number = true
 is_next (Some next) number = same number next
 
--- a block of the message's end: its next I-block is joined, RESYNCH ends it, and others are passed by
+-- a block of the message's end: its next I-block is joined, RESYNCH ends the message, and other blocks are skipped
 abbrev pub joins : Said → List ℕ → Pcb → Said × Bool
 joins s inf (Info number more) =
     if is_next s.next number
@@ -103,7 +103,7 @@ takes_block s (Some (side, block)) =
 abbrev pub takes : Said → Item → Said × Bool
 takes s item = takes_block s (block_in item)
 
--- where more was to come, an octet stands for what nobody saw
+-- if more was to come, one octet stands for what nobody saw
 abbrev pub unseen : Bool → List ℕ
 unseen true = 0 ∷ []
 unseen false = []
@@ -131,7 +131,7 @@ abbrev pub cut_from : List Item → Said → Bool
 cut_from [] s = s.more_comes
 cut_from (item ∷ items) s = cut_unless_ended (λ next. cut_from items next) (takes s item)
 
--- whether more was to come of that, so that its last octet stands for what nobody saw
+-- whether more of that was to come, so that its last octet stands for what nobody saw
 abbrev pub is_cut : Side → Numbers → List Item → Bool
 is_cut from n items = cut_from items (begun from n)
 
@@ -156,8 +156,8 @@ abbrev pub host_by : Numbers → List Item → Option Parts → Line
 host_by n items None = line.Reply (message Card n items)
 host_by n items (Some block) = host_says n items block.inf block.pcb
 
--- What the card's host says next: it asks for a size or for time where the card's next block is that request, else it
--- replies what the card's I-blocks say.
+-- What the card's host says next: it asks for a size or for time if the card's next block is that request; else it
+-- replies with what the card's I-blocks say.
 abbrev pub host_line : Numbers → List Item → Line
 host_line n items = host_by n items (first_block Card n.terminal items)
 
@@ -169,12 +169,12 @@ abbrev pub application_by : Numbers → List Item → Option Parts → Line
 application_by n items None = line.Command (message Terminal n items)
 application_by n items (Some block) = application_says n items block.inf block.pcb
 
--- What the application asks for next: a size where the terminal's next block is that request, else it hands over the
+-- What the application says next: it asks for a size if the terminal's next block is that request; else it passes the
 -- command that the terminal's I-blocks say.
 abbrev pub application_line : Numbers → List Item → Line
 application_line n items = application_by n items (first_block Terminal n.card items)
 
--- ---- calls of which nobody saw the end
+-- ---- calls whose end nobody saw
 
 abbrev pub host_cut : Numbers → List Item → Pcb → Bool
 host_cut n items (Request Ifs) = false

@@ -1,4 +1,4 @@
--- What the octets of a block are, whoever takes them.
+-- What the octets of a block are, for either end.
 use Rattle.std.specs.Prelude.{ℕ, List, Option, Some, None}
 use Rattle.block_core.specs.Block.{Parts}
 use Rattle.t1_core.specs.Came.{Came, got, damaged, invalid, quiet, class_of}
@@ -20,7 +20,7 @@ abbrev pub from_side : Side → Option Parts → Option (Side × Parts)
 from_side side None = None
 from_side side (Some block) = Some (side, block)
 
--- the block of an item, and the end that it is from
+-- the block of an item, and the end that sent it
 abbrev pub block_in : Item → Option (Side × Parts)
 block_in (Block from octets lost) = from_side from (seen octets)
 block_in Quiet = None

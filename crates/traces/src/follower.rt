@@ -14,7 +14,7 @@ use std::alloc::{AllocError, Global};
 use std::marker::Model;
 use t1_core::{Card, CardFault, CardTurn, Terminal, TerminalFault, TerminalTurn};
 
-/// A new terminal and a new card, followed over what was seen, and the lines so far.
+/// A new terminal and a new card that follow what was seen, and the lines so far.
 #[derive(Drop)]
 pub(crate) struct Follower {
     pub(crate) alloc: Global,
@@ -24,7 +24,7 @@ pub(crate) struct Follower {
     pub(crate) card_is: Standing,
     /// The numbers of the last I-blocks that were seen.
     pub(crate) numbers: Numbers,
-    /// The last moment, where no line has it yet.
+    /// The last moment, if no line has it yet.
     pub(crate) held: Option<u64>,
     lines: Vec<Line>,
 }
@@ -46,7 +46,7 @@ impl Model for Follower {
 }
 
 impl Follower {
-    /// Both ends new, with these parameters, and no line.
+    /// Returns a follower with both ends new, with these parameters, and no line.
     pub(crate) fn new(alloc: Global, params: T1Params) -> Result<Follower, AllocError>
         ensures { IfOk result (λ f. f ≡ begun params.ifsc) }
     {
@@ -70,7 +70,7 @@ impl Follower {
         Ok(())
     }
 
-    /// Writes the line of a turn, where the turn has a line.
+    /// Writes the line of a turn, if it has one.
     fn tell(&mut self, told: Option<Line>) -> Result<(), AllocError>
         ensures { OnOk result (self.new ≡ following.adds self.old (as_list told)) }
     {
@@ -80,7 +80,7 @@ impl Follower {
         Ok(())
     }
 
-    /// Writes the last moment, where no line has it yet.
+    /// Writes the last moment, if no line has it yet.
     #[tactic(auto, unfolding(crate::specs::Following::released))]
     pub(crate) fn release(&mut self) -> Result<(), AllocError>
         ensures { OnOk result (self.new ≡ released self.old) }
@@ -102,8 +102,8 @@ impl Follower {
         self.terminal_did(called)
     }
 
-    /// Takes what a call of the terminal returned: keeps a block that it sends, and writes the line of another turn.
-    /// After a refusal the terminal isn't followed any more.
+    /// Takes the result of a call of the terminal. It keeps a block that the terminal sends, and writes the line of
+    /// another turn. After a refusal the terminal isn't followed any more.
     fn terminal_did(
         &mut self,
         called: Result<TerminalTurn, TerminalFault>,
@@ -138,8 +138,8 @@ impl Follower {
         self.card_did(called)
     }
 
-    /// Takes what a call of the card returned: keeps a block that it sends, and writes the line of another turn. After
-    /// a refusal the card isn't followed any more.
+    /// Takes the result of a call of the card. It keeps a block that the card sends, and writes the line of another
+    /// turn. After a refusal the card isn't followed any more.
     fn card_did(&mut self, called: Result<CardTurn, CardFault>) -> Result<(), AllocError>
         ensures { OnOk result (self.new ≡ card_did self.old called) }
     {
@@ -161,7 +161,7 @@ impl Follower {
         }
     }
 
-    /// Adds the place of the next line, where nobody saw on the line what it says.
+    /// Adds the place of the next line to `unseen`, if nobody saw on the line what it says.
     pub(crate) fn note_if(&self, is_unseen: bool, unseen: &mut Vec<usize>) -> Result<(), AllocError>
         ensures { OnOk result
             (unseen.new.items ≡ noted is_unseen self.now unseen.old.items) }
@@ -172,7 +172,7 @@ impl Follower {
         Ok(())
     }
 
-    /// A block of the terminal that wasn't seen is lost.
+    /// Writes a block of the terminal that wasn't seen as lost.
     #[tactic(auto, unfolding(crate::specs::Following::settled_terminal))]
     pub(crate) fn settle_terminal(&mut self, unseen: &mut Vec<usize>) -> Result<(), AllocError>
         ensures follows { OnOk result (self.new ≡ settled_terminal self.old) }
@@ -189,7 +189,7 @@ impl Follower {
         Ok(())
     }
 
-    /// A block of the card that wasn't seen is lost.
+    /// Writes a block of the card that wasn't seen as lost.
     #[tactic(auto, unfolding(crate::specs::Following::settled_card))]
     pub(crate) fn settle_card(&mut self, unseen: &mut Vec<usize>) -> Result<(), AllocError>
         ensures follows { OnOk result (self.new ≡ settled_card self.old) }
@@ -206,7 +206,7 @@ impl Follower {
         Ok(())
     }
 
-    /// What was seen ends: blocks that weren't seen are lost.
+    /// Ends the lines: blocks that weren't seen are lost.
     pub(crate) fn end(&mut self, unseen: &mut Vec<usize>) -> Result<(), AllocError>
         ensures follows { OnOk result (self.new ≡ ended self.old) }
         ensures unseen { OnOk result (unseen.new.items ≡ ending self.old unseen.old.items) }
@@ -216,7 +216,7 @@ impl Follower {
         self.release()
     }
 
-    /// The lines.
+    /// Returns the lines.
     pub(crate) fn lines(self) -> Vec<Line>
         ensures { result.items ≡ self.lines }
     {

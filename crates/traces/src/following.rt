@@ -14,8 +14,9 @@ use exchange_core::{Line, Side};
 use std::alloc::AllocError;
 
 impl Follower {
-    /// Follows both ends over all items, each decoded once before. It adds to `unseen` the places of the lines that
-    /// nobody saw on the line.
+    /// Follows both ends over all items. It decodes each item once, before that.
+    ///
+    /// It adds to `unseen` the places of the lines that say what nobody saw.
     pub(crate) fn run(&mut self, items: &[Item], unseen: &mut Vec<usize>) -> Result<(), AllocError>
         ensures follows { OnOk result (self.new ≡ ended (after_items self.old items.now)) }
         ensures unseen { OnOk result (unseen.new.items
@@ -40,7 +41,7 @@ impl Follower {
         Ok(())
     }
 
-    /// Follows both ends over what was seen, with which these items begin.
+    /// Follows both ends over what was seen, the first of these items.
     fn see(
         &mut self,
         seen: &Seen<'_>,
@@ -69,7 +70,7 @@ impl Follower {
         }
     }
 
-    /// A block of the terminal was seen.
+    /// Takes a block of the terminal.
     #[tactic(auto, unfolding(crate::specs::Following::from_terminal))]
     fn see_terminal(
         &mut self,
@@ -92,7 +93,7 @@ impl Follower {
         self.reach_card(Line::FromTerminal { sent, arrival }, lost)
     }
 
-    /// A block of the card was seen.
+    /// Takes a block of the card.
     #[tactic(auto, unfolding(crate::specs::Following::from_card))]
     fn see_card(
         &mut self,
@@ -114,7 +115,7 @@ impl Follower {
         self.reach_terminal(Line::FromCard { sent, arrival }, lost)
     }
 
-    /// The terminal's waiting time ended.
+    /// Takes the end of the terminal's waiting time.
     #[tactic(auto, unfolding(crate::specs::Following::after_quiet))]
     fn hear_nothing(
         &mut self,
@@ -132,7 +133,7 @@ impl Follower {
         self.reach_terminal(Line::Quiet, false)
     }
 
-    /// Where the card's host owes the card a call, it calls it.
+    /// Makes the call of the card's host, if the host has to make one.
     #[tactic(auto, unfolding(crate::specs::Following::after_host))]
     fn ask_host(&mut self, items: &[Seen<'_>], unseen: &mut Vec<usize>) -> Result<(), AllocError>
         ensures follows { OnOk result (self.new ≡ after_host self.old items.now) }
@@ -147,8 +148,8 @@ impl Follower {
         Ok(())
     }
 
-    /// The terminal comes to send a block, by its application or after its waiting time. Returns how the octets match
-    /// that block.
+    /// Makes the terminal send a block, by a call of its application or by the end of its waiting time. Returns how the
+    /// octets match that block.
     #[tactic(auto, unfolding(crate::specs::Following::after_moves))]
     fn move_terminal(
         &mut self,
@@ -173,7 +174,7 @@ impl Follower {
         self.terminal_is.matched(self.alloc, octets)
     }
 
-    /// Where the terminal has no block to send, its waiting time ends, or its application asks for something.
+    /// If the terminal has no block to send, ends its waiting time, or makes a call of its application.
     #[tactic(auto, unfolding(crate::specs::Following::after_begins))]
     fn begin_terminal(
         &mut self,
@@ -196,7 +197,7 @@ impl Follower {
         self.terminal_hears(line)
     }
 
-    /// The line of a block of the terminal, which the card takes where it got there and the card is followed.
+    /// Writes the line of a block of the terminal. The card takes it if the block arrived and the card is followed.
     #[tactic(auto, unfolding(crate::specs::Following::reaches_card))]
     fn reach_card(&mut self, line: Line, lost: bool) -> Result<(), AllocError>
         ensures { OnOk result (self.new ≡ reaches_card self.old line lost) }
@@ -208,7 +209,7 @@ impl Follower {
         }
     }
 
-    /// The line of a block of the card, or of the end of the waiting time, which the terminal takes where it got there
+    /// Writes the line of a block of the card, or of the end of the waiting time. The terminal takes it if it arrived
     /// and the terminal is followed.
     #[tactic(auto, unfolding(crate::specs::Following::reaches_terminal))]
     fn reach_terminal(&mut self, line: Line, lost: bool) -> Result<(), AllocError>

@@ -1,4 +1,4 @@
-//! What holds of each recording, as contracts of functions that a caller may call to know it.
+//! What holds for each recording, as contracts of functions. Call one to use its law in a proof.
 
 ghost use Rattle.std.specs.Prelude.{◌≡◌, ℕ, List};
 ghost use Rattle.traces.specs.Again.{GetsNoNote, MadeAgain};
@@ -7,29 +7,33 @@ ghost use Rattle.traces.specs.Followed.{FollowedReplays};
 ghost use Rattle.traces.specs.Recorded.{noted_lines};
 ghost use Rattle.traces.specs.declared.trace.Item.{Item as AnyItem};
 
-/// The blocks that arrive in the exchange of a trace are, in their order, those of the trace that weren't lost,
-/// octet by octet, whatever both ends did.
+/// The exchange of a trace has the blocks of the trace that weren't lost as the blocks that arrive. They are in order
+/// and octet by octet, whatever both ends did.
 pub fn seen_blocks_arrive()
     ensures { (ifsc : ℕ) (items : List AnyItem)
         → arrived_of (noted_lines ifsc items) ≡ arrived_in items }
 {}
 
-/// An end that did what its table says, to the last block of a trace, replays the exchange of the trace. It is followed
-/// to the end (`is_followed` in `specs/Followed.antt`), and the lines that were added make it send what was seen.
+/// An end that did what its table says, to the last block of a trace, replays the exchange of the trace.
+///
+/// It is followed to the end (`is_followed` in `specs/Followed.antt`), and the lines that were added make it send what
+/// was seen.
 pub fn followed_end_replays()
     ensures { FollowedReplays }
 {}
 
-/// The file of a [`Recorder`](exchange_core::Recorder) is made again from what was on its line, lost blocks and ended
-/// waiting times included. The exchange of that trace is line for line the recorder's, but for notes that the recording
-/// adds. It holds whatever happened between both ends, where the blocks show what the applications called (`AreTold` in
+/// The file of a [`Recorder`](exchange_core::Recorder) is made again from what was on its line, with lost blocks and
+/// ended waiting times.
+///
+/// The exchange of that trace has the same lines as the recorder's, except for notes that the recording adds. This
+/// holds whatever happened between both ends, if the blocks show what the applications called (`AreTold` in
 /// `specs/Again.antt`): each message was sent whole, and so was each request for a size or for time.
 pub fn recorded_is_made_again()
     ensures { MadeAgain }
 {}
 
-/// Where each message was also seen to its end (`AreSeenWhole` in `specs/Again.antt`), the recording adds no note. The
-/// file of that trace is line for line the recorder's.
+/// If each message was also seen to its end (`AreSeenWhole` in `specs/Again.antt`), the recording adds no note. Then
+/// the file of that trace has the same lines as the recorder's.
 pub fn recorded_gets_no_note()
     ensures { GetsNoNote }
 {}

@@ -1,9 +1,9 @@
-//! Traces of a line: the blocks that an analyser or a driver saw, and the exchange that both ends' applications must
-//! have made with them.
+//! Traces of a line: the blocks that an analyser or a driver saw, and the exchange that both applications must have
+//! made with them.
 //!
-//! [`read_trace`] gives the [`Trace`] of a text or the first fault of it, and [`record_trace`] the exchange: both
-//! ends are followed from block to block, and where an end needs a call of its application to send what was seen, the
-//! line of that call is added. `specs/Following.antt` says what each item adds.
+//! [`read_trace`] parses a text, and returns its [`Trace`] or its first fault. [`record_trace`] returns the exchange.
+//! It follows both ends from block to block. If an end needs a call of its application to send what was seen, it adds
+//! the line of that call. `specs/Following.antt` says what each item adds.
 #![tactic(auto)]
 
 mod follower;

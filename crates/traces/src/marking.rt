@@ -1,4 +1,4 @@
-//! The notes before lines that nobody saw on the line.
+//! The notes before lines that say what nobody saw.
 
 ghost use Rattle.std.specs.Prelude.{◌≡◌, ◌++◌, ◌∷◌, IfOk, OnOk};
 ghost use Rattle.traces.specs.Marked as spec;
@@ -7,7 +7,7 @@ ghost use Rattle.traces.specs.Marked.{left_after, put_as};
 use exchange_core::{Line, Lines};
 use std::alloc::{AllocError, Global};
 
-/// The lines, with a note before each line whose place is in `unseen`. Those places rise.
+/// Returns the lines, with a note before each line whose place is in `unseen`. These places are in rising order.
 pub(crate) fn marked(alloc: Global, lines: Vec<Line>, unseen: &[usize]) -> Result<Lines, AllocError>
     ensures { IfOk result (λ marked. marked ≡ spec.marked 0 unseen.now lines.items) }
 {
@@ -25,7 +25,7 @@ pub(crate) fn marked(alloc: Global, lines: Vec<Line>, unseen: &[usize]) -> Resul
     Ok(Lines::of(marked))
 }
 
-/// Adds the line of a place, after a note where the place is the first of `unseen`. Returns the places that are left.
+/// Appends the line of a place, after a note if the place is the first of `unseen`. Returns the places that are left.
 fn put<'a>(
     alloc: Global,
     marked: &mut Vec<Line>,

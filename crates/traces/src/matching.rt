@@ -14,16 +14,16 @@ use std::alloc::{AllocError, Global};
 /// How octets match the block that was due, with the octets of that block.
 #[derive(Drop)]
 pub(crate) enum Match {
-    /// They are the block's own.
+    /// They are the block's octets.
     Whole(Octets),
-    /// They are no block: the block changed on its way.
+    /// They aren't a block: the block changed on its way.
     Changed(Octets),
     /// They are another block, or no block was due.
     Other,
 }
 
 impl Match {
-    /// How octets match a block, which is encoded for that once.
+    /// Returns how octets match a block. It encodes the block once.
     pub(crate) fn with(
         alloc: Global,
         block: &Block,
@@ -48,7 +48,7 @@ impl Match {
         matches!(self, Match::Other)
     }
 
-    /// How the end stands after them: one that did otherwise than it should isn't followed any more.
+    /// Returns the standing of the end after them. An end that differs from its table isn't followed any more.
     pub(crate) fn standing(&self) -> Standing
         ensures { result ≡ standing_by self.now }
     {
@@ -58,7 +58,7 @@ impl Match {
         }
     }
 
-    /// What the end sent where these octets were seen, and what became of that.
+    /// Returns what the end sent if these octets were seen, and how that arrived.
     pub(crate) fn sent(
         self,
         alloc: Global,
@@ -78,7 +78,7 @@ impl Match {
     }
 }
 
-/// What became of a block that was seen as it was sent.
+/// Returns how a block arrived that was seen as it was sent.
 fn whole(lost: bool) -> Arrival
     ensures { result ≡ following.whole lost }
 {

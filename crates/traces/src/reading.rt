@@ -16,17 +16,21 @@ use octet_core::{Octets, decimal_of};
 use std::alloc::{AllocError, Global};
 use std::marker::Model;
 
-/// The word for a block that didn't get to its receiver, after its octets.
+/// The word for a block that didn't reach its receiver, after its octets.
 const LOST: &str = "lost";
 
-/// Reads a trace from its text, or finds the first fault of the text.
+/// Parses the text of a trace, and returns the trace or the first fault.
 ///
-/// LF ends a line, and the last one needs no end; spaces, tabs and CR part words. A line is `t HEX` or `c HEX`, a block
-/// of the terminal or of the card in hexadecimal of either case, perhaps with the word `lost` after it, or `quiet`, or
-/// `at N`, microseconds with 1 to 15 digits that never fall. A line without a word says nothing.
+/// LF ends a line, and the last line needs none. Spaces, tabs and CR separate words. The lines are:
 ///
-/// The error names the first wrong line, counted from 1: `Word` where its words are no such line, then `Hex`, then
-/// `Falls` for a moment below an earlier one. Where an allocation fails, `Memory` takes the place of any other answer.
+/// - `t HEX`, `c HEX`: a block of the terminal or of the card. HEX is in upper case or lower case.
+/// - `t HEX lost`, `c HEX lost`: the block didn't reach the other end.
+/// - `quiet`: the terminal's waiting time ended.
+/// - `at N`: microseconds, 1 to 15 digits, never below an earlier moment.
+/// - A line without a word says nothing.
+///
+/// The error names the first wrong line, counted from 1: `Word` if its words have none of these forms, then `Hex`, then
+/// `Falls` for a moment below an earlier one. If an allocation fails, `Memory` can replace any result.
 pub fn read_trace(alloc: Global, text: &[u8]) -> Result<Trace, ExchangeFault>
     ensures { UnlessMemory result (trace_of text.now) }
 {
@@ -37,8 +41,8 @@ pub fn read_trace(alloc: Global, text: &[u8]) -> Result<Trace, ExchangeFault>
     Ok(taken.end())
 }
 
-/// The number, from 1, of the line of a text that says the item at this place, from 0; the number after the last line
-/// where no line says it.
+/// Returns the number, from 1, of the line of a text with the item at this place, from 0. If no line has it, returns
+/// the number after the last line.
 pub fn line_of_item(text: &[u8], place: usize) -> usize
     ensures { result ≡ item_line 1 place (slice_split is_line_end text.now) }
 {
@@ -54,14 +58,14 @@ pub fn line_of_item(text: &[u8], place: usize) -> usize
     number
 }
 
-/// Whether a line says the item before which so many are left.
+/// Whether a line has the item before which so many are left.
 fn is_said(line: &[u8], left: usize) -> bool
     ensures { result ≡ unfit.is_said line.now left }
 {
     says_item(line) && left == 0
 }
 
-/// How many items are left after a line.
+/// Returns how many items are left after a line.
 fn left_after(line: &[u8], left: usize) -> usize
     ensures { result ≡ unfit.left_after line.now left }
 {
@@ -72,14 +76,14 @@ fn left_after(line: &[u8], left: usize) -> usize
     }
 }
 
-/// Whether a line says an item: whether it has a word.
+/// Whether a line has an item, which it has if it has a word.
 fn says_item(line: &[u8]) -> bool
     ensures { result ≡ unfit.says_item line.now }
 {
     !LineWords::of(line).first.is_empty()
 }
 
-/// What the lines so far said.
+/// What the lines so far say.
 #[derive(Drop)]
 struct Taken {
     items: Vec<Item>,
@@ -100,7 +104,7 @@ impl Model for Taken {
 }
 
 impl Taken {
-    /// What no line says.
+    /// Returns what no lines say.
     fn new(alloc: Global) -> Taken
         ensures { result ≡ nothing_taken }
     {
@@ -111,7 +115,7 @@ impl Taken {
         }
     }
 
-    /// Takes one more line, without its end.
+    /// Takes one more line, without its line feed.
     fn take(&mut self, alloc: Global, line: &[u8]) -> Result<(), ExchangeFault>
         requires { self.old.number + 1 < 2 ^ 64 }
         ensures said { Becomes (with_line self.old line.now) self.new result }
@@ -124,14 +128,14 @@ impl Taken {
         Ok(())
     }
 
-    /// The trace of the lines.
+    /// Returns the trace of the lines.
     fn end(self) -> Trace
         ensures { result ≡ self.items }
     {
         Trace::rising(self.items)
     }
 
-    /// Takes the item of a line, where it has one.
+    /// Takes the item of a line, if it has one.
     fn with(&mut self, item: Option<Item>) -> Result<(), ExchangeFault>
         requires { IfSome item IsEarly }
         ensures said { Becomes (taken_with self.old item) self.new result }
@@ -159,7 +163,7 @@ impl Taken {
     }
 }
 
-/// The last moment after an item.
+/// Returns the last moment after an item.
 fn least_after(least: u64, item: &Item) -> u64
     ensures { result ≡ least_after least item.now }
 {
@@ -177,7 +181,7 @@ fn push(items: &mut Vec<Item>, item: Item) -> Result<(), AllocError>
     Ok(())
 }
 
-/// What the words of the line with this number say; without a word it says nothing.
+/// Parses the words of the line with this number. A line without a word says nothing.
 fn item_said(
     alloc: Global,
     number: usize,
@@ -193,7 +197,7 @@ fn item_said(
     }
 }
 
-/// The item that the words say, of which the first names it.
+/// Returns the item of these words. The first word names it.
 fn named_said(alloc: Global, number: usize, words: &LineWords<'_>) -> Result<Item, ExchangeFault>
     ensures said { UnlessMemory result (named_said number words.now) }
     ensures early { IfOk result IsEarly }
@@ -212,7 +216,7 @@ fn named_said(alloc: Global, number: usize, words: &LineWords<'_>) -> Result<Ite
     }
 }
 
-/// The block of this end that the words say.
+/// Returns the block of this end in these words.
 fn block_said(
     alloc: Global,
     number: usize,
@@ -227,7 +231,7 @@ fn block_said(
     Ok(Item::Block { from, octets, lost })
 }
 
-/// Whether the words are those of a block that was lost.
+/// Whether the words say that a block was lost.
 fn is_lost(number: usize, words: &LineWords<'_>) -> Result<bool, ExchangeFault>
     ensures { result ≡ is_lost number words.now }
 {
@@ -242,7 +246,7 @@ fn is_lost(number: usize, words: &LineWords<'_>) -> Result<bool, ExchangeFault>
     }
 }
 
-/// The moment that the words say.
+/// Returns the moment in these words.
 fn moment_said(number: usize, words: &LineWords<'_>) -> Result<Item, ExchangeFault>
     ensures said { result ≡ moment_said number words.now }
     ensures early { IfOk result IsEarly }
@@ -253,7 +257,7 @@ fn moment_said(number: usize, words: &LineWords<'_>) -> Result<Item, ExchangeFau
     }
 }
 
-/// The octets that a word gives in hexadecimal of either case.
+/// Returns the octets of a word in upper-case or lower-case hexadecimal.
 fn hex_said(alloc: Global, number: usize, word: &[u8]) -> Result<Octets, ExchangeFault>
     ensures { UnlessMemory result (hex_said number word.now) }
 {

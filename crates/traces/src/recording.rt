@@ -18,7 +18,7 @@ use std::fmt::{self, Display, Formatter, Write};
 /// Why there is no exchange of a trace.
 #[derive(Clone, Copy, Debug, PartialEq, Eq)]
 pub enum RecordFault {
-    /// The answer to reset can't be used, for what replay names.
+    /// The answer to reset can't be used, with the fault that replay names.
     Refused(AtrFault),
     /// The item at this place, from 0, can't be recorded.
     Unfit { place: usize, why: Unfit },
@@ -26,7 +26,7 @@ pub enum RecordFault {
     Memory,
 }
 
-/// `Refused: ` and the name that replay gives, `Unfit at `, the place and the reason, or `memory`.
+/// `Refused: ` and the name that replay uses; `Unfit at `, the place and the reason; or `memory`.
 impl Display for RecordFault {
     ghost use Rattle.std.specs.Prelude.{Some};
     ghost use Rattle.traces.specs.Faults.{record_fault_text};
@@ -54,15 +54,18 @@ impl From<AllocError> for RecordFault {
     }
 }
 
-/// Makes the exchange of a trace, with the lines that both applications must have said. A line `note added` stands
-/// before each line that nobody saw: a lost block or the end of a waiting time that isn't in the trace, and a command or
-/// a reply whose last octet 00 stands for the rest. The version is 2 where the trace has a moment or a note is added.
+/// Returns the exchange of a trace, with the lines that both applications must have said.
 ///
-/// The call first refuses an answer to reset that can't be used, and then what can't be recorded ([`Unfit`]). `Memory`
-/// comes only where neither is wrong. A new terminal and a new card take what the trace has for them. Octets that are no
-/// block, where their end was to send a block, count as damaged on their way. An end that does something else than its
-/// table says isn't called any more, and no line of its application is added after that. Replay of the exchange names
-/// that line.
+/// A line `note added` comes before each line that nobody saw. Such a line is a lost block or the end of a waiting time
+/// that isn't in the trace, or a command or a reply whose last octet 00 stands for octets that nobody saw. The version
+/// is 2 if the trace has a moment or a note is added.
+///
+/// It first refuses an answer to reset that can't be used, and then what can't be recorded ([`Unfit`]). `Memory` is
+/// returned only if neither is wrong.
+///
+/// A new terminal and a new card take what the trace has for them. If an end was to send a block and the octets aren't
+/// a block, they count as that block, damaged on its way. An end that differs from its table isn't called any more, and
+/// no line of its application is added after that. Replay of the exchange names that line.
 pub fn record_trace(alloc: Global, atr: &[u8], trace: &Trace) -> Result<Exchange, RecordFault>
     ensures { IsRecorded atr.now trace.now result }
 {
@@ -81,7 +84,7 @@ pub fn record_trace(alloc: Global, atr: &[u8], trace: &Trace) -> Result<Exchange
     Ok(Exchange::proper(version, copied(alloc, atr)?, lines))
 }
 
-/// The lines of the items. The places of the lines that nobody saw are added to `unseen`.
+/// Returns the lines of the items, and adds to `unseen` the places of the lines that say what nobody saw.
 #[tactic(auto, unfolding(crate::specs::Recorded::lines_of, crate::specs::Unseen::unseen_in))]
 fn lines_of(
     alloc: Global,
@@ -98,7 +101,7 @@ fn lines_of(
     Ok(follower.lines())
 }
 
-/// The version of an exchange that has `version` without notes.
+/// Returns the version of an exchange that has `version` without notes.
 fn version_with(unseen: &[usize], version: Version) -> Version
     ensures { result ≡ recorded.version_with unseen.now version }
 {
@@ -109,7 +112,7 @@ fn version_with(unseen: &[usize], version: Version) -> Version
     }
 }
 
-/// The version of an exchange of the items, with no note.
+/// Returns the version of an exchange of the items without notes.
 fn version_of(items: &[Item]) -> Version
     ensures { result ≡ recorded.version_of items.now }
 {

@@ -1,4 +1,4 @@
-//! What the applications said, by the blocks that are still to come.
+//! What the applications said, from the blocks that are still to come.
 
 ghost use Rattle.std.specs.Prelude.{◌≡◌, false, IfOk, option_copied};
 ghost use Rattle.traces.specs.Said as spec;
@@ -11,10 +11,10 @@ use octet_core::Octets;
 use std::alloc::{AllocError, Global};
 use std::marker::Model;
 
-/// The octet that stands for those that nobody saw.
+/// The octet that stands for octets that nobody saw.
 const UNSEEN: u8 = 0;
 
-/// The numbers of the last I-blocks that were seen, of each end.
+/// The numbers of the last I-blocks of each end that were seen.
 #[derive(Clone, Copy)]
 pub(crate) struct Numbers {
     pub(crate) terminal: Number,
@@ -22,7 +22,7 @@ pub(crate) struct Numbers {
 }
 
 impl Numbers {
-    /// Before any I-block, and after RESYNCH: as if the last one of each end had the number 1.
+    /// Returns the numbers before any I-block, and after RESYNCH, as if the last I-block of each end had the number 1.
     pub(crate) fn new() -> Numbers
         ensures { result ≡ spec.at_first }
     {
@@ -32,7 +32,7 @@ impl Numbers {
         }
     }
 
-    /// The number of an end.
+    /// Returns the number of an end.
     fn of(self, side: Side) -> Number
         ensures { result ≡ number_of side self }
     {
@@ -42,7 +42,7 @@ impl Numbers {
         }
     }
 
-    /// The numbers after what was seen.
+    /// Returns the numbers after what was seen.
     pub(crate) fn after(self, seen: &Seen<'_>) -> Numbers
         ensures { result ≡ numbers_after self seen.now }
     {
@@ -56,7 +56,7 @@ impl Numbers {
         }
     }
 
-    /// The numbers with this one of an end.
+    /// Returns the numbers with this number for an end.
     fn with(self, side: Side, number: Number) -> Numbers
         ensures { result ≡ with_number self side number }
     {
@@ -76,14 +76,14 @@ impl Numbers {
 /// How much of a message was seen.
 #[derive(Drop)]
 struct Said {
-    /// The end whose message it is.
+    /// The end that sends the message.
     from: Side,
-    /// The number of the last I-block of the other end before it.
+    /// The number of the other end's last I-block before the message.
     last: Number,
-    /// The number of the message's next block; the first one may have either.
+    /// The number of the message's next block. The first one may have either number.
     next: Option<Number>,
     octets: Vec<u8>,
-    /// The last block said that more comes.
+    /// Whether the last block said that more follows.
     more_comes: bool,
 }
 
@@ -102,7 +102,7 @@ impl Model for Said {
 }
 
 impl Said {
-    /// Nothing was seen yet.
+    /// Returns a message of which nothing was seen yet.
     fn new(alloc: Global, from: Side, numbers: Numbers) -> Said
         ensures { result ≡ begun from numbers }
     {
@@ -126,7 +126,7 @@ impl Said {
         }
     }
 
-    /// Takes a block of the message's end: its next I-block is joined.
+    /// Takes a block of the message's end, and joins it if it is the next I-block.
     fn joins(&mut self, block: &BlockRef<'_>) -> Result<bool, AllocError>
         ensures { IfOk result (λ ends.
             joins self.old block.now.inf block.now.pcb ≡ (self.new, ends)) }
@@ -142,7 +142,7 @@ impl Said {
         }
     }
 
-    /// The message: where more was to come, an octet stands for what nobody saw.
+    /// Returns the message. If more was to come, one octet stands for what nobody saw.
     fn closed(mut self) -> Result<Spoken, AllocError>
         ensures octets { IfOk result (λ message. message.octets ≡ closed self) }
         ensures cut { IfOk result (λ message. message.is_cut ≡ self.more_comes) }
@@ -160,7 +160,7 @@ impl Said {
 #[derive(Drop)]
 struct Spoken {
     octets: Octets,
-    /// More was to come: the last octet stands for what nobody saw.
+    /// Whether more was to come, so that the last octet stands for what nobody saw.
     is_cut: bool,
 }
 
@@ -168,12 +168,12 @@ struct Spoken {
 #[derive(Drop)]
 pub(crate) struct Call {
     pub(crate) line: Line,
-    /// Nobody saw the end of its message.
+    /// Whether nobody saw the end of its message.
     pub(crate) is_cut: bool,
 }
 
 impl Call {
-    /// A call whose message, if it has one, was seen whole.
+    /// Returns a call whose message, if it has one, was seen whole.
     fn whole(line: Line) -> Call
         ensures { result ≡ record { line = line; is_cut = false } }
     {
@@ -184,7 +184,7 @@ impl Call {
     }
 }
 
-/// What the I-blocks of an end say from these items on.
+/// Returns what the I-blocks of an end say from these items on.
 fn message(
     alloc: Global,
     from: Side,
@@ -205,7 +205,7 @@ fn message(
     said.closed()
 }
 
-/// The first block of an end from these items on, before the other end goes on to something else.
+/// Returns the first block of an end from these items on, before the other end goes on to something else.
 fn first_block<'a, 'b>(from: Side, last: Number, items: &'a [Seen<'b>]) -> Option<&'a BlockRef<'b>>
     ensures { option_copied result ≡ first_block from last items.now }
 {
@@ -224,7 +224,7 @@ fn first_block<'a, 'b>(from: Side, last: Number, items: &'a [Seen<'b>]) -> Optio
     None
 }
 
-/// What the card's host says next, by the card's blocks from these items on.
+/// Returns what the card's host says next, from the card's blocks in these items.
 pub(crate) fn host_call(
     alloc: Global,
     numbers: Numbers,
@@ -245,7 +245,7 @@ pub(crate) fn host_call(
     Ok(Call { line, is_cut })
 }
 
-/// What the application asks for next, by the terminal's blocks from these items on.
+/// Returns what the application says next, from the terminal's blocks in these items.
 pub(crate) fn application_call(
     alloc: Global,
     numbers: Numbers,
@@ -264,7 +264,7 @@ pub(crate) fn application_call(
     Ok(Call { line, is_cut })
 }
 
-/// Whether a block ends what the other end said: an I-block with another number than the last one, a response, or
+/// Whether a block ends what the other end says: an I-block with another number than the last one, a response, or
 /// RESYNCH.
 fn turns_over(last: Number, pcb: Pcb) -> bool
     ensures { result ≡ turns_over last pcb }
@@ -276,7 +276,7 @@ fn turns_over(last: Number, pcb: Pcb) -> bool
     }
 }
 
-/// Whether a number is the next one, where that is known.
+/// Whether a number is the next one, if that is known.
 fn is_next(next: Option<Number>, number: Number) -> bool
     ensures { result ≡ is_next next number }
 {

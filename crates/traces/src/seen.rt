@@ -12,7 +12,7 @@ use exchange_core::Side;
 use std::alloc::{AllocError, Global};
 use std::marker::Model;
 
-/// Octets that were on the line as one block, and the block that they are, which contracts see as the octets.
+/// Octets that were on the line as one block, and the block that they are. Contracts see the octets.
 #[derive(Drop)]
 pub(crate) struct Decoded<'a> {
     octets: &'a [u8],
@@ -41,21 +41,22 @@ impl<'a> Decoded<'a> {
         }
     }
 
-    /// The octets.
+    /// Returns the octets.
     pub(crate) fn octets(&self) -> &'a [u8]
         ensures { result.now ≡ self.now }
     {
         self.octets
     }
 
-    /// The block that they are, where they are one whole block with node address 00 and a field of at most 254 octets.
+    /// Returns the block that they are, if they are one whole block with node address 00 and a field of at most 254
+    /// octets.
     pub(crate) fn block(&self) -> Option<&BlockRef<'a>>
         ensures { option_copied result ≡ seen self.now }
     {
         self.block.as_ref()
     }
 
-    /// Whether they are a block of RESYNCH, after which both ends start again.
+    /// Whether they are a block of RESYNCH, after which both ends begin again.
     pub(crate) fn begin_anew(&self) -> bool
         ensures { result ≡ begins_anew (seen self.now) }
     {
@@ -69,7 +70,7 @@ impl<'a> Decoded<'a> {
 /// What was seen.
 #[derive(Drop)]
 pub(crate) enum What<'a> {
-    /// These octets, from this end; a lost block didn't get to the other.
+    /// These octets, from this end. If the block is lost, it didn't reach the other end.
     Block {
         from: Side,
         octets: Decoded<'a>,
@@ -81,7 +82,7 @@ pub(crate) enum What<'a> {
     Moment(u64),
 }
 
-/// One thing that was seen, its octets decoded, which contracts see as the item of a trace.
+/// One thing that was seen, with its octets decoded. Contracts see the item of a trace.
 #[derive(Drop)]
 pub(crate) struct Seen<'a> {
     pub(crate) what: What<'a>,
@@ -114,7 +115,7 @@ impl<'a> Seen<'a> {
         Seen { what }
     }
 
-    /// Its block, and the end that it is from.
+    /// Returns its block, and the end that sent it.
     pub(crate) fn block(&self) -> Option<(Side, &BlockRef<'a>)>
         ensures some { IfSome result (λ x. block_in self.now ≡ Some (x.0, x.1.now)) }
         ensures none { IfNone result (block_in self.now ≡ None) }
@@ -140,14 +141,15 @@ pub(crate) fn decode_each(alloc: Global, items: &[Item]) -> Result<Vec<Seen<'_>>
     Ok(seen)
 }
 
-/// The block that octets are, where they are one whole block with node address 00 and a field of at most 254 octets.
+/// Returns the block that octets are, if they are one whole block with node address 00 and a field of at most 254
+/// octets.
 fn whole_block(octets: &[u8]) -> Option<BlockRef<'_>>
     ensures { result ≡ seen octets.now }
 {
     by_verdict(octets)
 }
 
-/// The same, by the verdict on the octets as a block.
+/// Returns that block, from the verdict on the octets as a block.
 fn by_verdict(octets: &[u8]) -> Option<BlockRef<'_>>
     ensures { (came : Came) × IsClass 254 octets.now came × (block_of came ≡ result) }
 {

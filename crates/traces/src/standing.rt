@@ -1,4 +1,4 @@
-//! How an end that is followed stands to the next block of it that is seen.
+//! How a followed end stands to its next block that is seen.
 
 ghost use Rattle.std.specs.Prelude.{◌≡◌, IfOk};
 ghost use Rattle.traces.specs.Following.{is_waiting, misses};
@@ -13,11 +13,11 @@ use std::alloc::{AllocError, Global};
 /// How an end stands.
 #[derive(Drop)]
 pub(crate) enum Standing {
-    /// It did something else than its table says, and isn't followed any more.
+    /// It differed from its table, and isn't followed any more.
     Left,
     /// It waits for a block or for its application.
     Waits,
-    /// It is about to send this block, which no line has yet.
+    /// It is about to send this block, which has no line yet.
     Sends(Block),
 }
 
@@ -42,7 +42,7 @@ impl Standing {
         }
     }
 
-    /// How octets that were seen from it match the block that it is about to send.
+    /// Returns how octets that were seen from it match the block that it is about to send.
     pub(crate) fn matched(&self, alloc: Global, seen: &Decoded<'_>) -> Result<Match, AllocError>
         ensures { IfOk result (λ met. met ≡ match_of self.now seen.now) }
     {
@@ -52,7 +52,8 @@ impl Standing {
         }
     }
 
-    /// Whether it is about to send a block, and these octets, which match it so, are another one, but not for RESYNCH.
+    /// Whether it is about to send a block, and these octets are another one that isn't a block of RESYNCH. `met` is
+    /// how they match the block.
     pub(crate) fn misses(&self, met: &Match, seen: &Decoded<'_>) -> bool
         requires { met.now ≡ match_of self.now seen.now }
         ensures { result ≡ misses self.now seen.now }

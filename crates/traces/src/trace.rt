@@ -11,7 +11,7 @@ use std::marker::Model;
 /// One thing that was seen.
 #[derive(Debug, PartialEq, Eq, Drop)]
 pub enum Item {
-    /// These octets were on the line as one block, from this end; a lost one didn't get to the other.
+    /// These octets were on the line as one block, from this end. If the block is lost, it didn't reach the other end.
     Block {
         from: Side,
         octets: Octets,
@@ -23,8 +23,8 @@ pub enum Item {
     Moment(u64),
 }
 
-/// What was seen on a line, in its order, which contracts see as a list. Moments are at most 999,999,999,999,999 and
-/// never below an earlier one.
+/// What was seen on a line, in order, which contracts see as a list. Moments are at most 999,999,999,999,999 and never
+/// below an earlier one.
 #[derive(Debug, Drop)]
 pub struct Trace {
     items: Vec<Item>,
@@ -46,7 +46,7 @@ impl Trace {
     ghost use Rattle.std.specs.Prelude.{◌≡◌, ◌≢◌, MatchResult, true};
     ghost use Rattle.traces.specs.Rising.{rises};
 
-    /// Makes a trace of items. The error has the items, where a moment falls or is too late.
+    /// Makes a trace of items. If a moment is below an earlier one or too late, `Err` returns the items.
     pub fn of(items: Vec<Item>) -> Result<Trace, Vec<Item>>
         ensures { MatchResult result (λ trace. trace ≡ items.items)
             (λ back. (back ≡ items) × (rises 0 items.items ≢ true)) }
@@ -58,7 +58,7 @@ impl Trace {
         }
     }
 
-    /// The trace of items whose moments rise.
+    /// Makes a trace of items whose moments are in order.
     pub(crate) fn rising(items: Vec<Item>) -> Trace
         requires { rises 0 items.items ≡ true }
         ensures { result ≡ items.items }

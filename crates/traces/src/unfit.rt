@@ -12,16 +12,18 @@ use std::fmt::{self, Display, Formatter, Write};
 /// Why what was seen on a line can't be recorded.
 #[derive(Clone, Copy, Debug, PartialEq, Eq)]
 pub enum Unfit {
-    /// The terminal's first octets begin with FF: they are PPS, and no block (ISO/IEC 7816-3, clauses 9.2 and 11.3.2.1).
+    /// The terminal's first octets begin with FF, so they are PPS and not a block (ISO/IEC 7816-3, clauses 9.2 and
+    /// 11.3.2.1).
     Pps,
     /// The first blocks of both ends have a node address other than 00, the card's with its halves swapped (clause
-    /// 11.3.2.1): both ends here use 00 alone.
+    /// 11.3.2.1). Both ends here use only 00.
     NodeAddress,
-    /// The terminal sends a block though no block of the card and no end of its waiting time comes after the one before.
+    /// The terminal sends a block after another one, with no block of the card and no end of its waiting time between
+    /// them.
     Silence,
 }
 
-/// Its name, as in Rust.
+/// The variant's name.
 impl Named for Unfit {
     ghost use Rattle.traces.specs.Faults.{unfit_name};
 
@@ -36,7 +38,7 @@ impl Named for Unfit {
     }
 }
 
-/// Its name.
+/// The variant's name.
 impl Display for Unfit {
     ghost use Rattle.std.specs.Prelude.{Some};
     ghost use Rattle.traces.specs.Faults.{unfit_name};
@@ -48,7 +50,7 @@ impl Display for Unfit {
     }
 }
 
-/// The first item that can't be recorded, by its place from 0, and why.
+/// Returns the first item that can't be recorded, by its place from 0, and why.
 #[tactic(auto, unfolding(crate::specs::Unfit::unfit_in))]
 pub fn unfit_in(items: &[Item]) -> Option<(usize, Unfit)>
     ensures { result ≡ unfit_in items.now }
@@ -67,7 +69,7 @@ pub fn unfit_in(items: &[Item]) -> Option<(usize, Unfit)>
     }
 }
 
-/// The block of the terminal that nothing came before, as what can't be recorded.
+/// Returns the block of the terminal that nothing came before, as what can't be recorded.
 fn by_silence(items: &[Item]) -> Option<(usize, Unfit)>
     ensures { result ≡ spec.by_silence (silence_at 0 false items.now) }
 {
@@ -77,7 +79,7 @@ fn by_silence(items: &[Item]) -> Option<(usize, Unfit)>
     }
 }
 
-/// The first block of an end, by its place among the items, and its octets.
+/// Returns the first block of an end, by its place among the items, and its octets.
 fn first_from(items: &[Item], side: Side) -> Option<(usize, &[u8])>
     ensures some { IfSome result (λ x. first_from side 0 items.now ≡ Some (x.0, x.1.now)) }
     ensures none { IfNone result (first_from side 0 items.now ≡ None) }
@@ -103,7 +105,7 @@ fn is_pps(octets: &[u8]) -> bool
     matches!(octets, [0xFF, ..])
 }
 
-/// The node address of octets whose length and check octet are those of a block.
+/// Returns the node address of octets that have the length and the check octet of a block.
 fn address_of(octets: &[u8]) -> Option<u8>
     ensures { result ≡ address_of octets.now }
 {
@@ -114,7 +116,7 @@ fn address_of(octets: &[u8]) -> Option<u8>
     }
 }
 
-/// Whether a block with this address, which isn't 00, and another one answer each other.
+/// Whether blocks with these addresses answer each other. The first address isn't 00.
 fn are_addressed(address: Option<u8>, other: Option<u8>) -> bool
     ensures { result ≡ are_addressed address other }
 {
@@ -124,15 +126,15 @@ fn are_addressed(address: Option<u8>, other: Option<u8>) -> bool
     }
 }
 
-/// The address of a block that answers one with this address: its halves are swapped.
+/// Returns the address of a block that answers a block with this address: its halves are swapped.
 fn swapped(address: u8) -> u8
     ensures { result ≡ swapped address }
 {
     address % 16 * 16 + address / 16
 }
 
-/// The place of a block of the terminal after another one, with neither a block of the card nor the end of a waiting
-/// time between them.
+/// Returns the place of a block of the terminal after another one. Between them is no block of the card and no end of a
+/// waiting time.
 fn silence_at(items: &[Item]) -> Option<usize>
     ensures { result ≡ silence_at 0 false items.now }
 {

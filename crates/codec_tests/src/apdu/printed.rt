@@ -1,4 +1,4 @@
-//! What is printed of reasons and faults, and of values that may hold a message.
+//! The printed forms of reasons and faults, and of values that may have octets of a message.
 
 use super::as_value::{command_lent, command_of, copied, response_lent, response_of};
 use crate::helpers::is_named;

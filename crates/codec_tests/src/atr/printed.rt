@@ -1,4 +1,4 @@
-//! What is printed of reasons and faults, and of values that may hold a message.
+//! The printed forms of reasons and faults, and of values that may have octets of a message.
 
 use crate::helpers::is_named;
 use atr_core::{AtrReader, AtrReason, ParamFault};

@@ -1,4 +1,4 @@
-//! What is printed of reasons and faults, and of values that may hold a message.
+//! The printed forms of reasons and faults, and of values that may have octets of a message.
 
 use crate::helpers::is_named;
 use block_core::{Block, BlockReader, BlockReason, BlockRef, Number, encode};
@@ -25,14 +25,14 @@ const FIELD: [u8; 5] = [0x00, 0x20, 0x00, 0x80, 0x12];
 /// The first six octets of an I-block with this field.
 const FRONT: [u8; 6] = [0x00, 0x60, 0x05, 0x00, 0x20, 0x00];
 
-/// Whether this is printed of a block, and of one that lends its field.
+/// Whether a block, and one that borrows its field, are printed so.
 fn blocks_debug(alloc: Global, block: &Block, lent: &BlockRef<'_>) -> bool {
     let seen = "Block { nad: 0, pcb: Info { number: One, more: true }, inf_octets: 5 }";
     let of_lent = "BlockRef { nad: 0, pcb: Info { number: One, more: true }, inf_octets: 5 }";
     debugs(alloc, block, seen) && debugs(alloc, lent, of_lent)
 }
 
-/// Whether blocks with this field show no octet of it.
+/// Whether blocks with this field print none of its octets.
 fn hide(alloc: Global, inf: &[u8]) -> bool {
     let Some(block) = Block::info(0, Number::One, true, inf) else {
         return false;

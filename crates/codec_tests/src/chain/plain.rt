@@ -1,4 +1,5 @@
-//! The calls that the tests make, without a contract: the checker of a test then carries nothing of theirs.
+//! The calls that the tests make, without a contract. So the checker doesn't carry their contracts through
+//! a test.
 
 ghost use Rattle.std.specs.Prelude.{◌≤◌};
 
@@ -10,27 +11,27 @@ use std::alloc::Global;
 use std::process::Abort;
 use test_support::same;
 
-/// What a receiver answers to octets.
+/// The result of feeding a receiver.
 pub(super) type Fed = Result<(usize, bool), Stop<ChainReason>>;
 
-/// A receiver of blocks of two octets, and of a message with at most so many.
+/// Makes a receiver of blocks of two octets, for a message of at most `max` octets.
 pub(super) fn receiver(rt: &impl Abort, alloc: Global, max: usize) -> Receiver
     requires { max ≤ 5 }
 {
     Receiver::new(alloc, 2, Number::Zero, max).expect(rt, "a receiver")
 }
 
-/// Whether a receiver answers so to these octets.
+/// Whether feeding these octets has this result.
 pub(super) fn feeds(receiver: &mut Receiver, octets: &[u8], wanted: Fed) -> bool {
     same(receiver.feed(octets), wanted)
 }
 
-/// Whether a receiver says so when no more octets come.
+/// Whether the end of the octets has this result.
 pub(super) fn ends(receiver: &Receiver, wanted: Result<(), Stop<ChainReason>>) -> bool {
     same(receiver.finish(), wanted)
 }
 
-/// Whether a receiver took so many blocks, and has no message.
+/// Whether a receiver took `blocks` blocks, and has no message.
 pub(super) fn lacks(receiver: &Receiver, blocks: u32) -> bool {
     same(receiver.blocks(), blocks) && receiver.message().is_none()
 }
@@ -40,7 +41,7 @@ pub(super) fn has(receiver: &Receiver, message: &[u8]) -> bool {
     receiver.message() == Some(message)
 }
 
-/// What a receiver over a lent buffer answers to these octets; nothing where it is none.
+/// Feeds octets to a receiver with a borrowed buffer. The result is `None` if its state isn't valid.
 pub(super) fn feed_lent(lent: &mut LentReceiver, message: &mut [u8], octets: &[u8]) -> Option<Fed> {
     if !lent.fit(message.len()) {
         return None;
@@ -48,7 +49,7 @@ pub(super) fn feed_lent(lent: &mut LentReceiver, message: &mut [u8], octets: &[u
     Some(lent.feed(message, octets))
 }
 
-/// What it says when no more octets come.
+/// Ends the octets of such a receiver.
 pub(super) fn finish_lent(
     lent: &LentReceiver,
     room: usize,
@@ -59,12 +60,12 @@ pub(super) fn finish_lent(
     Some(lent.finish())
 }
 
-/// What reading a chain gives.
+/// Reads a chain.
 pub(super) fn read<R: Source>(reader: &mut R, receiver: &mut Receiver) -> Result<(), ReadRefusal> {
     read_chain(reader, receiver)
 }
 
-/// What writing the short command in blocks of two octets gives.
+/// Writes the short command in blocks of two octets.
 pub(super) fn write<W: Sink>(writer: &mut W) -> Result<(), WriteFault> {
     write_chain(writer, &SELECT, 2, Number::Zero)
 }

@@ -1,4 +1,4 @@
-//! What is printed of reasons and faults, and of values that may hold a message.
+//! The printed forms of reasons and faults, and of values that may have octets of a message.
 
 use crate::helpers::is_named;
 use block_core::Number;
@@ -46,7 +46,7 @@ fn refusals_of_a_source_are_printed(rt: HostRuntime) {
 
 const MESSAGE: [u8; 5] = [0x00, 0x20, 0x00, 0x80, 0x12];
 
-/// A receiver that took five octets.
+/// Returns a receiver that took five octets.
 fn under_way(rt: &impl Abort, alloc: Global) -> Receiver {
     let mut receiver = Receiver::new(alloc, 2, Number::Zero, 8).expect(rt, "a receiver");
     let fed = receiver.feed(&[0x00, 0x20, 0x02, 0x31, 0x32]);

@@ -1,4 +1,4 @@
-//! Refusals with other reasons, and what is printed of them.
+//! Stops with other reasons, and the printed forms of refusals.
 
 use octet_core::{HexFault, Octets, Refusal, Refused, Stop, Text, WriteFault};
 use std::alloc::Global;
@@ -12,7 +12,7 @@ const AT: Stop<HexFault> = Stop::At {
     reason: HexFault::Odd,
 };
 
-/// Whether a fault is one of std's errors and is printed as this text.
+/// Whether a fault is an error of std, and is printed as this text.
 fn fails_as<E: Error>(alloc: Global, error: &E, wanted: &str) -> bool {
     shows(alloc, error, wanted)
 }

@@ -8,7 +8,7 @@ use std::process::Abort;
 /// The answer to reset of a card that takes information fields of 1 octet.
 const OF_ONE: [u8; 7] = [0x3B, 0x80, 0x81, 0x31, 0x01, 0x45, 0x74];
 
-/// Of 254 octets.
+/// The answer to reset of a card that takes information fields of 254 octets.
 const OF_254: [u8; 7] = [0x3B, 0x80, 0x81, 0x31, 0xFE, 0x45, 0x8B];
 
 /// Whether the answers of an exchange are this one and then the short one.
@@ -42,7 +42,7 @@ fn exchange_longest(rt: &impl Abort, alloc: Global, atr: &[u8], command: &[u8], 
     assert_answers(rt, alloc, &exchange, reply);
 }
 
-/// An octet so many times.
+/// Returns an octet so many times.
 fn many(rt: &impl Abort, alloc: Global, octet: u8, count: usize) -> Vec<u8> {
     vec![in alloc; octet; count].expect(rt, "octets")
 }

@@ -1,4 +1,4 @@
-//! What is printed of faults, and of values that may hold a message.
+//! How faults are printed, and values that may hold a message.
 
 use atr_core::ParamFault;
 use exchange_core::{AtrFault, Event, EventFault, RecorderFault, ReplayFault};
@@ -21,7 +21,7 @@ fn faults_of_events_are_printed(rt: HostRuntime) {
     }
 }
 
-/// A replay that differs at line 7, where the end gives an empty text.
+/// Returns a replay that differs at line 7, where the end gives an empty text.
 fn difference(alloc: Global) -> ReplayFault {
     ReplayFault::Differs {
         line: 7,

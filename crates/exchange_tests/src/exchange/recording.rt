@@ -1,4 +1,4 @@
-//! Sessions of both ends over a line that disturbs blocks: what they end with, and their records replayed.
+//! Sessions of both ends over a line that disturbs blocks: how they end, and their records replayed.
 
 use super::exchange_of;
 use super::sessions::ACTED_ON;
@@ -16,7 +16,7 @@ pub(super) const SELECT: [u8; 5] = [0x00, 0xA4, 0x04, 0x00, 0x00];
 
 pub(super) const DONE: [u8; 2] = [0x90, 0x00];
 
-/// What is recorded of a command that no end took.
+/// The record of a command that the card didn't receive.
 const UNFINISHED: &str = "command 00A4040000
 t 00000500A4040000A5 lost";
 
@@ -37,7 +37,7 @@ const TIMED: [&[u8]; 4] = [
 /// The most events of a session.
 const MOST_EVENTS: u32 = 200_000;
 
-/// The answer to reset of a card, and what the application and the card's host call, in their order.
+/// The answer to reset of a card, and the calls of the application and of the card's host, in order.
 #[derive(Clone, Copy)]
 pub(super) struct Session<'a> {
     pub(super) atr: &'a [u8],
@@ -45,7 +45,7 @@ pub(super) struct Session<'a> {
     pub(super) host: &'a [Event<'a>],
 }
 
-/// A block to be disturbed, once: by its number on the line, from 1, or at its first sending.
+/// A block to disturb, once: by its number on the line, from 1, or when it is first sent.
 #[derive(Clone, Copy)]
 pub(super) struct Disturbance<'a> {
     which: Which<'a>,
@@ -76,7 +76,7 @@ impl<'a> Disturbance<'a> {
     }
 }
 
-/// What happens to a block: the first disturbance that hits it, or it arrives.
+/// Returns what happens to a block: the first disturbance that hits it, or it arrives.
 fn fate<'a>(disturbances: &mut [Disturbance<'a>], number: u32, octets: &[u8]) -> Event<'a> {
     for disturbance in disturbances.iter_mut() {
         if !disturbance.is_done && disturbance.hits(number, octets) {
@@ -87,24 +87,24 @@ fn fate<'a>(disturbances: &mut [Disturbance<'a>], number: u32, octets: &[u8]) ->
     Event::Deliver
 }
 
-/// A recorder for a card with this answer to reset.
+/// Returns a recorder for a card with this answer to reset.
 fn new_recorder(rt: &impl Abort, alloc: Global, atr: &[u8]) -> Recorder {
     Recorder::new(alloc, atr).expect(rt, "a recorder")
 }
 
-/// An event that must not be refused happens.
+/// Makes an event happen that must not be refused.
 fn happens(rt: &impl Abort, recorder: &mut Recorder, event: Event<'_>) {
     recorder
         .happens(event)
         .expect(rt, "an event that isn't refused");
 }
 
-/// The record of what happened.
+/// Returns the record of what happened.
 fn record_of(rt: &impl Abort, recorder: Recorder) -> Exchange {
     recorder.exchange().expect(rt, "a record")
 }
 
-/// The first of the calls that are left, which is then not left.
+/// Takes the first of the calls that are left.
 fn first<'a>(calls: &mut &'a [Event<'a>]) -> Option<Event<'a>> {
     let [call, rest @ ..] = *calls else {
         return None
@@ -113,7 +113,7 @@ fn first<'a>(calls: &mut &'a [Event<'a>]) -> Option<Event<'a>> {
     Some(*call)
 }
 
-/// The next call of the end whose turn it is, where no block is under way.
+/// Returns the next call of the end whose turn it is, when no block is on the line.
 fn next_call<'a>(recorder: &Recorder, left: &mut Session<'a>) -> Option<Event<'a>> {
     if *recorder.last() == LastTurn::Card(CardTurn::Asked) {
         return first(&mut left.host);
@@ -121,7 +121,7 @@ fn next_call<'a>(recorder: &Recorder, left: &mut Session<'a>) -> Option<Event<'a
     first(&mut left.application)
 }
 
-/// The record of a session: it ends where the application or the host has no more calls.
+/// Returns the record of a session. It ends when the application or the host has no more calls.
 pub(super) fn record(
     rt: &impl Abort,
     alloc: Global,
@@ -146,7 +146,7 @@ pub(super) fn record(
     record_of(rt, recorder)
 }
 
-/// How often an I-block brought the host a command.
+/// Returns how often the host got a command by an I-block.
 fn asked(lines: &[Line]) -> u32 {
     let mut count = 0u32;
     let mut is_info = false;
@@ -169,7 +169,7 @@ pub(super) fn assert_replays(rt: &impl Abort, alloc: Global, exchange: &Exchange
     }
 }
 
-/// Whether lines bring the host one command, and end with the answer.
+/// Whether the host got one command in these lines, and they end with the answer.
 fn are_answered(lines: &[Line], answer: &[u8]) -> bool {
     let Some(Line::Answer(octets)) = lines.last() else {
         return false
@@ -177,7 +177,7 @@ fn are_answered(lines: &[Line], answer: &[u8]) -> bool {
     asked(lines) == 1 && octets.get() == answer
 }
 
-/// Asserts that a record replays at both ends, brought the host one command, and ends with the answer.
+/// Asserts that a record replays at both ends, that its host got one command, and that it ends with the answer.
 fn assert_answered(rt: &impl Abort, alloc: Global, exchange: &Exchange, answer: &[u8]) {
     assert_replays(rt, alloc, exchange);
     assert!(rt;
@@ -211,7 +211,7 @@ fn disturb_each(rt: &impl Abort, alloc: Global, session: Session<'_>, blocks: &[
     }
 }
 
-/// The same for each pair of its blocks.
+/// Records a session with two of its blocks disturbed, for each pair and each way.
 fn disturb_pairs(rt: &impl Abort, alloc: Global, session: Session<'_>, blocks: &[&[u8]]) {
     for &block in blocks {
         for &other in blocks {
@@ -222,7 +222,7 @@ fn disturb_pairs(rt: &impl Abort, alloc: Global, session: Session<'_>, blocks: &
     }
 }
 
-/// The same for one pair.
+/// Records a session with these two blocks disturbed, in each way.
 fn disturb_pair(rt: &impl Abort, alloc: Global, session: Session<'_>, blocks: [&[u8]; 2]) {
     let [block, other] = blocks;
     for &way in &WAYS {
@@ -264,7 +264,7 @@ fn assert_recorded(rt: &impl Abort, alloc: Global, exchange: &Exchange, lines: &
     assert_replays(rt, alloc, exchange);
 }
 
-/// The block with this number is lost.
+/// Returns a disturbance: the block with this number is lost.
 fn lost(number: u32) -> Disturbance<'static> {
     Disturbance::of(Which::Nth(number), Event::Lose)
 }
@@ -286,7 +286,7 @@ fn refuses(recorder: &mut Recorder, event: Event<'_>, fault: EventFault) -> bool
     recorder.happens(event) == Err(fault)
 }
 
-/// Whether a recorder refuses each event of the line, since no block is under way.
+/// Whether a recorder refuses each event of the line, since no block is on it.
 fn refuses_line(recorder: &mut Recorder) -> bool {
     [Event::Deliver, Event::Damage, Event::Spoil, Event::Lose]
         .into_iter()
@@ -299,7 +299,7 @@ fn refuses_reply(recorder: &mut Recorder) -> bool {
     refuses(recorder, Event::Reply(&DONE), fault)
 }
 
-/// Whether a recorder refuses a command, since another one is under way.
+/// Whether a recorder refuses a command, since another one is unfinished.
 fn refuses_command(recorder: &mut Recorder) -> bool {
     let fault = EventFault::Terminal(TerminalFault::Busy);
     refuses(recorder, Event::Transmit(&SELECT), fault)
@@ -325,14 +325,15 @@ fn events_that_are_refused(rt: HostRuntime) {
     assert_refusals(&rt, &mut recorder);
 }
 
-/// A command begins, and other events are refused.
+/// Begins a command, and checks that other events are refused.
 fn begins(rt: &impl Abort, recorder: &mut Recorder) {
     assert!(rt; refuses(recorder, Event::Lose, EventFault::NothingUnderWay));
     happens(rt, recorder, Event::Transmit(&SELECT));
     assert!(rt; refuses_command(recorder));
 }
 
-// The block under way at the end counts as lost, and events that were refused leave nothing in the record.
+// A block that is still on the line at the end counts as lost, and events that were refused leave nothing in the
+// record.
 #[test]
 fn a_record_that_ends_within_an_exchange(rt: HostRuntime) {
     let mut recorder = new_recorder(&rt, rt.alloc(), &ATR);

@@ -1,4 +1,4 @@
-//! Recorded sessions replayed at both ends, and files that differ from what an end gives.
+//! Recorded sessions replayed at both ends, and files at which an end differs.
 
 use super::exchange_of;
 use super::recording::assert_replays;
@@ -16,7 +16,7 @@ fn is_too_long(alloc: Global, exchange: &Exchange, side: Side, at: usize) -> boo
     }
 }
 
-/// The exchange with these lines, and so many octets 00 at their end.
+/// Returns the exchange with these lines, and so many octets 00 at their end.
 fn with_octets(rt: &impl Abort, alloc: Global, lines: &str, count: usize) -> Exchange {
     let octets = "00".repeat(alloc, count).expect(rt, "octets");
     let lines = format!(in alloc; "{lines}{octets}").expect(rt, "lines");

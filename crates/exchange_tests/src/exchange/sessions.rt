@@ -1,4 +1,4 @@
-//! The lines of recorded sessions, from outside.
+//! Lines of recorded sessions that the tests compare with.
 
 /// The command is damaged on its way, and the answer lost.
 pub(super) const DAMAGED_AND_LOST: &str = "command 00A4040000

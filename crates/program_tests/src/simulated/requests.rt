@@ -1,4 +1,4 @@
-//! Command lines that ask for the same, and that ask for something else.
+//! Command lines that ask for the same, and command lines that don't.
 
 use crate::words::words_of;
 use card_words::{Asked, read};
@@ -6,7 +6,7 @@ use std::alloc::Global;
 use std::process::Abort;
 use test_support::same;
 
-/// What the words of a line ask for, which must not be at fault.
+/// Returns what the words of a line ask for. They must not have a fault.
 fn asked(rt: &impl Abort, alloc: Global, line: &str) -> Asked {
     read(alloc, words_of(rt, alloc, line).as_slice()).expect(rt, "words that ask for something")
 }
@@ -34,7 +34,7 @@ const SAME: [[&str; 2]; 8] = [
     ["migrate", "migrate"],
 ];
 
-/// Lines that ask for something else.
+/// Lines that ask for different things.
 const OTHER: [[&str; 2]; 10] = [
     ["check block 00C00000", "check block 00C00001"],
     ["check block 00", "check block 00 --ifs 253"],

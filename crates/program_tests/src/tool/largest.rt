@@ -8,7 +8,7 @@ use std::io::{self, Write};
 use std::process::Abort;
 use test_support::{of_hex, same};
 
-/// A writer that looks whether it takes this text.
+/// A writer that checks whether it receives this text.
 #[derive(Drop)]
 struct Comparing<'a> {
     left: &'a [u8],
@@ -29,7 +29,7 @@ impl Write for Comparing<'_> {
     }
 }
 
-/// Asserts that the program accepts what it reads, and what it says of it.
+/// Asserts that the program accepts what it reads, and writes this text.
 fn says(rt: &impl Abort, alloc: Global, line: &str, file: &[u8], text: &str) {
     let reader = Feeder::new(file, 65_521, After::End);
     let writer = Comparing {
@@ -44,28 +44,28 @@ fn says(rt: &impl Abort, alloc: Global, line: &str, file: &[u8], text: &str) {
     );
 }
 
-/// A text between two others.
+/// Returns a text between two others.
 fn within(rt: &impl Abort, alloc: Global, front: &str, text: &str, back: &str) -> String {
     format!(in alloc; "{front}{text}{back}").expect(rt, "a text")
 }
 
-/// A text so many times.
+/// Returns a text so many times.
 fn repeated(rt: &impl Abort, alloc: Global, text: &str, count: usize) -> String {
     text.repeat(alloc, count).expect(rt, "a text")
 }
 
-/// The octets of a hexadecimal text.
+/// Returns the octets of a hexadecimal text.
 fn octets(rt: &impl Abort, alloc: Global, hex: &str) -> Vec<u8> {
     of_hex(alloc, hex).expect(rt, "octets")
 }
 
-/// A line of octets in hexadecimal, after a mark.
+/// Returns a line of octets in hexadecimal, after a mark.
 fn marked(rt: &impl Abort, alloc: Global, octets: &[u8]) -> String {
     let digits = hex_upper(alloc, octets).expect(rt, "digits");
     within(rt, alloc, "0x", digits.as_str(), "\r\n")
 }
 
-/// The octets in hexadecimal, in lines that a mark begins.
+/// Returns the octets in hexadecimal, in lines that begin with a mark.
 fn in_lines(rt: &impl Abort, alloc: Global, octets: &[u8]) -> String {
     let mut text = String::new(alloc);
     for piece in octets.chunks(4096) {
@@ -75,7 +75,7 @@ fn in_lines(rt: &impl Abort, alloc: Global, octets: &[u8]) -> String {
     text
 }
 
-/// Asserts what the program says of octets as they are, and in hexadecimal.
+/// Asserts what the program writes about octets, for raw octets and for hexadecimal.
 fn both_say(rt: &impl Abort, alloc: Global, lines: [&str; 2], octets: &[u8], text: &str) {
     let [as_they_are, in_hex] = lines;
     says(rt, alloc, as_they_are, octets, text);
@@ -83,8 +83,8 @@ fn both_say(rt: &impl Abort, alloc: Global, lines: [&str; 2], octets: &[u8], tex
     says(rt, alloc, in_hex, file.as_bytes(), text);
 }
 
-/// Asserts how many octets a hexadecimal text has, and what the program says of them: to the lines that check them and
-/// to those that show them.
+/// Asserts how many octets a hexadecimal text has, and what the program writes about them: for the lines that check
+/// them, and for those that show them.
 fn assert_shown(
     rt: &impl Abort,
     alloc: Global,
@@ -101,7 +101,7 @@ fn assert_shown(
     both_say(rt, alloc, show, octets.as_slice(), shown);
 }
 
-/// The words that check and show each kind, of octets as they are and in hexadecimal.
+/// The words that check and show each kind, for raw octets and for hexadecimal.
 const FORESTS: [[&str; 2]; 2] = [
     ["check tlv --stdin octets", "check tlv --stdin hex"],
     ["show tlv --stdin octets", "show tlv --stdin hex"],
@@ -120,7 +120,7 @@ const RESPONSES: [[&str; 2]; 2] = [
     ["show response --stdin octets", "show response --stdin hex"],
 ];
 
-/// Asserts that the program leaves a forest as it is.
+/// Asserts that the program leaves a forest unchanged.
 fn assert_tidy(rt: &impl Abort, alloc: Global, hex: &str) {
     let octets = octets(rt, alloc, hex);
     let text = within(rt, alloc, hex, "\n", "");
@@ -157,14 +157,14 @@ fn the_longest_response(rt: HostRuntime) {
     assert_shown(&rt, alloc, RESPONSES, hex.as_str(), 65_538, shown.as_str());
 }
 
-/// A blank, and a word of the longest command and the longest reply, all octets 00.
+/// Returns a blank, and a word of the longest command and the longest reply, all octets 00.
 fn longest_pair(rt: &impl Abort, alloc: Global) -> String {
     let command = repeated(rt, alloc, "00", 65_544);
     let reply = repeated(rt, alloc, "00", 65_538);
     format!(in alloc; " {command}:{reply}").expect(rt, "a pair")
 }
 
-/// The words of a session with the longest pair so many times.
+/// Returns the words of a session with the longest pair so many times.
 fn longest_session(rt: &impl Abort, alloc: Global, count: usize) -> String {
     let pairs = repeated(rt, alloc, longest_pair(rt, alloc).as_str(), count);
     within(rt, alloc, "simulate 3B808131204555", pairs.as_str(), "")

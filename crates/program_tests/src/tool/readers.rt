@@ -1,4 +1,5 @@
-//! Readers of every kind, and the words that read them: what is read whole, line by line, or not at all, and faults.
+//! Readers of every kind, and the words that read them: what is read whole, line by line, or not at all, and the
+//! faults.
 
 ghost use Rattle.std.specs.Prelude.{◌≡◌, ◌<◌, ◌≤◌, length};
 
@@ -21,7 +22,7 @@ const HEX: [&str; 3] = [
     "build tidy --stdin hex",
 ];
 
-/// The words that read octets as they are.
+/// The words that read raw octets.
 const OCTETS: [&str; 3] = [
     "check --stdin=octets atr",
     "show tlv --stdin octets",
@@ -31,7 +32,7 @@ const OCTETS: [&str; 3] = [
 /// The words that read lines.
 const LINES: &str = "check atr --stdin lines";
 
-/// What the program says, how it ends, and how many octets it reads.
+/// What the program writes, how it ends, and how many octets it reads.
 #[derive(Clone, Copy)]
 struct Said<'a> {
     text: &'a str,
@@ -39,7 +40,7 @@ struct Said<'a> {
     read: u64,
 }
 
-/// What the program says that ends with a fault.
+/// Returns what the program writes if it ends with a fault.
 fn fault(text: &str, read: u64) -> Said<'_> {
     Said {
         text,
@@ -48,21 +49,21 @@ fn fault(text: &str, read: u64) -> Said<'_> {
     }
 }
 
-/// Whether a run of the program ended so.
+/// Whether a run of the program ended like this.
 fn is_as_said(ended: &Ended<Feeder<'_>, Taker>, said: Said<'_>) -> bool {
     ended.writer.kept() == said.text.as_bytes()
         && ended.status == said.status
         && ended.reader.given() == said.read
 }
 
-/// Asserts what the program says to the words of a line and to what a reader gives.
+/// Asserts what the program writes for the words of a line and what a reader gives.
 fn says(rt: &impl Abort, alloc: Global, line: &str, reader: Feeder<'_>, said: Said<'_>) {
     let writer = Taker::new(4096, 4096, After::End);
     let ended = ran(rt, alloc, line, reader, writer);
     assert!(rt; is_as_said(&ended, said), "{line}");
 }
 
-/// Asserts what the program says to all words that read so much whole.
+/// Asserts what the program writes for all words that read a whole file.
 fn all_say(rt: &impl Abort, alloc: Global, file: &[u8], step: usize, after: After, said: Said<'_>)
     requires step { 1 ≤ step }
     requires repeats { after ≡ After.Repeats → 0 < length file.now }
@@ -74,7 +75,7 @@ fn all_say(rt: &impl Abort, alloc: Global, file: &[u8], step: usize, after: Afte
     }
 }
 
-/// Lines, what they are answered by, and then that the reader failed.
+/// Lines, and what the program writes for them before it says that the reader failed.
 const FAILED: [[&str; 2]; 4] = [
     ["", "fault: read\n"],
     ["3B0", "fault: read\n"],
@@ -105,7 +106,7 @@ fn a_reader_that_fails(rt: HostRuntime) {
     }
 }
 
-/// Words, a file, and what is said of it.
+/// Words, a file, and what the program writes about it.
 const PIECES: [(&str, &str, &str, Status); 5] = [
     (
         "check atr --stdin hex",
@@ -154,7 +155,7 @@ fn in_pieces_of_any_length(rt: HostRuntime) {
     }
 }
 
-/// Words that leave the reader unread, and that are at fault.
+/// Words that leave the reader unread, and that have a fault.
 const UNREAD: [&str; 5] = [
     "check atr --stdin",
     "check card --stdin hex",
@@ -163,7 +164,7 @@ const UNREAD: [&str; 5] = [
     "migrate --stdin hex",
 ];
 
-/// Asserts what is said to words that leave the reader unread.
+/// Asserts what the program writes for words that leave the reader unread.
 fn says_unread(rt: &impl Abort, alloc: Global, line: &str, text: &str, status: Status) {
     let reader = Feeder::new(b"3B00\n", 1, After::Fails);
     let said = Said {
@@ -183,14 +184,14 @@ fn words_that_leave_it_unread(rt: HostRuntime) {
     }
 }
 
-/// So many octets 00.
+/// Returns so many octets 00.
 fn zeros(rt: &impl Abort, alloc: Global, count: usize) -> Vec<u8>
     ensures { length result.items ≡ count }
 {
     vec![in alloc; 0; count].expect(rt, "octets")
 }
 
-/// What is said of more octets than there may be.
+/// What the program writes about more octets than it reads.
 const LARGE: Said<'static> = Said {
     text: "fault: TooLarge\n",
     status: Status::Fault,
@@ -223,7 +224,7 @@ fn a_reader_without_an_end(rt: HostRuntime) {
     );
 }
 
-/// Asserts what is said of as many octets as there may be.
+/// Asserts what the program writes about as many octets as it reads.
 fn most_say(rt: &impl Abort, alloc: Global, line: &str, file: &[u8], text: &str, status: Status) {
     let reader = Feeder::new(file, 65_521, After::End);
     let said = Said {
@@ -252,7 +253,7 @@ fn as_many_as_there_may_be(rt: HostRuntime) {
     most_say(&rt, rt.alloc(), OCTETS[0], octets, atr, Status::Refused);
 }
 
-/// A digit 0 so many times.
+/// Returns the digit 0 so many times.
 fn digits(rt: &impl Abort, alloc: Global, count: usize) -> String {
     "0".repeat(alloc, count).expect(rt, "digits")
 }
@@ -272,7 +273,7 @@ fn as_many_digits_as_there_may_be(rt: HostRuntime) {
     );
 }
 
-/// A line that is as long as it may be, one that is longer, and a short one.
+/// Returns a line of the greatest length, a longer one, and a short one.
 fn long_lines(rt: &impl Abort, alloc: Global) -> String {
     let longest = digits(rt, alloc, LARGEST_FILE);
     format!(in alloc; "{longest}\n{longest}0\n3B00\n").expect(rt, "lines")
@@ -286,7 +287,7 @@ fn lines_that_are_too_long(rt: HostRuntime) {
     says(&rt, rt.alloc(), LINES, reader, fault(text, 8_388_616));
 }
 
-/// A reader that fails at its first call alone.
+/// A reader that fails only at its first call.
 #[derive(Drop)]
 struct FailsAtFirst {
     calls: u64,
@@ -312,7 +313,7 @@ fn a_failed_read_is_not_tried_again(rt: HostRuntime) {
     assert!(rt; same(ended.writer.kept(), b"fault: read\n".as_slice()));
 }
 
-/// A writer that takes 7 octets a call, and fails at its second call alone.
+/// A writer that takes 7 octets at each call, and fails only at its second call.
 #[derive(Drop)]
 struct FailsAtSecond {
     calls: u64,

@@ -16,12 +16,12 @@ use t1_core::{Card, Terminal};
 
 type Wire<'a> = Streams<Feeder<'a>>;
 
-/// Whether a card whose host says that all is done ends so, serving at most so many blocks.
+/// Whether serving at most so many blocks ends like this, with a host that answers 9000.
 fn ends(c: &mut Card, line: &mut Wire<'_>, most_blocks: usize, wanted: Served) -> bool {
     end_of(serve(c, line, &mut replying(&DONE), most_blocks)) == wanted
 }
 
-/// The block comes in parts and its answer goes in parts, and serving ends with the reader.
+/// The block comes in parts, its answer goes in parts, and serving ends with the reader.
 #[test]
 fn a_reader_that_ends_after_a_block(rt: HostRuntime) {
     let reader = Feeder::new(&SELECT_BLOCK, 4, After::End);
@@ -56,19 +56,19 @@ fn a_writer_of_a_card_that_is_full(rt: HostRuntime) {
     assert!(rt; has_carried(line, 9, &DONE_BLOCK[..3]));
 }
 
-/// Whether a card hears these octets.
+/// Whether a card receives these octets.
 fn hears(line: &mut Wire<'_>, octets: &[u8]) -> bool {
     let mut room = [0; LONGEST_ARRIVAL];
     line.receive(&mut room).ok() == Some(Received::Octets(octets.len())) && room.starts_with(octets)
 }
 
-/// Whether a card hears that no more comes.
+/// Whether a card learns that no more comes.
 fn hears_the_end(line: &mut Wire<'_>) -> bool {
     let mut room = [0; LONGEST_ARRIVAL];
     line.receive(&mut room).ok() == Some(Received::Nothing)
 }
 
-/// Whether a terminal hears that no more comes, as a failure.
+/// Whether a terminal learns that no more comes, as a failure.
 fn fails_at_the_end(line: &mut Wire<'_>) -> bool {
     let mut room = [0; LONGEST_ARRIVAL];
     match line.transceive(&SELECT_BLOCK, 1, &mut room) {
@@ -77,7 +77,8 @@ fn fails_at_the_end(line: &mut Wire<'_>) -> bool {
     }
 }
 
-/// What came of a block is handed over; then a card hears that no more comes, and a terminal that the line fails.
+/// If the reader ends inside a block, the octets so far are delivered. Then a card learns that no more comes, and a
+/// terminal that the line fails.
 #[test]
 fn a_reader_of_a_card_that_ends_in_a_block(rt: HostRuntime) {
     let reader = Feeder::new(&SELECT_BLOCK[..4], 9, After::End);
@@ -87,7 +88,7 @@ fn a_reader_of_a_card_that_ends_in_a_block(rt: HostRuntime) {
     assert!(rt; fails_at_the_end(&mut line));
 }
 
-/// A reader each call of which fails so.
+/// A reader that fails in this way at each call.
 #[derive(Drop)]
 struct Failing(ErrorKind);
 
@@ -101,7 +102,7 @@ fn line_that_fails(kind: ErrorKind) -> Streams<Failing> {
     line_over(Failing(kind), Taker::new(64, 64, After::End))
 }
 
-/// How a reader fails, and whether both ends are told of silence then, or else of this failure.
+/// How a reader fails, and whether both ends take that for silence, or else for this failure.
 #[derive(Clone, Copy)]
 struct Failure {
     kind: ErrorKind,
@@ -109,7 +110,7 @@ struct Failure {
 }
 
 impl Failure {
-    /// Whether this was heard.
+    /// Whether an end received this.
     fn is_told(self, heard: io::Result<Received>) -> bool {
         match heard {
             Ok(heard) => self.is_silence && heard == Received::Nothing,
@@ -131,7 +132,7 @@ impl Failure {
         self.is_told(line_that_fails(self.kind).transceive(&SELECT_BLOCK, 1, &mut room))
     }
 
-    /// Whether serving ends by it.
+    /// Whether serving ends in this way.
     fn ends_serving(self, c: &mut Card) -> bool {
         let mut line = line_that_fails(self.kind);
         match serve(c, &mut line, &mut replying(&DONE), 9) {
@@ -141,7 +142,7 @@ impl Failure {
         }
     }
 
-    /// Whether an exchange ends by it.
+    /// Whether an exchange ends in this way.
     fn ends_an_exchange(self, t: &mut Terminal) -> bool {
         let mut line = line_that_fails(self.kind);
         match exchange(t, &mut line, &SELECT, 9) {
@@ -152,7 +153,7 @@ impl Failure {
     }
 }
 
-/// Time that is over is silence, and any other failure is the line's own, also to the calls of both ends.
+/// A timeout is silence. Any other failure is the line's own, for the calls of both ends too.
 #[test]
 fn readers_that_fail(rt: HostRuntime) {
     let rows = [
@@ -170,7 +171,7 @@ fn readers_that_fail(rt: HostRuntime) {
     }
 }
 
-/// Whether a block is heard that comes in parts of this size.
+/// Whether a block is received that comes in parts of this size.
 fn is_heard_in_parts(block: &[u8; 258], step: usize) -> bool
     requires { 1 ≤ step }
 {
@@ -192,7 +193,7 @@ fn a_block_in_parts(rt: HostRuntime) {
 /// A line whose reader and writer fail once.
 type Breaking<'a> = UntimedLine<Counted<FailsOnce<Feeder<'a>>>, Counted<FailsOnce<Taker>>>;
 
-/// Whether so many octets of SELECT are heard before the failure.
+/// Whether so many octets of SELECT are received before the failure.
 fn breaks_as_it_hears(line: &mut Breaking<'_>, left: usize) -> bool {
     let mut room = [0; LONGEST_ARRIVAL];
     let heard = line.receive(&mut room).ok();
@@ -209,7 +210,7 @@ fn breaks_as_it_says(mut line: Breaking<'_>, left: usize) -> bool {
     is_told && SELECT_BLOCK.get(..left) == Some(sink.kept())
 }
 
-/// Whether a line breaks so after so many octets each way.
+/// Whether a line breaks in this way after so many octets in each direction.
 fn breaks(fault: After, left: usize) -> bool
     requires { fault ≢ After.Repeats }
 {
@@ -219,7 +220,7 @@ fn breaks(fault: After, left: usize) -> bool
     breaks_as_it_hears(&mut line, left) && breaks_as_it_says(line, left)
 }
 
-/// A call that fails, or is interrupted, after any octet of a block ends it there, and isn't tried again.
+/// A call that fails or is interrupted after any octet of a block ends the block there, and isn't retried.
 #[test]
 fn a_reader_and_a_writer_that_fail_once(rt: HostRuntime) {
     for fault in [After::Fails, After::Interrupted, After::End] {

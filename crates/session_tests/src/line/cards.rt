@@ -12,7 +12,7 @@ use std::io::{self, ErrorKind};
 use std::process::Abort;
 use t1_core::{Card, CardFault, EncodedCardTurn, Terminal};
 
-/// A card at the other end of a line, whose host gives every command the same reply.
+/// A card at the other end of a line, whose host gives the same reply to every command.
 #[derive(Drop)]
 struct Wire<'a> {
     card: Card,
@@ -20,16 +20,16 @@ struct Wire<'a> {
     reply: &'a [u8],
 }
 
-/// The buffer that a block is put into.
+/// The buffer for a block.
 type Buffer = [u8; 258];
 
-/// Whether this is the command that the card's host owes the reply to.
+/// Whether this is the command whose reply the card's host owes.
 fn is_command(card: &Card, octets: &[u8]) -> bool {
     card.command().is_some_and(|command| command == octets)
 }
 
 impl Wire<'_> {
-    /// What the card says to a block, by its host.
+    /// Returns the card's answer to a block, with its host's reply.
     fn put(&mut self, block: &[u8], out: &mut Buffer) -> Result<EncodedCardTurn, CardFault> {
         let put = self.card.received_into(block, out);
         if put != Ok(EncodedCardTurn::Asked) {
@@ -54,7 +54,7 @@ impl TerminalLine for Wire<'_> {
     }
 }
 
-/// SELECT as a value.
+/// Returns SELECT as a value.
 fn select(rt: &impl Abort) -> Command {
     let select = Command::new([0x00, 0xA4, 0x04, 0x00], Body::ShortLe { le: 256 });
     select.ok().expect(rt, "a command")
@@ -95,7 +95,7 @@ fn a_command_and_its_response(rt: HostRuntime) {
     assert!(rt; is_done(&t));
 }
 
-/// Whether an exchange of a command gives this answer.
+/// Whether the exchange of a command returns this answer.
 fn is_answered(
     t: &mut Terminal,
     wire: &mut Wire<'_>,
@@ -106,7 +106,7 @@ fn is_answered(
     is_answer(exchange(t, wire, command, most_blocks), octets)
 }
 
-/// Whether the card takes the longest size, and the command is answered then.
+/// Whether the card accepts the longest size, and then answers the command.
 fn is_answered_in_254(t: &mut Terminal, mut wire: Wire<'_>) -> bool {
     let (command, reply) = (wire.command, wire.reply);
     ask_ifs(t, &mut wire, 254, 1).is_ok()
@@ -114,7 +114,7 @@ fn is_answered_in_254(t: &mut Terminal, mut wire: Wire<'_>) -> bool {
         && has_answer(t, reply)
 }
 
-/// The size that both ends agree on, and the longest command and answer.
+/// The largest size that both ends accept, and the longest command and answer.
 #[test]
 fn the_longest_exchange_over_a_card(rt: HostRuntime) {
     let command = octets_of(&rt, rt.alloc(), 0xA5, 65_544);
@@ -128,7 +128,7 @@ fn the_longest_exchange_over_a_card(rt: HostRuntime) {
     assert!(rt; is_answered_in_254(&mut t, wire));
 }
 
-/// Whether a new terminal is given this answer.
+/// Whether a new terminal gets this answer.
 fn is_answered_anew(
     rt: &impl Abort,
     alloc: Global,
@@ -141,7 +141,7 @@ fn is_answered_anew(
     is_answered(&mut t, wire, command, most_blocks, octets)
 }
 
-/// Whether a new terminal that begins by RESYNCH is given this answer.
+/// Whether a new terminal that begins by RESYNCH gets this answer.
 fn is_answered_after_resynch(
     rt: &impl Abort,
     alloc: Global,
@@ -154,7 +154,8 @@ fn is_answered_after_resynch(
         && is_answered(&mut t, wire, command, 1, octets)
 }
 
-/// A card that goes on under a new terminal gives its last answer to another command; by RESYNCH it doesn't.
+/// If the terminal is new and its card isn't, the card answers another command with its last answer. After RESYNCH it
+/// doesn't.
 #[test]
 fn a_new_terminal_and_a_card_that_goes_on(rt: HostRuntime) {
     let mut wire = Wire {

@@ -1,4 +1,4 @@
-//! What is printed of faults.
+//! How faults are printed.
 
 use line_core::{ServeFault, TransceiveFault};
 use std::alloc::Global;
@@ -7,7 +7,7 @@ use std::io::ErrorKind;
 use t1_core::{CardFault, TerminalFault};
 use test_support::shows;
 
-/// Whether this is what is printed of a fault.
+/// Whether a fault is printed like this.
 fn is_printed<F: Display + Drop>(alloc: Global, fault: F, text: &str) -> bool {
     shows(alloc, &fault, text)
 }

@@ -1,4 +1,4 @@
-//! Exchanges over lines that do what is written down.
+//! Exchanges over lines that do what a script says.
 
 use super::steps::{Step, Steps};
 use super::{
@@ -20,10 +20,10 @@ const MORE_TIME: [u8; 5] = [0x00, 0xC3, 0x01, 0x05, 0xC7];
 
 const RESYNCHED: [u8; 4] = [0x00, 0xE0, 0x00, 0xE0];
 
-/// The card takes the size 64.
+/// The card accepts the size 64.
 const SIZE_TAKEN: [u8; 5] = [0x00, 0xE1, 0x01, 0x40, 0xA0];
 
-/// A line that counts the blocks it takes, and keeps how long the last one waits.
+/// A line that counts the blocks that it takes, and records how long it waits for the last one.
 #[derive(Drop)]
 struct Script<'a> {
     steps: Steps<'a>,
@@ -57,7 +57,7 @@ enum Call {
     Resume(usize),
 }
 
-/// How a call of a terminal ends.
+/// Returns how a call of a terminal ends.
 fn called(t: &mut Terminal, line: &mut Script<'_>, call: Call) -> Ended {
     match call {
         Call::Select(most_blocks) => end_of_exchange(exchange(t, line, &SELECT, most_blocks)),
@@ -66,10 +66,10 @@ fn called(t: &mut Terminal, line: &mut Script<'_>, call: Call) -> Ended {
     }
 }
 
-/// A call, how it ends, and how many blocks were sent by then.
+/// A call, how it ends, and how many blocks were sent until then.
 type Row = (Call, Ended, u64);
 
-/// Asserts how calls end, in their order.
+/// Asserts how calls end, in order.
 fn assert_ends(rt: &impl Abort, t: &mut Terminal, line: &mut Script<'_>, rows: &[Row]) {
     for (place, (call, wanted, talks)) in rows.iter().enumerate() {
         assert!(rt; same(called(t, line, *call), *wanted), "row {place}");
@@ -77,17 +77,17 @@ fn assert_ends(rt: &impl Abort, t: &mut Terminal, line: &mut Script<'_>, rows: &
     }
 }
 
-/// Whether an exchange of SELECT gives this answer.
+/// Whether an exchange of SELECT returns this answer.
 fn is_answered(t: &mut Terminal, line: &mut Script<'_>, most_blocks: usize, octets: &[u8]) -> bool {
     is_answer(exchange(t, line, &SELECT, most_blocks), octets)
 }
 
-/// Whether the answer is too short for a response by an octet.
+/// Whether the answer is one octet, too short for a response.
 fn is_one_octet(t: &Terminal) -> bool {
     matches!(response_of(t), Some(Err(Stop::Short { place: 1 })))
 }
 
-/// One octet is no response.
+/// One octet isn't a response.
 #[test]
 fn an_answer_that_is_no_response(rt: HostRuntime) {
     let mut t = terminal(&rt, rt.alloc());
@@ -96,14 +96,14 @@ fn an_answer_that_is_no_response(rt: HostRuntime) {
     assert!(rt; is_one_octet(&t));
 }
 
-/// Whether the answer comes in the second block, where the line does this after the first.
+/// Whether the answer comes in the second block, if the line does this after the first.
 fn is_answered_after(t: &mut Terminal, step: Step<'_>) -> bool {
     let first = [step];
     let mut line = scripted(&first, Step::Gives(&DONE_BLOCK));
     is_answered(t, &mut line, 2, &DONE) && line.talks == 2
 }
 
-/// Whatever comes in place of the answer, and then the answer.
+/// Anything that can come instead of the answer, and then the answer.
 #[test]
 fn what_comes_before_the_answer(rt: HostRuntime) {
     let steps = [
@@ -119,7 +119,7 @@ fn what_comes_before_the_answer(rt: HostRuntime) {
     }
 }
 
-/// Whether a line that gives the answer gives it in one block more.
+/// Whether one more block gets the answer, over a line that gives it.
 fn is_answered_at_last(t: &mut Terminal) -> bool {
     let mut line = scripted(&[], Step::Gives(&DONE_BLOCK));
     called(t, &mut line, Call::Resume(1)) == Ended::Done && has_answer(t, &DONE)
@@ -164,7 +164,7 @@ fn a_card_that_asks_for_time_for_ever(rt: HostRuntime) {
 
 static GIVEN_UP: [Row; 1] = [(Call::Select(9), Ended::GivenUp, 5)];
 
-/// Whether SELECT has its answer after one block.
+/// Whether SELECT gets its answer after one block.
 fn is_answered_at_once(t: &mut Terminal) -> bool {
     let mut line = scripted(&[], Step::Gives(&DONE_BLOCK));
     is_answered(t, &mut line, 1, &DONE)
@@ -178,7 +178,7 @@ fn given_up_and_taken_up_again(rt: HostRuntime) {
     assert!(rt; is_answered_at_once(&mut t));
 }
 
-/// Whether a terminal that begins by RESYNCH ends so, once so many blocks were sent that wait once the time.
+/// Whether a terminal that begins by RESYNCH ends like this, after so many blocks that each wait once the time.
 fn begins(
     t: &mut Terminal,
     line: &mut Script<'_>,
@@ -189,7 +189,7 @@ fn begins(
     end_of(begin_by_resynch(t, line, params)) == wanted && line.talks == talks && line.waited == 1
 }
 
-/// Whether it ends so over a line which does this for ever.
+/// Whether it ends like this over a line that does this for ever.
 fn begins_over(
     t: &mut Terminal,
     then: Step<'_>,
@@ -200,14 +200,14 @@ fn begins_over(
     begins(t, &mut scripted(&[], then), params, wanted, talks)
 }
 
-/// Whether it begins over a line which gives the answer to the third block.
+/// Whether it begins over a line that answers the third block.
 fn begins_at_the_third(t: &mut Terminal, params: T1Params) -> bool {
     let first = [Step::Gives(&DONE_BLOCK), Step::IsSilent];
     let mut line = scripted(&first, Step::Gives(&RESYNCHED));
     begins(t, &mut line, params, Ended::Done, 3)
 }
 
-/// A card that can't be reset is asked for RESYNCH until it answers, and for nothing else.
+/// A card that can't be reset gets only RESYNCH requests until it answers.
 #[test]
 fn a_session_that_begins_by_resynch(rt: HostRuntime) {
     let mut t = terminal(&rt, rt.alloc());
@@ -217,7 +217,7 @@ fn a_session_that_begins_by_resynch(rt: HostRuntime) {
     assert!(rt; begins_over(&mut t, Step::Fails, params, Ended::Line, 1));
 }
 
-/// Whether an exchange of a command is refused as too long.
+/// Whether an exchange refuses a command as too long.
 fn is_too_long(t: &mut Terminal, line: &mut Script<'_>, command: &[u8]) -> bool {
     end_of_exchange(exchange(t, line, command, 9)) == Ended::Refused(TerminalFault::TooLong)
 }

@@ -1,4 +1,4 @@
-//! A card that serves lines which give what is written down.
+//! A card that serves lines which give what a script says.
 
 use super::steps::{Step, Steps};
 use super::{DONE, DONE_BLOCK, LONG, SELECT, SELECT_BLOCK};
@@ -10,7 +10,7 @@ use test_support::same;
 
 const ASK_AGAIN: [u8; 4] = [0x00, 0x80, 0x00, 0x80];
 
-/// The line of a card that counts the blocks it sends.
+/// A card's line, which counts the blocks that the card sends.
 #[derive(Drop)]
 struct CardScript<'a> {
     steps: Steps<'a>,
@@ -45,7 +45,7 @@ impl CardLine for CardScript<'_> {
     }
 }
 
-/// A host that gives every command the same reply.
+/// A host that gives the same reply to every command.
 #[derive(Drop)]
 pub(super) struct Replies<'a> {
     reply: &'a [u8],
@@ -94,7 +94,7 @@ pub(super) fn end_of(given: Result<(), ServeFault>) -> Served {
     }
 }
 
-/// Whether serving at most so many blocks ends so, once so many were sent in all.
+/// Whether serving at most so many blocks ends like this, after so many blocks were sent in all.
 fn ends(
     c: &mut Card,
     line: &mut CardScript<'_>,
@@ -131,13 +131,13 @@ fn a_budget_of_blocks(rt: HostRuntime) {
     assert!(rt; line.is_done_said);
 }
 
-/// Whether serving ends so by a failure of the line, before a block is sent.
+/// Whether serving ends by a failure of the line before a block is sent.
 fn fails(c: &mut Card, mut line: CardScript<'_>, host: &mut Replies<'_>) -> bool {
     let failed = Served::Line(ErrorKind::Other);
     ends(c, &mut line, host, 9, failed, 0)
 }
 
-/// Whether the block that wasn't sent is sent where it is asked for again.
+/// Whether the block that wasn't sent is sent when the terminal asks for it again.
 fn is_repaired(c: &mut Card, host: &mut Replies<'_>) -> bool {
     let mut line = card_over(&[Step::Gives(&ASK_AGAIN)], Step::IsSilent);
     ends(c, &mut line, host, 9, Served::Done, 1) && line.is_done_said
@@ -156,12 +156,12 @@ fn a_card_whose_line_fails(rt: HostRuntime) {
     assert!(rt; host.acted == 1);
 }
 
-/// Whether a card takes this reply.
+/// Whether a card accepts this reply.
 fn takes(c: &mut Card, reply: &[u8]) -> bool {
     c.reply(reply).is_ok()
 }
 
-/// Whether a card refuses a host's reply, and then what comes, and the host acts once.
+/// Whether a card refuses a host's reply, then refuses what comes, and the host acts once.
 fn is_refused(c: &mut Card, reply: &[u8]) -> bool {
     let mut host = replying(reply);
     let mut line = card_over(&[], Step::Gives(&SELECT_BLOCK));

@@ -1,4 +1,4 @@
-//! What a line does, written down.
+//! The steps of a line, as a script has them.
 
 ghost use Rattle.std.specs.Prelude.{◌≤◌, length, IfOk};
 ghost use Rattle.line_core.specs.Line.{FitsRoom};
@@ -14,7 +14,7 @@ pub(super) enum Step<'a> {
     Fails,
 }
 
-/// The steps of a line, and then one for ever.
+/// The steps of a line, and then one step for ever.
 #[derive(Drop)]
 pub(super) struct Steps<'a> {
     pub(super) first: &'a [Step<'a>],
@@ -32,7 +32,7 @@ impl<'a> Steps<'a> {
         }
     }
 
-    /// What comes by the next step.
+    /// Returns what the next step delivers.
     pub(super) fn heard(&mut self, room: &mut [u8]) -> io::Result<Received>
         ensures { IfOk result (λ heard. FitsRoom heard room.new) }
     {
@@ -44,7 +44,7 @@ impl<'a> Steps<'a> {
     }
 }
 
-/// As many of the octets as there is room for.
+/// Fills the buffer with as many of the octets as it has room for.
 pub(super) fn filled(octets: &[u8], room: &mut [u8]) -> Received
     ensures { FitsRoom result room.new }
 {

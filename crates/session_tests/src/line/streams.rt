@@ -6,7 +6,7 @@ use line_core::{LONGEST_ARRIVAL, Received, TerminalLine, UntimedLine, exchange};
 use octet_core::{After, Counted, Feeder, Taker};
 use t1_core::Terminal;
 
-/// DONE_BLOCK, and the front of another.
+/// DONE_BLOCK, and the beginning of another block.
 const DONE_AND_MORE: [u8; 8] = [0x00, 0x00, 0x02, 0x90, 0x00, 0x92, 0x00, 0x40];
 
 /// A line whose writer keeps what it takes.
@@ -22,7 +22,7 @@ pub(super) fn has_carried(line: Streams<Feeder<'_>>, given: u64, kept: &[u8]) ->
     source.into_inner().given() == given && sink.into_inner().kept() == kept
 }
 
-/// Whether a terminal hears these octets after SELECT.
+/// Whether a terminal receives these octets after SELECT.
 fn hears(line: &mut Streams<Feeder<'_>>, octets: &[u8]) -> bool {
     let mut room = [0; LONGEST_ARRIVAL];
     let heard = line.transceive(&SELECT_BLOCK, 1, &mut room).ok();
@@ -35,12 +35,12 @@ fn fails(line: &mut Streams<Feeder<'_>>) -> bool {
     line.transceive(&SELECT_BLOCK, 1, &mut room).is_err()
 }
 
-/// Whether an exchange of SELECT gives this answer.
+/// Whether an exchange of SELECT returns this answer.
 fn is_answered(t: &mut Terminal, line: &mut Streams<Feeder<'_>>, octets: &[u8]) -> bool {
     is_answer(exchange(t, line, &SELECT, 1), octets)
 }
 
-/// The block is written, and what comes is read up to its end.
+/// The block is written, and the answer is read up to its end.
 #[test]
 fn an_exchange_over_a_reader_and_a_writer(rt: HostRuntime) {
     let mut t = terminal(&rt, rt.alloc());
@@ -50,7 +50,7 @@ fn an_exchange_over_a_reader_and_a_writer(rt: HostRuntime) {
     assert!(rt; has_carried(line, 6, &SELECT_BLOCK));
 }
 
-/// A block that breaks off is handed over so far, and then the reader's end is the line's failure.
+/// If the reader ends inside a block, the octets so far are delivered, and then the end is a failure of the line.
 #[test]
 fn a_reader_that_ends_in_a_block(rt: HostRuntime) {
     let reader = Feeder::new(&DONE_BLOCK[..4], 9, After::End);

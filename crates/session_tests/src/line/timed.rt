@@ -1,4 +1,4 @@
-//! Lines over a device that has a clock: what ends a burst, how long is waited, and what is dropped.
+//! Lines over a device with a clock: what ends a burst, how long a call waits, and what is dropped.
 
 use super::{DONE, DONE_BLOCK, SELECT, SELECT_BLOCK, is_answer};
 use crate::ends::terminal;
@@ -8,7 +8,7 @@ use line_core::{
 use std::io::{self, ErrorKind};
 use test_support::same;
 
-/// What one call of a device hears.
+/// What one call of a device receives.
 #[derive(Clone, Copy)]
 enum Heard<'a> {
     Octets(&'a [u8]),
@@ -18,7 +18,7 @@ enum Heard<'a> {
 
 use Heard::{Failure, Octets, Silence};
 
-/// A device that hears what is written down, and then silence, and keeps how long each call may wait.
+/// A device that receives what a script says and then silence, and records how long each call may wait.
 #[derive(Drop)]
 struct Script<'a> {
     heard: &'a [Heard<'a>],
@@ -74,18 +74,18 @@ fn line_over<'a>(heard: &'a [Heard<'a>], after: u64) -> TimedLine<Script<'a>> {
     TimedLine::new(device, silences)
 }
 
-/// The answer 9000926A82, whose LEN 05 became 02: its first six octets are a whole block.
+/// The answer 9000926A82 with LEN 02 instead of 05: its first six octets are a whole block.
 const HARMED: [u8; 9] = [0x00, 0x00, 0x02, 0x90, 0x00, 0x92, 0x6A, 0x82, 0xEF];
 
-/// Its octets after the first six.
+/// The octets of HARMED after the first six.
 const REST: [u8; 3] = [0x6A, 0x82, 0xEF];
 
-/// What a terminal hears after one block: the silence after a whole block that its line is made with, the multiple of
-/// BWT, the calls of the device, what came, and how long the calls may wait.
+/// What a terminal receives after one block. A row has the silence after a whole block that its line is made with, and
+/// the multiple of BWT. Then come the calls of the device, what came, and how long the calls may wait.
 type Row<'a> = (u64, u8, &'a [Heard<'a>], Option<&'a [u8]>, &'a [u64]);
 
 const ROWS: [Row<'static>; 9] = [
-    // A whole block ends by BGT.
+    // A whole block ends after BGT.
     (
         BGT,
         1,
@@ -108,7 +108,7 @@ const ROWS: [Row<'static>; 9] = [
         Some(&HARMED),
         &[BGT, BWT, BGT, CWT],
     ),
-    // A block that breaks off ends by CWT.
+    // A block that breaks off ends after CWT.
     (
         BGT,
         1,
@@ -118,7 +118,7 @@ const ROWS: [Row<'static>; 9] = [
     ),
     // The card was granted three times BWT, and nothing came.
     (BGT, 3, &[], None, &[BGT, 3 * BWT]),
-    // What came late is dropped.
+    // Octets that came late are dropped.
     (
         BGT,
         1,
@@ -126,7 +126,7 @@ const ROWS: [Row<'static>; 9] = [
         Some(&DONE_BLOCK),
         &[BGT, BGT, BGT, BWT, BGT],
     ),
-    // Of a line of whole bursts no silence is asked for after a whole block.
+    // A line of whole bursts asks for no silence after a whole block.
     (
         0,
         1,
@@ -144,7 +144,7 @@ const ROWS: [Row<'static>; 9] = [
     (0, 1, &[Octets(&DONE_BLOCK)], None, &[0, 0, BWT]),
 ];
 
-/// Whether the calls of a device had these limits, and no others.
+/// Whether the calls of a device had exactly these limits.
 fn had_limits(script: &Script<'_>, limits: &[u64]) -> bool {
     script.calls == limits.len() && script.limits.starts_with(limits)
 }
@@ -160,7 +160,7 @@ fn has_come(heard: Option<Received>, room: &[u8], octets: Option<&[u8]>) -> bool
     }
 }
 
-/// Whether a row is as it says.
+/// Whether a row is right.
 fn is_so(row: &Row<'_>) -> bool {
     let (after, waiting, heard, octets, limits) = *row;
     let mut room = [0; LONGEST_ARRIVAL];
@@ -169,7 +169,7 @@ fn is_so(row: &Row<'_>) -> bool {
     has_come(came, &room, octets) && had_limits(&line.into_device(), limits)
 }
 
-/// A burst ends by the silence that its octets ask for, and is handed over whole.
+/// A burst ends with the silence that its octets need, and is delivered whole.
 #[test]
 fn bursts_and_silences(rt: HostRuntime) {
     for (place, row) in ROWS.iter().enumerate() {
@@ -177,7 +177,7 @@ fn bursts_and_silences(rt: HostRuntime) {
     }
 }
 
-/// The limits of the calls of two talks, of which the first hears this.
+/// Returns the calls and limits of two talks. The first receives this.
 fn two_talks<'a>(heard: &'a [Heard<'a>]) -> Script<'a> {
     let mut room = [0; LONGEST_ARRIVAL];
     let mut line = line_over(heard, BGT);
@@ -186,7 +186,7 @@ fn two_talks<'a>(heard: &'a [Heard<'a>]) -> Script<'a> {
     line.into_device()
 }
 
-/// After a whole block nothing is waited for again, after a broken burst and a failure the line has to be silent for BWT.
+/// After a whole block the line doesn't wait again. After a broken burst or a failure it has to be silent for BWT.
 #[test]
 fn silence_before_the_next_block(rt: HostRuntime) {
     let whole = two_talks(&[Silence, Octets(&DONE_BLOCK), Silence]);
@@ -197,8 +197,8 @@ fn silence_before_the_next_block(rt: HostRuntime) {
     assert!(rt; had_limits(&failed, &[BGT, BWT, BWT, BWT]));
 }
 
-/// What a card hears, and what its calls wait for: for a block as long as it takes, and three quarters of BWT before it
-/// answers a broken burst.
+/// What a card receives, and how long its calls wait: for a block without a limit, and for three quarters of BWT before
+/// it answers a broken burst.
 #[test]
 fn a_card_with_a_clock(rt: HostRuntime) {
     let mut room = [0; LONGEST_ARRIVAL];
@@ -235,7 +235,7 @@ fn a_line_that_is_never_silent(rt: HostRuntime) {
     assert!(rt; same(line.into_device().sent, false));
 }
 
-/// A device that hears an octet at each call.
+/// A device that receives an octet at each call.
 #[derive(Drop)]
 struct Noise {
     sent: bool,

@@ -1,4 +1,4 @@
-//! Messages, and the octets of the blocks that bring them.
+//! Messages, and the octets of their blocks.
 
 pub(super) const SELECT: [u8; 5] = [0x00, 0xA4, 0x04, 0x00, 0x00];
 
@@ -10,27 +10,27 @@ pub(super) const SELECT_BLOCK: [u8; 9] = [0x00, 0x00, 0x05, 0x00, 0xA4, 0x04, 0x
 
 pub(super) const DONE_BLOCK: [u8; 6] = [0x00, 0x00, 0x02, 0x90, 0x00, 0x92];
 
-/// The first two octets of DATA, and the other two.
+/// The first two octets of DATA in a block, and the other two.
 pub(super) const DATA_FIRST: [u8; 6] = [0x00, 0x20, 0x02, 0xAA, 0xBB, 0x33];
 
 pub(super) const DATA_REST: [u8; 6] = [0x00, 0x40, 0x02, 0x90, 0x00, 0xD2];
 
 pub(super) const ASK_AGAIN_INVALID: [u8; 4] = [0x00, 0x82, 0x00, 0x82];
 
-/// The block with number 1 may come.
+/// The card asks for the block with number 1.
 pub(super) const GO_ON: [u8; 4] = [0x00, 0x90, 0x00, 0x90];
 
 pub(super) const RESYNCH: [u8; 4] = [0x00, 0xC0, 0x00, 0xC0];
 
 pub(super) const RESYNCHED: [u8; 4] = [0x00, 0xE0, 0x00, 0xE0];
 
-/// The card takes the size 2.
+/// The card accepts the size 2.
 pub(super) const SIZE_2: [u8; 5] = [0x00, 0xE1, 0x01, 0x02, 0xE2];
 
 /// The terminal asks for the size 32.
 pub(super) const ASK_FOR_32: [u8; 5] = [0x00, 0xC1, 0x01, 0x20, 0xE0];
 
-/// The card asks for the size 254, and the terminal takes it.
+/// The card asks for the size 254, and the terminal accepts it.
 pub(super) const ASK_FOR_254: [u8; 5] = [0x00, 0xC1, 0x01, 0xFE, 0x3E];
 
 pub(super) const SIZE_254: [u8; 5] = [0x00, 0xE1, 0x01, 0xFE, 0x1E];

@@ -1,5 +1,5 @@
-//! The calls that the tests make, each in one place and without a contract: the checker of a test then carries
-//! nothing of theirs. A test has its calls, and what each gives, as rows.
+//! The calls that the tests make, each in one place. They have no contract, so that the checker of a test carries
+//! nothing of theirs. A test has its calls and their results as rows.
 
 use block_core::{Block, encode};
 use std::process::Abort;
@@ -14,7 +14,7 @@ pub(super) enum Call<'a> {
     Quiet,
 }
 
-/// What a call of a terminal gives.
+/// The result of a call of a terminal.
 #[derive(Clone, Copy)]
 pub(super) enum Wanted<'a> {
     Block(&'a [u8]),
@@ -34,7 +34,7 @@ pub(super) enum CardCall<'a> {
     AskIfs(u8),
 }
 
-/// What a call of a card gives.
+/// The result of a call of a card.
 #[derive(Clone, Copy)]
 pub(super) enum CardWanted<'a> {
     Block(&'a [u8]),
@@ -42,7 +42,7 @@ pub(super) enum CardWanted<'a> {
     Refused(CardFault),
 }
 
-/// What a terminal says to a call.
+/// Makes a call of a terminal.
 pub(super) fn called(t: &mut Terminal, call: Call<'_>) -> Result<TerminalTurn, TerminalFault> {
     match call {
         Call::Transmit(octets) => t.transmit(octets),
@@ -52,7 +52,7 @@ pub(super) fn called(t: &mut Terminal, call: Call<'_>) -> Result<TerminalTurn, T
     }
 }
 
-/// What a card says to a call.
+/// Makes a call of a card.
 pub(super) fn card_called(c: &mut Card, call: CardCall<'_>) -> Result<CardTurn, CardFault> {
     match call {
         CardCall::Received(octets) => c.received(octets),
@@ -67,7 +67,7 @@ fn is_block(block: &Block, octets: &[u8]) -> bool {
     encode(block).as_slice() == octets
 }
 
-/// Whether a terminal gives this.
+/// Whether a call of a terminal has this result.
 pub(super) fn gives(t: &mut Terminal, call: Call<'_>, wanted: Wanted<'_>) -> bool {
     let turn = called(t, call);
     match wanted {
@@ -81,7 +81,7 @@ pub(super) fn gives(t: &mut Terminal, call: Call<'_>, wanted: Wanted<'_>) -> boo
     }
 }
 
-/// Whether a card gives this.
+/// Whether a call of a card has this result.
 pub(super) fn card_gives(c: &mut Card, call: CardCall<'_>, wanted: CardWanted<'_>) -> bool {
     let turn = card_called(c, call);
     match wanted {
@@ -92,14 +92,14 @@ pub(super) fn card_gives(c: &mut Card, call: CardCall<'_>, wanted: CardWanted<'_
     }
 }
 
-/// Asserts what a terminal gives for each call, in their order.
+/// Asserts the result of each call of a terminal, in order.
 pub(super) fn assert_gives(rt: &impl Abort, t: &mut Terminal, rows: &[(Call<'_>, Wanted<'_>)]) {
     for (place, (call, wanted)) in rows.iter().enumerate() {
         assert!(rt; gives(t, *call, *wanted), "row {place}");
     }
 }
 
-/// Asserts what a card gives for each call, in their order.
+/// Asserts the result of each call of a card, in order.
 pub(super) fn assert_card_gives(
     rt: &impl Abort,
     c: &mut Card,

@@ -1,4 +1,4 @@
-//! Ends whose state and buffers are the caller's.
+//! Ends whose state and buffers the caller owns.
 
 use super::blocks::{DONE, DONE_BLOCK, SELECT, SELECT_BLOCK};
 use super::calls::{Call, CardCall};
@@ -21,7 +21,7 @@ const ASKED_AGAIN: EncodedTerminalTurn = EncodedTerminalTurn::Send {
     waiting: 1,
 };
 
-/// What a terminal says to a call over these buffers; none where its state doesn't fit them.
+/// Makes a call of a terminal over these buffers; `None` if its state doesn't fit them.
 fn put(
     t: &mut LentTerminal,
     command_buffer: &mut [u8],
@@ -47,7 +47,7 @@ fn is_answer(t: &LentTerminal, answer_buffer: &[u8], octets: &[u8]) -> bool {
             .is_some_and(|answer| answer == octets)
 }
 
-/// Whether a terminal awaits a block and has no answer.
+/// Whether a terminal waits for a block and has no answer.
 fn awaits_block(t: &LentTerminal, answer_buffer: &[u8]) -> bool {
     t.fits(5, answer_buffer.len()) && t.awaits_block() && t.answer(answer_buffer).is_none()
 }
@@ -73,7 +73,7 @@ impl BufferedTerminal {
         }
     }
 
-    /// Whether a call gives this.
+    /// Whether a call has this result.
     fn gives(
         &mut self,
         call: Call<'_>,
@@ -110,7 +110,7 @@ fn a_lent_terminal(rt: HostRuntime) {
     assert!(rt; is_answer(&t.lent, &t.answer_buffer, &DONE));
 }
 
-/// What a card says to a call over these buffers; none where its state doesn't fit them.
+/// Makes a call of a card over these buffers; `None` if its state doesn't fit them.
 fn card_put(
     c: &mut LentCard,
     command_buffer: &mut [u8],
@@ -157,7 +157,7 @@ impl BufferedCard {
         }
     }
 
-    /// Whether a call gives this.
+    /// Whether a call has this result.
     fn gives(&mut self, call: CardCall<'_>, wanted: Result<EncodedCardTurn, CardFault>) -> bool {
         let BufferedCard {
             lent,
@@ -192,7 +192,7 @@ fn terminal_fits(t: LentTerminal, command_buffer: usize, answer_buffer: usize) -
     t.fits(command_buffer, answer_buffer)
 }
 
-/// Whether a card's state fits such buffers.
+/// Whether a card's state fits buffers of so many octets.
 fn card_fits(c: LentCard, command_buffer: usize, answer: usize) -> bool {
     c.fits(command_buffer, answer)
 }

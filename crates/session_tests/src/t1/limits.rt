@@ -1,4 +1,4 @@
-//! Ends with room for short messages alone.
+//! Ends that have room only for short messages.
 
 use super::blocks::{
     ASK_AGAIN_INVALID, DATA, DATA_FIRST, DATA_REST, DONE, DONE_BLOCK, GO_ON, RESYNCH, RESYNCHED,
@@ -16,15 +16,15 @@ use t1_core::{Card, CardFault, LONGEST_COMMAND, Terminal, TerminalFault, Termina
 /// An answer of 4 octets in one block.
 const DATA_BLOCK: [u8; 8] = [0x00, 0x00, 0x04, 0xAA, 0xBB, 0x90, 0x00, 0x85];
 
-/// The block with number 1 is asked for again.
+/// The card asks for the block with number 1 again.
 const REFUSED_SECOND: [u8; 4] = [0x00, 0x92, 0x00, 0x92];
 
-/// A terminal with these limits.
+/// Returns a terminal with these limits.
 fn limited(rt: &impl Abort, alloc: Global, command: usize, answer: usize) -> Terminal {
     Terminal::with_limits(alloc, params(rt), command, answer).expect(rt, "a terminal")
 }
 
-/// A card with these limits.
+/// Returns a card with these limits.
 fn limited_card(rt: &impl Abort, alloc: Global, command: usize, answer: usize) -> Card {
     Card::with_limits(alloc, params(rt), command, answer).expect(rt, "a card")
 }
@@ -89,7 +89,7 @@ fn an_answer_one_octet_above_the_limit(rt: HostRuntime) {
     assert!(rt; !has_answer(&t));
 }
 
-/// What a terminal gives whose card has less room, and what that card does.
+/// The results at a terminal whose card has less room, and the card's blocks.
 static TOO_LONG_FOR_THE_CARD: [(Call, Wanted); 8] = [
     (Call::Transmit(&SELECT), Wanted::Block(&SELECT_BLOCK)),
     (

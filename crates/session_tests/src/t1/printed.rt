@@ -1,4 +1,4 @@
-//! What is printed of reasons and faults, and of values that may hold a message.
+//! How reasons and faults are printed, and values that may hold a message.
 
 use block_core::{Block, Number};
 use octet_core::Named;
@@ -21,7 +21,7 @@ static OF_THE_CARD: [(CardFault, &str); 3] = [
     (CardFault::Reserved, "Reserved"),
 ];
 
-/// Whether this is the name of a fault, and what is written of it.
+/// Whether a fault has this name, and prints it.
 fn is_named<F: Named + Display + Copy + Drop>(alloc: Global, fault: F, name: &str) -> bool {
     same(fault.name(), name) && shows(alloc, &fault, name)
 }

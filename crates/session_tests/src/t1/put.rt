@@ -1,4 +1,4 @@
-//! Blocks that both ends put into the caller's buffer.
+//! Blocks that both ends write into the caller's buffer.
 
 use super::blocks::{ASK_FOR_254, DONE, DONE_BLOCK, SELECT, SELECT_BLOCK};
 use super::calls::{Call, CardCall};
@@ -8,7 +8,7 @@ use std::alloc::Global;
 use std::process::Abort;
 use t1_core::{Card, CardFault, EncodedCardTurn, EncodedTerminalTurn, Terminal, TerminalFault};
 
-/// The octets of a block, in a buffer that had others.
+/// A buffer for a block, which first has other octets.
 type Buffer = [u8; LONGEST_BLOCK];
 
 const EMPTY: Buffer = [0xEE; LONGEST_BLOCK];
@@ -16,7 +16,7 @@ const EMPTY: Buffer = [0xEE; LONGEST_BLOCK];
 /// The card asks for three times the waiting time.
 const MORE_TIME: [u8; 5] = [0x00, 0xC3, 0x01, 0x03, 0xC1];
 
-/// What the terminal says to a call.
+/// Makes a call of the terminal.
 fn put(
     t: &mut Terminal,
     call: Call<'_>,
@@ -30,7 +30,7 @@ fn put(
     }
 }
 
-/// What the card says to a call.
+/// Makes a call of the card.
 fn card_put(
     c: &mut Card,
     call: CardCall<'_>,
@@ -44,7 +44,7 @@ fn card_put(
     }
 }
 
-/// Whether the terminal says this to a call.
+/// Whether a call of the terminal has this result.
 fn puts(
     t: &mut Terminal,
     call: Call<'_>,
@@ -54,7 +54,7 @@ fn puts(
     put(t, call, out) == wanted
 }
 
-/// Whether the card says this to a call.
+/// Whether a call of the card has this result.
 fn card_puts(
     c: &mut Card,
     call: CardCall<'_>,
@@ -64,7 +64,7 @@ fn card_puts(
     card_put(c, call, out) == wanted
 }
 
-/// Whether the first octets of a buffer are these, and the next is as it was.
+/// Whether the first octets of a buffer are these, and the next octet is unchanged.
 fn holds(buffer: &Buffer, octets: &[u8]) -> bool {
     buffer.starts_with(octets) && buffer.get(octets.len()) == Some(&0xEE)
 }
@@ -94,7 +94,7 @@ fn a_size_put_by_the_terminal(rt: HostRuntime) {
     assert!(rt; holds(&out, &ASK_FOR_254));
 }
 
-/// A card whose host owes the reply to a command.
+/// Returns a card whose host owes the reply to a command.
 fn asked(rt: &impl Abort, alloc: Global, out: &mut Buffer) -> Card {
     let mut c = card(rt, alloc);
     let select = CardCall::Received(&SELECT_BLOCK);

@@ -1,4 +1,4 @@
-//! The ends in each of their states: what the readers tell, what is shown, and a new session from there.
+//! The ends in each of their states: what the readers return, what is printed, and a new session from there.
 
 use super::blocks::{DONE, DONE_BLOCK, SELECT, SELECT_BLOCK, SIZE_2, SIZE_254};
 use super::calls::{Call, CardCall, CardWanted, Wanted, called, card_called, card_gives, gives};
@@ -8,13 +8,13 @@ use std::process::Abort;
 use t1_core::{Card, CardAwaits, Terminal, TerminalAwaits};
 use test_support::{debugs, same};
 
-/// An I-block with number 0 that another follows, and the octets `90 00`.
+/// An I-block with number 0 and the octets `90 00`, which another block follows.
 const DONE_FIRST: [u8; 6] = [0x00, 0x20, 0x02, 0x90, 0x00, 0xB2];
 
 /// The first 4 octets of a command, which another block follows.
 const SELECT_FIRST: [u8; 8] = [0x00, 0x20, 0x04, 0x00, 0xA4, 0x04, 0x00, 0x84];
 
-/// A command of one block, and then so many times nothing that comes.
+/// A command of one block, and then several times no answer.
 const UNHEARD_4: [Call<'static>; 5] = [
     Call::Transmit(&DONE),
     Call::Quiet,
@@ -44,7 +44,7 @@ const UNHEARD_7: [Call<'static>; 8] = [
     Call::Quiet,
 ];
 
-/// A terminal after these calls, where its card takes 4 octets a block.
+/// Returns a terminal after these calls, for a card that takes 4 octets in a block.
 fn terminal_after(rt: &impl Abort, alloc: Global, calls: &[Call<'_>]) -> Terminal {
     let mut t = terminal_for(rt, alloc, 4);
     for call in calls {
@@ -53,7 +53,7 @@ fn terminal_after(rt: &impl Abort, alloc: Global, calls: &[Call<'_>]) -> Termina
     t
 }
 
-/// What a terminal tells of itself.
+/// What the readers of a terminal return.
 #[derive(Clone, Copy)]
 struct Told {
     awaits: TerminalAwaits,
@@ -62,7 +62,7 @@ struct Told {
     failures: u8,
 }
 
-/// Whether a terminal tells this.
+/// Whether the readers of a terminal return this.
 fn tells(t: &Terminal, told: Told) -> bool {
     t.awaits() == told.awaits
         && t.awaits_block() == told.awaits_block
@@ -70,19 +70,19 @@ fn tells(t: &Terminal, told: Told) -> bool {
         && t.failures() == told.failures
 }
 
-/// A terminal as it is shown.
+/// Returns a terminal as it is printed.
 fn shown(rt: &impl Abort, alloc: Global, t: &Terminal) -> String {
     format!(in alloc; "{t:?}").expect(rt, "a text")
 }
 
-/// Whether a terminal that is reset is as a new one, for cards that take 2 octets a block.
+/// Whether a terminal that is reset is like a new one, for cards that take 2 octets in a block.
 fn is_reset(rt: &impl Abort, alloc: Global, t: &mut Terminal) -> bool {
     t.reset(params_for(rt, 2));
     let new = terminal_for(rt, alloc, 2);
     same(shown(rt, alloc, t), shown(rt, alloc, &new))
 }
 
-/// Whether a terminal after these calls tells this, and begins again.
+/// Whether the readers return this after these calls, and the terminal begins again.
 fn awaits_after(rt: &impl Abort, alloc: Global, calls: &[Call<'_>], told: Told) -> bool {
     let mut t = terminal_after(rt, alloc, calls);
     tells(&t, told) && is_reset(rt, alloc, &mut t) && begins(&mut t)
@@ -127,7 +127,7 @@ fn what_the_terminal_awaits(rt: HostRuntime) {
     }
 }
 
-/// A card after these calls, where the terminal takes 32 octets a block.
+/// Returns a card after these calls, for a terminal that takes 32 octets in a block.
 fn card_after(rt: &impl Abort, alloc: Global, calls: &[CardCall<'_>]) -> Card {
     let mut c = card_for(rt, alloc, 32);
     for call in calls {
@@ -136,30 +136,30 @@ fn card_after(rt: &impl Abort, alloc: Global, calls: &[CardCall<'_>]) -> Card {
     c
 }
 
-/// A card as it is shown.
+/// Returns a card as it is printed.
 fn card_shown(rt: &impl Abort, alloc: Global, c: &Card) -> String {
     format!(in alloc; "{c:?}").expect(rt, "a text")
 }
 
-/// Whether a card awaits this.
+/// Whether a card waits for this.
 fn card_awaits(c: &Card, awaits: CardAwaits) -> bool {
     c.awaits() == awaits && c.awaits_block() == (awaits != CardAwaits::Host)
 }
 
-/// Whether a card that is reset is as a new one that takes 5 octets a block.
+/// Whether a card that is reset is like a new one that takes 5 octets in a block.
 fn is_card_reset(rt: &impl Abort, alloc: Global, c: &mut Card) -> bool {
     c.reset(params_for(rt, 5));
     let new = card_for(rt, alloc, 5);
     same(card_shown(rt, alloc, c), card_shown(rt, alloc, &new))
 }
 
-/// Whether a card takes a command and sends the block of its reply.
+/// Whether a card accepts a command and sends the block of its reply.
 fn card_begins(c: &mut Card) -> bool {
     card_gives(c, CardCall::Received(&SELECT_BLOCK), CardWanted::Asked)
         && card_gives(c, CardCall::Reply(&DONE), CardWanted::Block(&DONE_BLOCK))
 }
 
-/// Whether a card after these calls awaits this, and begins again.
+/// Whether a card waits for this after these calls, and begins again.
 fn card_awaits_after(
     rt: &impl Abort,
     alloc: Global,
@@ -200,12 +200,12 @@ fn what_the_card_awaits(rt: HostRuntime) {
     }
 }
 
-/// Whether these sizes are in force at a terminal: the card's, and its own.
+/// Whether a terminal has these sizes in force: the card's, and its own.
 fn has_sizes(t: &Terminal, ifsc: u8, ifsd: u8) -> bool {
     t.ifsc() == ifsc && t.ifsd() == ifsd
 }
 
-/// Whether these sizes are in force at a card.
+/// Whether a card has these sizes in force.
 fn card_has_sizes(c: &Card, ifsc: u8, ifsd: u8) -> bool {
     c.ifsc() == ifsc && c.ifsd() == ifsd
 }

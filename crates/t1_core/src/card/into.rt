@@ -1,4 +1,4 @@
-//! The calls of the card that put the octets of a block into the caller's buffer.
+//! The calls of the card that write the octets of a block into the caller's buffer.
 
 ghost use Rattle.std.specs.Prelude.{◌≡◌, ◌≤◌, length, IfOk};
 ghost use Rattle.t1_core.specs.Came.{class_of};
@@ -12,11 +12,12 @@ use crate::lent::LentCard;
 use crate::sending::CardAct;
 use crate::turns::{CardFault, CardTurn, EncodedCardTurn};
 
-/// Each call does what the one without `_into` does, in the same order of refusals; the octets of the
-/// block are put together once, at the front of `out`, which has room for the longest block, 258 octets.
-/// What follows them stays, and where no block is sent all of it.
+/// Each call does what the call without `_into` does, and refuses in the same order.
+///
+/// It encodes the block once, at the front of `out`, which has room for the longest block, 258 octets. The octets after
+/// the block stay. If no block is sent, all of `out` stays.
 impl Card {
-    /// What is sent for these octets of the line, as `received`.
+    /// Takes the octets of the line, as `received` does.
     pub fn received_into(
         &mut self,
         octets: &[u8],
@@ -38,7 +39,7 @@ impl Card {
         )
     }
 
-    /// The first I-block of a reply, as `reply`.
+    /// Takes the host's reply, as `reply` does.
     pub fn reply_into(
         &mut self,
         octets: &[u8],
@@ -58,7 +59,7 @@ impl Card {
         )
     }
 
-    /// The question for more waiting time, as `more_time`.
+    /// Asks for more waiting time, as `more_time` does.
     pub fn more_time_into(
         &mut self,
         multiple: u8,
@@ -78,7 +79,7 @@ impl Card {
         )
     }
 
-    /// The question about a size, as `ask_ifs`.
+    /// Asks about a size, as `ask_ifs` does.
     pub fn ask_ifs_into(&mut self, size: u8, out: &mut [u8]) -> Result<EncodedCardTurn, CardFault>
         requires room { 258 ≤ length out.old }
         ensures turn { IsCardPut (turn_of (card_turn self.old (ask_ifs size))) out.old out.new
@@ -91,9 +92,10 @@ impl Card {
     }
 }
 
-/// The same of a card whose buffers are lent to each call: those of the call before, in size and octets.
+/// The same calls for a card whose caller owns the buffers. Each call gets the buffers as the call before left them,
+/// with the same sizes.
 impl LentCard {
-    /// What is sent for these octets of the line, as `received`.
+    /// Takes the octets of the line, as `received` does.
     pub fn received_into(
         &mut self,
         command_buffer: &mut [u8],
@@ -118,7 +120,7 @@ impl LentCard {
         self.put(command_buffer, reply_buffer, acted, out)
     }
 
-    /// The first I-block of a reply, as `reply`.
+    /// Takes the host's reply, as `reply` does.
     pub fn reply_into(
         &mut self,
         command_buffer: &[u8],
@@ -141,7 +143,7 @@ impl LentCard {
         self.put(command_buffer, reply_buffer, acted, out)
     }
 
-    /// The question for more waiting time, as `more_time`.
+    /// Asks for more waiting time, as `more_time` does.
     pub fn more_time_into(
         &mut self,
         command_buffer: &[u8],
@@ -164,7 +166,7 @@ impl LentCard {
         self.put(command_buffer, reply_buffer, acted, out)
     }
 
-    /// The question about a size, as `ask_ifs`.
+    /// Asks about a size, as `ask_ifs` does.
     pub fn ask_ifs_into(
         &mut self,
         command_buffer: &[u8],
@@ -187,8 +189,9 @@ impl LentCard {
         self.put(command_buffer, reply_buffer, acted, out)
     }
 
-    /// What a call answers, with the octets of the block that is sent in the buffer. Inlined, so that the call's
-    /// act is never kept in memory.
+    /// Returns what a call returns, and writes the octets of its block into the buffer.
+    ///
+    /// Inlined, so that the call's act is never kept in memory.
     #[inline(always)]
     fn put(
         &self,
@@ -214,7 +217,7 @@ impl LentCard {
         }
     }
 
-    /// What a call answers, with the block that is sent put together.
+    /// Returns what a call returns, with the block that it sends.
     pub(super) fn answered(
         &self,
         command_buffer: &[u8],

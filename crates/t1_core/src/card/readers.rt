@@ -1,5 +1,6 @@
-//! The state of a card, for a driver and for whoever looks at a session that hangs. It shows no octet of a message,
-//! but for the command that its host owes the reply to.
+//! The state of a card, for a driver and for a person who looks at a session that hangs.
+//!
+//! It shows no octet of a message, except those of the command whose reply the host owes.
 
 ghost use Rattle.std.specs.Prelude.{◌≡◌, ◌≤◌, ◌+◌, List, ℕ, length, is_some};
 ghost use Rattle.t1_core.specs.Views.{IsSlice};
@@ -14,47 +15,47 @@ use crate::turns::{CardAsked, CardAwaits, CardWait};
 use std::fmt;
 
 impl Card {
-    /// The most octets of an information field that the card takes now, 1 to 254: whoever frames the
-    /// terminal's blocks with a `BlockReader` makes it of this size.
+    /// Returns the most octets of an information field that the card takes now, 1 to 254. Make the `BlockReader` for
+    /// the terminal's blocks with this size.
     ///
-    /// It changes where the response to its host's question comes, and is the first one again after
-    /// RESYNCH.
+    /// It changes when the response to the host's question about a size comes. RESYNCH makes it the first one again.
     pub fn ifsc(&self) -> u8
         ensures { result ≡ self.now.ifsc }
     {
         self.state.ifsc
     }
 
-    /// The most octets of an information field that the terminal takes now, 1 to 254.
+    /// Returns the most octets of an information field that the terminal takes now, 1 to 254.
     pub fn ifsd(&self) -> u8
         ensures { result ≡ self.now.ifsd }
     {
         self.state.ifsd
     }
 
-    /// What the card waits for.
+    /// Returns what the card waits for.
     pub fn awaits(&self) -> CardAwaits
         ensures { result ≡ awaited_by_card self.now.waits }
     {
         self.state.awaits()
     }
 
-    /// Whether a block is awaited. In the host's turn none is: one that comes then is refused `Order` by
-    /// `received`, and is dropped.
+    /// Whether the card waits for a block.
+    ///
+    /// In the host's turn it doesn't: `received` then refuses a block as `Order`, and the block is dropped.
     pub fn awaits_block(&self) -> bool
         ensures { result ≡ card_awaits_block self.now.waits }
     {
         self.state.awaits_block()
     }
 
-    /// The most octets of a command that the card takes: it has room for these.
+    /// Returns the most octets of a command that the card takes. It has room for them.
     pub fn most_command(&self) -> usize
         ensures { result ≡ self.now.limits.command }
     {
         self.state.most_command
     }
 
-    /// The most octets of its host's reply that the card takes.
+    /// Returns the most octets of a reply that the card takes from its host.
     pub fn most_reply(&self) -> usize
         ensures { result ≡ self.now.limits.answer }
     {
@@ -63,7 +64,7 @@ impl Card {
 }
 
 impl LentCard {
-    /// What the card waits for.
+    /// Returns what the card waits for.
     pub fn awaits(&self) -> CardAwaits
         ensures { (command reply : List ℕ)
             → result ≡ awaited_by_card (card_held self.now command reply).waits }
@@ -77,7 +78,7 @@ impl LentCard {
         }
     }
 
-    /// Whether a block is awaited, as [`Card::awaits_block`].
+    /// Whether the card waits for a block, as [`Card::awaits_block`] returns it.
     pub fn awaits_block(&self) -> bool
         ensures { (command reply : List ℕ)
             → result ≡ card_awaits_block (card_held self.now command reply).waits }
@@ -89,7 +90,7 @@ impl LentCard {
         }
     }
 
-    /// The command, as [`Card::command`], in the command's buffer.
+    /// Returns the command in its buffer, as [`Card::command`] does.
     pub fn command<'a>(&self, command_buffer: &'a [u8]) -> Option<&'a [u8]>
         requires { self.now.command_len ≤ length command_buffer.now }
         ensures { (reply : List ℕ)
@@ -104,14 +105,14 @@ impl LentCard {
 }
 
 impl Card {
-    /// How many octets of a command it holds.
+    /// Returns how many octets of a command the card holds.
     fn command_octets(&self) -> usize
         ensures { result ≡ length self.now.command + length (taken_of self.now.waits) }
     {
         self.command.as_slice()[..self.state.command_len].len()
     }
 
-    /// How many octets of the reply the terminal has yet to acknowledge, while its last block isn't sent.
+    /// Returns how many octets of the reply the terminal hasn't acknowledged yet, until the last block is sent.
     fn reply_octets(&self) -> usize
         ensures { result ≡ octets_of_reply self.now }
     {
@@ -121,14 +122,14 @@ impl Card {
         }
     }
 
-    /// Whether it keeps its last I-block.
+    /// Whether the card keeps its last I-block.
     fn is_saved(&self) -> bool
         ensures { result ≡ is_some self.now.saved }
     {
         self.state.saved.is_some()
     }
 
-    /// The numbers and the sizes that it prints.
+    /// Returns the numbers and the sizes that the card prints.
     fn sizes(&self) -> Sizes
         ensures number { result.number ≡ self.now.number }
         ensures expected { result.expected ≡ self.now.expected }
@@ -143,7 +144,7 @@ impl Card {
         }
     }
 
-    /// What it prints of its messages.
+    /// Returns what the card prints about its messages.
     fn messages(&self) -> CardMessages
         ensures command { result.command ≡ length self.now.command + length
             (taken_of self.now.waits) }
@@ -162,7 +163,7 @@ impl Card {
     }
 }
 
-/// States, sizes, limits and how many octets are held. A command may carry a PIN, so no octet is shown.
+/// Prints states, sizes, limits and how many octets are held. A command may carry a PIN, so no octet is shown.
 impl fmt::Debug for Card {
     ghost use Rattle.std.specs.Prelude.{Some};
     ghost use Rattle.t1_core.specs.Shown.{card_text};

@@ -1,4 +1,4 @@
-//! What the card does at each call, and the block that it then sends by what it keeps.
+//! What the card does at each call, and the block that it sends, from what it keeps.
 
 ghost use Rattle.std.specs.Prelude.{◌≡◌, ◌≤◌, length};
 ghost use Rattle.t1_core.specs.Came.{class_of, info};
@@ -18,7 +18,7 @@ use block_core::{BlockRef, Pcb};
 use octet_core::is_reserved;
 
 impl LentCard {
-    /// These octets came as one block.
+    /// Takes octets that came as one block.
     pub(super) fn takes(
         &mut self,
         command_buffer: &mut [u8],
@@ -53,7 +53,7 @@ impl LentCard {
         }
     }
 
-    /// The host hands over its reply.
+    /// Takes the host's reply.
     pub(super) fn replies(
         &mut self,
         command_buffer: &[u8],
@@ -79,7 +79,7 @@ impl LentCard {
         Ok(CardAct::Send(next.sent))
     }
 
-    /// The host asks for more waiting time.
+    /// Asks the terminal for more waiting time.
     pub(super) fn asks_time(
         &mut self,
         command_buffer: &[u8],
@@ -100,7 +100,7 @@ impl LentCard {
         Ok(CardAct::Send(Sent::Other(request.block())))
     }
 
-    /// The host asks the card to take fields of this size.
+    /// Asks the terminal to send fields of up to this size.
     pub(super) fn asks_ifs(
         &mut self,
         command_buffer: &[u8],
@@ -124,7 +124,7 @@ impl LentCard {
         Ok(CardAct::Send(Sent::Other(request.block())))
     }
 
-    /// The block that is sent, its field lent.
+    /// Returns the block that the card sends. Its field is borrowed.
     #[inline(always)]
     pub(super) fn lent<'a>(
         &self,
@@ -143,7 +143,7 @@ impl LentCard {
         }
     }
 
-    /// The I-block with this field and the number of the one under way.
+    /// Returns the I-block with this field and the card's present number.
     fn info<'a>(&self, more: bool, inf: &'a [u8]) -> BlockRef<'a>
         requires { length inf.now ≤ 254 }
         ensures { result ≡ info self.now.number more inf.now }
@@ -155,7 +155,7 @@ impl LentCard {
         BlockRef::new(0, pcb, inf).unwrap()
     }
 
-    /// The field of the I-block under way that more follow.
+    /// Returns the field of the last I-block, if more of the reply follows it.
     fn inner<'a>(&self, command_buffer: &[u8], reply_buffer: &'a [u8]) -> &'a [u8]
         requires fit { IsLentCard self.now (length command_buffer.now) (length reply_buffer.now) }
         ensures octets { result.now ≡ field_of
@@ -168,7 +168,7 @@ impl LentCard {
         }
     }
 
-    /// The field of the last I-block, while nothing has acknowledged it.
+    /// Returns the field of the last I-block, until something acknowledges it.
     fn last<'a>(&self, command_buffer: &[u8], reply_buffer: &'a [u8]) -> &'a [u8]
         requires fit { IsLentCard self.now (length command_buffer.now) (length reply_buffer.now) }
         ensures octets { result.now ≡ field_saved

@@ -1,4 +1,4 @@
-//! What the card does with what came, by what it waits for.
+//! What the card does with what came, in each state.
 
 ghost use Rattle.std.specs.Prelude.{◌≡◌, ◌≤◌, ◌+◌, ◌++◌, length, []};
 ghost use Rattle.block_core.specs.declared.pcb.Fault.TheVariants.{Free};
@@ -19,7 +19,7 @@ use crate::turns::{CardAsked, CardWait};
 use block_core::{Fault, Number, Pcb, S};
 
 impl LentCard {
-    /// It waits for a block of a command.
+    /// Takes what came while the card waits for a block of a command.
     pub(super) fn command_took(
         &mut self,
         command_buffer: &mut [u8],
@@ -68,7 +68,7 @@ impl LentCard {
         }
     }
 
-    /// An I-block of the reply that isn't its last is under way.
+    /// Takes what came while the card sends a reply, before its last I-block.
     pub(super) fn reply_took(
         &mut self,
         command_buffer: &[u8],
@@ -105,8 +105,8 @@ impl LentCard {
         }
     }
 
-    /// While the reply is sent an R-block came: with the number of the block under way it is sent again,
-    /// with the other one the next block.
+    /// Takes an R-block while the reply is sent. If it has the number of the last I-block, that block is sent again; if
+    /// it has the other number, the next block is.
     fn reply_asked(&mut self, command_buffer: &[u8], reply_buffer: &[u8], number: Number) -> CardAct
         requires fit { IsLentCard self.old (length command_buffer.now) (length reply_buffer.now) }
         requires waits { (card_held self.old command_buffer.now reply_buffer.now).waits
@@ -140,7 +140,7 @@ impl LentCard {
         CardAct::Send(next.sent)
     }
 
-    /// It waits for the response to a request.
+    /// Takes what came while the card waits for the response to a request.
     pub(super) fn asking_took(
         &mut self,
         command_buffer: &[u8],
@@ -180,7 +180,7 @@ impl LentCard {
         }
     }
 
-    /// While it waits for a block of a command or for an R-block, what is taken alike.
+    /// Takes what came, as the card does alike while it waits for a block of a command or for an R-block.
     fn either_took(
         &mut self,
         command_buffer: &[u8],
@@ -210,7 +210,7 @@ impl LentCard {
         CardAct::Send(Sent::Other(Short::ready(self.expected, fault)))
     }
 
-    /// An I-block of the command that fits is joined, and acknowledges the saved block.
+    /// Joins an I-block of the command that fits. It acknowledges the saved block.
     fn joins(
         &mut self,
         command_buffer: &mut [u8],
@@ -249,7 +249,7 @@ impl LentCard {
         }
     }
 
-    /// How many octets of a command came so far.
+    /// Returns how many octets of a command came so far.
     fn taken_len(&self, command_buffer: &[u8], reply_buffer: &[u8]) -> usize
         requires fit { IsLentCard self.now (length command_buffer.now) (length reply_buffer.now) }
         ensures { result ≡ length (taken_of
@@ -261,7 +261,8 @@ impl LentCard {
         }
     }
 
-    /// While it waits for a command an R-block came: with its own number the saved block is sent again.
+    /// Takes an R-block while the card waits for a command. If it has the card's own number, the saved block is sent
+    /// again.
     fn sends_saved(&mut self, command_buffer: &[u8], reply_buffer: &[u8], is_own: bool) -> CardAct
         requires fit { IsLentCard self.old (length command_buffer.now) (length reply_buffer.now) }
         ensures fit { IsLentCard self.new (length command_buffer.now) (length reply_buffer.now) }
@@ -279,7 +280,7 @@ impl LentCard {
         }
     }
 
-    /// RESYNCH: as at the start, with no command.
+    /// Resets the card for RESYNCH: it is as at the start, with no command.
     fn resynched(&mut self, command_buffer: &[u8], reply_buffer: &[u8]) -> CardAct
         requires fit { IsLentCard self.old (length command_buffer.now) (length reply_buffer.now) }
         ensures fit { IsLentCard self.new (length command_buffer.now) (length reply_buffer.now) }

@@ -1,4 +1,4 @@
-//! The calls of the terminal that put the octets of a block into the caller's buffer.
+//! The calls of the terminal that write the octets of a block into the caller's buffer.
 
 ghost use Rattle.std.specs.Prelude.{◌≡◌, ◌≤◌, length, IfOk};
 ghost use Rattle.t1_core.specs.Came.{class_of, quiet};
@@ -12,11 +12,12 @@ use crate::sending::TerminalAct;
 use crate::terminal::Terminal;
 use crate::turns::{EncodedTerminalTurn, TerminalFault, TerminalTurn, granted};
 
-/// Each call does what the one without `_into` does, in the same order of refusals; the octets of the
-/// block are put together once, at the front of `out`, which has room for the longest block, 258 octets.
-/// What follows them stays, and where no block is sent all of it.
+/// Each call does what the call without `_into` does, and refuses in the same order.
+///
+/// It encodes the block once, at the front of `out`, which has room for the longest block, 258 octets. The octets after
+/// the block stay. If no block is sent, all of `out` stays.
 impl Terminal {
-    /// The first I-block of a command, as `transmit`.
+    /// Takes a command, as `transmit` does.
     pub fn transmit_into(
         &mut self,
         command: &[u8],
@@ -37,7 +38,7 @@ impl Terminal {
         )
     }
 
-    /// The question about a size, as `ask_ifs`.
+    /// Asks about a size, as `ask_ifs` does.
     pub fn ask_ifs_into(
         &mut self,
         size: u8,
@@ -53,7 +54,7 @@ impl Terminal {
             .ask_ifs_into(self.command.as_slice(), self.answer.as_slice(), size, out)
     }
 
-    /// What is sent for these octets of the line, as `received`.
+    /// Takes the octets of the line, as `received` does.
     pub fn received_into(
         &mut self,
         octets: &[u8],
@@ -75,7 +76,7 @@ impl Terminal {
         )
     }
 
-    /// What is sent where nothing came, as `quiet`.
+    /// Says that nothing came, as `quiet` does.
     pub fn quiet_into(&mut self, out: &mut [u8]) -> Result<EncodedTerminalTurn, TerminalFault>
         requires room { 258 ≤ length out.old }
         ensures turn { IsTerminalPut (turn_of (terminal_turn self.old (takes quiet))) out.old
@@ -88,9 +89,10 @@ impl Terminal {
     }
 }
 
-/// The same of a terminal whose buffers are lent to each call: those of the call before, in size and octets.
+/// The same calls for a terminal whose caller owns the buffers. Each call gets the buffers as the call before left
+/// them, with the same sizes.
 impl LentTerminal {
-    /// The first I-block of a command, as `transmit`.
+    /// Takes a command, as `transmit` does.
     pub fn transmit_into(
         &mut self,
         command_buffer: &mut [u8],
@@ -115,7 +117,7 @@ impl LentTerminal {
         self.put(command_buffer, answer_buffer, acted, out)
     }
 
-    /// The question about a size, as `ask_ifs`.
+    /// Asks about a size, as `ask_ifs` does.
     pub fn ask_ifs_into(
         &mut self,
         command_buffer: &[u8],
@@ -140,7 +142,7 @@ impl LentTerminal {
         self.put(command_buffer, answer_buffer, acted, out)
     }
 
-    /// What is sent for these octets of the line, as `received`.
+    /// Takes the octets of the line, as `received` does.
     pub fn received_into(
         &mut self,
         command_buffer: &[u8],
@@ -167,7 +169,7 @@ impl LentTerminal {
         self.put(command_buffer, answer_buffer, acted, out)
     }
 
-    /// What is sent where nothing came, as `quiet`.
+    /// Says that nothing came, as `quiet` does.
     pub fn quiet_into(
         &mut self,
         command_buffer: &[u8],
@@ -191,8 +193,9 @@ impl LentTerminal {
         self.put(command_buffer, answer_buffer, acted, out)
     }
 
-    /// What a call answers, with the octets of the block that is sent in the buffer. Inlined, so that the call's
-    /// act is never kept in memory.
+    /// Returns what a call returns, and writes the octets of its block into the buffer.
+    ///
+    /// Inlined, so that the call's act is never kept in memory.
     #[inline(always)]
     fn put(
         &self,
@@ -224,7 +227,7 @@ impl LentTerminal {
         }
     }
 
-    /// What a call answers, with the block that is sent put together.
+    /// Returns what a call returns, with the block that it sends.
     pub(super) fn answered(
         &self,
         command_buffer: &[u8],

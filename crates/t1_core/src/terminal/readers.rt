@@ -1,4 +1,4 @@
-//! The state of a terminal, for a driver and for whoever looks at a session that hangs. It shows no octet of a
+//! The state of a terminal, for a driver and for a person who looks at a session that hangs. It shows no octet of a
 //! message.
 
 ghost use Rattle.std.specs.Prelude.{◌≡◌, ◌≤◌, List, ℕ, length, is_some};
@@ -13,15 +13,15 @@ use crate::turns::{TerminalAwaits, TerminalWait};
 use std::fmt;
 
 impl Terminal {
-    /// The most octets of an information field that the card takes now, 1 to 254.
+    /// Returns the most octets of an information field that the card takes now, 1 to 254.
     pub fn ifsc(&self) -> u8
         ensures { result ≡ self.now.ifsc }
     {
         self.state.ifsc
     }
 
-    /// The most octets of an information field that the terminal takes now, 1 to 254: whoever frames the
-    /// card's blocks with a `BlockReader` makes it of this size.
+    /// Returns the most octets of an information field that the terminal takes now, 1 to 254. Make the `BlockReader`
+    /// for the card's blocks with this size.
     ///
     /// It changes at the turn `IfsSet`, and is [`FIRST_IFSD`](crate::FIRST_IFSD) again after `GivenUp`.
     pub fn ifsd(&self) -> u8
@@ -30,21 +30,23 @@ impl Terminal {
         self.state.ifsd
     }
 
-    /// What the terminal waits for.
+    /// Returns what the terminal waits for.
     pub fn awaits(&self) -> TerminalAwaits
         ensures { result ≡ awaited_by_terminal self.now.waits }
     {
         self.state.awaits()
     }
 
-    /// Whether a block is awaited: the next call is `received`, or `quiet` where none comes in time.
+    /// Whether the terminal waits for a block. If so, the next call is `received`, or `quiet` if no block comes in
+    /// time.
     pub fn awaits_block(&self) -> bool
         ensures { result ≡ terminal_awaits_block self.now.waits }
     {
         self.state.awaits_block()
     }
 
-    /// Failures in a row: blocks that were sent again, or asked for again, since the last step forward.
+    /// Returns the failures in a row: blocks that were sent again, or asked for again, since the last progress.
+    ///
     /// After [`MOST_REPEATS`](crate::MOST_REPEATS) the next failure leads to RESYNCH.
     pub fn failures(&self) -> u8
         ensures { result ≡ self.now.failures }
@@ -52,21 +54,21 @@ impl Terminal {
         self.state.failures
     }
 
-    /// Whether the card was found dead: only `reset` is of use then.
+    /// Whether the terminal found the card dead. Only `reset` helps then.
     pub fn is_dead(&self) -> bool
         ensures { result ≡ is_dead self.now.waits }
     {
         self.state.is_dead()
     }
 
-    /// The most octets of a command that the terminal takes: it has room for these.
+    /// Returns the most octets of a command that the terminal takes. It has room for them.
     pub fn most_command(&self) -> usize
         ensures { result ≡ self.now.limits.command }
     {
         self.state.most_command
     }
 
-    /// The most octets of an answer that the terminal takes.
+    /// Returns the most octets of an answer that the terminal takes.
     pub fn most_answer(&self) -> usize
         ensures { result ≡ self.now.limits.answer }
     {
@@ -75,7 +77,7 @@ impl Terminal {
 }
 
 impl LentTerminal {
-    /// What the terminal waits for.
+    /// Returns what the terminal waits for.
     pub fn awaits(&self) -> TerminalAwaits
         ensures { (command answer_buffer : List ℕ)
             → result ≡ awaited_by_terminal (terminal_held self.now command answer_buffer).waits }
@@ -91,7 +93,7 @@ impl LentTerminal {
         }
     }
 
-    /// Whether a block is awaited, as [`Terminal::awaits_block`].
+    /// Whether the terminal waits for a block, as [`Terminal::awaits_block`] returns it.
     pub fn awaits_block(&self) -> bool
         ensures { (command answer_buffer : List ℕ)
             → result ≡ terminal_awaits_block (terminal_held self.now command answer_buffer).waits }
@@ -106,7 +108,7 @@ impl LentTerminal {
         }
     }
 
-    /// Whether the card was found dead.
+    /// Whether the terminal found the card dead.
     pub fn is_dead(&self) -> bool
         ensures { (command answer_buffer : List ℕ)
             → result ≡ is_dead (terminal_held self.now command answer_buffer).waits }
@@ -114,7 +116,7 @@ impl LentTerminal {
         matches!(self.wait, TerminalWait::Dead)
     }
 
-    /// The answer, as [`Terminal::answer`], in the answer's buffer.
+    /// Returns the answer in its buffer, as [`Terminal::answer`] does.
     pub fn answer<'a>(&self, answer_buffer: &'a [u8]) -> Option<&'a [u8]>
         requires { self.now.answer_len ≤ length answer_buffer.now }
         ensures { (command : List ℕ)
@@ -129,14 +131,14 @@ impl LentTerminal {
 }
 
 impl Terminal {
-    /// How many octets of a command it holds.
+    /// Returns how many octets of a command the terminal holds.
     fn command_octets(&self) -> usize
         ensures { result ≡ length self.now.command }
     {
         self.command.as_slice()[..self.state.command_len].len()
     }
 
-    /// How many octets of the answer came so far, or of the whole answer while there is one.
+    /// Returns how many octets of the answer came so far, or how many the whole answer has.
     fn answer_octets(&self) -> usize
         ensures { result ≡ octets_of_answer self.now.answered self.now.waits }
     {
@@ -160,7 +162,7 @@ impl Terminal {
         self.state.is_answered
     }
 
-    /// The numbers and the sizes that it prints.
+    /// Returns the numbers and the sizes that the terminal prints.
     fn sizes(&self) -> Sizes
         ensures number { result.number ≡ self.now.number }
         ensures expected { result.expected ≡ self.now.expected }
@@ -175,7 +177,7 @@ impl Terminal {
         }
     }
 
-    /// What it prints of its messages.
+    /// Returns what the terminal prints about its messages.
     fn messages(&self) -> TerminalMessages
         ensures command { result.command ≡ length self.now.command }
         ensures answer { result.answer ≡ octets_of_answer self.now.answered self.now.waits }
@@ -193,7 +195,7 @@ impl Terminal {
     }
 }
 
-/// States, sizes, limits and how many octets are held. A command may carry a PIN, so no octet is shown.
+/// Prints states, sizes, limits and how many octets are held. A command may carry a PIN, so no octet is shown.
 impl fmt::Debug for Terminal {
     ghost use Rattle.std.specs.Prelude.{Some};
     ghost use Rattle.t1_core.specs.Shown.{terminal_text};

@@ -14,7 +14,7 @@ use crate::turns::TerminalWait;
 use block_core::{Number, Pcb, S};
 
 impl LentTerminal {
-    /// RESYNCH was asked for.
+    /// Takes what came after the terminal asked for RESYNCH.
     pub(super) fn resynch_took(
         &mut self,
         command_buffer: &[u8],
@@ -59,7 +59,7 @@ impl LentTerminal {
         }
     }
 
-    /// RESYNCH is asked for again, or the card is found dead.
+    /// Asks for RESYNCH again, or finds the card dead.
     pub(super) fn resynch_again(
         &mut self,
         command_buffer: &[u8],

@@ -1,4 +1,4 @@
-//! What the terminal does at each call, and the block that it then sends by what it keeps.
+//! What the terminal does at each call, and the block that it sends, from what it keeps.
 
 ghost use Rattle.std.specs.Prelude.{◌≡◌, ◌≤◌, length, drop, false};
 ghost use Rattle.t1_core.specs.Came.{class_of, quiet, info};
@@ -17,7 +17,7 @@ use block_core::{BlockRef, Fault, Pcb, S};
 use octet_core::is_reserved;
 
 impl LentTerminal {
-    /// A command is handed over.
+    /// Takes a command.
     pub(super) fn transmits(
         &mut self,
         command_buffer: &mut [u8],
@@ -46,7 +46,7 @@ impl LentTerminal {
         Ok(self.sends_from(command_buffer, answer_buffer, 0))
     }
 
-    /// A size is to be asked for.
+    /// Asks for a size.
     pub(super) fn asks_ifs(
         &mut self,
         command_buffer: &[u8],
@@ -73,7 +73,7 @@ impl LentTerminal {
         Ok(TerminalAct::Send(Sent::Other(Short::request(S::Ifs, &[size]))))
     }
 
-    /// These octets came as one block.
+    /// Takes octets that came as one block.
     pub(super) fn takes(
         &mut self,
         command_buffer: &[u8],
@@ -125,7 +125,7 @@ impl LentTerminal {
         }
     }
 
-    /// Nothing came within the waiting time.
+    /// Takes that nothing came within the waiting time.
     pub(super) fn hears_nothing(
         &mut self,
         command_buffer: &[u8],
@@ -163,7 +163,7 @@ impl LentTerminal {
         }
     }
 
-    /// The next I-block of the command, from a place on, cut at the present size.
+    /// Sends the next I-block of the command, from a place on, cut at the present size.
     pub(super) fn sends_from(
         &mut self,
         command_buffer: &[u8],
@@ -200,7 +200,7 @@ impl LentTerminal {
         }
     }
 
-    /// The block that is sent, its field lent.
+    /// Returns the block that the terminal sends. Its field is borrowed.
     #[inline(always)]
     pub(super) fn lent<'a>(
         &self,
@@ -220,7 +220,7 @@ impl LentTerminal {
         }
     }
 
-    /// The I-block under way.
+    /// Returns the present I-block.
     fn info<'a>(&self, command_buffer: &'a [u8], answer_buffer: &[u8], more: bool) -> BlockRef<'a>
         requires fit { IsLentTerminal self.now (length command_buffer.now)
             (length answer_buffer.now) }
@@ -235,7 +235,7 @@ impl LentTerminal {
         BlockRef::new(0, pcb, self.field(command_buffer, answer_buffer)).unwrap()
     }
 
-    /// The field of the I-block under way.
+    /// Returns the field of the present I-block.
     fn field<'a>(&self, command_buffer: &'a [u8], answer_buffer: &[u8]) -> &'a [u8]
         requires fit { IsLentTerminal self.now (length command_buffer.now)
             (length answer_buffer.now) }

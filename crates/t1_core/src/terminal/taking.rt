@@ -1,4 +1,4 @@
-//! What the terminal does with what came, by what it waits for.
+//! What the terminal does with what came, in each state.
 
 ghost use Rattle.std.specs.Prelude.{◌≡◌, ◌≤◌, ◌+◌, ◌++◌, length, false};
 ghost use Rattle.t1_core.specs.Came.{ready};
@@ -15,7 +15,7 @@ use crate::turns::{Cut, TerminalWait};
 use block_core::{Fault, Pcb, S};
 
 impl LentTerminal {
-    /// An I-block of the command that isn't its last is under way.
+    /// Takes what came while the terminal sends a command, before its last I-block.
     pub(super) fn ack_took(
         &mut self,
         command_buffer: &[u8],
@@ -66,7 +66,7 @@ impl LentTerminal {
         }
     }
 
-    /// The last I-block of the command is under way.
+    /// Takes what came after the last I-block of the command.
     pub(super) fn answer_took(
         &mut self,
         command_buffer: &[u8],
@@ -123,7 +123,7 @@ impl LentTerminal {
         }
     }
 
-    /// The answer goes on.
+    /// Takes what came after a part of the answer that isn't its last.
     pub(super) fn more_took(
         &mut self,
         command_buffer: &[u8],
@@ -170,7 +170,7 @@ impl LentTerminal {
         }
     }
 
-    /// A size was asked for.
+    /// Takes what came after the terminal asked for a size.
     pub(super) fn ifs_took(
         &mut self,
         command_buffer: &[u8],
@@ -204,7 +204,7 @@ impl LentTerminal {
         )
     }
 
-    /// An I-block of the answer that fits is joined.
+    /// Joins an I-block of the answer that fits.
     fn joins(
         &mut self,
         command_buffer: &[u8],
@@ -242,7 +242,7 @@ impl LentTerminal {
         }
     }
 
-    /// A failure: the block is sent, or RESYNCH is asked for.
+    /// Counts a failure, and sends the block, or asks for RESYNCH.
     pub(super) fn fails(
         &mut self,
         command_buffer: &[u8],
@@ -269,7 +269,7 @@ impl LentTerminal {
         TerminalAct::Send(Sent::Other(Short::request(S::Resynch, &[])))
     }
 
-    /// A failure, of which an R-block tells the card.
+    /// Counts a failure, and reports it to the card by an R-block, or asks for RESYNCH.
     pub(super) fn fails_with(
         &mut self,
         command_buffer: &[u8],
@@ -295,7 +295,7 @@ impl LentTerminal {
         )
     }
 
-    /// In an exchange, what is taken alike whatever the terminal waits for.
+    /// Takes what came, as the terminal does alike in each state of an exchange.
     fn exchange_took(
         &mut self,
         command_buffer: &[u8],

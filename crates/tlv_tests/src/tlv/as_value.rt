@@ -1,5 +1,5 @@
-//! Values of the tests, and calls that tests make, without what their contracts say: so the checker carries nothing of
-//! these through a test.
+//! Values of the tests, and calls that tests make, without what their contracts say. So the checker doesn't carry
+//! their contracts through a test.
 
 use octet_core::Octets;
 use std::alloc::Global;
@@ -10,7 +10,7 @@ use tlv_core::{
     encode, placed_parts, tidy,
 };
 
-/// The octets of a hexadecimal text.
+/// Decodes a hexadecimal text.
 pub(super) fn octets(rt: &impl Abort, alloc: Global, text: &str) -> Vec<u8> {
     of_hex(alloc, text).expect(rt, "octets")
 }
@@ -23,12 +23,12 @@ pub(super) fn are_octets(alloc: Global, octets: &[u8], text: &str) -> bool {
     }
 }
 
-/// The tag of these octets.
+/// Returns the tag with these octets.
 pub(super) fn tag(rt: &impl Abort, octets: &[u8]) -> Tag {
     Tag::new(octets).expect(rt, "a tag")
 }
 
-/// A primitive object whose value has so many octets 0x12.
+/// Makes a primitive object whose value is this many octets 12.
 pub(super) fn primitive(
     rt: &impl Abort,
     alloc: Global,
@@ -44,13 +44,13 @@ pub(super) fn primitive(
     }
 }
 
-/// An object with one object inside.
+/// Makes an object with one object inside.
 pub(super) fn nested(rt: &impl Abort, alloc: Global, tag: Tag, form: Form, node: Node) -> Node {
     let nodes = one(rt, alloc, node);
     Node::Constructed { tag, form, nodes }
 }
 
-/// An object and so many objects around it.
+/// Makes an object with this many objects around it.
 pub(super) fn deep(
     rt: &impl Abort,
     alloc: Global,
@@ -66,17 +66,17 @@ pub(super) fn deep(
     node
 }
 
-/// A list of one node.
+/// Makes a list of one node.
 pub(super) fn one(rt: &impl Abort, alloc: Global, node: Node) -> Nodes {
     Nodes::of(Vec::from_array(alloc, [node]).ok().expect(rt, "a list"))
 }
 
-/// The forest of these nodes.
+/// Makes a forest of these nodes.
 pub(super) fn made(rt: &impl Abort, nodes: Nodes) -> Forest {
     Forest::new(nodes).ok().expect(rt, "a forest")
 }
 
-/// Whether so many nodes come back, since these are no forest for this reason.
+/// Whether `count` nodes are returned, since they aren't a forest for this reason.
 pub(super) fn come_back(nodes: Nodes, count: usize, why: Improper) -> bool {
     match Forest::new(nodes) {
         Ok(_) => false,
@@ -84,29 +84,29 @@ pub(super) fn come_back(nodes: Nodes, count: usize, why: Improper) -> bool {
     }
 }
 
-/// The forest of these octets.
+/// Decodes a forest.
 pub(super) fn forest(rt: &impl Abort, alloc: Global, octets: &[u8]) -> Forest {
     decode(alloc, octets, LARGEST_FOREST).expect(rt, "a forest")
 }
 
-/// The parts of a forest, with their values.
+/// Reads the parts of a forest, with their values.
 pub(super) fn flat<'a>(rt: &impl Abort, alloc: Global, octets: &'a [u8]) -> FlatForest<'a> {
     FlatForest::read(alloc, octets, LARGEST_FOREST)
         .ok()
         .expect(rt, "a forest")
 }
 
-/// The parts of a forest, by their places.
+/// Reads the parts of a forest, by their places.
 pub(super) fn placed(rt: &impl Abort, alloc: Global, octets: &[u8]) -> Vec<PlacedPart> {
     placed_parts(alloc, octets, LARGEST_FOREST).expect(rt, "a forest")
 }
 
-/// The octets of a forest.
+/// Encodes a forest.
 pub(super) fn spelling(rt: &impl Abort, alloc: Global, forest: &Forest) -> Vec<u8> {
     encode(alloc, forest).expect(rt, "octets")
 }
 
-/// Whether a forest is written in the octets of this text.
+/// Whether a forest encodes as this text.
 pub(super) fn spells(alloc: Global, forest: &Forest, text: &str) -> bool {
     match encode(alloc, forest) {
         Ok(octets) => are_octets(alloc, octets.as_slice(), text),
@@ -114,17 +114,17 @@ pub(super) fn spells(alloc: Global, forest: &Forest, text: &str) -> bool {
     }
 }
 
-/// The tidied forest.
+/// Returns the tidied forest.
 pub(super) fn tidied(rt: &impl Abort, alloc: Global, forest: &Forest) -> Forest {
     tidy(alloc, forest).expect(rt, "a forest")
 }
 
-/// The data object list of these octets.
+/// Decodes a data object list.
 pub(super) fn list(rt: &impl Abort, alloc: Global, octets: &[u8]) -> Dol {
     Dol::decode(alloc, octets).expect(rt, "a list")
 }
 
-/// Whether a data object list is written in these octets.
+/// Whether a data object list encodes as these octets.
 pub(super) fn lists(alloc: Global, dol: &Dol, octets: &[u8]) -> bool {
     match dol.encode(alloc) {
         Ok(spelling) => spelling.as_slice() == octets,

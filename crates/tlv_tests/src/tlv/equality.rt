@@ -1,4 +1,4 @@
-//! Forests and lists of parts that are equal, and those that differ in one thing.
+//! Tests of forests and lists of parts that are equal, and of some that differ in one thing.
 
 use super::as_value::{flat, forest, octets};
 use std::alloc::Global;
@@ -23,24 +23,25 @@ const PAIRS: [(&str, &str, bool, bool); 13] = [
     ("5A011200", "5A0112", false, true),
 ];
 
-/// Whether the parts that two lists of octets spell are equal.
+/// Whether the parts that two lists of octets encode are equal.
 fn have_same_parts(rt: &impl Abort, alloc: Global, one: &[u8], other: &[u8]) -> bool {
     flat(rt, alloc, one) == flat(rt, alloc, other)
 }
 
-/// Whether the parts of the forests that two texts spell are equal.
+/// Whether the parts of the forests in two texts are equal.
 fn part_same(rt: &impl Abort, alloc: Global, one: &str, other: &str) -> bool {
     let one = octets(rt, alloc, one);
     let other = octets(rt, alloc, other);
     have_same_parts(rt, alloc, one.as_slice(), other.as_slice())
 }
 
-/// The forest that a text spells.
+/// Decodes the forest in a text.
 fn spelled(rt: &impl Abort, alloc: Global, text: &str) -> Forest {
     forest(rt, alloc, octets(rt, alloc, text).as_slice())
 }
 
-/// Whether two forests are equal, if their lists of nodes say the same.
+/// Whether two forests are equal. The result is `None` if comparing their lists of nodes gives
+/// another answer.
 fn are_equal(one: &Forest, other: &Forest) -> Option<bool> {
     let equal = one == other;
     if (one.nodes() == other.nodes()) == equal && (other == one) == equal {
@@ -50,7 +51,7 @@ fn are_equal(one: &Forest, other: &Forest) -> Option<bool> {
     }
 }
 
-/// Whether the forests that two texts spell are equal.
+/// Whether the forests in two texts are equal.
 fn spell_same(rt: &impl Abort, alloc: Global, one: &str, other: &str) -> Option<bool> {
     let one = spelled(rt, alloc, one);
     let other = spelled(rt, alloc, other);
@@ -65,7 +66,7 @@ fn forests_are_equal_node_by_node(rt: HostRuntime) {
     }
 }
 
-/// Whether four nodes are equal to the first one, in their order.
+/// Whether each of four nodes equals the first one, in their order.
 fn equal_to_first(nodes: &[Node]) -> Option<[bool; 4]> {
     match nodes {
         [first, second, third, fourth] => {

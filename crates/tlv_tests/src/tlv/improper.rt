@@ -1,4 +1,5 @@
-//! Lists of nodes that are no forest: the most octets, and which fault comes first.
+//! Tests of lists of nodes that aren't a forest: the greatest number of octets, and which fault
+//! comes first.
 
 use super::as_value::{come_back, deep, made, one, primitive, tag};
 use std::alloc::Global;
@@ -6,7 +7,7 @@ use std::process::Abort;
 use test_support::same;
 use tlv_core::{Form, Improper, LARGEST_FOREST, Node, Nodes};
 
-/// So many fillers.
+/// Makes a list of `count` fillers.
 fn fillers(rt: &impl Abort, alloc: Global, count: usize) -> Nodes {
     let mut nodes = Vec::new(alloc);
     for _ in 0..count {
@@ -27,7 +28,7 @@ fn one_filler_more_is_refused_for_the_size(rt: HostRuntime) {
     assert!(rt; come_back(nodes, LARGEST_FOREST + 1, Improper::Size));
 }
 
-// The innermost object has 128 octets in a form that says at most 127, and stands at depth 17.
+// The innermost object has 128 octets in a form for at most 127, and is at depth 17.
 #[test]
 fn depth_comes_before_a_wrong_form_inside(rt: HostRuntime) {
     let innermost = primitive(&rt, rt.alloc(), tag(&rt, &[0x5A]), Form::One, 128);

@@ -1,4 +1,4 @@
-//! Checks of forests whose caller keeps what they keep.
+//! Tests of checks of forests whose state the caller keeps.
 
 ghost use Rattle.std.specs.Prelude.{◌≤◌};
 
@@ -6,7 +6,7 @@ use super::as_value::{octets, tag};
 use test_support::same;
 use tlv_core::{ForestCheck, Form, Header, LARGEST_FOREST, LentCheck, Tag, TlvReason};
 
-/// A forest, octets that a forest begins with, and octets that are refused.
+/// A forest, the beginning of a forest, and octets that are refused.
 const FORESTS: [&str; 6] = [
     "",
     "006F108407A0000000041010A505BF0C025000005A81011200",
@@ -16,12 +16,12 @@ const FORESTS: [&str; 6] = [
     "7020701E701C701A70187016701470127010700E700C700A70087006700470027000",
 ];
 
-/// Whether the lent check is fit, and says of a piece and of the end what a check says.
+/// Whether the caller's check is valid, and returns the same for a piece and for the end as a check does.
 fn agree(lent: &mut LentCheck, check: &mut ForestCheck, piece: &[u8]) -> bool {
     lent.fit() && same(lent.feed(piece), check.feed(piece)) && same(lent.finish(), check.finish())
 }
 
-/// Whether they do so of each piece of so many octets.
+/// Whether both agree on octets in pieces of `step` octets.
 fn agree_by(octets: &[u8], step: usize) -> bool
     requires { 1 ≤ step }
 {
@@ -34,7 +34,7 @@ fn agree_by(octets: &[u8], step: usize) -> bool
     all_agree
 }
 
-/// Whether they do so of octets in pieces of each length.
+/// Whether both agree on octets in pieces of each length.
 fn agree_on(octets: &[u8]) -> bool {
     let mut all_agree = true;
     for step in 1..octets.len() + 1 {
@@ -51,12 +51,12 @@ fn a_lent_check_says_what_a_check_says(rt: HostRuntime) {
     }
 }
 
-/// A lent check inside an object with 30 octets to come.
+/// Returns a check inside an object with 30 octets to come.
 fn inside() -> LentCheck {
     after(&[0x70, 0x20, 0x70, 0x1E])
 }
 
-/// A lent check after these octets.
+/// Returns a check after these octets.
 fn after(octets: &[u8]) -> LentCheck {
     let mut lent = LentCheck::begin(64);
     let _ = lent.feed(octets);
@@ -93,7 +93,7 @@ fn numbers_that_are_no_check(rt: HostRuntime) {
     assert!(rt; !fits(&LentCheck { level: 17, ..p }));
 }
 
-/// Whether a check that took these octets can have so many octets of a value to come.
+/// Whether a check that took these octets can have `value_left` octets of a value to come.
 fn has_left(octets: &[u8], value_left: u32) -> bool {
     fits(&LentCheck {
         value_left,
@@ -103,7 +103,7 @@ fn has_left(octets: &[u8], value_left: u32) -> bool {
 
 #[test]
 fn values_under_way(rt: HostRuntime) {
-    // no header of a value came
+    // the header of a value hasn't come
     assert!(rt; !has_left(&[0x70, 0x20, 0x70, 0x1E], 1));
     let p = after(&[0x70, 0x20, 0x70, 0x1E, 0x5A, 0x1C]);
     assert!(rt; fits(&p));
@@ -122,13 +122,13 @@ fn can_refuse(octets: &[u8], reason: TlvReason) -> bool {
 
 #[test]
 fn refusals_that_are_kept(rt: HostRuntime) {
-    // a tag passes the end of an object with two octets to come, and none that of one with 30
+    // a tag passes the end of an object with two octets to come, but not that of one with 30
     assert!(rt; !can_refuse(&[0x70, 0x20, 0x70, 0x1E], TlvReason::Overrun));
     assert!(rt; can_refuse(&[0x70, 0x02], TlvReason::Overrun));
     assert!(rt; !can_refuse(&[0x70, 0x02], TlvReason::TooDeep));
 }
 
-/// Whether a check that took so many octets can be inside objects, and in this header.
+/// Whether a check that took `count` octets can be inside objects, and in this header.
 fn can_be_in(count: u32, header: Header) -> bool {
     fits(&LentCheck {
         header,
@@ -137,10 +137,11 @@ fn can_be_in(count: u32, header: Header) -> bool {
     })
 }
 
-/// How many octets a check took where fillers came, and then those of a header.
+/// How many octets a check took if fillers came, and then those of a header.
 const WITH_FILLERS: u32 = 8;
 
-/// Whether a check can be in the header of an object, with so many octets of its length and their number.
+/// Whether a check can be in the header of an object, after `read` octets of its length that stand for
+/// `number`.
 fn can_be_in_length(tag: Tag, form: Form, read: u8, number: u32) -> bool {
     let header = Header::Sized {
         tag,
@@ -161,7 +162,8 @@ fn headers_under_way(rt: HostRuntime) {
     assert!(rt; can_be_in_length(tag, Form::Three, 1, 0));
 }
 
-/// Forms of a length field, how many octets of it came, and their number, where no check can be.
+/// Forms of a length field, how many octets of it came, and their number, for states that no check can
+/// have.
 const LENGTHS: [(Form, u8, u32); 4] = [
     (Form::Three, 1, 256),
     // the value would have 65,280 octets at least

@@ -1,4 +1,4 @@
-//! Parts of forests, and the octets that are lent with them.
+//! Tests of parts of forests, and of the octets that they borrow.
 
 use super::as_value::{are_octets, flat, octets, placed};
 use octet_core::{Refused, Stop};
@@ -7,10 +7,10 @@ use std::process::Abort;
 use test_support::same;
 use tlv_core::{FlatForest, Form, LARGEST_FOREST, Part, PlacedPart, TlvReason, placed_parts};
 
-/// What is wanted of a part: its depth, its tag, and the place of its value with its octets.
+/// What is expected of a part: its depth, its tag, and the place of its value with its octets.
 type Wanted = (usize, &'static str, usize, &'static str);
 
-/// Whether a part of a forest of these octets is this one.
+/// Whether a part of a forest with these octets is the expected one.
 fn is_part(alloc: Global, octets: &[u8], part: &Part, wanted: &Wanted) -> bool {
     let (depth, tag, place, value) = wanted;
     same((part.depth, part.place), (*depth, *place))
@@ -27,7 +27,7 @@ fn is_at(octets: &[u8], place: usize, value: &[u8]) -> bool {
     }
 }
 
-/// Whether a part by its place is this one.
+/// Whether a part by its place is this part.
 fn is_placed(part: &PlacedPart, lent: &Part) -> bool {
     same(usize::from(part.depth), lent.depth)
         && same((part.tag, part.form), (lent.tag, lent.form))
@@ -35,7 +35,7 @@ fn is_placed(part: &PlacedPart, lent: &Part) -> bool {
         && same(part.len as usize, lent.value.len())
 }
 
-/// Whether a part is there and is this one.
+/// Whether there is a part, and it is the expected one.
 fn is_there(alloc: Global, octets: &[u8], part: Option<&Part>, wanted: &Wanted) -> bool {
     match part {
         Some(part) => is_part(alloc, octets, part, wanted),
@@ -43,7 +43,7 @@ fn is_there(alloc: Global, octets: &[u8], part: Option<&Part>, wanted: &Wanted) 
     }
 }
 
-/// Whether the parts of these octets are these.
+/// Whether the parts of these octets are the expected ones.
 fn are_parts(alloc: Global, octets: &[u8], parts: &[Part], wanted: &[Wanted]) -> bool {
     let mut are_same = parts.len() == wanted.len();
     for (place, wanted) in wanted.iter().enumerate() {
@@ -52,7 +52,7 @@ fn are_parts(alloc: Global, octets: &[u8], parts: &[Part], wanted: &[Wanted]) ->
     are_same
 }
 
-/// Whether the parts by their places alone are those of a forest.
+/// Whether the parts by their places alone are these parts.
 fn are_placed(placed: &[PlacedPart], parts: &[Part]) -> bool {
     let mut are_same = placed.len() == parts.len();
     for (part, lent) in placed.iter().zip(parts) {
@@ -61,14 +61,14 @@ fn are_placed(placed: &[PlacedPart], parts: &[Part]) -> bool {
     are_same
 }
 
-/// Whether the parts of a forest are these, with their values and by their places.
+/// Whether the parts of a forest, with their values and by their places, are the expected ones.
 fn has_parts(rt: &impl Abort, alloc: Global, octets: &[u8], wanted: &[Wanted]) -> bool {
     let flat = flat(rt, alloc, octets);
     are_parts(alloc, octets, flat.parts(), wanted)
         && are_placed(placed(rt, alloc, octets).as_slice(), flat.parts())
 }
 
-/// Whether the parts of the forest that a text spells are these.
+/// Whether the parts of the forest in a text are the expected ones.
 fn spells_parts(rt: &impl Abort, alloc: Global, text: &str, wanted: &[Wanted]) -> bool {
     has_parts(rt, alloc, octets(rt, alloc, text).as_slice(), wanted)
 }
@@ -106,7 +106,7 @@ fn short_and_long_headers_have_parts(rt: HostRuntime) {
     assert!(rt; spells_parts(&rt, rt.alloc(), text, &HEADERS));
 }
 
-/// Objects with the longest header that is taken at once, before more octets and at their end.
+/// Objects with the longest header that is taken in one step, before more octets and at their end.
 const LONG_TAGS: [Wanted; 3] = [
     (1, "FF8129", 6, "DF8201820000"),
     (2, "DF8201", 12, ""),
@@ -124,10 +124,12 @@ const LENT: [u8; 14] = [
     0x00, 0x70, 0x81, 0x0A, 0x00, 0x82, 0x82, 0x00, 0x01, 0x50, 0x70, 0x02, 0x50, 0x00,
 ];
 
-/// Where the header and the value of each of these begin, and how many octets its length field has.
+/// For each of these objects, the places of its header and its value, and how many octets its length
+/// field has.
 const PLACES: [(usize, usize, usize); 4] = [(1, 4, 2), (5, 9, 3), (10, 12, 1), (12, 14, 1)];
 
-/// Where the header and the value of a part begin, and how many octets its length field has.
+/// Returns the places of the header and the value of a part, and how many octets its length field
+/// has.
 fn places_of(part: &Part) -> (usize, usize, usize) {
     (part.header_place(), part.place, part.form.octets())
 }
@@ -149,7 +151,7 @@ fn parts_tell_their_places(rt: HostRuntime) {
     assert!(rt; are_at(flat.parts(), PLACES));
 }
 
-/// The form of the only part.
+/// Returns the form of the only part.
 fn form_of(parts: &[Part]) -> Option<Form> {
     match parts {
         [part] => Some(part.form),
@@ -170,7 +172,7 @@ fn fillers_are_no_parts(rt: HostRuntime) {
     );
 }
 
-/// Octets that are no forest, and where they stop.
+/// Octets that aren't a forest, and their stop.
 const NONE: [(&[u8], Stop<TlvReason>); 3] = [
     (&[0x5A, 0x02], Stop::Short { place: 2 }),
     (
@@ -189,7 +191,7 @@ const NONE: [(&[u8], Stop<TlvReason>); 3] = [
     ),
 ];
 
-/// Whether octets have no parts, with their values and by their places, and stop so.
+/// Whether octets have no parts, with their values or by their places, and have this stop.
 fn stop_so(alloc: Global, octets: &[u8], stop: Stop<TlvReason>) -> bool {
     let refused = FlatForest::read(alloc, octets, LARGEST_FOREST).err();
     let unplaced = placed_parts(alloc, octets, LARGEST_FOREST).err();

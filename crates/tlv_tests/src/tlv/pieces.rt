@@ -1,4 +1,4 @@
-//! Forests that come in pieces.
+//! Tests of forests that come in pieces.
 
 ghost use Rattle.std.specs.Prelude.{◌≤◌};
 
@@ -9,10 +9,10 @@ use std::process::Abort;
 use test_support::same;
 use tlv_core::{Forest, ForestCheck, ForestReader, Form, LARGEST_FOREST, Node, TlvReason};
 
-/// What a reader says of octets.
+/// The result of feeding a reader.
 type Fed = Result<(), (usize, Refused<TlvReason>)>;
 
-/// The octets fed to a reader.
+/// Feeds octets to a reader.
 fn fed(reader: &mut ForestReader, octets: &[u8]) -> Fed {
     reader.feed(octets)
 }
@@ -22,23 +22,23 @@ fn takes(reader: &mut ForestReader, octets: &[u8]) -> bool {
     fed(reader, octets).is_ok()
 }
 
-/// Where a reader refuses the octets 70 03 5A 02.
+/// The stop of a reader for the octets 70 03 5A 02.
 const STOP: Stop<TlvReason> = Stop::At {
     place: 3,
     reason: TlvReason::Overrun,
 };
 
-/// Whether a reader takes so many octets, and refuses the next one so.
+/// Whether a reader takes `taken` octets, and refuses the next one with that stop.
 fn refuses(reader: &mut ForestReader, octets: &[u8], taken: usize) -> bool {
     same(fed(reader, octets), Err((taken, Refused::Stop(STOP))))
 }
 
-/// Where a reader stops.
+/// Returns the stop of a reader.
 fn stopped(reader: ForestReader) -> Option<Stop<TlvReason>> {
     reader.finish().err()
 }
 
-/// A reader of the largest forests.
+/// Makes a reader of the largest forests.
 fn reader(rt: &impl Abort, alloc: Global) -> ForestReader {
     ForestReader::new(alloc, LARGEST_FOREST).expect(rt, "a reader")
 }
@@ -48,18 +48,18 @@ fn passes(check: &mut ForestCheck, octets: &[u8]) -> bool {
     check.feed(octets).is_ok()
 }
 
-/// Whether a check ends so.
+/// Whether a check ends with this result.
 fn ends(check: &ForestCheck, end: Result<(), Stop<TlvReason>>) -> bool {
     same(check.finish(), end)
 }
 
-/// A value that ends after the object around it.
+/// The result for a value that ends after the object around it.
 const OVERRUN: Result<(), Stop<TlvReason>> = Err(Stop::At {
     place: 5,
     reason: TlvReason::Overrun,
 });
 
-/// Whether a check refuses octets for that.
+/// Whether a check refuses octets with that result.
 fn overruns(check: &mut ForestCheck, octets: &[u8]) -> bool {
     same(check.feed(octets), OVERRUN)
 }
@@ -77,7 +77,7 @@ fn pieces_are_joined(rt: HostRuntime) {
     assert!(rt; ends(&check, OVERRUN));
 }
 
-/// How many octets a check took.
+/// Returns how many octets a check took.
 fn taken(check: &ForestCheck) -> usize {
     check.taken()
 }
@@ -92,7 +92,7 @@ fn octets_that_a_check_took(rt: HostRuntime) {
     assert!(rt; same(taken(&check), 5));
 }
 
-/// Whether a reader takes all octets in pieces of so many.
+/// Whether a reader takes all octets in pieces of `step` octets.
 fn takes_by(reader: &mut ForestReader, octets: &[u8], step: usize) -> bool
     requires { 1 ≤ step }
 {
@@ -114,7 +114,7 @@ fn has_five_nodes(alloc: Global, reader: ForestReader) -> bool {
     }
 }
 
-/// Whether that forest is read in pieces of so many octets.
+/// Whether that forest is read in pieces of `step` octets.
 fn is_read_by(rt: &impl Abort, alloc: Global, octets: &[u8], step: usize) -> bool
     requires { 1 ≤ step }
 {
@@ -130,7 +130,7 @@ fn trees_are_read_in_pieces(rt: HostRuntime) {
     }
 }
 
-/// The octets fed to a reader, and what is left once more after each want of memory, up to four times.
+/// Feeds octets to a reader, and the rest once more after each failed allocation, up to four times.
 fn fed_until_taken(reader: &mut ForestReader, octets: &[u8]) -> Fed {
     let mut rest = octets;
     let mut said = fed(reader, rest);
@@ -177,13 +177,13 @@ fn readers_end_where_nothing_or_too_little_came(rt: HostRuntime) {
     assert!(rt; same(stopped(reader), Some(Stop::Short { place: 3 })));
 }
 
-/// A forest of one object with 65,536 octets, in the longest form.
+/// Makes a forest of one object with 65,536 octets, in the longest form.
 fn large(rt: &impl Abort, alloc: Global) -> Forest {
     let node = primitive(rt, alloc, tag(rt, &[0x5A]), Form::Five, 65_536);
     made(rt, one(rt, alloc, node))
 }
 
-/// Whether a node is a primitive object with 65,536 octets, in the form for these.
+/// Whether a node is a primitive object with 65,536 octets, in the shortest form for them.
 fn is_large(node: &Node) -> bool {
     match node {
         Node::Primitive {
@@ -203,7 +203,7 @@ fn has_large(forest: &Forest) -> bool {
     }
 }
 
-/// The octets of the large forest, tidied.
+/// Encodes the tidy form of the large forest.
 fn tidy_spelling(rt: &impl Abort, alloc: Global) -> Vec<u8> {
     let tidied = tidied(rt, alloc, &large(rt, alloc));
     spelling(rt, alloc, &tidied)

@@ -1,4 +1,4 @@
-//! What is printed of reasons and faults, and of values that may hold a message.
+//! The printed forms of reasons and faults, and of values that may have octets of a message.
 
 use super::as_value::{flat, forest, list, octets, tag};
 use octet_core::{Format, Named, Octets};
@@ -33,7 +33,7 @@ const IMPROPER: [(Improper, &str); 4] = [
     (Improper::Size, "Size"),
 ];
 
-/// Whether a reason has this name, and is shown by it.
+/// Whether a reason has this name and is printed as it.
 fn is_named<R: Named + Display + Copy>(alloc: Global, reason: R, name: &str) -> bool {
     same(reason.name(), name) && shows(alloc, &reason, name)
 }
@@ -60,14 +60,14 @@ fn faults_are_named(rt: HostRuntime) {
 /// An object with an object inside.
 const OBJECTS: [u8; 7] = [0x70, 0x05, 0x5A, 0x03, 0x12, 0x34, 0x56];
 
-/// A check that took five octets of the object.
+/// Returns a check that took five octets of the object.
 fn check_under_way(rt: &impl Abort) -> ForestCheck {
     let mut check = ForestCheck::new(LARGEST_FOREST);
     check.feed(&OBJECTS[..5]).expect(rt, "octets of a forest");
     check
 }
 
-/// The places of a check that took five octets of the object.
+/// Returns a check of the caller that took five octets of the object.
 fn places_under_way(rt: &impl Abort) -> LentCheck {
     let mut places = LentCheck::begin(LARGEST_FOREST);
     places.feed(&OBJECTS[..5]).expect(rt, "octets of a forest");
@@ -82,7 +82,7 @@ fn debug_of_a_check_shows_no_octet(rt: HostRuntime) {
     assert!(rt; debugs(rt.alloc(), &places_under_way(&rt), seen));
 }
 
-/// Whether this is printed of the last part.
+/// Whether the last part is printed so.
 fn last_part_debugs(alloc: Global, parts: &[Part], seen: &str) -> bool {
     match parts.last() {
         Some(part) => debugs(alloc, part, seen),
@@ -99,7 +99,7 @@ fn debug_of_parts_shows_no_octet(rt: HostRuntime) {
     assert!(rt; debugs(rt.alloc(), &flat, "FlatForest { parts: 2 }"));
 }
 
-/// Whether this is printed of the last node.
+/// Whether the last node is printed so.
 fn last_node_debugs(alloc: Global, forest: &Forest, seen: &str) -> bool {
     match forest.nodes().get().last() {
         Some(node) => debugs(alloc, node, seen),
@@ -116,7 +116,7 @@ fn debug_of_a_forest_shows_no_octet(rt: HostRuntime) {
     assert!(rt; last_node_debugs(rt.alloc(), &forest, seen));
 }
 
-/// A reader of the largest forests.
+/// Makes a reader of the largest forests.
 fn reader(rt: &impl Abort, alloc: Global) -> ForestReader {
     ForestReader::new(alloc, LARGEST_FOREST).expect(rt, "a reader")
 }
@@ -128,7 +128,7 @@ fn debug_of_a_reader_shows_no_octet(rt: HostRuntime) {
     assert!(rt; debugs(rt.alloc(), &reader, seen));
 }
 
-/// A value that is known.
+/// Returns a known value.
 fn known(rt: &impl Abort, alloc: Global) -> Known {
     Known {
         tag: tag(rt, &[0x5A]),
@@ -144,7 +144,7 @@ fn debug_of_a_value_shows_no_octet(rt: HostRuntime) {
     assert!(rt; debugs(rt.alloc(), &known(&rt, rt.alloc()), seen));
 }
 
-/// Whether two lists of these octets are equal.
+/// Whether the lists with these octets are equal.
 fn list_same(rt: &impl Abort, alloc: Global, one: &[u8], other: &[u8]) -> bool {
     same(list(rt, alloc, one), list(rt, alloc, other))
 }

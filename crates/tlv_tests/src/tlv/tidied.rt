@@ -1,11 +1,11 @@
-//! Tidy forms that are put into a buffer.
+//! Tests of tidy forms that are written to a buffer.
 
 use super::as_value::{are_octets, octets};
 use std::alloc::Global;
 use test_support::same;
 use tlv_core::{LARGEST_FOREST, put_tidy};
 
-/// Octets, and how many octets their tidy form has, with its octets.
+/// Octets, how many octets their tidy form has, and the tidy form.
 const ROWS: [(&str, usize, &str); 5] = [
     ("", 0, ""),
     ("000000", 0, ""),
@@ -14,17 +14,18 @@ const ROWS: [(&str, usize, &str); 5] = [
     ("7003000000", 2, "7000"),
 ];
 
-/// Octets that no buffer had.
+/// The octets of a buffer before a call.
 const BEFORE: [u8; 32] = [0x55; 32];
 
-/// What a call says of these octets where the buffer has this room, and the buffer after it.
+/// Returns the result of a call for these octets with this room in the buffer, and the buffer after
+/// it.
 fn tidied(octets: &[u8], room: usize) -> (Option<usize>, [u8; 32]) {
     let mut out = BEFORE;
     let count = put_tidy(octets, LARGEST_FOREST, &mut out[..room.min(32)]);
     (count.ok(), out)
 }
 
-/// Whether a buffer with just the room has the tidy form, and one with less stays.
+/// Whether a buffer with exactly the room gets the tidy form, and one with less stays as it was.
 fn tidies(alloc: Global, octets: &[u8], count: usize, wanted: &str) -> bool {
     let (fits, out) = tidied(octets, count);
     let (lacks, stays) = tidied(octets, count.saturating_sub(1));
