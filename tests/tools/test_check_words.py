@@ -31,6 +31,11 @@ class Words(unittest.TestCase):
     def test_code_is_left_out(self):
         self.assertEqual(self.found("`is told`\n\n    that is none\n\n```\ndear\n```\nA line.\n"), [])
 
+    def test_long_lines_are_found_but_not_of_code_and_tables(self):
+        long = "word " * 25
+        page = tool.without_code(f"{long}\n\n    {long}\n\n| {long} |\n")
+        self.assertEqual([*tool.wide_in(page)], [(1, 125)])
+
     def test_of_a_crate_only_comments_are_read(self):
         text = "/// It is told.\nfn told() {\n    // that\n    // is none\n    say(\"is dear\")\n}\n"
         said = tool.comments_of(text, tool.COMMENT[".rt"])
