@@ -1,6 +1,7 @@
 /* The image of the terminal. It exchanges commands with the card over a line that loses and damages octets. An exchange
- * is right if its answer belongs to its command. It is wrong if it has another answer. If the session gives it up, it
- * is neither: the terminal knows that it has no answer. The program prints `N right, M given up, 0 wrong`.
+ * is right if its answer belongs to its command, and wrong if it has another answer. An exchange that the session gives
+ * up counts as neither right nor wrong: the terminal knows that it has no answer. The program prints `N right, M given
+ * up, 0 wrong`.
  */
 #include "trial.h"
 

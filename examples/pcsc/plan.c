@@ -16,7 +16,7 @@ static uint32_t throw_die(struct plan *plan)
     return (uint32_t)(plan->die >> 11);
 }
 
-/* Reads the numbers of blocks with a fault, separated by commas. Returns false if the text is no such list. */
+/* Reads the numbers of blocks with a fault, separated by commas. Returns false if the text isn't such a list. */
 static bool read_list(struct plan *plan, enum fault fault, char *text)
 {
     char *end;

@@ -24,7 +24,7 @@ struct plan {
     uint64_t die;
 };
 
-/* Reads a plan from a text. Returns false if the text is no valid plan; then the plan has no faults. */
+/* Reads a plan from a text. Returns false if the text isn't a valid plan; then the plan has no faults. */
 bool plan_read(struct plan *plan, const char *text);
 
 /* Reads a plan from a file, as plan_read does. If there is no file, the plan has no faults. */

@@ -6,7 +6,7 @@
 #include <time.h>
 
 /* When a file is full, in octets. An exchange file has at most 4,194,304, and the longest exchange under faults has
- * less than half of these. */
+ * less than half as many. */
 enum { FULL = 2000000 };
 
 static uint64_t now(void)

@@ -1,5 +1,6 @@
-/* A GemPC Twin at a pseudo-terminal, with our card in it. libccid's driver for serial readers takes it for such a
- * reader. The driver runs T=1 by itself, since the reader exchanges blocks. Run it as: twin LINK [time=N] [lost=parity]
+/* A GemPC Twin at a pseudo-terminal, with this folder's card in it. libccid's driver for serial readers takes it for
+ * such a reader. The driver runs T=1 by itself, since the reader exchanges blocks.
+ * Run it as: twin LINK [time=N] [lost=parity]
  * LINK becomes a symbolic link to the pseudo-terminal. LINK.plan says how blocks are disturbed. The reader reports a
  * lost block to the host as a mute card, as such a reader does, or with lost=parity as a block with a parity error. */
 #include "frames.h"

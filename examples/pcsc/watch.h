@@ -1,5 +1,5 @@
 /* Finds out, for a recording, what the application of a terminal asked for. It reads the blocks of the terminal, which
- * isn't ours. */
+ * isn't that of scard. */
 #ifndef WATCH_H
 #define WATCH_H
 

@@ -34,7 +34,7 @@ static inline int digit_of(char c)
     return c >= 'a' ? c - 'a' + 10 : c - 'A' + 10;
 }
 
-/* The octets of a text that is hexadecimal, in a block of their own. */
+/* Decodes a hexadecimal text into a block of its own. */
 static inline struct octets of_hex(const char *text)
 {
     struct octets made;
@@ -50,7 +50,7 @@ static inline struct octets of_hex(const char *text)
     return made;
 }
 
-/* Whether octets are those of a hexadecimal text. */
+/* Returns whether octets are those of a hexadecimal text. */
 static inline int is_hex(const uint8_t *octets, size_t count, const char *text)
 {
     struct octets wanted = of_hex(text);
@@ -59,7 +59,7 @@ static inline int is_hex(const uint8_t *octets, size_t count, const char *text)
     return same;
 }
 
-/* A verdict as the line of the command line program. */
+/* Returns a verdict as the line that the command line program prints. */
 static inline const char *line_of(struct scard_verdict v, int codec)
 {
     static char line[80];
@@ -83,7 +83,8 @@ static inline const char *line_of(struct scard_verdict v, int codec)
     return line;
 }
 
-/* The verdict of a codec on octets, of which what they say isn't kept; status 9 for a codec that isn't here. */
+/* Returns the verdict of a codec on octets, and discards what they decode to. Status 9 means that the codec isn't here.
+ */
 static inline struct scard_verdict verdict_of_codec(int codec, struct octets octets, uint8_t ifs)
 {
     struct scard_verdict none = {9, 9, 9};

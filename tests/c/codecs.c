@@ -155,7 +155,7 @@ static void chains(void)
     free(message.at);
 }
 
-/* A command whose buffer has too little room says how much is needed, and leaves the buffer. */
+/* Checks that a call with too small a buffer for a command says how much room is needed, and leaves the buffer. */
 static void less_room(const struct scard_command *command, struct octets octets)
 {
     size_t room, at;
@@ -211,7 +211,7 @@ static void commands(void)
     CHECK(reads(SCARD_CODEC_COMMAND, 0, "00D60000000000AA", "refused at 7: Trailing"));
 }
 
-/* A response whose buffer has too little room says how much is needed, and leaves the buffer. */
+/* Checks that a call with too small a buffer for a response says how much room is needed, and leaves the buffer. */
 static void cut_responses(void)
 {
     static const uint8_t field[] = {0xAA, 0xBB};

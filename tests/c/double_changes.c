@@ -1,5 +1,5 @@
-/* Counts the changes of two octets of a block after which a card takes the octets for a block. It also shows that there
- * is no such change of one octet, no such missing end and no such octet after the block. The counts are those of
+/* Counts the changes of two octets of a block after which a card accepts the octets as a block. Shows that no change of
+ * one octet is accepted, no block with its end missing, and no block with octets after it. The counts are those of
  * docs/PROMISES-STACK.md. With a number N it counts only for a field of N octets: 254 takes some minutes.
  */
 #include "check.h"
@@ -7,7 +7,7 @@
 
 #include <stdlib.h>
 
-/* Whether an end takes a burst for a block: it is one, with node address 0 and nothing after it. */
+/* Returns whether an end accepts a burst: it is a whole block with node address 0 and nothing after it. */
 static int is_taken(const uint8_t *burst, size_t count)
 {
     struct scard_block block;
@@ -15,7 +15,7 @@ static int is_taken(const uint8_t *burst, size_t count)
     return verdict.status == SCARD_OK && verdict.place == count && burst[0] == 0;
 }
 
-/* How many changes of these two places are taken. */
+/* Returns how many changes of these two octets are accepted. */
 static unsigned long taken_at(uint8_t *burst, size_t count, size_t first, size_t second)
 {
     uint8_t one = burst[first], two = burst[second];
@@ -43,7 +43,7 @@ static unsigned long double_changes(uint8_t *burst, size_t count)
     return taken;
 }
 
-/* How many changes of one octet, shorter fronts and longer bursts are taken: none may be. */
+/* Returns how many changes of one octet, shorter fronts and longer bursts are accepted. It has to be 0. */
 static unsigned long single_changes(uint8_t *burst, size_t count)
 {
     unsigned long taken = 0;
@@ -60,7 +60,7 @@ static unsigned long single_changes(uint8_t *burst, size_t count)
     return taken;
 }
 
-/* An I-block with a field of so many octets, which repeats a few, and 0 after it. */
+/* Makes an I-block with a field of this size, which repeats a few octets, and a 0 after the block. */
 static size_t block_of(uint8_t *burst, size_t size)
 {
     uint8_t field[254];

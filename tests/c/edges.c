@@ -1,4 +1,4 @@
-/* Each call with null and 0, and with every front of octets in a heap block of exactly that size. */
+/* Makes each call with null and 0, and with every front of octets in a heap block of exactly that size. */
 #include "check.h"
 
 #ifndef WITHOUT_HANDLES
@@ -80,7 +80,7 @@ static int same(struct scard_verdict v, struct scard_verdict w)
     return v.status == w.status && v.reason == w.reason && (v.status == SCARD_OK || v.place == w.place);
 }
 
-/* A reader that is given a front whole says at the end what the call for whole octets says. */
+/* Checks that a reader that gets a front at once says at the end what the call for whole octets says. */
 static void in_pieces(const uint8_t *own, size_t count)
 {
     struct scard_handle handle = SCARD_HANDLE_EMPTY;
@@ -101,7 +101,7 @@ static void in_pieces(const uint8_t *own, size_t count)
 }
 #endif
 
-/* Every call that reads octets, on a front of them: it answers, and the sanitizer sees that it reads no further. */
+/* Makes every call that reads octets on a front of them. The sanitizer checks that none reads past its end. */
 static void front(const uint8_t *octets, size_t count)
 {
     uint8_t *own = (uint8_t *)malloc(count);

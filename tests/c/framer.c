@@ -1,4 +1,4 @@
-/* Bursts: what is kept of the octets that come in pieces, when they are a whole block, and which silence ends them. */
+/* Bursts: which octets of several pieces are kept, when they are a whole block, and which silence ends them. */
 #include "check.h"
 
 static struct scard_lent_framer framer;
@@ -12,7 +12,7 @@ static void feed(const char *text)
     free(octets.at);
 }
 
-/* Whether the burst has these octets, and such a silence ends it. */
+/* Returns whether the burst has these octets, and a silence of this length ends it. */
 static int is(const char *text, uint64_t wait)
 {
     return framer.count == strlen(text) / 2 && is_hex(framer.octets, scard_lent_framer_burst(&framer), text)
@@ -22,7 +22,7 @@ static int is(const char *text, uint64_t wait)
 
 static void pieces(void)
 {
-    memset(&framer, 0xA5, sizeof framer); /* any value is one */
+    memset(&framer, 0xA5, sizeof framer); /* any value is a valid framer */
     CHECK(scard_lent_framer_burst(&framer) == SCARD_BURST_ROOM && !scard_lent_framer_is_whole(&framer));
     scard_lent_framer_begin(&framer);
     scard_lent_framer_feed(&framer, NULL, 0);
@@ -56,7 +56,7 @@ static void blocks(void)
     CHECK(!whole("0000029000926A82EF") && !whole("0000059000926A82") && whole("0000059000926A8" "2EF"));
 }
 
-/* The longest block, and more octets than are kept. */
+/* Checks the longest block, and more octets than the framer keeps. */
 static void long_ones(void)
 {
     uint8_t octets[300];

@@ -1,7 +1,7 @@
-/* A program without functions for memory: it is linked with `-lscard` and no flag, and tools/gate/test-c checks which
- * symbols it needs. It has a session of both ends over lent buffers, a check, the parts and the tidy form of a forest,
- * a list that is read and filled, a receiver of a chain, a reader of a block, a command and a response, hexadecimal
- * text, and the LRC.
+/* A program without memory functions. It is linked with `-lscard` and no flag, and tools/gate/test-c checks which
+ * symbols it needs. It has a session of both ends over buffers of the caller, a check, the parts and the tidy form of a
+ * forest, a list that is read and filled, a receiver of a chain, a reader of a block, a command and a response,
+ * hexadecimal text, and the LRC.
  */
 #include "scard.h"
 
@@ -12,13 +12,13 @@ enum { ROOM = 64, SIZE = 32 };
 
 static struct scard_lent_terminal terminal;
 static struct scard_lent_card card;
-static uint8_t commands[2][ROOM], answers[2][ROOM]; /* those of the terminal, and those of the card */
+static uint8_t commands[2][ROOM], answers[2][ROOM]; /* the terminal's, and the card's */
 static uint8_t block[SCARD_BLOCK_ROOM];
 
 static const uint8_t select_it[] = {0x00, 0xA4, 0x04, 0x00};
 static const uint8_t done[] = {0x90, 0x00};
 
-/* Whether the command comes to the card's host, and its reply comes back. */
+/* Returns whether the command reaches the card's host, and its reply comes back. */
 static int session(void)
 {
     struct scard_turn turn;
@@ -47,7 +47,7 @@ static int session(void)
         && memcmp(answers[0], done, sizeof done) == 0;
 }
 
-/* Whether a forest in two pieces is one. */
+/* Returns whether the check accepts a forest in two pieces. */
 static int forest(void)
 {
     static const uint8_t octets[] = {0x6F, 0x02, 0x84, 0x00};
@@ -59,7 +59,7 @@ static int forest(void)
         && scard_lent_check_finish(&check).status == SCARD_OK;
 }
 
-/* Whether the parts of a forest and the entries of a list are found, and both are written. */
+/* Returns whether the calls find the parts of a forest and the entries of a list, and write both. */
 static int objects(void)
 {
     static const uint8_t octets[] = {0x6F, 0x03, 0x84, 0x01, 0xAA}, list[] = {0x9F, 0x02, 0x06, 0x95, 0x05};
@@ -79,7 +79,7 @@ static int objects(void)
         && memcmp(block, "\0\0\0\0\x90\0\0\0\0\0\0", 11) == 0;
 }
 
-/* Whether a chain of one block is received, and the block is read in two pieces. */
+/* Returns whether a chain of one block is received, and the block is read in two pieces. */
 static int chain(void)
 {
     struct scard_lent_receiver receiver;
@@ -94,7 +94,7 @@ static int chain(void)
         && scard_lent_block_reader_feed(&reader, block + 3, verdict.place - 3).status == SCARD_OK;
 }
 
-/* Whether a command and a response are written, and come back from hexadecimal text. */
+/* Returns whether a command and a response are encoded, and come back from hexadecimal text. */
 static int written(void)
 {
     struct scard_command command = {0x00, 0xA4, 0x04, 0x00, SCARD_CASE_4_SHORT, 1, 256, 0, 0};

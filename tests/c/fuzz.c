@@ -1,8 +1,8 @@
-/* Random and changed octets. A decoded value is encoded as the same octets, the parts of a forest are where their tags
- * are, and tidying a second time changes nothing. A check and a receiver of chains that the caller keeps give the same
- * answer for two pieces as for the whole.
+/* Random and changed octets. A decoded value encodes to the same octets. The parts of a forest are where their tags
+ * are, and a second tidying changes nothing. A check and a receiver of chains whose state the caller keeps give the
+ * same answer for two pieces as for the whole.
  */
-#define SCARD_MUST_USE /* what a state is begun with doesn't matter here */
+#define SCARD_MUST_USE /* the status of a begin doesn't matter here */
 #include "check.h"
 
 enum { INPUTS = 1000000, MOST = 64 };
@@ -17,7 +17,7 @@ static uint32_t any(uint32_t below)
     return (uint32_t)(state >> 33) % below;
 }
 
-/* A sample with some octets changed, or octets that are all random. */
+/* Makes a sample with some octets changed, or octets that are all random. */
 static size_t make(uint8_t *octets, const struct octets *samples, size_t sample_count)
 {
     const struct octets *sample = &samples[any((uint32_t)sample_count)];
@@ -39,7 +39,7 @@ static int same(struct scard_verdict v, const uint8_t *out, const uint8_t *octet
     return v.status == SCARD_OK && v.place == count && memcmp(out, octets, count) == 0;
 }
 
-/* The parts of a forest are inside it, each after its tag and length field. */
+/* Returns whether the parts of a forest are inside it, each after its tag and length field. */
 static int lie(const uint8_t *octets, size_t count, struct scard_verdict checked)
 {
     struct scard_part parts[MOST / 2];
@@ -58,7 +58,7 @@ static int lie(const uint8_t *octets, size_t count, struct scard_verdict checked
     return v.status == SCARD_OK;
 }
 
-/* Two pieces, given to a check that the caller keeps. */
+/* Feeds two pieces to a check whose state the caller keeps. */
 static int halved(const uint8_t *octets, size_t count, struct scard_verdict checked)
 {
     struct scard_lent_check check;
@@ -100,7 +100,8 @@ static int again(const uint8_t *octets, size_t count)
     return good;
 }
 
-/* The same of the calls that write: an encoder gives the octets that were decoded, and tidy twice is once. */
+/* Checks the calls that write: an encoder returns the octets that were decoded, and tidying twice equals tidying once.
+ */
 static int encodes(const uint8_t *octets, size_t count)
 {
     uint8_t out[MOST], twice[MOST];
@@ -126,7 +127,7 @@ static int encodes(const uint8_t *octets, size_t count)
     return good;
 }
 
-/* What a receiver says of a chain in two pieces; the message is in the buffer. */
+/* Returns a receiver's verdict on a chain in two pieces. The message is in the buffer. */
 static struct scard_verdict received(struct scard_lent_receiver *receiver, uint8_t *message, size_t room,
                                      const uint8_t *chain, size_t count, size_t first)
 {
@@ -137,7 +138,7 @@ static struct scard_verdict received(struct scard_lent_receiver *receiver, uint8
     return scard_lent_receiver_finish(receiver, message, room);
 }
 
-/* A chain is received as its message, and with an octet changed two receivers of other pieces say the same. */
+/* Checks that a chain is received as its message. With an octet changed, two receivers of other pieces agree. */
 static int arrives(uint8_t *chain, size_t count, uint8_t ifs, const uint8_t *octets, size_t len)
 {
     uint8_t message[MOST], other[MOST];
@@ -160,8 +161,7 @@ static int arrives(uint8_t *chain, size_t count, uint8_t ifs, const uint8_t *oct
         && (v.status != SCARD_OK || memcmp(message, other, v.place) == 0);
 }
 
-/* A message that is cut: its blocks are decoded one after another, and their fields are the message, as
- * that of a receiver. */
+/* Cuts a message and decodes its blocks one after another. Their fields are the message, as are those of a receiver. */
 static int joins(const uint8_t *octets, size_t count)
 {
     uint8_t chain[8 * MOST], ifs = (uint8_t)(1 + any(254));

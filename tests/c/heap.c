@@ -1,4 +1,4 @@
-/* A program with its own memory functions, written from scard_heap.h alone: its only memory is the blocks of an array.
+/* A program with its own memory functions, written from scard_heap.h alone. Its only memory is the blocks of an array.
  */
 #include "check.h"
 #include "scard_heap.h"
@@ -11,7 +11,7 @@ static union {
 } pool;
 static size_t used, held, limit = ROOM, wrong;
 
-/* Each block has its size in the 16 octets before it. Memory is free again once no block is held. */
+/* The 16 octets before each block have its size. The memory is free again once no block is allocated. */
 struct scard_memory rattle_alloc(size_t size, size_t align)
 {
     size_t taken = (size + ALIGN - 1) / ALIGN * ALIGN + ALIGN;
@@ -49,7 +49,9 @@ void rattle_dealloc(void *at)
     used = held == 0 ? 0 : used;
 }
 
-/* All the calls that take memory work with so much of it, or say that it isn't enough, and give back what they took. */
+/* Checks that the calls that allocate work with this much memory, or report that it isn't enough, and free what they
+ * allocated.
+ */
 static unsigned with(size_t room)
 {
     static uint8_t block[SCARD_BLOCK_ROOM], octets[64];

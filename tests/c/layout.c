@@ -1,4 +1,4 @@
-/* The structs of the header have the same sizes as in the library, and their fields the same places: the program reads
+/* Checks that the structs have the same sizes and offsets of fields in the header as in the library. The program reads
  * the numbers that the library writes.
  */
 #include "check.h"

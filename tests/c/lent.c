@@ -3,7 +3,7 @@
 
 static struct scard_lent_terminal terminal;
 static struct scard_lent_card card;
-static uint8_t commands[2][16], answers[2][16]; /* those of the terminal, and those of the card */
+static uint8_t commands[2][16], answers[2][16]; /* the terminal's, and the card's */
 static uint8_t block[SCARD_BLOCK_ROOM];
 
 static void begins(size_t room)
@@ -18,7 +18,7 @@ typedef struct scard_turn terminal_call(struct scard_lent_terminal *, uint8_t *,
 typedef struct scard_turn card_call(struct scard_lent_card *, uint8_t *, size_t, uint8_t *, size_t,
                                     const uint8_t *, size_t, uint8_t *, size_t);
 
-/* One of these calls with the octets of a text, the block in `block`. */
+/* Makes one of these calls with the octets of a text. The block goes to `block`. */
 static struct scard_turn given(terminal_call *of_terminal, card_call *of_card, const char *text, size_t room)
 {
     struct octets octets = of_hex(text);
@@ -71,7 +71,7 @@ static int asked(const char *text, size_t room)
     return v.status == SCARD_OK && is_hex(commands[1], v.place, text);
 }
 
-/* A block is damaged, one is lost, and the card asks for time. */
+/* One block is damaged, one is lost, and the card asks for time. */
 static void disturbed(void)
 {
     begins(16);
@@ -90,7 +90,7 @@ static void disturbed(void)
     CHECK(to_terminal("000002900092", 16).kind == SCARD_DONE && answered("9000", 16));
 }
 
-/* An answer in two blocks under a new size. */
+/* The answer has two blocks under a new field size. */
 static void chained(void)
 {
     begins(16);
@@ -106,7 +106,7 @@ static void chained(void)
     CHECK(to_terminal("0040029000D2", 16).kind == SCARD_DONE && answered("AABB9000", 16));
 }
 
-/* Messages that the buffers have just room for, and such that they haven't; a card that answers no more. */
+/* Messages that just fit into the buffers, and longer ones. Then a card that doesn't answer any more. */
 static void small(void)
 {
     int turn;
@@ -129,7 +129,7 @@ static void small(void)
     CHECK(answers[0][0] == 0 && commands[1][0] == 0);
 }
 
-/* The wrong words, and buffers of other sizes. */
+/* Invalid arguments, and buffers of other sizes. */
 static void refused(void)
 {
     begins(16);
@@ -148,7 +148,7 @@ static void refused(void)
     CHECK(scard_lent_terminal_transmit(&terminal, NULL, 0, NULL, 0, NULL, 0, block, sizeof block).kind == SCARD_SEND);
 }
 
-/* Each octet of a state set to each value: the call is safe, and where it is refused nothing changes. */
+/* Sets each octet of a state to each value. The call is safe, and if it is refused nothing changes. */
 static void spoilt(void)
 {
     struct scard_lent_terminal before = terminal, changed;

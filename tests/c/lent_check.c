@@ -1,7 +1,7 @@
-/* Checks of forests in pieces whose state the caller keeps, and states that other code wrote to. */
+/* Checks of forests in pieces, whose state the caller keeps, and states that other code wrote to. */
 #include "check.h"
 
-/* Feeds octets in pieces of this length, each in a block of its own, until they end or are refused. */
+/* Feeds octets in pieces of this length, each in a separate block, until they end or are refused. */
 static struct scard_verdict feed(struct scard_lent_check *state, struct octets octets, size_t piece)
 {
     struct scard_verdict v = {SCARD_MORE, 0, 0};
@@ -23,8 +23,8 @@ static int same(struct scard_verdict a, struct scard_verdict b)
     return a.status == b.status && a.reason == b.reason && (a.place == b.place || a.status == SCARD_OK);
 }
 
-/* In pieces of 1, 2 and 7 octets and all at once a check says what `scard_tlv_check` says of the whole, and what it
- * says of a refused octet is said again. */
+/* Checks that a check of pieces of 1, 2 and 7 octets, and of all at once, says what `scard_tlv_check` says of the
+ * whole. After a refused octet it repeats its verdict. */
 static void judged(const char *text, size_t max, const char *line)
 {
     struct octets octets = of_hex(text);
@@ -48,7 +48,7 @@ static void judged(const char *text, size_t max, const char *line)
     free(octets.at);
 }
 
-/* Sixteen objects, each inside the one before, and the octets that come after them. */
+/* Sixteen objects, each inside the one before, and the octets after them. */
 static void deep(const char *after, const char *line)
 {
     char text[160] = "";
@@ -95,8 +95,8 @@ static void argued(void)
     CHECK(scard_lent_check_finish(&state).status == SCARD_OK);
 }
 
-/* Each octet of a state set to each value, and then to random ones: a call is safe, and where it is refused nothing
- * changes. Says how many states were none. */
+/* Sets each octet of a state to each value. A call is safe, and if it is refused nothing changes. Returns how many
+ * states were invalid. */
 static size_t spoilt(const struct scard_lent_check *begun, struct octets rest)
 {
     size_t place, none = 0;

@@ -1,19 +1,19 @@
-/* Judges of a line whose state the caller keeps: sessions, each rule, lost blocks, silence, and states that other
- * code wrote to.
+/* Judges of a line, whose state the caller keeps: sessions, each rule, lost blocks, silence, and states that other code
+ * wrote to.
  */
 #include "check.h"
 
-/* What happens on the line: a block of an end without its check octet, or the end of the terminal's waiting time. */
+/* An event on the line: a block of an end without its check octet, or the end of the terminal's waiting time. */
 struct event {
     char from; /* t, c, or q for the silence */
     const char *octets;
-    const char *reached; /* NULL where nobody knows how it reached the other end, "" where it was lost, or the block */
+    const char *reached; /* NULL if nobody knows how it reached the other end, "" if it was lost, or the block */
     const char *told;
 };
 
 static struct scard_lent_judge judge;
 
-/* The octets of a block with its check octet; a text that ends with ! is without one. */
+/* Returns the octets of a block with its check octet. A text that ends with ! gets none. */
 static struct octets block_of(const char *text)
 {
     size_t length = strlen(text);
@@ -34,8 +34,8 @@ static const char *rule_of(int rule)
     return text.text;
 }
 
-/* A judgment in words: the silence before the block, then the verdict; of a deviation the rule, and of what was due its
- * number, the numbers of the end's next block and of the one that it expects, its request, and the octet.
+/* Returns a judgment in words: the silence before the block, then the verdict. A deviation also has the rule and what
+ * was due: its number, the numbers of the end's next block and of the one that it expects, its request, and the octet.
  */
 static const char *words_of(const struct scard_judgment *it, int is_block)
 {
@@ -86,7 +86,7 @@ static struct scard_judgment judged(const struct event *it)
     return out;
 }
 
-/* Judges all that happens on a line to a card that takes fields of 32 octets, up to a row without an end. */
+/* Judges all events on a line to a card that accepts fields of 32 octets, up to a row without an end. */
 static void session(const struct event *it)
 {
     unsigned long blocks = 0;
@@ -157,7 +157,7 @@ static void deviations(void)
     }
 }
 
-/* The fourth repeat in a row is one too many. */
+/* The fourth repeat in a row is a deviation. */
 static void repeats(void)
 {
     static const struct event rows[] = {
@@ -264,7 +264,8 @@ static int is_told(const struct scard_judgment *it)
         && it->due.next <= 1 && it->due.expects <= 1 && it->due.asked <= SCARD_ASKED_RESYNCH;
 }
 
-/* Any octets are a state: two with the same octets are told the same, and what a call leaves is a state that stays. */
+/* Any octets are a valid state. Two states with the same octets get the same judgment, and a call leaves a valid state.
+ */
 static void hostile(void)
 {
     static const char *const blocks[] = {COMMAND, "0040029000", "008100", "00C000", "00E30102", "00C200", "0000"};
@@ -296,7 +297,7 @@ static void hostile(void)
     }
 }
 
-/* The count of blocks stays at its greatest value. */
+/* The count of blocks stays at its largest value. */
 static void counted(void)
 {
     static const struct event row = {'t', COMMAND, NULL, "permitted"};

@@ -1,22 +1,22 @@
-/* Readers of blocks and of answers to reset whose state the caller keeps, beside the decoders of whole octets and the
- * readers in handles, and states that other code wrote. */
+/* Readers of blocks and of answers to reset, whose state the caller keeps. They are compared with the decoders of whole
+ * octets and the readers in handles. Also states that other code wrote. */
 #include "check.h"
 
 static const char *const BLOCKS[] = {
-    "00000000",                 /* an I-block of no octet */
+    "00000000",                 /* an I-block without a field */
     "00200200A486",             /* more follow */
-    "0040056A8290000039",       /* LRC wrong */
+    "0040056A8290000039",       /* wrong LRC */
     "008000",                   /* an R-block, cut */
     "00800080",                 /* an R-block */
-    "00810081FFFF",             /* and octets after it */
-    "0083",                     /* PCB is none */
+    "00810081FFFF",             /* an R-block, and octets after it */
+    "0083",                     /* invalid PCB */
     "00C101FE3E",               /* S(IFS request) of 254 */
     "00C101FF3F",               /* of 255 */
     "00E1010A",                 /* its LRC is missing */
     "00C30105C7",               /* S(WTX request) */
-    "00C3020105C7",             /* LEN is none of its kind */
+    "00C3020105C7",             /* LEN is invalid for its kind */
     "0000FF",                   /* LEN is reserved */
-    "000028",                   /* LEN is over a size of 32 */
+    "000028",                   /* LEN is more than a size of 32 */
     "",
 };
 
@@ -25,10 +25,10 @@ static const char *const ATRS[] = {
     "3B02145000",               /* two historical bytes, and an octet after them */
     "3F65250052096A9000",
     "3B9F95801FC78031E073FE211B63E200A8830F9000A7",
-    "3BE00000814520004B",       /* TCK wrong */
+    "3BE00000814520004B",       /* wrong TCK */
     "3B801F8F",
     "3B8080",                   /* cut */
-    "3C00",                     /* TS is none */
+    "3C00",                     /* invalid TS */
     "3BF0FFFFFFF0FFFFFFF0FFFFFFF0FFFFFFF0FFFFFFF0FFFFFFF0FFFFFFF0FFFFFF", /* longer than TS and 32 octets */
     "",
 };
@@ -43,7 +43,7 @@ static int is(struct scard_verdict v, uint8_t status, size_t place)
     return v.status == status && v.place == place;
 }
 
-/* A kind of reader, and a state of either. */
+/* A kind of reader, and a state of either kind. */
 struct kind {
     int is_block;
     uint8_t ifs;
@@ -71,7 +71,7 @@ static void begin(const struct kind *kind, union state *state)
     }
 }
 
-/* The piece comes in a heap block of exactly its size. */
+/* Feeds a piece that is in a heap block of exactly its size. */
 static struct scard_verdict feed(const struct kind *kind, void *state, const uint8_t *octets, size_t count)
 {
     struct scard_verdict v;
@@ -103,7 +103,7 @@ static const uint8_t *kept(const struct kind *kind, const void *state)
                           : ((const struct scard_lent_atr_reader *)state)->octets;
 }
 
-/* The value that a decoder of whole octets gives, or that of a reader, over octets of its own. */
+/* The value that a decoder of whole octets returns, or that a reader returns, over its own octets. */
 struct value {
     struct scard_block block;
     struct scard_atr atr;
@@ -124,7 +124,7 @@ static struct scard_verdict value_of(const struct kind *kind, const void *state,
         : scard_lent_atr_reader_value((const struct scard_lent_atr_reader *)state, &value->atr);
 }
 
-/* What the state is and says where the octets were all given, in any pieces. */
+/* Checks what the state holds and returns after it got all octets, in any pieces. */
 static void ended(const struct kind *kind, union state *state, const uint8_t *octets, size_t count)
 {
     struct value whole, value, none;
@@ -230,7 +230,7 @@ static void listed(void)
     }
 }
 
-/* Each octet of some spellings with each value. */
+/* Sets each octet of some inputs to each value. */
 static void mutated(void)
 {
     static const char *const SPELLED[] = {"00200200A486FF", "00C101FE3E", "3BD0970081B1FE451F0709", "3B02145000"};
@@ -252,7 +252,7 @@ static void mutated(void)
     }
 }
 
-/* The longest block, 258 octets, and pieces that are longer than the state has room for. */
+/* The longest block, 258 octets, and pieces that are longer than the state's room. */
 static void longest(void)
 {
     struct kind kind = {1, 254};
@@ -301,7 +301,8 @@ static void argued(void)
     CHECK(is(scard_lent_atr_reader_finish(&atr), SCARD_SHORT, 0));
 }
 
-/* A state that something else wrote, in a heap block of its size: it is what the decoder says of its first octets. */
+/* Checks a state that other code wrote, in a heap block of its size: it returns what the decoder says of its first
+ * octets. */
 static void hostile(const struct kind *kind, const union state *given)
 {
     size_t size = size_of(kind), room = kind->is_block ? SCARD_BLOCK_ROOM : SCARD_ATR_ROOM;
@@ -350,7 +351,7 @@ static void states(void)
 }
 
 #ifndef WITHOUT_HANDLES
-/* Octet by octet, beside a reader in a handle. */
+/* Reads octet by octet, and compares with a reader in a handle. */
 static void beside_handles(void)
 {
     struct scard_handle handle = SCARD_HANDLE_EMPTY;

@@ -1,10 +1,10 @@
-/* Receivers of chains whose state and message the caller keeps, beside those in handles, and states that other
- * code wrote to. */
+/* Receivers of chains, whose state and message the caller keeps, compared with receivers in handles. Also states that
+ * other code wrote to. */
 #include "check.h"
 
 enum { ROOM = 300 };
 
-/* A receiver in a handle and one that is kept here, which were told the same. */
+/* A receiver in a handle and one whose state is here. Both get the same octets. */
 struct both {
     struct scard_handle handle;
     struct scard_lent_receiver state;
@@ -43,7 +43,7 @@ static int same(struct scard_verdict a, struct scard_verdict b)
     return a.status == b.status && a.reason == b.reason && a.place == b.place;
 }
 
-/* Both say the same of all octets so far, and of the message. */
+/* Checks that both say the same of all octets so far, and of the message. */
 static void agree(struct both *both)
 {
     uint8_t copied[ROOM];
@@ -55,7 +55,7 @@ static void agree(struct both *both)
 }
 #endif
 
-/* Feeds octets in pieces of this length, each in a block of its own; the last verdict. */
+/* Feeds octets in pieces of this length, each in a separate block. Returns the last verdict. */
 static struct scard_verdict feed(struct both *both, const uint8_t *octets, size_t count, size_t piece)
 {
     struct scard_verdict v = {SCARD_MORE, 0, 0};
@@ -104,7 +104,7 @@ static void chains(void)
     free(chain.at);
 }
 
-/* Each octet of the chain with each value, under limits of 0 to 6 octets and sizes of 1 to 3. */
+/* Sets each octet of the chain to each value, under limits of 0 to 6 octets and sizes of 1 to 3. */
 static void mutated(void)
 {
     struct octets chain = of_hex(CHAIN);
@@ -173,8 +173,8 @@ static void argued(void)
     CHECK(scard_lent_receiver_finish(&state, message, 5).status == SCARD_ARGUMENT);
 }
 
-/* Each octet of a state set to each value: a call is safe within a buffer of exactly its size, and where it is
- * refused nothing changes. Says how many states were none. */
+/* Sets each octet of a state to each value. A call stays within a buffer of exactly its size, and if it is refused
+ * nothing changes. Returns how many states were invalid. */
 static size_t spoilt(const struct scard_lent_receiver *begun, const uint8_t *rest, size_t count)
 {
     size_t place, none = 0;

@@ -1,5 +1,5 @@
-/* Each call that takes memory, with each of its allocations refused in turn. The call says so, changes nothing, keeps
- * no block, and the next call works. The linker gives the library the malloc, realloc and free of this file.
+/* Makes each call that allocates, and refuses each of its allocations in turn. The call reports it, changes nothing,
+ * keeps no block, and the next call works. The linker gives the library the malloc, realloc and free of this file.
  */
 #include "check.h"
 
@@ -16,9 +16,9 @@ void __wrap_free(void *block);
 }
 #endif
 
-static long to_go;   /* the allocation that is refused, 1 for the next; 0: none is */
-static int refused;  /* whether one was */
-static long held;    /* blocks that are taken */
+static long to_go;   /* the allocation that is refused, 1 for the next; 0: no one */
+static int refused;  /* whether one was refused */
+static long held;    /* blocks that are allocated */
 
 static int is_refused(void)
 {
@@ -92,7 +92,7 @@ static opening *const openings[] = {
 
 enum { OPENINGS = sizeof openings / sizeof openings[0] };
 
-/* Whether a terminal that has sent a command still waits for its answer. */
+/* Returns whether a terminal that has sent a command still waits for its answer. */
 static int is_waiting(struct scard_handle *handle)
 {
     uint8_t block[SCARD_BLOCK_ROOM];
@@ -107,7 +107,7 @@ static void begin(struct scard_handle *handle)
     CHECK(scard_terminal_transmit(handle, amount, sizeof amount, block, sizeof block).kind == SCARD_SEND);
 }
 
-/* Opens what a full handle and an empty one then hold, with each allocation refused in turn. */
+/* Opens in a full handle and in an empty one, with each allocation refused in turn. */
 static void try_opening(opening *open, int is_full)
 {
     struct scard_handle handle = SCARD_HANDLE_EMPTY;
@@ -131,14 +131,14 @@ static void try_opening(opening *open, int is_full)
         scard_close(&handle);
     } while (refused);
     CHECK(v.status == SCARD_OK && v.place == 0);
-    /* the handle's own terminal begins anew where it is */
+    /* the terminal of the handle begins again without an allocation */
     CHECK(open == open_terminal && is_full ? turn == 1 : turn > 1);
     CHECK(held == at_first);
 }
 
-/* ---- calls that take none ---- */
+/* ---- calls that allocate nothing ---- */
 
-/* A session and readers, where each allocation after the openings would be refused. */
+/* Runs a session and readers. Each allocation after the openings would be refused. */
 static void take_none(void)
 {
     struct scard_handle terminal = SCARD_HANDLE_EMPTY, card = SCARD_HANDLE_EMPTY;

@@ -98,7 +98,7 @@ static void reasons(void)
     CHECK(named == 30);
 }
 
-/* A name has its size, its 0 with it, and is where it was at the call before. */
+/* The size of a name counts the 0 at its end. A second call returns the same address. */
 static void texts(void)
 {
     struct scard_text first, again, none;

@@ -1,10 +1,10 @@
-/* The words for octets. */
+/* The explanations of octets. */
 #include "check.h"
 
 static char said[128];
 static int unfit;
 
-/* The text of a note. Where it says no number, there is none, and nothing after it. */
+/* Returns the text of a note. A note without a number has number 0 and nothing after it. */
 static const char *text_of(uint8_t about, uint8_t first, uint8_t second)
 {
     struct scard_note note;
@@ -83,7 +83,7 @@ static void others(void)
     SAYS(TAG, 0xC0, 0, "private class");
 }
 
-/* How many pairs of octets say something. */
+/* Returns how many pairs of octets have an explanation. */
 static int saying(uint8_t about)
 {
     int first, second, count = 0;

@@ -1,10 +1,10 @@
-/* Objects of a forest with their places, the first on a path, and lists that are filled. */
+/* Objects of a forest with their offsets, the first on a path, and lists that are filled. */
 #include "check.h"
 
 static const struct scard_tag tag_6f = {{0x6F, 0, 0}, 1}, tag_84 = {{0x84, 0, 0}, 1}, tag_a5 = {{0xA5, 0, 0}, 1},
                               tag_bf0c = {{0xBF, 0x0C, 0}, 2}, tag_50 = {{0x50, 0, 0}, 1};
 
-/* The parts of a forest, in a block of exactly as many as there are. */
+/* Returns the parts of a forest, in a block with room for exactly as many as there are. */
 static struct scard_part *parts_of(struct octets octets, size_t *count)
 {
     struct scard_verdict v = scard_tlv_parts(octets.at, octets.count, SCARD_TLV_LARGEST, NULL, 0);
@@ -162,8 +162,8 @@ static void entries(void)
     free(list.at);
 }
 
-/* Each front of a forest, in blocks of exactly the sizes: the parts are inside, and found by the tags around them. An
- * array with room for one less isn't written after its end. */
+/* Checks each front of a forest, in blocks of exactly its size. The parts are inside, and are found by the tags around
+ * them. A call doesn't write past an array with room for one part less. */
 static void fronts(void)
 {
     struct octets octets = of_hex("006F108407A0000000041010A505BF0C0250009F3303E0F8C800DF8101820001AA");

@@ -1,7 +1,7 @@
 /* Readers that get their octets in pieces. */
 #include "check.h"
 
-/* Feeds octets in pieces of this length, each in a block of its own, until they end or are refused. */
+/* Feeds octets in pieces of this length, each in a separate block, until they end or are refused. */
 static struct scard_verdict feed(struct scard_handle *handle, struct octets octets, size_t piece, size_t *taken)
 {
     struct scard_verdict v = {SCARD_MORE, 0, 0};
@@ -141,7 +141,7 @@ static void forests(void)
     free(bad.at);
 }
 
-/* A handle with none, an end or another reader: the calls answer so, and leave it. */
+/* A handle that is empty, or has an end or another reader: the calls report it, and leave the handle. */
 static void strangers(void)
 {
     struct scard_handle handle = SCARD_HANDLE_EMPTY;

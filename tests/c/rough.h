@@ -1,6 +1,6 @@
-/* A terminal and a card at the two ends of a line in virtual time that is as bad as a real one. Octets have times.
- * Octets of a block may be changed, lost, added, doubled, swapped or late. Both ends run at the same time: the terminal
- * is the program, and the card has its own stack. Define _XOPEN_SOURCE as 700 before this is included.
+/* A terminal and a card at the two ends of a line in virtual time, which has the faults of a real line. Octets have
+ * times. Octets of a block may be changed, lost, added, doubled, swapped or late. Both ends run at the same time: the
+ * terminal is the program, and the card has its own stack. Define _XOPEN_SOURCE as 700 before you include this file.
  */
 #ifndef ROUGH_H
 #define ROUGH_H
@@ -24,7 +24,7 @@ struct train {
     size_t count;
 };
 
-/* Octets that are under way to an end, in the order of their times. */
+/* Octets on the line to an end, in the order of their times. */
 struct road {
     struct heard octets[ROUGH_WAY];
     size_t first, count;
@@ -32,13 +32,13 @@ struct road {
 
 struct rough_end {
     struct road in;
-    uint64_t last;  /* when this end last sent or took an octet */
-    uint64_t until; /* what it waits for: this time, or an octet where it listens */
+    uint64_t last;  /* when this end last sent or received an octet */
+    uint64_t until; /* it waits until this time, or until an octet comes if it listens */
     bool listens;
-    bool by_octets; /* its driver wakes at each octet; else once the octets pause */
+    bool by_octets; /* its driver wakes at each octet; if false, once the octets pause */
 };
 
-/* What may happen to a block on its way. The first three are those that are never taken for a block. */
+/* The faults of a block on the line. A block with one of the first three is never accepted as a block. */
 enum rough_kind {
     ROUGH_CHANGED, ROUGH_CUT, ROUGH_ADDED, ROUGH_CHANGED_TWO, ROUGH_FRONT_LOST, ROUGH_LOST, ROUGH_INSERTED,
     ROUGH_DOUBLED, ROUGH_SWAPPED, ROUGH_PAUSED_CWT, ROUGH_PAUSED_BWT, ROUGH_NOISE_BEFORE, ROUGH_NOISE_APART,
@@ -61,14 +61,14 @@ struct rough {
     uint8_t commands[2][ROUGH_MESSAGE], answers[2][ROUGH_MESSAGE];
     ucontext_t main, serving;
     uint8_t stack[ROUGH_STACK];
-    bool is_over;  /* the card is to end */
+    bool is_over;  /* the card has to end */
     int kind;      /* enum rough_kind */
-    unsigned rate; /* of 1,000 blocks so many meet it */
+    unsigned rate; /* this many of 1,000 blocks have the fault */
     uint64_t die;
-    unsigned harmed; /* blocks that met it */
-    unsigned blocks; /* of both ends; the first of them */
+    unsigned harmed; /* blocks that had the fault */
+    unsigned blocks; /* of both ends; `sent` has the first ones */
     struct sent sent[16];
-    bool traces;     /* each block is printed, and as what it comes */
+    bool traces;     /* prints each block, and what arrives of it */
     struct scard_turn served;
 };
 
@@ -89,7 +89,7 @@ static inline uint64_t road_next(const struct road *road)
     return road->count > 0 ? road->octets[road->first].at : SCARD_LINE_FOREVER;
 }
 
-/* An octet goes to its place by its time, after those of the same time. */
+/* Inserts an octet by its time, after those of the same time. */
 static inline void road_put(struct road *road, struct heard heard)
 {
     size_t place;
@@ -107,7 +107,7 @@ static inline void road_put(struct road *road, struct heard heard)
     road->count++;
 }
 
-/* When the octets pause that come from the next one on. */
+/* Returns when the octets pause, counted from the next octet on. */
 static inline uint64_t road_pause(const struct road *road, size_t room)
 {
     size_t place = road->first, end = road->first + (room < road->count ? room : road->count);
@@ -138,7 +138,7 @@ static inline uint64_t rough_wakes(const struct rough_end *end)
     return next < end->until ? next : end->until;
 }
 
-/* The terminal waits until then, or until an octet comes where it listens; the card runs meanwhile. */
+/* Makes the terminal wait until this time, or if it listens until an octet comes. The card runs meanwhile. */
 static inline void rough_pass(uint64_t until, bool listens)
 {
     struct rough_end *terminal = &rough.ends[0], *card = &rough.ends[1];
@@ -155,7 +155,7 @@ static inline void rough_pass(uint64_t until, bool listens)
     rough.now = until > rough.now ? until : rough.now;
 }
 
-/* The card does. */
+/* Makes the card wait likewise. */
 static inline void rough_card_pass(uint64_t until, bool listens)
 {
     rough.ends[1].until = until;
@@ -176,8 +176,9 @@ static inline void rough_end_pass(struct rough_end *end, uint64_t until, bool li
 
 /* ---- what happens to blocks ---- */
 
-/* Octets are taken out of a train from a place on, or room is made there for as many; those after it keep their times,
- * or are as much later. */
+/* Removes octets of a train at a place. The octets after them keep their times. train_delay makes the octets from a
+ * place on later.
+ */
 static inline void train_drop(struct train *train, size_t place, size_t count)
 {
     memmove(train->octets + place, train->octets + place + count,
@@ -197,7 +198,7 @@ static inline uint8_t train_noise(void)
     return (uint8_t)(rough_throw(3) == 0 ? 0 : rough_throw(256));
 }
 
-/* Puts noise in at a place. */
+/* Inserts noise at a place. The octets after it come later. */
 static inline void train_insert(struct train *train, size_t place, size_t count)
 {
     uint64_t began = place > 0 ? train->octets[place - 1].at : train->octets[0].at - ROUGH_OCTET;
@@ -211,7 +212,7 @@ static inline void train_insert(struct train *train, size_t place, size_t count)
     }
 }
 
-/* The octets of a whole block, or noise, are put after a train, so long after its end. */
+/* Appends the octets of a whole block, or noise, to a train, this long after its end. */
 static inline void train_add(struct train *train, uint64_t gap)
 {
     static const uint8_t blocks[][6] = {{0, 0, 2, 0x90, 0, 0x92}, {0, 0x40, 2, 0x90, 0, 0xD2}, {0, 0x80, 0, 0x80},
@@ -239,7 +240,7 @@ static inline uint64_t rough_some(uint64_t time, uint32_t most)
     return time + (uint64_t)rough_throw(1000) * (most - 1) * time / 1000;
 }
 
-/* One octet, LEN more often than others, becomes another. */
+/* Changes one octet to another value. LEN is changed more often than others. */
 static inline void train_change(struct train *train)
 {
     size_t place = rough_throw(4) == 0 && train->count > 2 ? 2 : rough_throw((uint32_t)train->count);
@@ -254,7 +255,7 @@ static inline void train_swap(struct train *train, size_t place)
     train->octets[other].octet = octet;
 }
 
-/* What a kind does to octets that follow one another: those that only move or change them. */
+/* Applies a fault that only moves or changes octets. */
 static inline void train_move(struct train *train, int kind, size_t place)
 {
     const uint64_t cwt = rough.terminal.cwt, bwt = rough.terminal.bwt;
@@ -281,7 +282,7 @@ static inline void train_move(struct train *train, int kind, size_t place)
     }
 }
 
-/* Those that take octets out or put some in. */
+/* Applies a fault that removes or inserts octets. */
 static inline void train_fill(struct train *train, int kind, size_t place)
 {
     const uint64_t cwt = rough.terminal.cwt, bwt = rough.terminal.bwt;
@@ -355,7 +356,7 @@ static inline void rough_trace(const char *who, const struct train *train)
     putchar('\n');
 }
 
-/* The octets of a block, one after the other from now on. */
+/* Makes a train of the octets of a block, one after another from now on. */
 static inline void train_of(struct train *train, const uint8_t *octets, size_t count)
 {
     size_t at;
@@ -374,9 +375,10 @@ static inline void road_take_up(struct road *road, const struct train *train)
     }
 }
 
-/* A block is sent by an end: it takes its time, and comes to the other end as it may. With an echo it comes to this one
- * too, and where octets of it are changed or lost, they are here in one of two cases. Noise after it is heard by the
- * other end alone: here it would be a burst of its own, as noise on a line without an echo.
+/* Sends a block of an end: it takes its time, and arrives at the other end with or without a fault. With an echo it
+ * also comes back to the sender. If octets of it are changed or lost, the echo has the fault in one of two cases. Only
+ * the other end gets noise after the block. At the sender that noise would be a separate burst, as noise on a line
+ * without an echo is.
  */
 static inline int rough_send(int from, const uint8_t *octets, size_t count)
 {
@@ -408,7 +410,9 @@ static inline int rough_send(int from, const uint8_t *octets, size_t count)
     return 0;
 }
 
-/* Octets come, as soon as there are any or once they pause, within so long since the last that was sent or taken. */
+/* Receives octets: as soon as there are any, or once they pause. Waits at most this long after the last octet that the
+ * end sent or received.
+ */
 static inline int rough_receive(int to, uint8_t *octets, size_t room, uint64_t microseconds)
 {
     struct rough_end *end = &rough.ends[to];
@@ -469,7 +473,7 @@ static void rough_serve(void)
     }
 }
 
-/* The setup of an end, with BWI, CWI, and what each takes in a block. */
+/* Returns the setup of an end, with these parameters of T=1 (IFSC, BWI and CWI) and this silence. */
 static inline struct scard_setup rough_setup(int end, struct scard_t1 t1, uint64_t silence)
 {
     static const struct scard_clock clock = {372, 1, 3571200};
@@ -500,7 +504,7 @@ static inline void rough_start(void)
     rough.ends[1].until = SCARD_LINE_FOREVER;
 }
 
-/* A reset: both ends are new and nothing is under way. The setups are those of `rough`. */
+/* Resets: both ends are new, and no octet is on the line. The setups are those of `rough`. */
 static inline void rough_reset(const struct scard_host *host)
 {
     bool is_first = rough.serving.uc_stack.ss_sp == NULL;
@@ -508,7 +512,7 @@ static inline void rough_reset(const struct scard_host *host)
     if (is_first) {
         rough_start();
     } else {
-        rough.is_over = true; /* the card's serving ends */
+        rough.is_over = true; /* the call that serves the card ends */
         rough.ends[1].until = rough.now;
         rough_pass(rough.now, false);
         rough.is_over = false;

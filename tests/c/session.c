@@ -5,10 +5,10 @@ static struct scard_handle terminal = SCARD_HANDLE_EMPTY;
 static struct scard_handle card = SCARD_HANDLE_EMPTY;
 static uint8_t block[SCARD_BLOCK_ROOM];
 
-/* The calls of an end that take octets and may make a block. */
+/* The calls of an end that take octets and may return a block. */
 typedef struct scard_turn call(struct scard_handle *, const uint8_t *, size_t, uint8_t *, size_t);
 
-/* One of these calls with the octets of a text, the block in `block`. */
+/* Makes one of these calls with the octets of a text. The block goes to `block`. */
 static struct scard_turn given(call *make, struct scard_handle *handle, const char *text)
 {
     struct octets octets = of_hex(text);
@@ -55,7 +55,7 @@ static void opens(void)
     CHECK(scard_card_open(&card, 32, 4, 5).status == SCARD_OK);
 }
 
-/* A block is damaged, and one is lost. */
+/* One block is damaged, and one is lost. */
 static void disturbed(void)
 {
     opens();
@@ -71,7 +71,7 @@ static void disturbed(void)
     CHECK(holds(&terminal, "9000"));
 }
 
-/* More time, and then a chained answer under a new size. */
+/* The card asks for more time. Then comes a chained answer under a new field size. */
 static void longer(void)
 {
     opens();

@@ -1,5 +1,5 @@
-/* A line on which both ends hear themselves. An end doesn't take what it sent for octets of the other end, but it takes
- * what comes right after. If the echo differs, the end asks for the block again.
+/* A line on which both ends read their own octets back. An end doesn't take what it sent for octets of the other end,
+ * but it accepts what comes right after. If the echo differs, the end asks for the block again.
  */
 #define _XOPEN_SOURCE 700
 #include "rough.h"
@@ -39,7 +39,7 @@ static uint8_t exchange(void)
     return turn.kind;
 }
 
-/* Exchanges on a good line, in each way that a driver hands octets over. */
+/* Exchanges on a good line, in each way in which a driver delivers octets. */
 static void heard(void)
 {
     int way, round;
@@ -55,7 +55,7 @@ static void heard(void)
     rough.ends[0].by_octets = rough.ends[1].by_octets = false;
 }
 
-/* The octets of a block come back changed, or not all of them, at the one end or the other. */
+/* The octets of a block come back changed, or not all of them, at one end or the other. */
 static void collides(void)
 {
     unsigned seed;
@@ -70,7 +70,7 @@ static void collides(void)
     CHECK(rough.blocks > 900 && acted >= 390 && acted <= 400);
 }
 
-/* ---- by a script: what the line gives back for each block ---- */
+/* ---- by a script: what the line returns for each block ---- */
 
 struct script {
     const char *words[8]; /* "" is silence */

@@ -4,13 +4,13 @@
 static struct wired wired;
 static uint8_t made[MESSAGE_ROOM];
 static size_t made_count;
-static unsigned acted, asks; /* commands that the host acted on, and requests that it makes about each */
+static unsigned acted, asks; /* commands that the host acted on, and the requests that it makes for each */
 static uint32_t last_acted;
 static int wrong;
 static uint8_t kind_of_end = SCARD_HOST_REPLY;
 
-/* A command has its number in its octets 5 to 8 and then so many octets as it says; the reply is these and 9000. The
- * host acts on each once, in their order, and asks first for time, then for a size. */
+/* A command has its number in its octets 5 to 8, and then octets that depend on the number. The reply is the command
+ * and 9000. The host acts on each command once, in their order. First it asks for time, then for a field size. */
 static struct scard_host_turn act(void *context, const uint8_t *command, size_t count, size_t granted)
 {
     struct scard_host_turn turn = {SCARD_HOST_REPLY, 5, made, 0};
@@ -44,7 +44,7 @@ static struct scard_turn exchange(uint32_t number, size_t count)
     return scard_session_exchange(&wired.terminal, command, count);
 }
 
-/* Whether the answer is the one to this command. */
+/* Returns whether the answer is that of this command. */
 static int is_answer(struct scard_turn turn, uint32_t number, size_t count)
 {
     size_t place;
@@ -56,7 +56,7 @@ static int is_answer(struct scard_turn turn, uint32_t number, size_t count)
                               | wired.answers[0][8]) == number;
 }
 
-/* What became of sessions of 40 exchanges at a rate of faults. */
+/* Runs sessions of 40 exchanges at a rate of faults, and prints their results. */
 static void sessions(unsigned rate)
 {
     uint32_t number = 0;
@@ -91,7 +91,7 @@ static void sessions(unsigned rate)
            (unsigned long)number, (unsigned long)right, (unsigned long)failed, (unsigned long)dead);
 }
 
-/* The terminal waits as many waiting times as it granted, and one after that. */
+/* The terminal waits as many waiting times as it granted, for one block. After that it waits one. */
 static void waits(void)
 {
     uint64_t bwt;
@@ -106,7 +106,8 @@ static void waits(void)
     CHECK(is_answer(exchange(3, 20), 3, 20) && wired.last[1] == 0xE1 && wired.waited == bwt);
 }
 
-/* A command that is given up while the host asks for time isn't asked about again: the next one is new. */
+/* If a command is given up while the host asks for time, the host isn't asked about it again. The next command is
+ * new. */
 static void given_up(void)
 {
     wired_begin(&wired, &host, 1, 0);
@@ -119,7 +120,7 @@ static void given_up(void)
     CHECK(is_answer(exchange(2, 30), 2, 30) && wrong == 0);
 }
 
-/* How a card's session ends. */
+/* The ways in which a card's session ends. */
 static void ends(void)
 {
     wired_begin(&wired, &host, 1, 0);
@@ -147,7 +148,7 @@ static int fail(void *context, const uint8_t *octets, size_t count)
     return SCARD_LINE_FAILED;
 }
 
-/* After the line failed the exchange is under way until a new session. */
+/* After the line failed, the exchange stays open until a new session begins. */
 static void fails(void)
 {
     wired_begin(&wired, &host, 1, 0);

@@ -34,8 +34,8 @@ static int data, asks;
 
 /* ---- messages ---- */
 
-/* Fills a message from a place on with whole blocks. After some of them an octet makes the front of the message a block
- * too, of either number, where LEN says so.
+/* Fills a message from an offset on with whole blocks. After some of them an octet makes the front of the message a
+ * block too, of either number, if LEN fits.
  */
 static void fill_blocks(uint8_t *octets, size_t at, size_t count)
 {
@@ -71,7 +71,7 @@ static size_t some_length(void)
     return rough_throw(8) == 0 ? rough_throw(ROUGH_MESSAGE - 10) : rough_throw(40);
 }
 
-/* The next command and its reply: the number of the command is in P1 and P2, and in the status bytes. */
+/* Makes the next command and its reply. The number of the command is in P1 and P2, and in the status bytes. */
 static void make_exchange(void)
 {
     struct kept *now = &kept[++number % KEPT];
@@ -108,7 +108,7 @@ static void acts(const uint8_t *octets, size_t count)
     counts.unsent++;
 }
 
-/* The card's application: it works for some time, and may ask for more before. */
+/* The card's application. It works for some time, and may ask for more time before. */
 static struct scard_host_turn act(void *context, const uint8_t *octets, size_t count, size_t granted)
 {
     struct scard_host_turn turn = {SCARD_HOST_REPLY, 0, reply, reply_count};
@@ -159,7 +159,7 @@ static bool is_right(struct scard_turn turn)
         && kept[number % KEPT].acted;
 }
 
-/* One exchange, or now and then a new size. False where the session is over. */
+/* Makes one exchange, or now and then sets a new field size. Returns false if the session is over. */
 static bool exchanges(void)
 {
     struct scard_turn turn;
@@ -188,7 +188,7 @@ static unsigned long bad(void)
     return counts.wrong + counts.unsent + counts.twice;
 }
 
-/* A session of 30 exchanges, from a state of the die. */
+/* Runs a session of 30 exchanges, from a state of the random generator. */
 static void session(uint64_t die, bool traces)
 {
     int at;
@@ -210,7 +210,7 @@ static void row(int kind, unsigned rate)
            counts.no_status, counts.wrong, counts.unsent, counts.twice);
 }
 
-/* So many exchanges that meet a kind. */
+/* Runs sessions in which blocks have this kind of fault, until they have made this many exchanges. */
 static void of_kind(int kind, unsigned rate, unsigned long most, uint64_t seed)
 {
     const bool traces = getenv("TRACE") != NULL;

@@ -29,7 +29,7 @@ static int answered(void)
     return turn.kind == SCARD_DONE && turn.count == 2 && memcmp(wired.answers[0], reply, 2) == 0;
 }
 
-/* ---- sessions that are none ---- */
+/* ---- sessions that never began ---- */
 
 static void zeroed(void)
 {
@@ -45,7 +45,7 @@ static void zeroed(void)
     CHECK(scard_card_session_serve(&card).kind == SCARD_NO_END);
 }
 
-/* A copy has numbers of its own and would get an old answer for a new one; the session itself goes on. */
+/* A copy is refused: it has its own numbers, and would take an old answer for a new one. The session itself goes on. */
 static void copied(void)
 {
     struct scard_session terminal;
@@ -77,9 +77,9 @@ static void missing(void)
     CHECK(exchange(&wired.terminal).kind == SCARD_NO_END);
 }
 
-/* ---- cards that never come to an end ---- */
+/* ---- cards that never end their answer ---- */
 
-/* The card at the other end of a line: it answers each block of the terminal by another one. */
+/* The card at the other end of a line. It answers each block of the terminal with another block. */
 struct feint {
     size_t (*answer)(unsigned sent, uint8_t *out);
     uint8_t out[SCARD_BLOCK_ROOM];
@@ -123,7 +123,7 @@ static size_t silent(unsigned sent, uint8_t *out)
     return 0;
 }
 
-/* Empty fields, with more to follow. */
+/* An I-block with an empty field, and more to follow. */
 static size_t empty(unsigned sent, uint8_t *out)
 {
     return scard_block_i(0, sent % 2, true, NULL, 0, out, SCARD_BLOCK_ROOM).place;
@@ -144,7 +144,7 @@ static void feints(size_t (*answer)(unsigned sent, uint8_t *out), uint32_t block
 {
     memset(&feint, 0, sizeof feint);
     feint.answer = answer;
-    feint.time = UINT64_MAX - 5000; /* a clock may pass its end */
+    feint.time = UINT64_MAX - 5000; /* a clock may wrap */
     wired_begin(&wired, &host, 1, 0);
     setup = wired.setups[0];
     setup.line.context = &feint;
@@ -157,7 +157,7 @@ static void feints(size_t (*answer)(unsigned sent, uint8_t *out), uint32_t block
     CHECK(scard_session_begin(&session, &setup).status == SCARD_OK);
 }
 
-/* After that the session refuses all but a new begin: RESYNCH finds the card as at its start. */
+/* After that the session refuses each call until it begins again. RESYNCH resets the card's numbers. */
 static void used_up(unsigned sent)
 {
     CHECK(exchange(&session).kind == SCARD_SESSION_USED_UP && feint.sent == sent);
@@ -181,11 +181,11 @@ static void blocks_are_used_up(void)
 /* BWT is 1,601,146 microseconds, and the card asks for ten times that. */
 static void time_is_used_up(void)
 {
-    feints(more_time, 0, 0, false); /* each wait that it made longer is reckoned at full length */
+    feints(more_time, 0, 0, false); /* each longer wait counts at full length */
     used_up(1 + 3600000000u / 16011460 + 1);
-    feints(more_time, 0, 20000000, true); /* with a clock, what it takes */
+    feints(more_time, 0, 20000000, true); /* with a clock, only the time that passed counts */
     used_up(20000);
-    feints(silent, 0, 2000000, false); /* the second wait is as long as what is left, and no quiet is said after it */
+    feints(silent, 0, 2000000, false); /* the second wait is as long as the time left, and no `quiet` follows it */
     used_up(2);
     CHECK(feint.waited == 2000000 - 1601146);
     feints(silent, 0, 2000000, true);
@@ -194,7 +194,7 @@ static void time_is_used_up(void)
     feints(silent, 0, 1000, false);
     used_up(1);
     CHECK(feint.waited == 1000);
-    feints(silent, 0, 1000, false); /* which no RESYNCH is bound by */
+    feints(silent, 0, 1000, false); /* RESYNCH isn't limited by it */
     CHECK(scard_session_resync(&session, &setup).kind == SCARD_DEAD && feint.sent == 3 && feint.waited == 1601146);
 }
 

@@ -1,5 +1,5 @@
-/* One block of an exchange is harmed: each octet is changed to each other value, the end is cut at each place, and
- * octets are added after it. The answer is right, and the card acts on the command once and on nothing else. */
+/* Damages one block of an exchange. Each octet is changed to each other value, the end is cut at each place, and octets
+ * are added after it. The answer is right, and the card acts on the command once and on no other. */
 #include "wired.h"
 
 static struct wired wired;
@@ -18,7 +18,7 @@ static struct scard_host_turn act(void *context, const uint8_t *octets, size_t c
 
 static const struct scard_host host = {NULL, act};
 
-/* Whether an exchange in which this is done comes out right, and the next one too. */
+/* Returns whether an exchange with this damage has the right answer, and the next one too. */
 static int comes_out(struct harm harm)
 {
     struct scard_turn turn;
@@ -45,7 +45,7 @@ static struct harm one(unsigned block, int kind, size_t at, uint8_t octet)
     return harm;
 }
 
-/* Every harm of one block, which has so many octets. */
+/* Applies every damage to one block, which has this many octets. */
 static void every(unsigned block, size_t count)
 {
     size_t at;
@@ -73,7 +73,7 @@ static void forget(void)
     free(reply.at);
 }
 
-/* An answer in whose octets there is a shorter one with a right check octet; and zeros, where each four are a block. */
+/* An answer that contains a shorter one with a right check octet. Then zeros, of which each four are a block. */
 static void answers(void)
 {
     says("00B0000003", "9000926A82");
@@ -85,7 +85,7 @@ static void answers(void)
     forget();
 }
 
-/* The front of a command is a command too, which the card could act on. */
+/* The front of the command is a command too, on which the card could act. */
 static void commands(void)
 {
     says("0020000125240102030405060708090A0B0C0D0E0F101112131415161718191A1B1C1D1E", "9000");
@@ -99,7 +99,7 @@ static void commands(void)
     forget();
 }
 
-/* Three ways in which a part of a block was once taken for the whole of it. */
+/* Three ways in which a part of a block was once accepted as the whole block. */
 static void known(void)
 {
     struct harm harm = one(2, HARM_CHANGE, 2, 0x05 ^ 0x02);
@@ -111,7 +111,7 @@ static void known(void)
     CHECK(comes_out(harm) && wired.blocks > 4);
     forget();
     says("00B0000010", "000000000000000000000000000000009000");
-    harm = one(2, HARM_CUT_FRONT, 3, 0); /* the receiver was late by three octets */
+    harm = one(2, HARM_CUT_FRONT, 3, 0); /* the receiver missed the first three octets */
     CHECK(comes_out(harm) && wired.blocks > 4);
     forget();
 }

@@ -2,11 +2,11 @@
 #include "check.h"
 #include "scard_session.h"
 
-/* What the line says, one thing a call: "" silence, "!" a failure, "?" an interrupted call, "+" more octets than there
- * is room for, else octets in hexadecimal, of which a call takes as many as it has room for. */
+/* What the line delivers, one word for each call: "" silence, "!" a failure, "?" an interrupted call, "+" more octets
+ * than there is room for, or else octets in hexadecimal. A call takes as many of the octets as it has room for. */
 struct script {
     const char *const *words;
-    size_t taken; /* digits of the first word */
+    size_t taken; /* digits of the first word that were taken */
     uint64_t waited;
     int calls;
 };
@@ -67,7 +67,8 @@ static int next(void)
     return scard_wire_burst(&wire, &line, FIRST, CWT, BROKEN);
 }
 
-/* Whether the next burst is these octets; the silence that is owed after it says whether it is a whole block. */
+/* Returns whether the next burst is these octets. The silence that is owed after it says whether it is a whole
+ * block. */
 static int gives(const char *text, uint64_t owed)
 {
     int count = next();
@@ -87,7 +88,7 @@ static void whole(void)
     CHECK(gives("00000500A4040000A5", 0) && script.waited == BGT);
 }
 
-/* All that comes until the line is silent is one burst, whatever LEN says and whether a block is its front. */
+/* All octets until the line is silent are one burst, whatever LEN says, even if the front of the burst is a block. */
 static void lies(void)
 {
     static const char *const words[] = {"0000029000926A82EF", "", "00800080", "", "00800080", "00", "",
@@ -110,7 +111,7 @@ static void stops(void)
     CHECK(gives("0000", BROKEN) && gives("000005", BROKEN) && gives("00000500A4", BROKEN) && gives("00800080", BGT));
 }
 
-/* An interrupted call is no silence, and of a burst whose end wasn't seen nothing is looked at. */
+/* An interrupted call isn't silence. A burst whose end wasn't seen is ignored. */
 static void interrupted(void)
 {
     static const char *const words[] = {"?", "?", "0080", "?", "0080", "?", "", "", "00", "!", "00800080", "!", "0080",
@@ -124,7 +125,7 @@ static void interrupted(void)
     CHECK(next() == SCARD_LINE_FAILED && wire.owed == 0);
 }
 
-/* On a line of whole bursts one that is a whole block ends at once, and one that isn't as ever. */
+/* On a line of whole bursts, a burst that is a whole block ends at once. Any other burst ends as on other lines. */
 static void packets(void)
 {
     static const char *const words[] = {"00800080", "00", "800080", "0000029000926A82EF", "", "00800080", NULL};
@@ -137,7 +138,7 @@ static void packets(void)
     CHECK(gives("00800080", 0) && script.calls == 6);
 }
 
-/* More octets than any block has: 259 are handed over, and the rest isn't taken for the next block. */
+/* A burst with more octets than any block: 259 octets are returned, and the rest isn't taken for the next block. */
 static void long_ones(void)
 {
     static char text[2 * 300 + 1];
@@ -157,7 +158,7 @@ static int babble(void *context, uint8_t *octets, size_t room, uint64_t microsec
     return (int)room;
 }
 
-/* A line that is never silent doesn't hold a session up. */
+/* A line that is never silent doesn't keep a session waiting. */
 static void babbles(void)
 {
     long said = 0;
@@ -169,7 +170,7 @@ static void babbles(void)
     CHECK(scard_wire_settle(&wire, &line) == SCARD_LINE_FAILED && wire.owed == BROKEN && said < 70000);
 }
 
-/* What nobody awaited is dropped, and the line is silent before the next block. */
+/* Octets that nobody waited for are dropped, and the line has to be silent before the next block. */
 static void drops(void)
 {
     static const char *const words[] = {"00E000E0", "?", "00800080", "", "", "00", "", "!", "", "00", "01", "", NULL};
@@ -186,7 +187,7 @@ static void drops(void)
     CHECK(scard_wire_late(&wire, &line, 0) == 0 && script.waited == 0 && script.calls == 12);
 }
 
-/* A wait is as long as what is left of the time, and what it took is reckoned. */
+/* A wait is at most as long as the time that is left, and its length is counted. */
 static void times_out(void)
 {
     static const char *const words[] = {"", "00800080", "", "", NULL};
@@ -234,12 +235,12 @@ static void clocks(void)
     setup.t1.bwi = setup.t1.cwi = 15;
     CHECK(scard_session_begin(&session, &setup).status == SCARD_OK && session.wire.bgt == 0);
     CHECK(session.bwt == 2925527216u && session.cwt == 524464);
-    setup.t1.bwi = 0; /* BWT is shorter than CWT: three quarters of the time that is waited aren't */
+    setup.t1.bwi = 0; /* BWT is shorter than CWT, but three quarters of the time that the session waits aren't */
     CHECK(scard_session_begin(&session, &setup).status == SCARD_OK && session.cwt == 524464);
     CHECK(session.bwt / 4 * 3 >= session.cwt && session.bwt < 700000);
 }
 
-/* A setup of which there is no session: the one before stays. */
+/* An invalid setup is refused, and the session before it stays. */
 static void refused(void)
 {
     static const struct scard_clock still[] = {{372, 0, 3571200}, {0, 1, 3571200}, {372, 65, 3571200}, {372, 1, 999}};

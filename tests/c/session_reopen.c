@@ -1,12 +1,12 @@
-/* A terminal begins together with its card: the result of a new terminal with a card that wasn't reset, and how to
- * begin a session with a card that can't be reset. */
+/* A terminal has to begin together with its card. This shows what a new terminal gets from a card that wasn't reset,
+ * and how to begin a session with a card that can't be reset. */
 #include "wired.h"
 
 static struct wired wired;
 static uint8_t reply[3] = {0, 0x90, 0x00};
 static unsigned acted;
 
-/* Replies with P2 of the command; to INS 10 after a request for time. */
+/* Replies with P2 of the command. For INS 10 it first asks for time. */
 static struct scard_host_turn act(void *context, const uint8_t *command, size_t count, size_t granted)
 {
     struct scard_host_turn turn = {SCARD_HOST_REPLY, 3, reply, sizeof reply};
@@ -21,7 +21,7 @@ static struct scard_host_turn act(void *context, const uint8_t *command, size_t 
 
 static const struct scard_host host = {NULL, act};
 
-/* Whether the command with this number has its own answer. */
+/* Returns whether the answer to the command with this number has the octet `wanted`. */
 static int answers(uint8_t number, uint8_t wanted)
 {
     const uint8_t command[5] = {0x00, 0xB0, 0x00, number, 0x01};
@@ -29,7 +29,8 @@ static int answers(uint8_t number, uint8_t wanted)
     return turn.kind == SCARD_DONE && turn.count == 3 && wired.answers[0][0] == wanted;
 }
 
-/* One session has each answer; a new terminal alone has the first one again, so that has to be known. */
+/* In one session each command has its own answer. A new terminal alone gets the first answer again, which callers have
+ * to know. */
 static void reopened(void)
 {
     uint8_t number;
@@ -43,7 +44,7 @@ static void reopened(void)
     CHECK(answers(2, 1));
 }
 
-/* By RESYNCH a new terminal finds the card as at its start. */
+/* After RESYNCH a new terminal finds the card with its first numbers. */
 static void resynced(void)
 {
     uint8_t number;
@@ -61,12 +62,12 @@ static void resynced(void)
     CHECK(acted == 6 && answers(7, 7) && acted == 7);
 }
 
-/* The card was left in the midst of a command, of a request, and of an answer. */
+/* The card was left in the middle of a command, of a request, and of an answer. */
 static void left(void)
 {
     const uint8_t command[40] = {0x00, 0x10, 0x00, 0x42}, part[5] = {0x00, 0x20, 0x01, 0x55, 0x74};
     wired_begin(&wired, &host, 1, 0);
-    wired_card_send(&wired, part, sizeof part); /* a block that is under way still */
+    wired_card_send(&wired, part, sizeof part); /* a block that is still on the line */
     wired_terminal_send(&wired, part, sizeof part);
     CHECK(scard_session_resync(&wired.terminal, &wired.setups[0]).kind == SCARD_GIVEN_UP && answers(1, 1));
     wired_put(&wired, &wired.to_card, (const uint8_t *)"\x00\x40\x05\x00\x10\x00\x42\x01\x16", 9);
@@ -76,7 +77,7 @@ static void left(void)
     CHECK(wired.answers[0][0] == 0x42 && answers(3, 3));
 }
 
-/* A card that doesn't answer is asked three times, and there is no session. */
+/* A card that doesn't answer gets three requests, and no session begins. */
 static void silent(void)
 {
     wired_begin(&wired, &host, 1, 0);

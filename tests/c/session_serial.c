@@ -1,5 +1,5 @@
-/* The example's terminal and card at two serial ports, over pseudo terminals. Between them a relay passes octets on
- * like a line of 9,600 bits a second, one each 1.25 milliseconds, and changes, adds and delays some.
+/* The example's terminal and card at two serial ports, over pseudo terminals. A relay between them passes octets on
+ * like a line of 9,600 bits a second, one every 1.25 milliseconds. It changes some, and delays some.
  */
 #include "check.h"
 #include "line.h"
@@ -13,15 +13,15 @@
 #include <time.h>
 #include <unistd.h>
 
-/* What is done to an octet of the line, counted in each direction from the first. */
+/* The fault of an octet on the line. Octets are counted in each direction from the first. */
 struct harm {
     int to_card;
     int number;
-    uint8_t by;   /* it is changed by this */
-    int pause;    /* so many octets' times go by before it */
+    uint8_t by;   /* the octet is changed by this */
+    int pause;    /* it is late by the time of this many octets */
 };
 
-/* The third octet of a block is LEN. The answer to reset has 7 octets, and is followed by blocks of the card. */
+/* The third octet of a block is LEN. The answer to reset has 7 octets, and blocks of the card follow it. */
 static const struct harm harms[] = {{0, 7 + 11 + 2, 0x05, 0}, {1, 9 + 9 + 4 + 5, 0x00, 200}};
 
 static void sleep_for(long microseconds)
@@ -33,7 +33,7 @@ static void sleep_for(long microseconds)
     }
 }
 
-/* One octet crosses the line. */
+/* Passes one octet to the other port. */
 static void cross(int from, int to, int to_card, int number)
 {
     uint8_t octet = 0;
@@ -53,7 +53,7 @@ static void cross(int from, int to, int to_card, int number)
     }
 }
 
-/* The line between the two ports. */
+/* Runs the line between the two ports. */
 static void be_line(int terminal, int card)
 {
     struct pollfd waits[2];
@@ -70,7 +70,7 @@ static void be_line(int terminal, int card)
     }
 }
 
-/* A new pseudo terminal, and the name of its port. */
+/* Opens a new pseudo terminal, and writes the name of its port. */
 static int make_port(char name[64])
 {
     int descriptor = posix_openpt(O_RDWR | O_NOCTTY);
@@ -82,7 +82,7 @@ static int make_port(char name[64])
     return descriptor;
 }
 
-/* The processes between the ports take some time to wake, on a busy machine most of all. */
+/* The processes between the ports take some time to wake, most of all on a busy machine. */
 enum { LATENCY = 100000 };
 
 static void be_card(const char *name)
@@ -99,7 +99,7 @@ static void be_card(const char *name)
 
 static pid_t card, between;
 
-/* Begins both processes; the port of the terminal is open before either speaks. */
+/* Starts both processes. The port of the terminal is open before either sends. */
 static void begin(struct serial *serial)
 {
     char names[2][64];
@@ -121,8 +121,8 @@ static void begin(struct serial *serial)
 
 static struct terminal terminal;
 
-/* Whether a command has its own answer. On a machine that is too busy for such a line it may be given up, and is sent
- * again; an answer is never another's.
+/* Returns whether a command has its own answer. If the machine is too busy for such a line, the session may give the
+ * command up, and it is sent again. An answer is never that of another command.
  */
 static int answers(const char *text)
 {

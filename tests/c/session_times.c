@@ -33,7 +33,7 @@ static void begins(uint64_t silence, int kind)
     acted = 0;
 }
 
-/* How long an exchange takes. */
+/* Returns how long an exchange takes. */
 static uint64_t exchange(void)
 {
     const uint64_t began = rough.now;
@@ -44,13 +44,13 @@ static uint64_t exchange(void)
     return rough.now - began;
 }
 
-/* From the end of a block to the beginning of the next one. */
+/* Returns the time from the end of a block to the beginning of the next one. */
 static uint64_t between(unsigned block, uint64_t octets)
 {
     return rough.sent[block].at - rough.sent[block - 1].at - octets * ROUGH_OCTET;
 }
 
-/* A block ends once the line was silent for so long, and BGT goes by between two blocks. */
+/* A block ends once the line was silent for the time of the setup, and BGT passes between two blocks. */
 static void silences(void)
 {
     begins(0, ROUGH_CHANGED);
@@ -65,7 +65,7 @@ static void silences(void)
     CHECK(exchange() == FIRST + ANSWER && between(1, 9) == 0 && exchange() == FIRST + ANSWER);
 }
 
-/* An end whose block with this number of an exchange meets the kind, and no other. */
+/* The number, in an exchange, of the one block that has the fault. */
 static unsigned met;
 
 static int send_some(int from, const uint8_t *octets, size_t count)
@@ -95,7 +95,8 @@ static void meets(int kind, unsigned number)
     CHECK(exchange() > 0 && acted == 1);
 }
 
-/* A broken block of the terminal: the card answers after three quarters of BWT, and the answer comes within BWT. */
+/* After a broken block of the terminal, the card answers after three quarters of BWT, and the answer comes within BWT.
+ */
 static void card_waits(int kind, uint64_t more)
 {
     meets(kind, 0);
@@ -107,7 +108,7 @@ static void card_waits(int kind, uint64_t more)
     CHECK(scard_card_session_pause(&rough.card) == CWT);
 }
 
-/* A broken block of the card: the terminal asks for it again once the line was silent for BWT. */
+/* After a broken block of the card, the terminal asks for it again once the line was silent for BWT. */
 static void terminal_waits(int kind, uint64_t least, uint64_t most)
 {
     meets(kind, 1);
@@ -116,7 +117,7 @@ static void terminal_waits(int kind, uint64_t least, uint64_t most)
     CHECK(between(2, 6) >= least && between(2, 6) <= most);
 }
 
-/* Octets that come between two exchanges are nobody's: all is dropped, until the line was silent for BWT. */
+/* Octets between two exchanges belong to no exchange. All are dropped, until the line was silent for BWT. */
 static void late(void)
 {
     static const uint8_t noise[4] = {0x00, 0x90, 0x00, 0x90};
@@ -130,8 +131,9 @@ static void late(void)
     CHECK(exchange() == BWT - (50000 - 4 * ROUGH_OCTET) + FIRST + BGT + ANSWER + BGT && acted == 2);
 }
 
-/* A card that works for twice BWT after it asked for three times, while noise comes to the terminal: its answer is
- * dropped with the noise, and no block of the terminal crosses it. */
+/* A card that works for twice BWT after it asked for three times BWT, while noise comes to the terminal. Its answer is
+ * dropped with the noise, and no block of the terminal collides with it.
+ */
 static struct scard_host_turn works(void *context, const uint8_t *octets, size_t count, size_t granted)
 {
     static const uint8_t noise[3] = {0x3F, 0x00, 0xFF};
@@ -158,7 +160,9 @@ static void granted(void)
     CHECK(between(4, 6) == 3 * BWT && rough.sent[5].pcb == 0x00 && between(5, 4) == BGT);
 }
 
-/* A card whose line failed while it waited for silence waits for that first when it is called again. */
+/* If the line of a card failed while the card waited for silence, the card first waits for that silence at the next
+ * call.
+ */
 static int words(void *context, uint8_t *octets, size_t room, uint64_t microseconds)
 {
     static const uint8_t whole[] = {0x00, 0x00, 0x05, 0x00, 0xB0, 0x00, 0x00, 0x02, 0xB7};
@@ -168,12 +172,12 @@ static int words(void *context, uint8_t *octets, size_t room, uint64_t microseco
     case 0: /* the front of a block */
         memcpy(octets, whole, 5);
         return 5;
-    case 1: /* which stops */
+    case 1: /* silence before its end */
         return 0;
     case 2: /* its rest, which is dropped */
         memcpy(octets, whole, sizeof whole);
         return (int)sizeof whole;
-    case 4: /* after a failure a block that follows without the silence */
+    case 4: /* after a failure: a block that comes without the silence before it */
         CHECK(microseconds == BWT / 4 * 3);
         memcpy(octets, whole, sizeof whole);
         return (int)sizeof whole;

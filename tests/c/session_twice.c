@@ -1,5 +1,5 @@
-/* The example's terminal and card over one line, of packets and of octets: each command has its own answer, a signal
- * isn't silence, and octets after a false length aren't left on the line. */
+/* The example's terminal and card over one line, of packets and of octets. Each command has its own answer, a signal
+ * isn't silence, and no octets stay on the line after a wrong length. */
 #include "check.h"
 #include "line.h"
 
@@ -17,7 +17,7 @@ static void ring(int number)
     (void)number;
 }
 
-/* Signals every millisecond, or none any more. */
+/* Sends a signal every so many microseconds, or none if it is 0. */
 static void signals(int microseconds)
 {
     struct itimerval often;
@@ -26,7 +26,7 @@ static void signals(int microseconds)
     setitimer(ITIMER_REAL, &often, NULL);
 }
 
-/* Whether a command of this length, with this number in it, has its own answer. */
+/* Returns whether a command of this length, with this number in it, has its own answer. */
 static int answers(uint8_t number, size_t count)
 {
     uint8_t command[1000];
@@ -48,7 +48,7 @@ static int be_card(int *descriptor, uint64_t silence)
     return card_serve(&line, silence) == 0 ? 0 : 1;
 }
 
-/* So many long exchanges over a pair of sockets. */
+/* Makes this many long exchanges over a pair of sockets. */
 static void exchanges(int sockets, uint64_t silence, int most)
 {
     struct scard_line line;
@@ -77,7 +77,8 @@ static void exchanges(int sockets, uint64_t silence, int most)
 
 static struct scard_wire wire;
 
-/* Whether the next burst is these octets, within 100 milliseconds; each silence of 5 ends one. */
+/* Returns whether the next burst, within 100 milliseconds, is these octets. A silence of 5 milliseconds ends a
+ * burst. */
 static int comes(const struct scard_line *line, const uint8_t *octets, size_t count)
 {
     memset(&wire, 0, sizeof wire);
@@ -87,7 +88,7 @@ static int comes(const struct scard_line *line, const uint8_t *octets, size_t co
         && (count == 0 || memcmp(wire.framer.octets, octets, count) == 0);
 }
 
-/* The line by itself. */
+/* Checks the line alone. */
 static void bursts(void)
 {
     static const uint8_t said[] = {0, 0, 0xFF, 1, 2, 3, 9}, good[] = {0, 0x80, 0, 0x80}, part[] = {0, 0, 5, 0, 0xA4};

@@ -1,5 +1,6 @@
-/* How much stack the calls take: each runs on a separate stack that was painted before, and keeps to the bound that
- * docs/C.md gives. Link it without lazy binding (-Wl,-z,now), which takes 3 KB at the first call of a function. */
+/* How much stack the calls take. Each call runs on a separate stack that was filled with a pattern before, and stays
+ * within the bound that docs/C.md gives. Link it without lazy binding (-Wl,-z,now), which takes 3 KB at the first call
+ * of a function. */
 #define _XOPEN_SOURCE 700
 #include "check.h"
 #include "scard_session.h"
@@ -17,7 +18,7 @@ static void enter(void)
     running();
 }
 
-/* The octets of stack that a call takes, with what it takes to begin one. */
+/* Returns how many octets of stack a call takes, including those to begin it. */
 static size_t depth_of(void (*call)(void))
 {
     size_t at = 0;
@@ -295,12 +296,12 @@ static void framer_calls(void)
     count += scard_lent_framer_burst(&framer);
 }
 
-/* ---- sessions, over lines whose functions take next to no stack ---- */
+/* ---- sessions, over lines whose functions take almost no stack ---- */
 
 static const uint8_t blocks_of[4][9] = {{0, 0, 5, 0x00, 0xA4, 0x04, 0x00, 0x00, 0xA5}, {0, 0, 2, 0x90, 0x00, 0x92},
                                         {0, 0xE0, 0, 0xE0}, {0, 0, 5, 0x00, 0xA4}};
 static const uint8_t counts_of[4] = {9, 6, 4, 5};
-/* What comes at each call of a line: a block from 0 on; '-' silence, '!' a failure. */
+/* What each call of a line returns: a digit for a block, '-' for silence, '!' for a failure. */
 static const char *says;
 
 static int says_next(void *context, uint8_t *octets, size_t room, uint64_t microseconds)
@@ -338,7 +339,7 @@ static void begin_sessions(void)
     verdict = scard_card_session_begin(&card_session, &setup, &application);
 }
 
-/* An answer that is broken first, so that all is dropped until the line is silent. */
+/* The answer is broken first, so the session drops all octets until the line is silent. */
 static void session_exchange(void)
 {
     says = "--3-3-1-";
@@ -365,7 +366,7 @@ static void session_serves(void)
 
 /* ---- the bounds, of both processors ---- */
 
-static size_t least, ends; /* what it takes to begin a call; the deepest of a session's */
+static size_t least, ends; /* the stack to begin a call; the most that a call of a session takes */
 
 static size_t taken(void (*call)(void))
 {
@@ -388,7 +389,7 @@ static void of_end(void (*call)(void))
     count = turn.count;
 }
 
-/* An exchange, in which a block may be damaged and one may be lost, and the card may ask for more time. */
+/* Makes an exchange. A block may be damaged, one may be lost, and the card may ask for more time. */
 static void exchange(int round)
 {
     int at = 0;
@@ -411,7 +412,7 @@ static void exchange(int round)
     of_end(answered);
 }
 
-/* Objects in 16 levels, and fillers. */
+/* Makes objects in 16 levels, with fillers. */
 static void make_forest(void)
 {
     size_t place = 0;

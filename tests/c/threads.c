@@ -1,12 +1,12 @@
-/* A handle is opened in one thread, used in a second and closed in a third, like that of a reader driver, while two
- * other threads have their own ends. It runs under the thread sanitizer, if the compiler has it. */
+/* Opens a handle in one thread, uses it in a second and closes it in a third, as a reader driver does, while two other
+ * threads have their own ends. It runs under the thread sanitizer, if the compiler has it. */
 #include "check.h"
 
 #include <pthread.h>
 
 enum { ROUNDS = 1000, LANES = 3 };
 
-/* An end of each kind, and the octets of a block; one lane is in one thread at a time. */
+/* An end of each kind, and the octets of a block. A lane is in one thread at a time. */
 struct lane {
     struct scard_handle terminal, card;
     struct scard_lent_terminal lent;

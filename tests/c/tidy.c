@@ -1,5 +1,5 @@
-/* The tidy form of forests, beside one that this program makes in another way: each value in a separate block, the
- * innermost first.
+/* The tidy form of forests, compared with one that this program makes in another way: each value in a separate block,
+ * the innermost first.
  */
 #include "check.h"
 
@@ -7,7 +7,7 @@ enum { MARK = 0x55, BEYOND = 7, DRAWN = 2000 };
 
 /* ---- the tidy form, made here ---- */
 
-/* A block of so many octets. */
+/* Allocates a block with room for this many octets. */
 static uint8_t *block_of(size_t count)
 {
     uint8_t *block = (uint8_t *)malloc(count + 1);
@@ -25,7 +25,7 @@ static size_t tag_octets(const uint8_t *at)
     return at[1] < 0x80 ? 2 : 3;
 }
 
-/* The number that a length field says; how many octets the field has. */
+/* Decodes a length field. Returns how many octets the field has. */
 static size_t field_of(const uint8_t *at, size_t *len)
 {
     size_t place, more = at[0] < 0x80 ? 0 : at[0] - 0x80u;
@@ -36,7 +36,7 @@ static size_t field_of(const uint8_t *at, size_t *len)
     return more + 1;
 }
 
-/* Writes a length in a field with so many octets after the first, or in the fewest where that is 9. */
+/* Writes a length in a field with this many octets after the first, or in the shortest field if `more` is 9. */
 static size_t put_field(uint8_t *out, size_t len, size_t more)
 {
     size_t place;
@@ -52,7 +52,7 @@ static size_t put_field(uint8_t *out, size_t len, size_t more)
     return more + 1;
 }
 
-/* The tidy form of a forest, which these octets are. */
+/* Writes the tidy form of the forest in these octets. Returns its length. */
 static size_t tidied(const uint8_t *octets, size_t count, uint8_t *out)
 {
     size_t place = 0, written = 0;
@@ -97,7 +97,9 @@ static int is_marked(const uint8_t *octets, size_t count)
     return 1;
 }
 
-/* The call with this room in a buffer that is larger, all of it marked; whether it answers so and leaves the rest. */
+/* Makes the call with this room in a larger buffer, all of it marked. Returns whether it answers as expected and leaves
+ * the rest.
+ */
 static int answers(const uint8_t *octets, size_t count, size_t room, const uint8_t *wanted, size_t needed)
 {
     size_t all = (room > needed ? room : needed) + BEYOND;
@@ -116,7 +118,7 @@ static int answers(const uint8_t *octets, size_t count, size_t room, const uint8
     return good;
 }
 
-/* Octets that may be no forest: the call refuses what the check refuses, at once and with the buffer as it was. */
+/* Checks octets that may not be a forest. The call refuses what the check refuses, at once, and leaves the buffer. */
 static int is_refused(const uint8_t *octets, size_t count, size_t max, struct scard_verdict check)
 {
     uint8_t *out = block_of(count + BEYOND);
@@ -130,7 +132,7 @@ static int is_refused(const uint8_t *octets, size_t count, size_t max, struct sc
     return good;
 }
 
-/* Both kinds of octets, in a block of exactly so many. With all rooms, or with some. */
+/* Checks octets of both kinds, in a block of exactly their size, with all sizes of room or with some. */
 static int is_right(const uint8_t *octets, size_t count, int all_rooms)
 {
     uint8_t *own = (uint8_t *)malloc(count), *wanted = block_of(count);
@@ -162,7 +164,7 @@ static int is_right(const uint8_t *octets, size_t count, int all_rooms)
 
 /* ---- forests ---- */
 
-/* Octets under way, with room for all that is made here. */
+/* The octets so far, with room for all that this test makes. */
 struct made {
     uint8_t octets[70000];
     size_t count;
@@ -171,7 +173,8 @@ struct made {
 static struct made made;
 static uint8_t large[sizeof made.octets];
 
-/* All that is made is put into an object, with so many octets after the first of its length field and with fillers. */
+/* Puts the octets so far into an object, with this many octets after the first of its length field, and with fillers.
+ */
 static void wrap(const char *tag, size_t more, size_t fillers)
 {
     struct octets first = of_hex(tag);
@@ -210,7 +213,7 @@ static void boundaries(void)
         wrap("7F20", 4, 0);
         CHECK(is_right(made.octets, made.count, 0));
     }
-    /* the value of a constructed object has so many octets once what is in it is tidy */
+    /* the value of a constructed object has this many octets once its content is tidy */
     for (row = 0; row < sizeof inner / sizeof inner[0]; row++) {
         for (more = inner[row][0] < 128 ? 1 : inner[row][0] < 256 ? 1 : 2; more <= 4; more++) {
             struct scard_verdict v;
@@ -226,7 +229,7 @@ static void boundaries(void)
     }
 }
 
-/* Objects as deep as they may be, and one deeper. */
+/* Objects as deep as allowed, and one level deeper. */
 static void levels(void)
 {
     static const char *const tags[] = {"70", "BF0C", "FF8101"};
@@ -254,7 +257,7 @@ static unsigned drawn(unsigned below)
     return (seed >> 8) % below;
 }
 
-/* Draws a list at a depth to the end of what is made, with some objects; each value may be a list. */
+/* Draws a list of objects at a depth. Each value may be a list. Returns its length. */
 static size_t draw_list(uint8_t *to, unsigned depth)
 {
     static const char *const primitive[] = {"5A", "9F02", "DF8101"};
@@ -286,7 +289,7 @@ static size_t draw_list(uint8_t *to, unsigned depth)
     return written;
 }
 
-/* Forests, all their cuts, and changes of one octet, which may be forests as well. */
+/* Random forests, all their cuts, and changes of one octet. The results may be forests too. */
 static void draws(void)
 {
     unsigned turn, good = 0;

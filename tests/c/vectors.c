@@ -1,6 +1,6 @@
-/* The conformance vectors of the folder `vectors`, in the format of docs/VECTORS.md. It runs each line of `check`, and
- * each line of `build` that doesn't read standard input, through the header. If there is a reader, it runs the line
- * octet by octet too, and blocks and answers to reset also in each two pieces. The folder is the first word, or
+/* Runs the conformance vectors of the folder `vectors`, in the format of docs/VECTORS.md. It runs each line of `check`,
+ * and each line of `build` that doesn't read standard input, through the header. If there is a reader, it also runs the
+ * line octet by octet. It runs blocks and answers to reset in every two pieces too. The folder is the first word, or
  * ./vectors.
  */
 #include "check.h"
@@ -9,7 +9,8 @@
 #define MOST_WORDS 16
 #define LONGEST_MESSAGE 131072
 
-/* A line: its words after the program's name, without the options, and the text that has to come, as it is there. */
+/* A line: its words after the program's name, without the options, and the text that has to come, as the line has it.
+ */
 struct row {
     char *words[MOST_WORDS];
     size_t count;
@@ -21,7 +22,7 @@ struct row {
 /* The text of an answer, as a line has it. */
 static char said[2 * LONGEST_LINE];
 
-/* The octets of a word, in a block of their own. */
+/* Decodes the octets of a word into a separate block. */
 static struct octets of_word(const char *word)
 {
     return of_hex(strcmp(word, "none") == 0 || strcmp(word, "\\e") == 0 ? "" : word);
@@ -52,7 +53,7 @@ static void say_verdict(struct scard_verdict v, int codec)
     say("\\n");
 }
 
-/* A chain through a receiver of the longest messages. */
+/* Feeds a chain to a receiver of the longest messages. */
 static struct scard_verdict chain_of(struct octets octets, int ifs, int number)
 {
     static uint8_t message[LONGEST_MESSAGE];
@@ -65,7 +66,7 @@ static struct scard_verdict chain_of(struct octets octets, int ifs, int number)
 }
 
 #ifndef WITHOUT_HANDLES
-/* Opens the reader of a codec; ARGUMENT where it has none. */
+/* Opens the reader of a codec. Returns ARGUMENT if the codec has none. */
 static struct scard_verdict open_reader(int codec, const struct row *row, struct scard_handle *reader)
 {
     struct scard_verdict none = {SCARD_ARGUMENT, 0, 0};
@@ -83,7 +84,7 @@ static struct scard_verdict open_reader(int codec, const struct row *row, struct
     }
 }
 
-/* Looks whether the reader of a codec, where it has one, says the same of octets that come one by one. */
+/* Checks that the reader of a codec, if it has one, says the same of octets that come one by one. */
 static void check_reader(int codec, const struct row *row, struct octets octets, struct scard_verdict wanted)
 {
     struct scard_handle reader = SCARD_HANDLE_EMPTY;
@@ -105,8 +106,9 @@ static void check_reader(int codec, const struct row *row, struct octets octets,
 }
 #endif
 
-/* Looks whether a reader of a block or of an answer to reset that is kept here says the same of octets that come in
- * pieces of this length, the first of another one. */
+/* Checks that a reader of a block or of an answer to reset, whose state is here, says the same of octets in pieces of
+ * this length. The first piece has another length.
+ */
 static void check_pieces(int codec, const struct row *row, struct octets octets, size_t first, size_t length,
                          struct scard_verdict wanted)
 {
@@ -135,7 +137,7 @@ static void check_pieces(int codec, const struct row *row, struct octets octets,
     CHECK(v.status == wanted.status && v.place == wanted.place && v.reason == wanted.reason);
 }
 
-/* The same octet by octet, and in each two pieces. */
+/* Checks the same octet by octet, and in every two pieces. */
 static void check_kept(int codec, const struct row *row, struct octets octets, struct scard_verdict wanted)
 {
     size_t first;
@@ -148,7 +150,7 @@ static void check_kept(int codec, const struct row *row, struct octets octets, s
     }
 }
 
-/* The answer to `check KIND HEX`. */
+/* Makes the answer to `check KIND HEX`. */
 static void check_kind(const struct row *row)
 {
     static const char *const kinds[] = {"", "atr", "block", "chain", "command", "response", "tlv", "dol"};
@@ -168,7 +170,7 @@ static void check_kind(const struct row *row)
     free(octets.at);
 }
 
-/* The answer to `build chain IFS NUMBER HEX`: each block ends after its length, header and LRC. */
+/* Makes the answer to `build chain IFS NUMBER HEX`. Each block ends after its length, header and LRC. */
 static void cut(const struct row *row)
 {
     struct octets message = of_word(row->words[4]);
@@ -183,7 +185,7 @@ static void cut(const struct row *row)
     free(message.at);
 }
 
-/* The answer to `build tidy HEX`. */
+/* Makes the answer to `build tidy HEX`. */
 static void tidy(const struct row *row)
 {
     struct octets octets = of_word(row->words[2]);
@@ -197,7 +199,7 @@ static void tidy(const struct row *row)
     free(octets.at);
 }
 
-/* A known value of a word F:TAG:VALUE, whose octets are put into `value`. */
+/* Decodes the known value of a word F:TAG:VALUE. Its octets go to `value`. */
 static struct scard_known known_of(char *word, struct octets *value)
 {
     struct scard_known known;
@@ -219,7 +221,7 @@ static struct scard_known known_of(char *word, struct octets *value)
     return known;
 }
 
-/* The answer to `build fill DOL F:TAG:VALUE..`. */
+/* Makes the answer to `build fill DOL F:TAG:VALUE..`. */
 static void fill(const struct row *row)
 {
     struct octets list = of_word(row->words[2]), values[MOST_WORDS];
@@ -227,7 +229,7 @@ static void fill(const struct row *row)
     uint8_t out[LONGEST_LINE];
     struct scard_verdict v = scard_dol_check(list.at, list.count);
     size_t count = 0;
-    /* a list that is refused is so whatever the words after it are */
+    /* a refused list is refused whatever words follow it */
     while (v.status == SCARD_OK && count + 3 < row->count) {
         known[count] = known_of(row->words[count + 3], &values[count]);
         count++;
@@ -246,7 +248,7 @@ static void fill(const struct row *row)
     free(list.at);
 }
 
-/* The answers of calls that write tidy forms and filled lists: whether the line is of one. */
+/* Makes the answers of calls that write tidy forms and filled lists. Returns whether the line has such a call. */
 static int with_objects(const struct row *row)
 {
     if (row->count == 3 && strcmp(row->words[1], "tidy") == 0) {
@@ -260,7 +262,7 @@ static int with_objects(const struct row *row)
     return 0;
 }
 
-/* The number after an option, in the same word or the next; 0 where the word is another. */
+/* Reads the number after an option, in the same word or the next. Returns 0 if the word is another one. */
 static int takes(const char *option, char **word, int *number)
 {
     size_t length = strlen(option);
@@ -272,7 +274,7 @@ static int takes(const char *option, char **word, int *number)
     return 1;
 }
 
-/* Reads a line. Its words are none where it is a remark, or is nothing that the library says. */
+/* Reads a line. The row has no words if the line is a remark, or nothing that the library answers. */
 static struct row row_of(char *line)
 {
     struct row row;
@@ -294,7 +296,7 @@ static struct row row_of(char *line)
     return row;
 }
 
-/* Looks whether the library says what a line has; whether it says anything of it. */
+/* Checks that the library says what a line has. Returns whether the library answers such a line. */
 static int try_line(const char *file, int number, char *line)
 {
     struct row row = row_of(line);
@@ -313,7 +315,7 @@ static int try_line(const char *file, int number, char *line)
     return 1;
 }
 
-/* Looks at each line of a file: how many there were to look at. */
+/* Checks each line of a file. Returns how many lines the library answers. */
 static int try_file(const char *folder, const char *name)
 {
     static char line[LONGEST_LINE];

@@ -4,7 +4,7 @@
 static struct scard_handle terminal = SCARD_HANDLE_EMPTY, card = SCARD_HANDLE_EMPTY;
 static struct scard_lent_terminal lent_terminal;
 static struct scard_lent_card lent_card;
-static uint8_t commands[2][16], answers[2][16]; /* those of the terminal, and those of the card */
+static uint8_t commands[2][16], answers[2][16]; /* the terminal's, and the card's */
 static uint8_t block[SCARD_BLOCK_ROOM];
 
 #define TERMINAL SCARD_LENT(lent_terminal, commands[0], answers[0])
@@ -15,7 +15,7 @@ static int waits(struct scard_turn turn, uint8_t kind, uint8_t wait)
     return turn.kind == kind && turn.wait == wait;
 }
 
-/* A card asks for so much more time, and the terminal waits so much longer for one block. */
+/* The card asks for this multiple of the time, and the terminal waits that much longer for one block. */
 static void in_handles(uint8_t multiple, uint8_t wait)
 {
     static const uint8_t command[] = {0x00, 0xA4, 0x04, 0x00, 0x00}, reply[] = {0x90, 0x00};
@@ -44,7 +44,7 @@ static void in_handles(uint8_t multiple, uint8_t wait)
     scard_close(&card);
 }
 
-/* The same over lent buffers. */
+/* The same over buffers of the caller. */
 static void lent(uint8_t multiple, uint8_t wait)
 {
     static const uint8_t command[] = {0x00, 0xA4, 0x04, 0x00, 0x00}, reply[] = {0x90, 0x00};
@@ -86,7 +86,7 @@ static uint64_t bwt(uint8_t ifsc, uint8_t bwi, uint8_t cwi, uint16_t fi, uint16_
     return scard_t1_bwt(&params, fi, di);
 }
 
-/* CWT is 11 and a power of two; BWT has 11 units, and 960 units of 372 cycles by a power of two. */
+/* CWT is 11 plus a power of two. BWT is 11 units, plus 960 units of 372 cycles times a power of two. */
 static void times(void)
 {
     CHECK(cwt(32, 4, 0) == 12 && cwt(32, 4, 5) == 43 && cwt(32, 4, 13) == 8203 && cwt(32, 4, 15) == 32779);

@@ -1,5 +1,5 @@
-/* The memory that an end or a receiver of chains frees has no octet of a message, and it takes no more memory than its
- * limits need. This file has the functions for memory, which look at each block that is freed.
+/* The memory that an end or a receiver of chains frees contains no octet of a message, and it takes no more memory than
+ * its limits need. This file has the memory functions, which check each block that is freed.
  */
 #include "check.h"
 #include "scard_heap.h"
@@ -10,7 +10,7 @@ enum { ALIGN = 16, MOST = 8, ENGINE = 1024 };
 static const uint8_t pin[] = {0x24, 0x12, 0x34, 0xFF, 0xFF, 0xFF, 0xFF, 0xFF};
 static const uint8_t verify[] = {0x00, 0x20, 0x00, 0x80, 0x08, 0x24, 0x12, 0x34, 0xFF, 0xFF, 0xFF, 0xFF, 0xFF};
 
-static uint8_t *blocks[MOST]; /* those that are held; the octets before each have its size */
+static uint8_t *blocks[MOST]; /* the allocated blocks; the octets before each have its size */
 static int taken, left_behind;
 
 static size_t size_of(const uint8_t *block)
@@ -31,7 +31,7 @@ static int has_pin(const uint8_t *block)
     return 0;
 }
 
-/* The place of a block among those that are held, NULL for a free place. */
+/* Returns the index of an allocated block, or of a free entry for NULL. */
 static int place_of(const void *block)
 {
     int place = 0;
@@ -73,7 +73,7 @@ struct scard_memory rattle_realloc(void *at, size_t kept, size_t size, size_t al
     return memory;
 }
 
-/* How many of the blocks that are held have the PIN. */
+/* Returns how many of the allocated blocks contain the PIN. */
 static int holding(void)
 {
     int place, count = 0;
@@ -83,7 +83,7 @@ static int holding(void)
     return count;
 }
 
-/* How many octets are held, and how many of the blocks have this size. */
+/* Returns how many octets are allocated, and counts the blocks of this size. */
 static size_t held(size_t size, int *count)
 {
     int place;
@@ -98,7 +98,7 @@ static size_t held(size_t size, int *count)
     return all;
 }
 
-/* An I-block with this number: how many octets it has. */
+/* Makes an I-block with this number. Returns how many octets it has. */
 static size_t block_of(int number, const uint8_t *field, size_t count, uint8_t *out)
 {
     size_t place;
@@ -184,7 +184,7 @@ static void is_overwritten(holder *hold)
     scard_close(&handle);
 }
 
-/* An end that is opened again where it is takes no memory, and nothing is left of what it held. */
+/* An end that is opened again in its handle allocates nothing, and nothing remains of what it held. */
 static void begins_anew(holder *hold, opening *open)
 {
     struct scard_handle handle = SCARD_HANDLE_EMPTY;
@@ -201,7 +201,7 @@ static void begins_anew(holder *hold, opening *open)
     CHECK(holding() == 0 && left_behind == 0);
 }
 
-/* ---- how much is taken ---- */
+/* ---- how much is allocated ---- */
 
 static void is_exact(void)
 {

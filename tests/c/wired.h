@@ -1,4 +1,4 @@
-/* A terminal and a card in one program: the terminal's line has the card at its other end, and no time passes. */
+/* A terminal and a card in one program. The card is at the other end of the terminal's line, and no time passes. */
 #ifndef WIRED_H
 #define WIRED_H
 
@@ -7,17 +7,17 @@
 
 enum { WIRED_ROOM = 1024, MESSAGE_ROOM = 320 };
 
-/* What is done to one block: the one with this number, of both ends, from 1 on. */
+/* The damage of one block: the one with this number, counted over both ends from 1 on. */
 enum harm_kind { HARM_CHANGE, HARM_CUT, HARM_CUT_FRONT, HARM_ADD };
 
 struct harm {
     unsigned block;
     int kind;
-    size_t at;      /* the octet that is changed, how many are left, are cut off the front, or are added */
+    size_t at;      /* the octet that is changed, or how many are left, are cut off the front, or are added */
     uint8_t octet;  /* what it is changed by, or what is added */
 };
 
-/* Octets that are under way. */
+/* Octets on the line to one end. */
 struct way {
     uint8_t octets[WIRED_ROOM];
     size_t count;
@@ -30,9 +30,9 @@ struct wired {
     uint8_t commands[2][MESSAGE_ROOM], answers[2][MESSAGE_ROOM];
     struct way to_card, to_terminal;
     bool is_cut;          /* nothing arrives at the card */
-    unsigned rate;        /* of 1,000 blocks so many are lost or damaged */
+    unsigned rate;        /* this many of 1,000 blocks are lost or damaged */
     struct harm harm;
-    unsigned blocks;      /* that were sent by both ends */
+    unsigned blocks;      /* sent by both ends */
     uint32_t die;
     uint64_t waited;      /* how long the terminal last waited for a block's first octet */
     unsigned sent;        /* blocks of the terminal */
@@ -48,7 +48,7 @@ static inline uint32_t wired_throw(struct wired *wired)
     return wired->die;
 }
 
-/* Harms a block that is at the end of a way: how many octets it has then. */
+/* Damages a block at the end of a way. Returns how many octets it has then. */
 static inline size_t wired_harm(const struct harm *harm, uint8_t *octets, size_t count)
 {
     switch (harm->kind) {
@@ -66,7 +66,7 @@ static inline size_t wired_harm(const struct harm *harm, uint8_t *octets, size_t
     }
 }
 
-/* A block goes onto a way, disturbed as the die says. */
+/* Puts a block onto a way, disturbed as the random generator says. */
 static inline void wired_put(struct wired *wired, struct way *way, const uint8_t *octets, size_t count)
 {
     uint8_t *at = way->octets + way->count;
@@ -84,7 +84,7 @@ static inline void wired_put(struct wired *wired, struct way *way, const uint8_t
     } else if (side == 2) { /* another node address */
         at[0] ^= 1;
         at[count - 1] ^= 1;
-    } else if (side == 3) { /* it stops */
+    } else if (side == 3) { /* its end is missing */
         count = 1 + wired_throw(wired) % (count - 1);
     }
     way->count += count;
@@ -118,7 +118,7 @@ static inline int wired_card_send(void *context, const uint8_t *octets, size_t c
     return 0;
 }
 
-/* The card's line ends where nothing is under way, so that the terminal goes on. */
+/* The card's line ends if no octet is on it, so that the terminal goes on. */
 static inline int wired_card_receive(void *context, uint8_t *octets, size_t room, uint64_t microseconds)
 {
     struct wired *wired = (struct wired *)context;
@@ -158,7 +158,7 @@ static inline struct scard_setup wired_setup(struct wired *wired, int end)
     return setup;
 }
 
-/* A reset: both ends are new. */
+/* Resets: both ends are new. */
 static inline void wired_begin(struct wired *wired, const struct scard_host *host, uint32_t die, unsigned rate)
 {
     memset(wired, 0, sizeof *wired);

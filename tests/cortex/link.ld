@@ -1,4 +1,4 @@
-/* Arm's MPS2 boards, as qemu has them: 4 MB each of memory for code and for data. */
+/* Arm's MPS2 boards, as qemu emulates them: 4 MB of memory for code and 4 MB for data. */
 MEMORY {
     CODE (rx) : ORIGIN = 0x00000000, LENGTH = 4M
     DATA (rwx) : ORIGIN = 0x20000000, LENGTH = 4M

@@ -1,4 +1,4 @@
-/* The start of a test on a Cortex-M under qemu: the table of vectors, for the C library of semihosting. */
+/* The startup code of a test on a Cortex-M under qemu: the vector table, for the C library with semihosting. */
 #include <stdint.h>
 #include <stdlib.h>
 
@@ -10,7 +10,7 @@ static void fault(void)
     _Exit(4);
 }
 
-/* The table that the processor begins with: where the stack ends, and the functions for the first exceptions. */
+/* The vector table of the processor: the end of the stack, and the handlers of the first exceptions. */
 __attribute__((section(".vectors"), used)) static const struct {
     uint32_t *stack;
     void (*handlers[15])(void);

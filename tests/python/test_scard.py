@@ -1,5 +1,5 @@
-"""The example in examples/python over the library that SCARD_LIBRARY names: octets, names, and exchanges with a card
-that the same library has, whose line loses and damages blocks."""
+"""Tests the example in examples/python with the library that SCARD_LIBRARY names: octets, names, and exchanges with a
+card of the same library, over a line that loses and damages blocks."""
 import ctypes
 import pathlib
 import sys
@@ -20,9 +20,9 @@ for name, (result, *arguments) in CARD_CALLS.items():
 
 
 class CardLine:
-    """A line with a card at its other end, which answers each command with itself and 9000. The blocks whose numbers
-    `lost` has don't come, the octets of those in `damaged` come changed, and before each reply the card asks for three
-    times the waiting time where `asks` is true."""
+    """A line with a card at its other end, which answers each command with the command and 9000. The blocks with a
+    number in `lost` don't arrive. Those in `damaged` arrive with their last octet changed. If `asks` is true, the card
+    asks for three times the waiting time before each reply."""
 
     def __init__(self, lost=(), damaged=(), asks=False):
         self.handle, self.block, self.asks = scard.Handle(), ctypes.create_string_buffer(258), asks
@@ -30,18 +30,18 @@ class CardLine:
         self.lost, self.damaged, self.number, self.came, self.waited, self.is_asked = lost, damaged, 0, b"", [], False
 
     def call(self, call, *given):
-        """A call of the card."""
+        """Makes a call of the card."""
         return call(ctypes.byref(self.handle), *given, self.block, 258)
 
     def passed(self, octets):
-        """What comes of a block that is sent in either direction."""
+        """Returns what arrives of a block that either end sends, or no octets."""
         self.number += 1
         if self.number in self.damaged:
             octets = octets[:-1] + bytes([octets[-1] ^ 1])
         return b"" if self.number in self.lost else octets
 
     def host(self):
-        """The host has the turn: it asks for time, or replies."""
+        """Lets the host ask for time, or reply."""
         if self.asks and not self.is_asked:
             self.is_asked = True
             return self.call(scard.lib.scard_card_more_time, 3)
@@ -51,7 +51,7 @@ class CardLine:
         return self.call(scard.lib.scard_card_reply, reply.raw[:count] + b"\x90\x00", count + 2)
 
     def send(self, octets):
-        """The terminal sends a block."""
+        """Takes a block of the terminal."""
         octets, self.came = self.passed(octets), b""
         if octets:
             turn = self.call(scard.lib.scard_card_received, octets, len(octets))
@@ -60,7 +60,7 @@ class CardLine:
                 self.came = self.passed(self.block.raw[:turn.count])
 
     def receive(self, wait):
-        """The block that the card sent, if one came."""
+        """Returns the block that the card sent, if one arrived."""
         self.waited.append(wait)
         return self.came
 
@@ -93,7 +93,7 @@ class Octets(unittest.TestCase):
 
 class Exchanges(unittest.TestCase):
     def exchanged(self, line, *commands):
-        """Exchanges over one line and one terminal: each answer is that of its command."""
+        """Exchanges commands over one line and one terminal. Each answer has to be that of its command."""
         terminal = scard.Terminal(line)
         for command in commands:
             self.assertEqual(terminal.exchange(command), command + b"\x90\x00")

@@ -1,4 +1,4 @@
-"""What the tests of scripts share: a script as a module, and copies of the files that it changes."""
+"""Helpers for the tests of scripts: a script as a module, and copies of the files that it changes."""
 
 import contextlib
 import importlib.machinery
@@ -26,7 +26,7 @@ def script(path):
 
 
 class OverCopies(unittest.TestCase):
-    """Tests of a script over copies of FILES, in a folder that goes after each test."""
+    """Tests of a script over copies of FILES, in a folder that is deleted after each test."""
 
     FILES = ()
 
@@ -43,15 +43,15 @@ class OverCopies(unittest.TestCase):
         shutil.copy(TOP / file, self.top / file)
 
     def text(self, file):
-        """What is in a file."""
+        """The text of a file."""
         return (self.top / file).read_text()
 
     def texts(self):
-        """What is in each file."""
+        """The text of each file."""
         return [self.text(it) for it in self.FILES]
 
     def change(self, file, old, new):
-        """Changes the first of a text in a file."""
+        """Replaces the first occurrence of a text in a file."""
         self.assertIn(old, self.text(file), file)
         (self.top / file).write_text(self.text(file).replace(old, new, 1))
 

@@ -1,6 +1,6 @@
 #!/usr/bin/env python3
-"""Tests tools/peers/against.py, over docs/PERFORMANCE.md and the file times.txt beside this: the output of a run with
-the ratios of that page."""
+"""Tests tools/peers/against.py, over docs/PERFORMANCE.md and times.txt in this folder, the output of a run with the
+ratios of that page."""
 
 import pathlib
 import sys
@@ -18,7 +18,7 @@ PAGE = """\
 
 
 def run(first, second):
-    """What a run prints, with these ratios."""
+    """The output of a run with these ratios."""
     head = f"{'work':42} {'peer':24} {'peer, ns':>12} {'ours, ns':>12} {'ratio':>8}\n"
     rows = [("an answer to reset", "libccid, TCK unchecked", first), ("nested forest, 10326 objects: check",
                                                                       "OpenSC, a walk", second)]

@@ -70,7 +70,7 @@ pub extern "C" fn scard_opened(
 
 class Differences(unittest.TestCase):
     def differ(self, changed=("", ""), sources=SOURCES):
-        """What differs where the header has other words."""
+        """The differences after a change of the header."""
         self.assertIn(changed[0], HEADER)
         structs, calls = header.read(HEADER.replace(*changed, 1))
         with unittest.mock.patch.object(tool, "OTHERS", {"octets": ["text"]}):
@@ -97,13 +97,13 @@ class Differences(unittest.TestCase):
 
 
 def swapped(row):
-    """A row with two neighbours swapped, for each two."""
+    """Copies of a row, each with another two neighbours swapped."""
     return [[*row[:at], row[at + 1], row[at], *row[at + 2 :]] for at in range(len(row) - 1)]
 
 
 class Header(unittest.TestCase):
     def test_swapped_arguments_and_fields_of_the_header_are_told(self):
-        """Any two arguments or fields that stand side by side in the header, when they are swapped."""
+        """Swaps each two neighbouring arguments or fields of the header."""
         structs, calls = header.read((TOP / "include/scard.h").read_text())
         exports, (known, numbers) = tool.sources()
         for call in calls:

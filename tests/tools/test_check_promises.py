@@ -24,7 +24,7 @@ UNSAID = SAID.replace("    ghost output = { fault_text };\n\n", "")
 
 class Texts(unittest.TestCase):
     def told(self, source):
-        """What is told of a source."""
+        """What the script names in a source."""
         return [*tool.texts_without_clause(source)]
 
     def test_a_text_that_a_clause_says_is_passed(self):
@@ -50,7 +50,7 @@ class Headings(unittest.TestCase):
     PROMISE = "- **[One verdict](STACK.md#one-verdict).** Every input has one.\n"
 
     def named(self, promises, **pages):
-        """What is named of a page of promises and of pages of clauses."""
+        """What the script names in a page of promises and in pages of clauses."""
         return [*tool.unlike(promises, {f"{name}.md": text for name, text in pages.items()})]
 
     def test_a_promise_with_its_heading_is_passed(self):

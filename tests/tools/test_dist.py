@@ -62,7 +62,7 @@ class Dist(unittest.TestCase):
         return subprocess.run(words, check=False, text=True, timeout=60, **how)
 
     def left(self):
-        """The files of dist/, and what begins as its folder for work does."""
+        """The files of dist/, and the entries whose name begins like that of its working folder."""
         return sorted(it.name for it in (self.top / "dist").rglob("*") if it.is_file()), [*self.top.glob(".dist*")]
 
     def refused(self, words, **how):

@@ -12,9 +12,9 @@ sys.path.insert(0, str(TOP / "tools/common"))
 from next_blocks import HISTORIES, IFSC, SIDES, Session, damaged, octets_of, receipt, rows, text
 from t1_rules import End, Line, block_of, clauses
 
-# a card that sends nothing: no next block shows that
+# the rule against a card that sends nothing, which no next block breaks
 SILENCE = "no block"
-# what an end can owe
+# what can be due from an end
 STATES = {"nothing", "message", "next", "acknowledgment", "repeat", "correction", "request", "response", "either",
           "message_or_correction"}
 

@@ -22,13 +22,13 @@ class Pages(unittest.TestCase):
         self.pages = pathlib.Path(room.name) / "man3"
 
     def page_of(self, name):
-        """The text of the page that a name leads to."""
+        """The text of the page with a name, also of one that refers to another page."""
         text = (self.pages / f"{name}.3").read_text()
         other = re.fullmatch(r"\.so man3/(\w+)\.3\n", text)
         return self.page_of(other[1]) if other else text
 
     def calls(self):
-        """The functions that the headers declare, but for scard_version, which the overview has."""
+        """The functions that the headers declare, except scard_version, which the overview has."""
         headers = (TOP / "include" / name for name in ("scard.h", "scard_session.h"))
         found = {call for header in headers for call in CALL.findall(header.read_text())}
         return found - {"scard_version"}

@@ -13,15 +13,15 @@ TOP = pathlib.Path(__file__).resolve().parents[2]
 
 
 def scripts():
-    """The scripts that people call: those that are executable at the top and in a folder of tools. One with an end to its
-    name is a part of another."""
+    """The scripts that people call: the executable files at the top and in the folders of tools. A file with a suffix
+    is part of another script."""
     files = [*sorted(TOP.iterdir()), *sorted((TOP / "tools").glob("*/*"))]
     return [it for it in files if it.is_file() and it.stat().st_mode & 0o100 and not it.suffix and it.name != "scard"]
 
 
 class Options(unittest.TestCase):
     def refused(self, script, word):
-        """What a script says of a word, which it has to refuse in an empty folder that it leaves empty."""
+        """What a script prints about a word. It has to refuse it, in an empty folder that it leaves empty."""
         with tempfile.TemporaryDirectory() as room:
             how = {"stdin": subprocess.DEVNULL, "stdout": subprocess.PIPE, "stderr": subprocess.PIPE, "text": True}
             ran = subprocess.run([script, word], cwd=room, check=False, timeout=60, **how)

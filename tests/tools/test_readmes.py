@@ -14,12 +14,12 @@ PART = re.compile(r"^## tools/(\w+): .*?(?=^## |\Z)", re.M | re.S)
 
 
 def named_in(text):
-    """The names in backticks in the first column of the tables of a text, by the alphabet."""
+    """The names in backticks in the first column of the tables of a text, in alphabetical order."""
     return sorted(name for cell in ROW.findall(text) for name in CODE.findall(cell))
 
 
 def parts_of(folder):
-    """What is in a folder, without its README.md and what Python leaves."""
+    """The entries of a folder, without its README.md and the files that Python leaves."""
     return sorted(it.name for it in (TOP / folder).iterdir() if it.name not in ("README.md", "__pycache__"))
 
 

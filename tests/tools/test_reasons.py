@@ -11,7 +11,7 @@ from copies import TOP, OverCopies, printed, script
 
 tool = script("gate/reasons")
 FILES = sorted({it.file for codec in tool.CODECS for it in tool.lists_of(codec)} | {it.source for it in tool.CODECS})
-# A definition's lists are laid out anew with each change.
+# Each change lays out the lists of this definition again.
 RELAID = "crates/c_lent/specs/Names.antt"
 NEW = "    /// An octet that nobody sends: this is a test.\n    Unheard,\n"
 
@@ -26,7 +26,7 @@ class Reasons(OverCopies):
         self.addCleanup(patch.stop)
 
     def said(self, *words):
-        """The status and the lines of a call."""
+        """The status and the output of a call."""
         return printed(tool.main, [*words])
 
     def add(self, codec, before):

@@ -28,7 +28,7 @@ ENDS = "only=2 proved=1"
 
 
 class Refused(unittest.TestCase):
-    """An edit is refused where a goal of its function isn't proved."""
+    """An edit is refused if a goal of its function isn't proved."""
 
     def refused(self, function, *lines):
         verdict = verdict_on([function], [*lines, ENDS])
@@ -56,7 +56,7 @@ class Refused(unittest.TestCase):
 
 
 class NotRefused(unittest.TestCase):
-    """Where no goal of its function is named as not proved, an edit isn't refused, and the script says why."""
+    """If no goal of its function is named as not proved, an edit isn't refused, and the script says why."""
 
     def says(self, why, *lines):
         verdict = verdict_on([WHOLE], list(lines))

@@ -26,7 +26,7 @@ ALL = 1 << 64
 
 
 def lines_of(body, variables=4):
-    """The lines of C of a function that takes two addresses and a number, with what its runs access held together."""
+    """The lines of C for a function that takes two addresses and a number. The accesses of a run are held together."""
     function = Function("f", [I64, I64, I64], [], [I64] * variables, list(body))
     module = Module([function], {}, [(I64, 0), (I32, 0)], b"", 65536)
     own_frame(function)
@@ -44,7 +44,7 @@ def store(base, offset, code=STORE64):
 
 
 class Together(unittest.TestCase):
-    """Accesses are held to their window once where all are made or none."""
+    """Accesses are held to their window once if all are made or none."""
 
     def holds(self, *parts):
         lines = lines_of([it for part in parts for it in part])
@@ -97,7 +97,7 @@ class Together(unittest.TestCase):
         self.assertEqual(near.planned(), {1: (((0, 1),), -4, 7)})
 
 
-# a frame, whose place is in the variable 4 and, as own_frame has it, in 7
+# a frame, whose place is in the variable 4 and, after own_frame, in 7
 FRAME = [(GLOBAL_GET, 0), (I64_CONST, 32), (SUB, None), (LOCAL_TEE, 4), (GLOBAL_SET, 0)]
 
 
@@ -123,7 +123,7 @@ class Trapped(Exception):
 
 
 class Run:
-    """A function that is run by its instructions, over windows of octets."""
+    """Runs a function by its instructions, over windows of octets."""
 
     def __init__(self, body, windows, variables, stack):
         self.body, self.windows, self.variables, self.global_, self.stack = body, windows, variables, stack, []
@@ -144,7 +144,7 @@ class Run:
         return otherwise, at
 
     def go(self):
-        """Runs all of it; what an instruction of the flow says is where to go on."""
+        """Runs the whole function. An instruction of the flow decides where to continue."""
         at, blocks = 0, []
         while at < len(self.body):
             code, said = self.body[at]
@@ -208,8 +208,8 @@ class Run:
 
 
 class Random:
-    """Makes functions: of three arguments, two addresses and a number; 3 to 5 are numbers, 6 and 7 count the turns of
-    loops, and 8 is the place of a frame of 32 octets."""
+    """Makes functions of three arguments: two addresses and a number. The variables 3 to 5 are numbers, 6 and 7 count
+    the turns of loops, and 8 is the place of a frame of 32 octets."""
 
     def __init__(self, seed):
         self.random = random.Random(seed)
@@ -311,7 +311,7 @@ int main(void)
 
 
 def as_c(body, place):
-    """A function as C."""
+    """The text of a function in C."""
     lines = lines_of(body, 6)
     text = "\n".join(lines)
     own = [f"u64 {name} = 0;" for name in ("v3", "v4", "v5", "v6", "v7", "v8", "v9", *(f"w{it}" for it in range(9)))]
@@ -321,7 +321,7 @@ def as_c(body, place):
 
 
 def as_said(body, turn):
-    """What a function leaves in memory, or nothing where an access leaves its window."""
+    """The memory after a function, or an empty text if an access leaves its window."""
     room = [(place * 37 + turn) % 256 for place in range(89)]
     windows = {1: bytearray(room[:48]), 2: bytearray(room[48:72]), 3: bytearray(room[72:])}
     address = {it: (it << 61) + 65536 for it in windows}
@@ -334,7 +334,7 @@ def as_said(body, turn):
 
 
 class Same(unittest.TestCase):
-    """Random functions do as C what they say."""
+    """Random functions in C do what their instructions say."""
 
     COUNT = 150
 

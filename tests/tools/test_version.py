@@ -19,16 +19,16 @@ class Versions(OverCopies):
 
     def setUp(self):
         super().setUp()
-        # A version that is under way may have its heading already.
+        # An unfinished version may have its heading already.
         changes = self.text(tool.CHANGES)
         (self.top / tool.CHANGES).write_text(re.sub(r"^## Next\n.*?(?=^## )", "", changes, flags=re.M | re.S))
 
     def said(self, *words):
-        """The status and the lines of a call."""
+        """The status and the output of a call."""
         return printed(tool.main, [*words], self.top)
 
     def change(self, file, old, new):
-        """Changes a text that is in a file once."""
+        """Replaces a text that occurs once in a file."""
         self.assertEqual(self.text(file).count(old), 1, file)
         super().change(file, old, new)
 

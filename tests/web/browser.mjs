@@ -1,12 +1,12 @@
-// The page in headless Chromium and Firefox, where they are there; Firefox needs a node that has WebSocket.
+// Tests the page in headless Chromium and Firefox, if they are installed. Firefox needs a node that has WebSocket.
 //
 // usage: node tests/web/browser.mjs PAGE [PICTURES]
 //
-// PAGE is what web/make made. On each line of vectors/ that the page has an answer to, what it says in the browser is
-// compared, character by character, with what the vectors give for the program. Then each example is chosen, and
-// nothing may be loaded, sent or complained of. In Chromium texts are typed too: a forest of 1 MiB has to be shown in a
-// second, and no text of 64 KiB may keep what is typed for 50 milliseconds. With PICTURES, pictures of each example go
-// into that folder, light, dark and narrow. The last line is 'N passed, M failed'.
+// PAGE is the file that web/make made. For each line of vectors/ that the page answers, the answer in the browser is
+// compared, character by character, with the program's answer in the vectors. Then each example is chosen. The page may
+// load and send nothing, and the browser may complain of nothing. In Chromium texts are typed too: a forest of 1 MiB
+// has to be shown in a second, and no text of 64 KiB may delay other input for 50 milliseconds. With PICTURES, pictures
+// of each example go into that folder, light, dark and narrow. The last line is 'N passed, M failed'.
 import { execFileSync } from "node:child_process";
 import { join } from "node:path";
 import { Checks } from "./checks.mjs";
@@ -21,13 +21,14 @@ const CHROMIUM = ["chromium", "chromium-browser", "google-chrome"];
 const FIREFOX = ["firefox-esr", "firefox"];
 const BATCH = 500;
 const TRIES = 3;
-// Milliseconds until a text is shown, and for which a text of at most so many characters may keep what is typed.
+// The milliseconds until a text has to be shown, and for which a text of at most so many characters may delay other
+// input.
 const [SOON, KEPT, SHORT] = [1000, 50, 65536];
 
 const [file, pictures] = process.argv.slice(2);
 const checks = new Checks("browser", 20);
 
-// The command that starts a browser, where there is one.
+// Returns the command that starts a browser, if there is one.
 function found(names) {
   return names.find((name) => {
     try {
@@ -38,7 +39,7 @@ function found(names) {
   });
 }
 
-// What the page says of each line of vectors/ that it has an answer to.
+// Compares what the page says of each line of vectors/ that it answers.
 async function compare(page) {
   await page.value(`WebAssembly.instantiate(octets, {}).then(({ instance }) => {
     const own = { scard: new Scard(instance), aroundLines, finished };
@@ -55,15 +56,15 @@ async function compare(page) {
   }
 }
 
-// Chooses an example, and waits until it is answered.
+// Chooses an example, and waits for its answer.
 async function choose(page, at) {
   await page.value(`part("examples").querySelectorAll("button")[${at}].click()`);
   await page.until(`part("status").textContent === ${JSON.stringify(SAID[at])}`).catch(() => {});
   checks.equal(`example ${at + 1}`, await page.value('part("status").textContent'), SAID[at]);
 }
 
-// Types a text, and waits until it is answered and on the screen: for how many milliseconds, and the longest time that
-// the browser was kept meanwhile. It tells of such a time only where it is 50 or more.
+// Types a text, and waits until its answer is on the screen. Returns how many milliseconds that took, and for how long
+// at most the browser couldn't handle other input. The browser reports such a time only if it is 50 or more.
 function typed(page, { kind, text, each = false }) {
   return page.value(`new Promise((answer) => {
     const kept = [];
@@ -86,7 +87,8 @@ function typed(page, { kind, text, each = false }) {
   })`);
 }
 
-// The least of some tries, since other work on the machine takes its time: a try that is quick enough is the last one.
+// Returns the smallest times of some tries, since other work on the machine takes time too. A try that is quick enough
+// is the last one.
 async function measured(page, given) {
   const isShort = given.text.length <= SHORT;
   let least = { all: Infinity, longest: Infinity };
@@ -108,7 +110,7 @@ async function measure(page) {
   }
 }
 
-// Pictures of each example, with what it says.
+// Takes pictures of each example with its answer.
 async function draw(page) {
   for (const at of SAID.keys()) {
     await choose(page, at);
@@ -118,7 +120,7 @@ async function draw(page) {
   }
 }
 
-// What the page does in each browser: it answers, and loads and sends nothing.
+// Checks that the page answers in a browser.
 async function used(page) {
   console.log(`browser: ${await page.version()}`);
   await page.until('part("status").textContent === "ok 5 octets"');
@@ -126,7 +128,8 @@ async function used(page) {
   for (const at of SAID.keys()) await choose(page, at);
 }
 
-// Nothing but the page was asked for, and there is nothing to complain of. Firefox doesn't tell of files.
+// Checks that the browser requested only the page, and that it complains of nothing. Firefox doesn't report requests
+// for files.
 async function left(page, files) {
   await wait(100);
   const addresses = page.addresses();

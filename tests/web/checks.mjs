@@ -1,6 +1,6 @@
-// What the tests of the page count and print.
+// The counts of the tests of the page, and what they print.
 export class Checks {
-  // At most so many of what failed are printed.
+  // Prints at most this many of the failed checks.
   constructor(name, shown = Infinity) {
     Object.assign(this, { name, shown, passed: 0, failed: 0 });
   }
@@ -12,7 +12,7 @@ export class Checks {
     }
   }
 
-  // The last line. Fewer than `least` that passed is a failure too.
+  // Prints the last line. It is a failure too if fewer than `least` checks passed.
   end(least = 1) {
     console.log(`${this.passed} passed, ${this.failed} failed`);
     process.exitCode = this.failed || this.passed < least ? 1 : 0;

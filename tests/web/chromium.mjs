@@ -1,4 +1,4 @@
-// A page in headless Chromium, over the browser's own pipe for tools: nothing of npm, and no port is opened.
+// A page in headless Chromium, over the browser's own pipe for tools. It needs nothing from npm, and opens no port.
 import { spawn } from "node:child_process";
 import { mkdtempSync, rmSync, writeFileSync } from "node:fs";
 import { tmpdir } from "node:os";
@@ -10,7 +10,7 @@ const WORDS = ["--headless=new", "--remote-debugging-pipe", "--no-first-run", "-
   "--disable-background-networking", "--disable-dev-shm-usage"];
 
 export class Page extends Remote {
-  // Opens a file in a browser of its own. As root Chromium runs without its sandbox alone.
+  // Opens a file in a new browser. Only root runs Chromium without its sandbox.
   static async open(chromium, file) {
     const page = new Page(chromium);
     const { targetId } = await page.call("Target.createTarget", { url: "about:blank" });
@@ -44,14 +44,14 @@ export class Page extends Remote {
     return this.sent({ method, params, sessionId: this.session }, (text) => this.browser.stdio[3].write(`${text}\0`));
   }
 
-  // Loads an address, and waits until it is there.
+  // Loads an address, and waits until it is loaded.
   async load(url) {
     const before = this.seen.length;
     await this.call("Page.navigate", { url });
     while (!this.seen.slice(before).some(({ method }) => method === "Page.loadEventFired")) await wait(10);
   }
 
-  // What an expression of the page's own world comes to.
+  // Returns the value of an expression in the page's own world.
   async value(expression) {
     const how = { expression, awaitPromise: true, returnByValue: true };
     const { result, exceptionDetails } = await this.call("Runtime.evaluate", how);
@@ -63,7 +63,7 @@ export class Page extends Remote {
     return (await this.call("Browser.getVersion")).product;
   }
 
-  // The addresses that were asked for.
+  // Returns the addresses that the page requested.
   addresses() {
     const asked = this.seen.filter(({ method }) => method === "Network.requestWillBeSent");
     return asked.map(({ params }) => params.request.url);
@@ -73,7 +73,7 @@ export class Page extends Remote {
     return this.seen.filter(({ method }) => ["Log.entryAdded", "Runtime.exceptionThrown"].includes(method));
   }
 
-  // Puts a picture of the whole page into a file.
+  // Writes a picture of the whole page to a file.
   async picture(file, width, scheme) {
     const features = [{ name: "prefers-color-scheme", value: scheme }];
     await this.call("Emulation.setEmulatedMedia", { features });

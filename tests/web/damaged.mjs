@@ -1,12 +1,12 @@
-// The page beside the program, on octets and texts that are spoiled.
+// Compares the page with the program, on damaged octets and texts.
 //
 // usage: node [--experimental-wasm-memory64] tests/web/damaged.mjs PAGE PROGRAM
 //
-// PAGE is what web/make made, PROGRAM the program scard. Octets of vectors/ are spoiled by a fixed sequence, 10,000
-// times in all, and what the page shows of each, with notes, is compared with what `show KIND --stdin lines --notes` of
-// the program prints of it, but for the notes on refusals. So are 200 texts of exchanges, with what `replay --explain`
-// prints of each at both ends, and 400 traces, with what `judge --explain` prints of each. The last line is 'N passed,
-// M failed'.
+// PAGE is the file that web/make made, and PROGRAM is the program scard. A fixed sequence damages octets of vectors/,
+// 10,000 times in all. What the page shows of each, with notes, is compared with what `show KIND --stdin lines --notes`
+// of the program prints, except the notes on refusals. In the same way 200 texts of exchanges are compared with what
+// `replay --explain` prints for both ends, and 400 traces with what `judge --explain` prints. The last line is
+// 'N passed, M failed'.
 import { spawnSync } from "node:child_process";
 import { readFileSync, readdirSync } from "node:fs";
 import { Checks } from "./checks.mjs";
@@ -24,7 +24,7 @@ const examples = new URL("../../examples/", import.meta.url);
 const [page, program] = process.argv.slice(2);
 const { scard, KINDS, finished } = await loaded(page);
 
-// Numbers from 0 to one below `bound`, the same at each run (Marsaglia's xorshift).
+// Returns a number from 0 to one below `bound`, from a sequence that is the same at each run (Marsaglia's xorshift).
 let state = 0x9e3779b9;
 function any(bound) {
   state ^= state << 13;
@@ -33,7 +33,7 @@ function any(bound) {
   return (state >>> 0) % bound;
 }
 
-// A list with one to three of its items changed, left out or put in, by what `other` gives.
+// Returns a list with one to three of its items changed, removed or inserted. `other` makes the new items.
 function spoiled(items, other) {
   const found = [...items];
   for (let times = any(3) + 1; times > 0; times--) {
@@ -44,18 +44,18 @@ function spoiled(items, other) {
   return found;
 }
 
-// The same, and one in six is cut off too.
+// Damages octets in the same way, and also cuts off one in six at a random place.
 function spoiledOctets(octets) {
   const found = spoiled(octets, () => any(256));
   return Buffer.from(any(6) ? found : found.slice(0, any(found.length + 1)));
 }
 
-// Most of what is put into a text is of it.
+// Damages a text. Most of the inserted characters are its own.
 function spoiledText(text) {
   return spoiled(text, () => (any(8) ? text[any(text.length)] : String.fromCharCode(any(128)))).join("");
 }
 
-// In half of the traces lines are spoiled, by lines of others.
+// Damages a trace. In half of the traces the changes are whole lines, taken from other traces.
 function spoiledTrace(texts) {
   const text = texts[any(texts.length)];
   if (any(2)) return spoiledText(text);
@@ -66,7 +66,7 @@ function spoiledTrace(texts) {
   return spoiled(text.split("\n"), other).join("\n");
 }
 
-// The octets of each kind that the vectors have as a word.
+// Returns the octets of each kind that the vectors have as a word.
 function bases() {
   const found = new Map(KINDS.map((kind) => [kind, []]));
   for (const { words: [subcommand, kind, word] } of cases()) {
@@ -78,7 +78,7 @@ function bases() {
 
 const checks = new Checks("damaged", SHOWN);
 
-// What the program prints.
+// Returns what the program prints.
 function printed(words, input) {
   return spawnSync(program, words, { input, encoding: "latin1", maxBuffer: 1 << 28 }).stdout ?? "";
 }

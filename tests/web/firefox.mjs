@@ -1,4 +1,4 @@
-// A page in headless Firefox, over WebDriver BiDi: nothing of npm. Its port is of this machine alone.
+// A page in headless Firefox, over WebDriver BiDi. It needs nothing from npm. Its port is open to this machine only.
 import { spawn } from "node:child_process";
 import { mkdtempSync, rmSync } from "node:fs";
 import { tmpdir } from "node:os";
@@ -10,7 +10,7 @@ const HERE = /WebDriver BiDi listening on (ws:\S+)/;
 const EVENTS = ["log.entryAdded", "network.beforeRequestSent"];
 
 export class Page extends Remote {
-  // Opens a file in a browser of its own.
+  // Opens a file in a new browser.
   static async open(firefox, file) {
     const page = new Page(firefox);
     await page.connected();
@@ -32,7 +32,7 @@ export class Page extends Remote {
     this.ended = new Promise((yes) => this.browser.on("exit", yes));
   }
 
-  // Waits until the browser has said where its tools are, and connects to them.
+  // Waits until the browser has printed the address of its tools, and connects to them.
   async connected() {
     const address = await new Promise((yes, no) => {
       let said = "";
@@ -53,7 +53,7 @@ export class Page extends Remote {
     return this.sent({ method, params }, (text) => this.socket.send(text));
   }
 
-  // What an expression of the page's own world comes to.
+  // Returns the value of an expression in the page's own world.
   async value(expression) {
     const target = { context: this.context };
     const text = `Promise.resolve(${expression}).then((it) => JSON.stringify(it))`;
@@ -67,7 +67,7 @@ export class Page extends Remote {
     return `${this.capabilities.browserName} ${this.capabilities.browserVersion}`;
   }
 
-  // The addresses that were asked for.
+  // Returns the addresses that the page requested.
   addresses() {
     const asked = this.seen.filter(({ method }) => method === "network.beforeRequestSent");
     return asked.map(({ params }) => params.request.url);

@@ -1,9 +1,9 @@
-// The page's form, in a document of a few lines: no browser is asked for.
+// Tests the page's form in a document of a few lines, without a browser.
 //
 // usage: node [--experimental-wasm-memory64] tests/web/form.mjs PAGE
 //
-// PAGE is what web/make made. Its whole script runs, each example is chosen, octets and a file are typed, and the
-// address is written and read again. What it looks like isn't tried. The last line is 'N passed, M failed'.
+// PAGE is the file that web/make made. Its whole script runs, each example is chosen, octets and a file are typed, and
+// the address is written and read again. The look of the page isn't tested. The last line is 'N passed, M failed'.
 import { readFileSync } from "node:fs";
 import vm from "node:vm";
 import { Checks } from "./checks.mjs";
@@ -12,7 +12,7 @@ import { SAID } from "./shown.mjs";
 const page = readFileSync(process.argv[2], "utf8");
 const unescaped = (text) => text.replaceAll("&#10;", "\n");
 
-// What the script asks of an element.
+// The part of an element that the script uses.
 class Element {
   constructor() {
     Object.assign(this, { inside: [], handlers: {}, hidden: false, textContent: "", value: "", checked: false });
@@ -39,7 +39,7 @@ const world = vm.createContext({ performance, setTimeout, clearTimeout, WebAssem
 
 const checks = new Checks("form");
 
-// Waits until the line of the verdict is one, for two seconds at most.
+// Waits until the line of the verdict is this one, for two seconds at most.
 async function said(what, want) {
   for (let times = 0; times < 200 && parts.status.textContent !== want; times++) {
     await new Promise((go) => { setTimeout(go, 10); });
@@ -88,7 +88,7 @@ parts.ifs.value = "0";
 type("block", "00000500A4040000A5");
 await said("a size of 0", "The information size is 1 to 254.");
 checks.equal("which module runs", parts.which.textContent, "");
-// The same where the browser doesn't take the first module.
+// The first example again, with a browser that refuses the first module.
 if (parts.lowered.textContent) {
   parts.module.textContent = "";
   location.hash = "";

@@ -1,16 +1,17 @@
-// What the tests of the page share: its own script and module, and the lines of vectors/.
+// Shared by the tests of the page: its own script and module, and the lines of vectors/.
 import { readFileSync, readdirSync } from "node:fs";
 import vm from "node:vm";
 
 const vectors = new URL("../../vectors/", import.meta.url);
 
-// The modules of a page, by the names that they have there.
+// Returns the modules of a page, by the names that they have there.
 export function modules(file) {
   const page = readFileSync(file, "utf8");
   return ["module", "lowered"].filter((id) => page.match(`id="${id}">([^<]*)<`)[1] !== "");
 }
 
-// The script of a page without the part that begins it, in a world with nothing but the language, over its own module.
+// Loads the script of a page, without the part that starts the page, and its module. The script's world has only the
+// language itself.
 export async function loaded(file, id = "module") {
   const page = readFileSync(file, "utf8");
   const text = page.match(/<script>([\s\S]*)<\/script>/)[1].split("// The page: what is given in its form")[0];
@@ -21,7 +22,7 @@ export async function loaded(file, id = "module") {
   return { scard: new Scard(await WebAssembly.instantiate(compiled, {})), compiled, ...names };
 }
 
-// What a field of a vector stands for, one character an octet.
+// Decodes a field of a vector, one character for each octet.
 function plain(field) {
   if (field === "-") return "";
   const parts = { n: "\n", t: "\t", s: " ", e: "" };
@@ -29,7 +30,7 @@ function plain(field) {
   return field.replace(/\\(x..|.)/g, (_, it) => (it[0] === "x" ? octet(it.slice(1)) : parts[it]));
 }
 
-// The lines of vectors/: the words, standard input, the status, and what the program says.
+// Returns the lines of vectors/: the words, standard input, the status, and what the program prints.
 export function* cases() {
   for (const file of readdirSync(vectors).sort()) {
     const lines = readFileSync(new URL(file, vectors), "latin1").split("\n");

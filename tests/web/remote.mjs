@@ -1,10 +1,11 @@
-// What pages in both browsers share: calls of the browser's tools by number, their answers, and what is seen meanwhile.
+// Shared by the pages in both browsers: numbered calls of the browser's tools, their answers, and the events between
+// them.
 export class Remote {
   constructor() {
     [this.number, this.asked, this.seen] = [0, new Map(), []];
   }
 
-  // What the browser said: the answer to a call, or something that happened.
+  // Handles a message of the browser: the answer to a call, or an event.
   take({ id, error, result, method, params, message = error?.message }) {
     if (!this.asked.has(id)) {
       this.seen.push({ method, params });
@@ -16,7 +17,7 @@ export class Remote {
     else yes(result);
   }
 
-  // The browser ended, or can't be started.
+  // Handles the end of the browser, or its failure to start.
   end(fault) {
     for (const { no } of this.asked.values()) no(fault);
     this.asked.clear();
@@ -30,7 +31,7 @@ export class Remote {
     return answer;
   }
 
-  // Waits until an expression of the page holds.
+  // Waits until an expression of the page is true.
   async until(expression) {
     for (let times = 0; times < 500; times++) {
       if (await this.value(expression)) return;

@@ -1,7 +1,7 @@
-// What the lines of vectors/ ask of the page, and what it answers.
+// The requests to the page in the lines of vectors/, and its answers.
 
-// What words ask for that the page has: `check` or `show`, a kind, and the octets; `replay`; or `judge` of both ends.
-// null for all else.
+// Returns the request of a line, if the page has it: `check` or `show`, a kind, and the octets; `replay`; or `judge` of
+// both ends. Returns null for everything else.
 export function asked({ words, input, said }, kinds) {
   const [subcommand, ...rest] = words;
   if (!["check", "show", "replay", "judge"].includes(subcommand) || said.startsWith("fault: words")) return null;
@@ -35,13 +35,14 @@ function ofOctets(found, input, kinds) {
   if (!isRight || !kinds.includes(found.kind)) return null;
   if (!(found.ifs >= 1 && found.ifs <= 254 && found.first <= 1)) return null;
   if (found.form) found.text = input;
-  // A word of the command line is one group without 0x, or `none`: where it is another text, the page has none such.
+  // A word of the command line is one group without 0x, or `none`. The page has no form for other texts.
   else if (found.text === "none") found.text = "";
   else if (!/^[0-9A-Fa-f]*$/.test(found.text)) return null;
   return found;
 }
 
-// What the page says, as the program has it. All that it calls is handed over, so that a browser can run it too.
+// Returns the page's answer, in the form of the program's. It calls only its arguments, so that a browser can run it
+// too.
 export function answered({ scard, aroundLines, finished }, request) {
   const { subcommand, kind, text, atr, ifs, first, form, explain, notes, end } = request;
   const ofLine = ({ check, lines }) => (subcommand === "check" ? [check] : [...(lines ?? [check]), ""]);
@@ -66,12 +67,12 @@ export function answered({ scard, aroundLines, finished }, request) {
   return told.is === "fault" && explain ? null : ended(lines);
 }
 
-// The program's answers, without the notes on refusals, which the page has none of.
+// Returns the program's answers without the notes on refusals, which the page doesn't have.
 export function withoutRefusalNotes(said) {
   return said.replace(/^((?:short|refused) at .*?)  # .*$/gm, "$1");
 }
 
-// What the page should say: the program's words, without its options.
+// Returns what the page has to say: the program's words, without its options.
 export function wanted({ said }, { subcommand, end }) {
   if (subcommand === "judge") return said;
   if (end) return said.replace(/; in the trace it .*/g, "");

@@ -1,16 +1,16 @@
-// What the page's examples say, and long texts for it, for the tests with a browser and without.
+// The answers to the page's examples, and long texts, for the tests with a browser and without.
 
 // The line of the verdict of each example, in their order.
 export const SAID = ["ok 5 octets", "refused at 8: BadLrc", "ok 17 octets", "ok 13 octets", "ok 2 octets",
   "refused at 3: Overrun", "ok 8 octets", "2 of 3 lines are accepted", "terminal: ok 13 lines; card: ok 13 lines",
   "4 blocks, 1 deviation: terminal 1, card 0, unseen 0"];
 
-// How many lines of a value the page shows at most.
+// The most lines of a value that the page shows.
 export const SHOWN_LINES = 5000;
 
 const [KIB_64, MIB] = [65536, 1048576];
 
-// As many octets of a text as that, from its front.
+// Repeats a text, in whole copies, to at most this many characters.
 const filled = (text, count) => text.repeat(Math.ceil(count / text.length)).slice(0, count - (count % text.length));
 
 const session = "command 00A4040000\nt 00000500A4040000A5\nasked 00A4040000\nreply 9000\nc 000002900092\nanswer 9000\n"

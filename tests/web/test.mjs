@@ -1,12 +1,12 @@
-// The page's script over each of its modules, on each line of vectors/ of the kinds that the page has.
+// Tests the page's script over each of its modules, on each line of vectors/ of the kinds that the page has.
 //
 // usage: node [--experimental-wasm-memory64] tests/web/test.mjs PAGE
 //
-// PAGE is what web/make made. Its lines are compared, character by character, with those that the vectors give for the
-// program: of `check` and `show`, with notes and without, with octets as a word or in hexadecimal or as lines from
-// standard input, what `--explain` says where an octet is refused, and of `replay` and `judge`, with what `--explain`
-// says of a file. Words that the program takes for none of its forms have no place in a page. The last line is 'N
-// passed, M failed'.
+// PAGE is the file that web/make made. Its lines are compared, character by character, with the program's in the
+// vectors. These lines are those of `check` and `show`, with notes and without, with octets as a word, or in
+// hexadecimal or as lines from standard input, and what `--explain` says if an octet is refused. Also compared are the
+// lines of `replay` and `judge`, with what `--explain` says of a file. Words that the program refuses are left out,
+// since a page has no words. The last line is 'N passed, M failed'.
 import { readFileSync, readdirSync } from "node:fs";
 import { Checks } from "./checks.mjs";
 import { cases, loaded, modules } from "./loaded.mjs";
@@ -15,10 +15,10 @@ import { answered, asked, wanted } from "./requests.mjs";
 const examples = new URL("../../examples/", import.meta.url);
 const checks = new Checks("page");
 
-// What the page calls what the program ends with, by its status.
+// The page's name for each status of the program.
 const STATUS = { 0: "ok", 1: "refused", 2: "fault" };
 
-// The lines of the vectors that the page answers, by their kinds.
+// Checks the lines of the vectors that the page answers. Returns their counts by kind.
 function lines(page) {
   const seen = {};
   for (const one of cases()) {
@@ -35,7 +35,7 @@ function lines(page) {
   return Object.entries(seen).map(([kind, count]) => `${kind} ${count}`).join(", ");
 }
 
-// Whether a trace is permitted, and its lines again, with what is said of each after it.
+// Checks whether a trace is permitted. Then checks that its lines come again, each followed by what is said of it.
 function judged(page, { at, status, input, said }, { atr, text }) {
   const { is, steps = [], lines } = page.finished(page.scard.judge(atr, text));
   checks.equal(`${at}: whether it is permitted`, is, STATUS[status]);
@@ -48,7 +48,7 @@ function judged(page, { at, status, input, said }, { atr, text }) {
   checks.equal(`${at}: what is said`, told.map((step) => `${step.trim()}\n`).join(""), said);
 }
 
-// The steps of a replay are the lines of its file, and what the ends do between them.
+// Checks that the steps of a replay are the lines of its file, with what the ends do between them.
 function steps(page) {
   for (const name of readdirSync(examples).filter((it) => it.endsWith(".exchange"))) {
     const text = readFileSync(new URL(name, examples), "latin1");

@@ -1,24 +1,24 @@
-// How long the page's script takes, and how long at a time.
+// Measures how long the page's script takes, in all and without a pause.
 //
 // usage: node [--experimental-wasm-memory64] tests/web/times.mjs PAGE
 //
-// PAGE is what web/make made. It prints, of texts of 64 KiB and of forests of 1 MiB, how many milliseconds the page's
-// script takes in all for what it shows, and for the longest piece of it, between which a browser has its turn. What
-// the browser does with the lines isn't in it. It judges nothing.
+// PAGE is the file that web/make made. For texts of 64 KiB and forests of 1 MiB, it prints how many milliseconds the
+// page's script takes in all, and for its longest piece. A browser handles input between two pieces. The times don't
+// include what the browser does with the lines. No time is a failure.
 import { loaded } from "./loaded.mjs";
 import { SHOWN_LINES, TEXTS } from "./shown.mjs";
 
 const { scard } = await loaded(process.argv[2]);
 const ROUNDS = 5;
 
-// What a page does with a text, in pieces.
+// Returns the generator with which the page answers a text in pieces.
 function pieces({ kind, text, each }) {
   if (kind === "exchange") return scard.replay(text);
   if (each) return scard.answers(kind, text, 254, 0, true);
   return scard.answering(kind, text, 254, 0, true, SHOWN_LINES);
 }
 
-// The least of some rounds: how long all pieces take, and the longest.
+// Returns the smallest of some rounds: how long all pieces take, and the longest one.
 function measured(given) {
   let least = [Infinity, Infinity];
   for (let round = 0; round < ROUNDS; round++) {

@@ -1,5 +1,4 @@
-"""Random sessions of `simulate`, and what the program prints: what tools/gate/try-record and tools/gate/try-judge
-share."""
+"""Random sessions of `simulate` and the program's output, for tools/gate/try-record and tools/gate/try-judge."""
 
 import random
 import subprocess
@@ -14,12 +13,12 @@ def told(program, words, given=b""):
 
 
 def octets(least, most):
-    """So many octets, drawn, in hexadecimal."""
+    """Random octets in hexadecimal: `least` to `most` of them."""
     return bytes(random.randrange(256) for _ in range(random.randint(least, most))).hex().upper()
 
 
 def session():
-    """The words of a session."""
+    """The program's words for a random session."""
     words = ["simulate", ATR]
     words += ["--ifsd", str(random.randint(1, 254))] if random.random() < 0.3 else []
     words += [f"{octets(4, 300)}:{octets(2, 300)}" for _ in range(random.randint(1, 5))]
@@ -30,5 +29,5 @@ def session():
 
 
 def blocks(text):
-    """The lines of blocks and of the ends of waiting times, by their words."""
+    """The lines of blocks and of the ends of waiting times, each as its words."""
     return [line.split() for line in text.decode().splitlines() if line.split()[0] in ("t", "c", "quiet")]

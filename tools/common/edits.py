@@ -36,7 +36,7 @@ def function_at(file, lines, at):
 
 
 def owner_of(lines, first, indent):
-    """What the checker calls the impl that a function is in, as `Stop`, `StopDisplay` or `RefusedFromStop`."""
+    """The checker's name of the impl that a function is in, such as `Stop`, `StopDisplay` or `RefusedFromStop`."""
     heads = (OWNER.match(lines[it]) for it in range(first, -1, -1) if indent and not lines[it].startswith(" " * indent))
     head = next((it for it in heads if it), None)
     # The checker calls the function of an `impl Drop` by the type alone.
@@ -69,7 +69,7 @@ def edits_of(folder):
 
 
 def first_edits():
-    """The edits that the gate tries, by crate. A line that begins with a space goes on with the one before."""
+    """The edits that the gate tries, by crate. A line that begins with a space continues the one before."""
     rows = [it.split("#")[0].partition(":") for it in FIRST.read_text().replace("\n ", " ").splitlines()]
     return {name.strip(): edits.split() for name, _, edits in rows if edits}
 

@@ -53,7 +53,7 @@ class Item:
 
 
 def shortened(code):
-    """A declaration, of a function that the header defines its head alone."""
+    """A declaration; of a function that the header defines, only the head."""
     return re.sub(r"\n\{\n.*?\n\}$", ";", code.replace("static inline ", ""), flags=re.S)
 
 
@@ -83,7 +83,7 @@ def parts(header):
 
 
 def overview(version, form):
-    """The lines of the page that says what holds of all calls, and has the pages of the parts."""
+    """The lines of the page with what holds for all calls, and with a list of the other pages."""
     head = (TOP / "include/scard.h").read_text().partition("#ifndef")[0]
     yield from (f'.TH LIBSCARD 3 "" "scard {version}"', ".ad l", ".nh")
     yield from (".SH NAME", r"libscard \- codecs and both ends of T=1 for programs in C")
@@ -97,7 +97,7 @@ def overview(version, form):
 
 
 def stressed(text, escaped):
-    """A paragraph with its names and its code as fonts."""
+    """A paragraph with its names and its code in fonts."""
     out, at = "", 0
     for found in CODE.finditer(text):
         out += escaped(text[at : found.start()])
@@ -107,7 +107,7 @@ def stressed(text, escaped):
 
 
 def page(header, name, title, clause, listed, version, form):
-    """The lines of a page: `form` has what escapes text and code, and what keeps a line from being a request."""
+    """The lines of a page: `form` escapes text and code, and keeps a line from being a request."""
     calls = [call for item in listed for call in item.calls()]
     yield from (f'.TH {form.code(name.upper())} 3 "" "scard {version}"', ".ad l", ".nh")
     names = ", ".join([name, *(it for it in calls if it != name)])

@@ -9,18 +9,18 @@ CALLED = re.compile(r"(?:(?P<owner>\w+)::|(?P<self>\bself\.)(?:(?P<field>\w+)\.)
                     r"(?P<name>\b[a-z]\w*)(?:::<[^>()]*>)?(?P<call>\()?")
 FIELD = re.compile(r"^    (?:pub(?:\(\w+\))? )?(\w+): &?(?:'\w+ )?(?:mut )?(\w+)", re.M)
 WORD = re.compile(r"\w+")
-# By what its name says a test tries the function of a trait that no text names.
+# Code calls the functions of these traits without their names: a test tries them if its own name matches.
 TELLS = {"Display": re.compile("print|named"), "Debug": re.compile("show"), "PartialEq": re.compile("equal")}
 # Crates that are tested through the one above them.
 TESTED = {"dumps": "card_tool", "command_line": "card_tool", "card_words": "card_tool", "card_kinds": "card_tool", "explainer": "card_tool"}
-# The modules of the crates of tests that aren't called as their crate is without its '_core'.
+# The test modules that don't have the name of their crate without its '_core'.
 MODULES = {"card_tool": "tool", "notes": "noted", "stack_laws": "again", "simulator": "simulated",
            "test_support": "helpers"}
 NEVER = re.compile(r"(?!)")
 
 
 class Calls:
-    """Which functions of a crate each of its functions calls."""
+    """The functions of a crate that each of its functions calls."""
 
     def __init__(self, items):
         self.functions, self.fields = {}, {}
@@ -31,7 +31,7 @@ class Calls:
                 self.fields[item.name] = dict(FIELD.findall("\n".join(item.code)))
 
     def named_by(self, item):
-        """What a function's body calls: the type that the function is of, None where that isn't known, and its name."""
+        """What a function's body calls: for each function its type, None if that isn't known, and its name."""
         for found in CALLED.finditer(item.body):
             owner = item.owner if found["self"] or found["owner"] == "Self" else found["owner"] or ""
             if found["field"]:
@@ -54,7 +54,7 @@ class Calls:
                 yield from (it for it in named if not it.owner)
 
     def below(self, item):
-        """The functions that a function stands on, nearest first."""
+        """The functions that a function depends on, nearest first."""
         found, turn = [], [item]
         while turn:
             turn = [it for up in turn for it in self.callees(up) if it is not item and it not in found]
@@ -64,8 +64,7 @@ class Calls:
 
 
 class Tests:
-    """The tests of a crate, which are a module of a crate of tests: each with its text and that of what it calls beside
-    it."""
+    """The tests of a crate, which are a module of a crate of tests: each with its text and that of its helpers."""
 
     def __init__(self, name):
         tested = TESTED.get(name, name)
@@ -80,7 +79,7 @@ class Tests:
 
 
 def names(item, kind, name, text, words):
-    """Whether a test, by its text or, of what a program writes with marks, by its name too, names a function."""
+    """Whether a test names a function in its text, or by its own name if code calls the function by a sign."""
     if not item.owner:
         return item.name in words
     if item.owner not in words:
@@ -97,7 +96,7 @@ def shared_with(home):
 
 
 def tests_in(home):
-    """The tests of a module: the name, the first line of what is said of it, its whole text and the words in it."""
+    """The tests of a module: name, first line of documentation, whole text and the words in it."""
     texts, tests = {}, []
     for path in [home, *sorted(home.with_suffix("").rglob("*.rt")), *shared_with(home)]:
         for item in items_of(path, path.name):

@@ -1,5 +1,5 @@
-"""Makes every next block after each of some histories of a line, with the answer of t1_rules.py: the traces of the file
-judge.next of the folder vectors.
+"""Makes every next block after each of some histories of a line, with the answer of t1_rules.py. They are the traces
+of vectors/judge.next.
 
 A history is steps with blanks between them: the end, a block, and perhaps how it arrived. `t:I0` is an I-block of
 the terminal with the number 0, `c:I1+` an I-block of the card with more to follow, `t:R1.2` an R-block with the
@@ -15,7 +15,7 @@ DAMAGED, LOST = "!", "?"
 SIDES = {"t": "terminal", "c": "card"}
 FIELDS = {"t": "00A4040000", "c": "9000", "t+": "00D6", "c+": "AABB"}
 OCTETS = {"IFS": 0x10, "WTX": 0x02}
-# the address of the terminal's blocks where a session has another one than 00
+# the address of the terminal's blocks in a session whose address isn't 00
 ADDRESS = 0x21
 
 HISTORIES = [
@@ -158,7 +158,7 @@ class Session:
                 self.takes(*word.split(":"))
 
     def reset(self):
-        """The card was reset."""
+        """Resets the card."""
         self.line.reset()
         self.trace.append("reset")
         self.turn = "t"
@@ -168,7 +168,7 @@ class Session:
         return self.nad if side == "t" else swapped(self.nad)
 
     def takes(self, side, word):
-        """A step of a history."""
+        """Takes a step of a history."""
         end = word[-1] if word[-1] in (LOST, DAMAGED) else ""
         octets = octets_of(side, word.rstrip(LOST + DAMAGED), self.address(side))
         said, came = arrival(octets, end)
@@ -208,7 +208,7 @@ def summary(blocks, side, broken):
 
 
 def said(line, side, octets, clause):
-    """What the judge says of a trace that ends with a block: its lines."""
+    """The lines that the judge prints for a trace that ends with a block."""
     broken, due = line.broken(side, octets)
     number = line.blocks + 1
     lines = [f"block {number} {side}: {broken}, due {due}  ({clause[broken]})"] if broken else []
@@ -216,7 +216,7 @@ def said(line, side, octets, clause):
 
 
 def rows(steps, clause):
-    """Traces, each with one block more than a history, and the lines that the judge says of them."""
+    """Traces, each with one block more than a history, and the lines that the judge prints for them."""
     session = Session(steps)
     for octets in dict.fromkeys(next_blocks(session)):
         block = f"{session.turn} {octets.hex().upper()} lost"

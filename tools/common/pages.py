@@ -4,7 +4,7 @@ import re
 
 
 def anchor_of(title, taken):
-    """The anchor of a heading, beside those that are taken by the headings before it."""
+    """The anchor of a heading, which differs from those that earlier headings have taken."""
     anchor = re.sub(r"[^\w\- ]", "", title.lower()).replace(" ", "-")
     count = 0
     while (name := f"{anchor}-{count}" if count else anchor) in taken:

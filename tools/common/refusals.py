@@ -4,11 +4,11 @@ not, it says why the edit shows nothing."""
 import collections
 import re
 
-# A line on a text of src/ or specs/ itself, with the goal that it is about, if any.
+# An error in a text of src/ or specs/ itself, with the goal that it is about, if any.
 ON_TEXT = re.compile(r"(?:\./)?(?:src|specs)/\S+?:\d+:\d+: error: (?:(`[^`]*`): )?(.*)")
-# What it says there of a text that it couldn't read.
+# The errors there for a text that the checker couldn't read.
 UNREAD = re.compile(r"is not in scope|has no field|is no name|operand is missing|expected the end|cannot continue")
-# What it says of an answer or a lemma that names what is gone, and of those that cite it.
+# The errors for an answer or a lemma that names what no longer exists, and for those that cite it.
 GONE = re.compile(r"has no field|has no `|is not in scope|is no name|not admitted")
 # The last line of a check of some functions: how many they are, and how many of them are proved.
 ONLY = re.compile(r"only=(\d+) proved=(\d+)$")
@@ -23,7 +23,8 @@ def path_of(function):
 
 
 def only_name(function):
-    """A function's name for --only: of one in an impl its end, since the checker names it by the file of its type."""
+    """A function's name for --only. In an impl it is the end of the path, since the checker names it by the file of its
+    type."""
     path = path_of(function)
     return "::".join(path[-2:] if function.owner else path)
 
@@ -46,7 +47,7 @@ def is_proved(lines):
 
 
 def joined(lines):
-    """The lines, those that begin with two spaces joined with the one that they go on with."""
+    """The lines, with each line that begins with two spaces joined to the one that it continues."""
     found = []
     for line in lines:
         if found and line.startswith("  "):
@@ -57,8 +58,8 @@ def joined(lines):
 
 
 def folder_of_answers(function):
-    """A pattern for the folder with a function's answers, where a function that calls itself has a plus sign before its
-    name: of any function, where it is None."""
+    """A pattern for the folder with a function's answers, or with those of any function if it is None. A function that
+    calls itself has a plus sign before its name."""
     if not function:
         return r"(?:\./)?proofs/(?:\+?\w+/)*"
     above = r"(?:\w+/)*" if function.owner else ""
@@ -84,9 +85,9 @@ def goals_on(function, lines):
 
 
 def verdict_on(functions, lines):
-    """What a check says of an edit in these functions. An answer that isn't one of its goal, and a goal that has none
-    and that the search doesn't prove, refuse it. Where an answer names what is gone, a goal without one may be that one
-    under another name, and says nothing."""
+    """What a check shows about an edit in these functions. An answer that doesn't prove its goal refuses the edit. So
+    does a goal without an answer that the search doesn't prove. If an answer names what no longer exists, a goal
+    without an answer may be that answer's goal under another name: then it shows nothing."""
     if not is_ended(lines):
         return Verdict(False, f"BAD EDIT: it did not reach the prover: {' '.join(lines[:6])}")
     unread = next(filter(is_unread, lines), "")

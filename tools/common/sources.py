@@ -23,7 +23,7 @@ class Item:
     kind: str
     name: str
     owner: str
-    # the trait that the impl around it is of
+    # the trait of the impl around it
     of: str
     docs: list
     # its text, without the body of a function
@@ -62,13 +62,13 @@ class Crate:
 
 
 def place_of(path, order):
-    """Where a file comes among a crate's files: in the order of the modules, a file before those below it."""
+    """The place of a file among a crate's files: in the order of the modules, a file before those below it."""
     first = path.parts[0].removesuffix(".rt")
     return (order.index(first) if first in order else -1, len(path.parts), path.as_posix())
 
 
 def exported(root):
-    """The names that a crate's root gives out, by the path that each has."""
+    """The names that a crate's root exports, by the path of each."""
     names = {}
     for path, several, one in re.findall(r"^pub use ([\w:]+?)::(?:\{([^}]*)\}|(\w+));", root, re.M):
         for part in re.split(r",\s*", (several or one).strip()):
@@ -79,7 +79,7 @@ def exported(root):
 
 
 def cited_in(text):
-    """The definitions that a text names, each with the crate and the file that it stands in."""
+    """The definitions that a text names, each with its crate and its file."""
     for crate, module, names in CITED.findall(text):
         for name in (names or module.split(".")[-1]).split(","):
             yield name.strip().split(" as ")[-1].strip(), crate, module
@@ -159,11 +159,11 @@ def function_span(lines, at, indent):
 
 
 def opened(lines):
-    """For each kind of bracket how many are open after some lines, but for those in strings."""
+    """How many brackets of each kind are open after some lines, except those in strings."""
     text = STRING.sub("", "\n".join(lines))
     return [text.count(a) - text.count(b) for a, b in ("()", "{}", "[]")]
 
 
 def clauses_of(item):
-    """The names of a function's clauses; one that has no name is the empty one."""
+    """The names of a function's clauses; a clause without a name has the empty name."""
     return [found[1] or "" for found in map(CLAUSE.match, item.code) if found]

@@ -1,4 +1,4 @@
-"""What the scripts of this repository know of its crates and of the toolchain: the rows of crates.txt, where a library
+"""What the scripts of this repository know about its crates and the toolchain: the rows of crates.txt, where a library
 is built, and the words by which the toolchain's checker is called."""
 
 import hashlib
@@ -12,7 +12,7 @@ KIT = pathlib.Path(RT).resolve().parent.parent if RT else None
 
 
 def crates():
-    """What crates.txt says: by each crate's name whether it is a library for C, and what it stands on."""
+    """The rows of crates.txt: by each crate's name whether it is a library for C, and what it depends on."""
     rows = [it.split("#")[0].partition(":") for it in (TOP / "crates.txt").read_text().splitlines()]
     return {head.split()[0]: ("staticlib" in head, uses.split()) for head, _, uses in rows if head.strip()}
 
@@ -33,7 +33,7 @@ def library(name, listed):
 
 
 def below(name, listed):
-    """The repository's crates that a crate stands on, through others too, lowest first."""
+    """The repository's crates that a crate depends on, through others too, lowest first."""
     found = []
     for it in listed[name][1]:
         found += [low for low in [*below(it, listed), it] if low not in found] if it in listed else []
@@ -41,7 +41,7 @@ def below(name, listed):
 
 
 def words_of(name, listed):
-    """The checker's words for a crate, but for its own files and how many jobs it may take."""
+    """The checker's words for a crate, except its own files and its number of jobs."""
     is_static, uses = listed[name]
     words = ["--crate-name", name, "src/main.rt" if is_program(name) else "src/lib.rt", "--links", f"{name}="]
     words += ["--crate-type", "staticlib"] if is_static else []
@@ -52,12 +52,12 @@ def words_of(name, listed):
 
 
 def uses_of(library):
-    """What a library of the toolchain stands on."""
+    """What a library of the toolchain depends on."""
     return re.findall(r"^dep (\w+)$", (KIT / "rlibs" / f"{library}.rlib/format").read_text(), re.M)
 
 
 def sources_of(name, listed):
-    """The words that hand the sources of all that a crate stands on to the toolchain's compiler that proves nothing."""
+    """The words that pass the sources of all that a crate depends on to the compiler that proves nothing."""
     words, kit = [], ["std", *(it for it in listed[name][1] if it not in listed)]
     for it in below(name, listed):
         uses = listed[it][1]
@@ -76,7 +76,7 @@ def files_of(name):
 
 
 def sum_of(name, listed, known):
-    """A sum of all that a crate's proof rests on: the toolchain, the crate's row and files, and the crates below."""
+    """A checksum of what a crate's proof depends on: the toolchain, the crate's row and files, and the crates below."""
     if name not in known:
         total = hashlib.sha256(repr((name, listed[name], (KIT / "KIT-ID").read_bytes())).encode())
         for it in files_of(name):

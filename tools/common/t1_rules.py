@@ -1,4 +1,4 @@
-"""The rules of T=1 for the next block of an end, if it is known how each block before arrived.
+"""The rules of T=1 for the next block of an end, if it is known how each earlier block arrived.
 
 This is a second reading of docs/PROTOCOL.md, docs/JUDGE.md and docs/DECISIONS.md, beside the definitions of the
 crate judge_core: it shares no line with them. `Line` takes a session block by block and names the rule that each
@@ -13,7 +13,7 @@ PAGE = pathlib.Path(__file__).resolve().parents[2] / "docs/JUDGE.md"
 SUBJECTS = "RESYNCH", "IFS", "ABORT", "WTX"
 # the requests that one end alone may make
 FOREIGN = {"terminal": "WTX", "card": "RESYNCH"}
-# how often a terminal repeats or corrects in a row, how often it has to before RESYNCH, and how often it asks for that
+# how often a terminal repeats or corrects in a row, how often it has to before RESYNCH, and how often it sends RESYNCH
 MOST, LEAST, RESYNCHS = 3, 2, 3
 USUAL_SIZE = 32
 
@@ -36,7 +36,7 @@ def swapped(nad):
 
 
 class Block:
-    """What whole octets say. `fault` is the rule that they break by themselves, if any."""
+    """A block that arrived undamaged. `fault` is the rule that it breaks in any state, if any."""
 
     def __init__(self, octets):
         self.nad, self.pcb, self.field = octets[0], octets[1], octets[3:-1]
@@ -48,7 +48,7 @@ class Block:
         self.fault = self.fault_of()
 
     def fault_of(self):
-        """A control octet, a length or a size that no block has."""
+        """The fault of a control octet, a length or a size that no block has."""
         control = {"I": self.pcb & 0x1F == 0, "R": self.pcb & 0x2F in (0, 1, 2), "S": self.pcb & 0x1F < 4}
         if not control[self.kind]:
             return "control octet"
@@ -65,13 +65,13 @@ class Block:
 
 
 def block_of(octets):
-    """The block that octets are, or None where they are damaged."""
+    """Decodes octets as a block, or returns None if they are damaged."""
     whole = len(octets) >= 4 and len(octets) == octets[2] + 4 and with_check(octets[:-1]) == octets
     return Block(octets) if whole else None
 
 
 class End:
-    """One end: its numbers, what it sent and asked, and what it owes."""
+    """One end: its numbers, what it sent and requested, and what is due from it."""
 
     def __init__(self, side, room, owed):
         self.side, self.room, self.first_room, self.owed = side, room, room, owed
@@ -81,16 +81,16 @@ class End:
         self.in_chain = self.hears_chain = self.is_aborted = self.may_refuse = self.refuses_later = False
 
     def begins_again(self):
-        """What RESYNCH leaves: new numbers, no chain, and the larger size."""
+        """The state after RESYNCH: new numbers, no chain, and the larger size."""
         self.next = self.expects = 0
         self.last = None
         self.in_chain = self.hears_chain = self.is_aborted = self.may_refuse = self.refuses_later = False
         self.room = max(self.room, self.first_room)
 
-    # ---- what it hears
+    # ---- what it receives
 
     def hears(self, octets):
-        """Octets came, or None where nothing did."""
+        """Octets arrived, or None if nothing did."""
         block = block_of(octets) if octets is not None else None
         self.may_refuse = False
         if octets is None and self.side == "card":
@@ -101,16 +101,16 @@ class End:
             {"I": self.hears_information, "R": self.hears_receipt, "S": self.hears_supervision}[block.kind](block)
 
     def fails(self):
-        """It heard no block that it can use: it asks once more for what it waits for."""
+        """It received no block that it can use: it asks again for what it waits for."""
         self.owed = "request" if self.asked else "correction"
 
     def goes_on(self, owed):
-        """It heard a block in order."""
+        """It received a block in order."""
         self.owed, self.earlier = owed, (self.tries, self.repeats, self.corrections)
         self.tries = self.repeats = self.corrections = 0
 
     def hears_information(self, block):
-        """An I-block: the one that it expects, or none that it can use, as within its own chain."""
+        """An I-block: the expected one, or one that it can't use, such as one inside its own chain."""
         if self.asked or self.in_chain or block.number != self.expects:
             self.fails()
             return
@@ -133,7 +133,7 @@ class End:
             self.fails()
 
     def hears_supervision(self, block):
-        """A request, which it answers; the response to its own, after which it goes on; or neither."""
+        """A request, which it answers; the response to its own, after which it goes on; or another response."""
         if not block.is_response:
             self.hears_request(block)
         elif self.asked != (block.subject, block.octet):
@@ -147,7 +147,7 @@ class End:
             self.earlier = 0, 0, 0
 
     def hears_request(self, block):
-        """A request: an answer is due, but where its own request waits, unless all begins again."""
+        """A request: a response is due, unless its own request waits. RESYNCH always gets a response."""
         if self.asked and block.subject != "RESYNCH":
             self.fails()
         else:
@@ -172,13 +172,13 @@ class End:
         return "field too long" if block.kind == "I" and len(block.field) > self.room else None
 
     def breaks_message(self, block):
-        """Where a message begins. RESYNCH may come between exchanges."""
+        """At the beginning of a message. RESYNCH may come between exchanges."""
         if block.is_request("RESYNCH"):
             return None
         return self.breaks_next(block)
 
     def breaks_next(self, block):
-        """Where a message goes on: an I-block, a request, or the refusal of the I-block before."""
+        """Within a message: an I-block, a request, or the refusal of the I-block before."""
         if block.kind == "I":
             return None if block.number == self.next else "sequence number"
         if block.kind == "R":
@@ -205,7 +205,7 @@ class End:
         return self.may_refuse and block.number != self.expects and block.code == 2 and not is_often
 
     def breaks_in_order(self, block):
-        """A request in place of the block that is due in order; RESYNCH where the block before may be refused again."""
+        """A request in place of the block that is due in order; RESYNCH if the block before may be refused again."""
         if block.subject == "RESYNCH":
             return None if self.may_refuse and self.earlier[0] >= LEAST else "RESYNCH too early"
         if block.subject == "ABORT" and not (self.in_chain or self.hears_chain):
@@ -227,13 +227,13 @@ class End:
         return self.breaks_either(block)
 
     def breaks_often(self, block, otherwise):
-        """What else an end may send that repeats or corrects, and whether it does so too often."""
+        """Another block in place of a repeat or a correction. Only RESYNCH may come, and not too early."""
         if block.is_request("RESYNCH") and self.tries < LEAST:
             return "RESYNCH too early"
         return None if block.is_request("RESYNCH") else otherwise
 
     def too_many(self, count):
-        """A terminal that repeated as often as it may."""
+        """Whether a terminal has repeated as often as it may."""
         return "too many repeats" if self.side == "terminal" and count >= MOST else None
 
     def breaks_repeat(self, block):
@@ -326,14 +326,14 @@ class End:
 
 
 class Line:
-    """A terminal and a card that takes fields of so many octets."""
+    """A terminal, and a card that takes fields of up to `ifsc` octets."""
 
     def __init__(self, ifsc):
         self.ifsc, self.blocks = ifsc, 0
         self.reset()
 
     def reset(self):
-        """The card was reset."""
+        """Resets the card."""
         self.ends = {"terminal": End("terminal", self.ifsc, "message"), "card": End("card", USUAL_SIZE, "nothing")}
         self.nads = None
 
@@ -355,7 +355,7 @@ class Line:
         return "node address", end.due()
 
     def takes(self, side, octets, came):
-        """An end sends a block, and the other one hears what came of it, or nothing where that is None."""
+        """An end sends a block, and the other end receives the octets `came`, or nothing if it is None."""
         broken, _ = self.broken(side, octets)
         if broken:
             raise ValueError(f"block {self.blocks + 1} {side}: {broken}")

@@ -1,6 +1,6 @@
-# What the scripts for sh share about their words: each reads this file first.
+# The check of words that the scripts for sh share: each reads this file first.
 
-# no_option USAGE WORD..: ends with the usage and status 2 where a word begins with a dash
+# no_option USAGE WORD..: ends with the usage and status 2 if a word begins with a dash
 no_option() {
     usage=$1
     shift

@@ -1,10 +1,10 @@
-"""A client of PC/SC for the card of examples/pcsc, by pyscard: sessions under a plan, exchanges, and what the answer to
-each command has to be."""
+"""A client of PC/SC for the card of examples/pcsc, over pyscard: sessions under a plan, exchanges, and the right answer
+to each command."""
 from smartcard import scard
 
 
 class Told(Exception):
-    """What PC/SC told the client in place of an answer: the name of its code."""
+    """The error that PC/SC returned in place of an answer: the name of its code."""
 
 
 def name_of(code):
@@ -19,7 +19,7 @@ def checked(code):
 
 
 class Client:
-    """A client of the reader whose name has this word in it, `scard` or `Gem`. `plan_file` is that of the reader."""
+    """A client of the reader with this word in its name, `scard` or `Gem`. `plan_file` is the reader's plan file."""
 
     def __init__(self, word, plan_file=None, mode=scard.SCARD_SHARE_SHARED):
         code, self.context = scard.SCardEstablishContext(scard.SCARD_SCOPE_SYSTEM)
@@ -67,7 +67,7 @@ def octet(place):
 
 
 def read(at, count):
-    """READ BINARY of so many octets, and its answer."""
+    """READ BINARY of `count` octets, and its answer."""
     given = min(count, 65536 - at)
     short = bytes([0, 0xB0, at >> 8, at & 255, count & 255])
     long = bytes([0, 0xB0, at >> 8, at & 255, 0, count >> 8 & 255, count & 255])
@@ -76,7 +76,7 @@ def read(at, count):
 
 
 def echo(data):
-    """A command with this data field, which comes back."""
+    """A command with this data field, which the answer repeats."""
     head = bytes([0, 0xCB, 0x3F, 0xFF])
     if len(data) < 256:
         return head + bytes([len(data)]) + data + b"\0", data + b"\x90\x00"
@@ -84,7 +84,7 @@ def echo(data):
 
 
 def some(dice, most):
-    """A random command with its answer, each of at most some `most` octets."""
+    """A random command with its answer, each of about `most` octets at most."""
     kind = dice.random()
     if kind < 0.35:
         return read(dice.randrange(0x8000), dice.randint(1, 256))
@@ -100,7 +100,7 @@ def some(dice, most):
 
 
 def counted(client, exchanges):
-    """Of these commands with their answers how many were right, failed and wrong."""
+    """Sends commands, and counts how many answers are right, how many commands fail, and how many answers are wrong."""
     right = failed = wrong = 0
     for command, wanted in exchanges:
         try:

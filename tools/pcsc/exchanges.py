@@ -1,8 +1,8 @@
 #!/usr/bin/python3
-"""Random exchanges, each answer compared; after one that fails the card is reset, under the next seed.
+"""Makes random exchanges, and compares each answer. After one that fails it resets the card, under the next seed.
 usage: exchanges.py READER PLAN_FILE COUNT RATE [MOST]
-READER is a part of the reader's name, RATE so many per cent of blocks, MOST the longest message.
-The line that it prints: count, right, failed, wrong, exchanges a second."""
+READER is a part of the reader's name, RATE the percentage of blocks with faults, MOST the longest message.
+It prints a line: count, right, failed, wrong, exchanges a second."""
 import collections
 import random
 import sys
@@ -11,7 +11,7 @@ from client import Client, Told, some
 
 
 def begin(client, rate, seed):
-    """Begins a session under the rate of faults: by which seed. One whose first blocks fail is begun once more."""
+    """Begins a session under the rate of faults, and returns its seed. If it can't begin, takes the next seed."""
     for seed in range(seed, seed + 100):
         try:
             client.reset(f"rate={rate} seed={seed}")

@@ -1,7 +1,7 @@
 #!/usr/bin/python3
-"""Random sessions, each begun by a reset under another plan and recorded: what the client was told.
+"""Runs random sessions, each begun by a reset under another plan and recorded, and counts the answers.
 usage: sessions.py READER PLAN_FILE COUNT RECORD     the recordings are RECORD.1, RECORD.2 and so on
-The line that it prints: sessions, commands, right, failed, wrong."""
+It prints a line: sessions, commands, right, failed, wrong."""
 import random
 import sys
 from client import Client, Told, counted, some
@@ -10,7 +10,7 @@ RATES = (0, 1, 3, 8)
 
 
 def session(client, plan, dice):
-    """Of some commands how many were right, failed and wrong."""
+    """Sends random commands, and counts those that are right, failed and wrong."""
     try:
         client.reset(plan)
     except Told:

@@ -1,8 +1,8 @@
 #!/usr/bin/python3
-"""A session of six commands under each plan that loses, damages or spoils a single block, or (pairs) two near ones.
+"""Runs a session of six commands under each plan that loses, damages or spoils one block, or (pairs) two near ones.
 usage: sweep.py READER PLAN_FILE singles|pairs
-The line that it prints: plans, commands, right, failed (the client was told so), wrong (it was told a wrong answer),
-and the first plan with any that wasn't right."""
+It prints a line: plans, commands, right, failed (the client got an error), wrong (it got a wrong answer), and the first
+plan with a command that wasn't right."""
 import sys
 from client import Client, Told, counted, echo, read
 
@@ -23,7 +23,7 @@ def pairs():
 
 
 def session(client, plan):
-    """Of the session's commands how many were right, failed and wrong."""
+    """Counts the session's commands that are right, failed and wrong."""
     try:
         client.reset(plan)
     except Told:

@@ -1,6 +1,6 @@
 #!/usr/bin/python3
-"""Tries the clients of this folder and those that Debian brings, through each reader of examples/pcsc, and prints what
-came of it as tables in Markdown. tools/pcsc/run calls it.
+"""Tries the clients of this folder and those of Debian through each reader of examples/pcsc, and prints the results as
+tables in Markdown. tools/pcsc/run calls it.
 usage: tables.py PROGRAMS DIR SCARD    where examples/pcsc was built, a folder to run in, and the program, or none"""
 import datetime
 import glob
@@ -38,7 +38,7 @@ def stop():
 
 
 def said(*words, text=None):
-    """What a command says, on both of its streams."""
+    """The output of a command, on both of its streams."""
     return subprocess.run(words, input=text, text=True, stdout=subprocess.PIPE, stderr=subprocess.STDOUT).stdout
 
 
@@ -50,7 +50,7 @@ def client(script, way, *words):
 # ---- what is tried through each way: the words of a cell ----
 
 def debian(way):
-    """The clients that Debian brings: they list the reader, show the card, and send it a command."""
+    """Debian's clients: they list the reader, show the card, and send it a command."""
     select = "00 A4 04 00 07 F0 53 43 41 52 44 01 00"
     opensc = ("opensc-tool", "--card-driver", "default", "--reader", "0")
     wanted = {
@@ -104,7 +104,7 @@ def descriptors():
 
 
 def leaks(way):
-    """What valgrind says of our processes, and of pcscd with our driver in it, over 1,000 exchanges."""
+    """What valgrind reports for our processes, and for pcscd with our driver, over 1,000 exchanges."""
     stop()
     way.start(VALGRIND)
     line = client("exchanges", way, "1000", "2", "3000")
@@ -144,7 +144,7 @@ def tried(way):
 
 
 def troubles(way):
-    """Each trouble with what the client is told through a way; codes without the SCARD_ that each begins with."""
+    """Each trouble with what the client gets through a way. Codes are without their SCARD_."""
     way.start()
     lines = said("/usr/bin/python3", "-B", f"{HERE}/troubles.py", DIR, PROGRAMS, way.words[0]).splitlines()
     stop()

@@ -1,6 +1,7 @@
 #!/usr/bin/python3
-"""What becomes of a command whose last block is damaged until the terminal asks for RESYNCH. Its data field ends in the
-octets of another command, READ BINARY, which are that block; nobody sent it.
+"""Sends a command whose last block is damaged until the terminal asks for RESYNCH. The octets of that block, the end of
+the data field, are another command, READ BINARY, which nobody sent. Prints what the card executed and what
+the client got.
 usage: tail.py READER PLAN_FILE RECORD     the session's recording becomes RECORD.1, or .2 and so on"""
 import glob
 import os

@@ -1,7 +1,7 @@
 #!/usr/bin/python3
-"""What a client is told when processes end in the midst of things, when a card is slow, and when it is used by two.
+"""Shows what a client gets when processes end during a session, when a card is slow, and when two clients use it.
 usage: troubles.py DIR PROGRAMS driver|twin    DIR is that of `readers start`, PROGRAMS has the card and twin
-Prints rows: the trouble, what the client is told and when, and what the next session gives."""
+Prints rows: the trouble, what the client gets and when, and the result of the next session."""
 import os
 import signal
 import subprocess
@@ -20,7 +20,7 @@ LONGEST = 30  # seconds
 
 
 def late(tenths):
-    """A command that the card answers after so many tenths of a second."""
+    """A command that the card answers after `tenths` tenths of a second."""
     return bytes([0x80, 0x10, tenths >> 8, tenths & 255])
 
 
@@ -30,7 +30,7 @@ def process_of(name):
 
 
 def is_there(process):
-    """Whether a process runs; one that ended and that nobody waited for doesn't."""
+    """Whether a process runs. A zombie doesn't."""
     try:
         with open(f"/proc/{process}/stat") as file:
             return file.read().rpartition(")")[2].split()[0] != "Z"
@@ -50,7 +50,7 @@ def start(name, *words):
     """Starts a program again, as `readers start` did."""
     if name == "pcscd":
         words = ("pcscd", "--foreground", "--info", "-c", os.path.join(DIR, "readers"))
-        if os.path.exists(SOCKET):  # pcscd takes one of a process that nobody waited for yet for another pcscd's
+        if os.path.exists(SOCKET):  # pcscd takes the socket of a zombie for that of another pcscd
             os.remove(SOCKET)
     else:
         words = (os.path.join(PROGRAMS, name), os.path.join(DIR, name), *words)
@@ -62,7 +62,7 @@ def start(name, *words):
 
 
 def renew(*words):
-    """Starts the card anew, and for `twin`, which is a reader too, pcscd: it doesn't look for a serial reader again."""
+    """Restarts the card and, for `twin`, which is a reader too, pcscd: it doesn't look for a serial reader again."""
     end(OURS)
     if WAY == "twin":
         end("pcscd")
@@ -72,7 +72,7 @@ def renew(*words):
 
 
 def told(call, *arguments):
-    """What a call gives, and after how many seconds. Where it gives nothing for LONGEST, pcscd is started anew."""
+    """What a call returns, and after how many seconds. If it doesn't return within LONGEST, pcscd is restarted."""
     said = []
 
     def make():
@@ -94,7 +94,7 @@ def told(call, *arguments):
 
 
 def next_session():
-    """What a new client has of a session: right answers, or what it is told; it tries for some seconds."""
+    """The result of a new client's session: right answers, or an error. It retries for some seconds."""
     for _ in range(20):
         try:
             client = Client(WORD, PLAN)
@@ -113,7 +113,7 @@ def row(trouble, said, seconds, after):
 
 
 def begun(plan=""):
-    """A client with a session begun. A card that was put in just now is waited for."""
+    """A client that has begun a session. It waits for a card that was just put in."""
     client = Client(WORD, PLAN)
     for _ in range(20):
         try:

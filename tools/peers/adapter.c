@@ -85,7 +85,7 @@ static void start(struct link *link, uint8_t ifsc)
     }
 }
 
-/* Carries what the terminal sends, until it is done: 0, or what the harness has for a failure. */
+/* Exchanges blocks until the terminal is done. Returns 0, or the code of the harness for a failure. */
 static int carry(struct scard_turn turn, uint8_t *block)
 {
     uint8_t back[BACK];
@@ -123,7 +123,7 @@ struct terminal ours = {"scard", start, transmit, ask_ifs};
 
 /* ---- both of our ends ---- */
 
-/* One block to the card and the one that it sends back; its host replies at once. */
+/* Passes one block to the card, and returns the length of its answer. The host replies at once. */
 static size_t served(struct scard_handle *card, const uint8_t *sent, size_t count, const uint8_t *reply,
                      size_t reply_count, uint8_t *back)
 {

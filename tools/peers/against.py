@@ -4,9 +4,9 @@
 usage: tools/peers/against.py PAGE RUN..
 
 PAGE is docs/PERFORMANCE.md or one like it, whose rows have the work, the other stack, both times and the ratio. Each
-RUN is what the program times printed. A row is named where its ratio is more than 8 percent over that of the page in
-every run; the page's ratio counts with half of its last digit more, since it is rounded. A row that only one side has
-is named too. The status is 1 where one is named.
+RUN is the output of the program times. The script names a row if its ratio is more than 8 percent over that of the page
+in every run. Half of the last digit is added to the page's ratio, since it is rounded. A row that only one side has is
+named too. The status is 1 if a row is named.
 """
 
 import pathlib

@@ -1,5 +1,5 @@
-/* libccid's side: its engine as a terminal on our line, and its codecs. The engine's source is taken in here, since
- * some of what is called is static there. What it asks of the driver below it is answered here.
+/* libccid's side: its engine as a terminal on our line, and its codecs. This file includes the engine's source, since
+ * some of the called functions are static there. It also has the functions of the driver below the engine.
  */
 #include "peers.h"
 

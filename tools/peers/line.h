@@ -4,10 +4,10 @@
 
 #include "adapter.h"
 
-/* Damaged: the check octet is another one. Invalid: another node address, under an LRC that fits. Changed: any octet is
- * any other one, LEN too. Cut: octets are missing at the end. Extended: octets follow. After these come the faults of
- * which nothing is promised. Headless: octets are missing at the front. Dropped, inserted: one octet is missing, or one
- * more is there. Twice: two octets are other ones. Swapped: two octets are in each other's place. */
+/* Damaged: the check octet is wrong. Invalid: another node address, with a valid LRC. Changed: any octet is any other
+ * one, LEN too. Cut: octets are missing at the end. Extended: octets follow. Nothing is promised about the faults after
+ * these. Headless: octets are missing at the front. Dropped, inserted: one octet is missing, or one more is there.
+ * Twice: two octets are other ones. Swapped: two octets are in each other's place. */
 enum fault {
     NONE, LOST, DAMAGED, INVALID, CHANGED, CUT, EXTENDED, FAULTS,
     HEADLESS = FAULTS, DROPPED, INSERTED, TWICE, SWAPPED, ALL_FAULTS
@@ -22,11 +22,10 @@ struct event {
 struct link {
     const struct event *events;
     size_t event_count;
-    unsigned blocks; /* how many there were */
+    unsigned blocks; /* how many blocks there were */
 };
 
-/* What the card's host does: writes the reply to a command, and says how many octets it has and whether it wants more
- * time first. */
+/* The card's host: writes the reply to a command, returns its length, and says whether it needs more time first. */
 struct host {
     size_t (*reply)(void *self, const uint8_t *command, size_t count, uint8_t *out, int *wants_time);
     void *self;
@@ -35,14 +34,14 @@ struct host {
 /* A new card with this information size and this host. */
 void new_card(uint8_t ifsc, struct host host);
 
-/* Hears each block on the line beside the ends: whose it is (enum scard_end), its octets, and those that came of them,
- * 0 where nothing came. */
+/* Gets each block on the line: which end sent it (enum scard_end), its octets, and the octets that arrived, 0 if none
+ * did. */
 typedef void tap(int from, const uint8_t *sent, size_t count, const uint8_t *came, size_t came_count);
 
-/* From now on this one hears the line. */
+/* From now on this function gets each block on the line. */
 void tap_line(tap *hears);
 
-/* libccid's terminal; a block that doesn't come is told to it as a card that is mute, or as an error of parity. */
+/* libccid's terminal. A missing block is reported to it as a mute card, or as a parity error. */
 extern struct terminal libccid_mute, libccid_parity;
 
 #endif

@@ -12,7 +12,7 @@ union opensc_apdu {
 int sc_bytes2apdu(void *context, const uint8_t *octets, size_t count, union opensc_apdu *apdu);
 int sc_asn1_read_tag(const uint8_t **octets, size_t count, unsigned *class_of, unsigned *tag, size_t *len);
 
-enum { CONSTRUCTED = 0x20 }; /* of a class as it gives it */
+enum { CONSTRUCTED = 0x20 }; /* in a class as it returns it */
 
 int opensc_command(const uint8_t *octets, size_t count)
 {

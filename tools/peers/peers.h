@@ -10,7 +10,7 @@ size_t libccid_block_encode(const uint8_t *inf, size_t count, uint8_t *out);
 int libccid_block_check(uint8_t *octets, size_t count);
 uint8_t libccid_lrc(const uint8_t *octets, size_t count);
 
-/* OpenSC: a command that stays where it is; the objects of a forest, -1 where it is none */
+/* OpenSC: a command, without a copy; the objects of a forest, -1 if the octets are no forest */
 int opensc_command(const uint8_t *octets, size_t count);
 long opensc_forest(const uint8_t *octets, size_t count);
 /* OpenSSL: the objects of a forest, likewise */

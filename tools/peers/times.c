@@ -1,5 +1,5 @@
-/* How long each work takes with us and with a peer: a row for each, with the least of its rounds in nanoseconds and
- * the ratio. Rounds of the two take turns, and are so short that some meet no other work, on a busy machine too.
+/* Compares how long each work takes with us and with a peer. Prints a row for each, with the least of its rounds in
+ * nanoseconds and the ratio. The two take turns by rounds, so short that some run undisturbed even on a busy machine.
  * usage: times ATRS, a file with an answer to reset in hexadecimal in each line
  */
 #define _POSIX_C_SOURCE 200809L
@@ -33,7 +33,7 @@ static double round_of(job *work, unsigned times)
     return (now() - began) / times;
 }
 
-/* How often a work is done in a round, so that the round takes a third of a millisecond at least. */
+/* How often to repeat a work in a round, so that the round takes at least a third of a millisecond. */
 static unsigned times_of(job *work)
 {
     unsigned times = 1;
@@ -219,7 +219,7 @@ static const struct tag inner[] = {
     {{0x5A}, 1}, {{0x84}, 1}, {{0x9F, 0x02}, 2}, {{0x5F, 0x2A}, 2}, {{0xDF, 0x81, 0x29}, 3},
 };
 
-/* Writes a tag and room for the length field of a value of at most `most` octets; gives where the value begins. */
+/* Writes a tag and room for the length field of a value of at most `most` octets; returns where the value begins. */
 static size_t opened(size_t at, const struct tag *tag, size_t most)
 {
     memcpy(forest + at, tag->octets, tag->count);
@@ -240,8 +240,8 @@ static void closed(size_t begin, size_t most, size_t len)
     }
 }
 
-/* Fills the room before `end` with objects of this depth, and says where they end. A flat forest has values of 100 to
- * 250 octets; in a nested one two of three objects above depth 16 have objects inside, and values are short.
+/* Fills the room before `end` with objects of this depth, and returns where they end. A flat forest has values of 100
+ * to 250 octets. In a nested one two of three objects above depth 16 have objects inside, and values are short.
  */
 static size_t grown(size_t at, size_t end, int depth, int is_flat, long *objects)
 {

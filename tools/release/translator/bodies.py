@@ -1,8 +1,8 @@
 """Writes the functions of a module as C.
 
-A value that an instruction leaves is kept as an expression until it is used, or until what it is made of changes; then
-it goes to a variable. A frame is the part of the module's stack that a function takes: its size is in the code, so an
-access to it is known to lie in it, and `at` of machine.h is called once for all of it.
+The value of an instruction is kept as an expression until it is used, or until a part of it changes; then it goes to a
+variable. A frame is the part of the module's stack that a function takes. Its size is in the code, so an access is
+known to lie in it, and `at` of machine.h is called once for the whole frame.
 """
 
 import dataclasses
@@ -16,20 +16,20 @@ from wasm import (BLOCK, BR, BR_IF, BR_TABLE, CALL, DROP, ELSE, END, GLOBAL_GET,
 TYPES = {I32: "u32", I64: "u64"}
 BITS = {I32: 32, I64: 64}
 LONGEST = 90
-# what is never so
+# a condition that is never true
 NEVER = "0u"
 
-# the orders, by the place after the first of a type: how they compare, and whether the numbers have a sign
+# the comparisons, by their distance from the first of a type: the operator in C, and whether numbers are signed
 COMPARED = [("==", 0), ("!=", 0), ("<", 1), ("<", 0), (">", 1), (">", 0), ("<=", 1), ("<=", 0), (">=", 1), (">=", 0)]
 OPPOSITE = {"==": "!=", "!=": "==", "<": ">=", ">": "<=", "<=": ">", ">=": "<"}
-# what two numbers make, by the place after `add` of a type
+# the operations on two numbers, by their distance from `add` of a type
 MADE = ["{a} + {b}", "{a} - {b}", "{a} * {b}", None, "quotient{n}({a}, {b})", None, "rest{n}({a}, {b})", "{a} & {b}",
         "{a} | {b}", "{a} ^ {b}", "{a} << {c}", "signed_right{n}({a}, {b})", "{a} >> {c}", "left{n}({a}, {b})",
         "right{n}({a}, {b})"]
-# those that make a sum
+# the operations that make a sum
 ADDED = {MADE[0]: 1, MADE[1]: -1}
 COUNTED = ["leading{n}({a})", "trailing{n}({a})", "ones{n}({a})"]
-# loads and stores: the type, how many bits are moved, and the bits of a number whose sign is spread
+# loads and stores: the type, how many bits are moved, and the bits of a number that is sign-extended
 LOADED = {0x28: (I32, 32, 0), 0x29: (I64, 64, 0), 0x2C: (I32, 8, 8), 0x2D: (I32, 8, 0), 0x2E: (I32, 16, 16),
           0x2F: (I32, 16, 0), 0x30: (I64, 8, 8), 0x31: (I64, 8, 0), 0x32: (I64, 16, 16), 0x33: (I64, 16, 0),
           0x34: (I64, 32, 32), 0x35: (I64, 32, 0)}
@@ -39,9 +39,8 @@ SPREAD = {0xC0: (I32, 8), 0xC1: (I32, 16), 0xC2: (I64, 8), 0xC3: (I64, 16), 0xC4
 
 @dataclasses.dataclass
 class Value:
-    """A value on the stack: how C says it, its type, the variables that it is made of, whether memory is read for it;
-    where it says whether something is so, the words of that and of the opposite; and where it is a sum of variables and
-    a number, that."""
+    """A value on the stack: its text in C, its type, the variables in it, and whether it reads memory. A condition also
+    has its text in C and that of the opposite. A sum of variables and a number also has that sum."""
 
     text: str
     type: int
@@ -58,8 +57,8 @@ class Value:
 
 @dataclasses.dataclass
 class Block:
-    """A block that is open: which instruction began it, its label, the values below it, its result, and whether
-    anything jumps to the label or can come here; and what is known of places on each way that leads to its end."""
+    """An open block: the instruction that began it, its label, the values below it, its result, and whether anything
+    jumps to the label or can come here; and what is known about places on each path to its end."""
 
     code: int
     label: int
@@ -72,7 +71,7 @@ class Block:
 
 
 def constant(number, kind):
-    """A number as C says it."""
+    """A number in C."""
     bits = BITS[kind]
     number %= 1 << bits
     end = "u" if bits == 32 else "ull"
@@ -80,13 +79,13 @@ def constant(number, kind):
 
 
 def value_of(text, kind, *parts, **more):
-    """A value that is made of others."""
+    """A value that is made from others."""
     names = frozenset().union(*(it.names for it in parts))
     return Value(text, kind, names, any(it.reads for it in parts), is_plain=False, **more)
 
 
 def frames_of(function):
-    """The variables that are set to the places of frames, the place of the stack less a number, with these numbers."""
+    """The variables that are set to a frame, which is the place of the stack less a number; and these numbers."""
     found, body = {}, function.body
     for at, (code, said) in enumerate(body[:-3]):
         if (code, said) == (GLOBAL_GET, 0) and body[at + 1][0] == I64_CONST and body[at + 2][0] == 0x7D:
@@ -115,8 +114,8 @@ def set_in_loop(body, at):
 
 
 def own_frame(function):
-    """Gives the place of the frame a variable of its own, where the compiler sets the one for it again later: that is
-    read where no later set can have come before, as one in the same loop."""
+    """Gives the place of the frame its own variable, in case the compiler sets the first one again. The new one is read
+    where no later set can have come before, such as one in the same loop."""
     body, loops = function.body, loops_of(function.body)
     for name in frames_of(function):
         sets = [at for at, it in enumerate(body) if it in ((LOCAL_SET, name), (LOCAL_TEE, name))]
@@ -130,7 +129,7 @@ def own_frame(function):
 
 
 def kept(function):
-    """The frames whose variables are set to nothing else, also those that are copies of such a one."""
+    """The frames whose variables have no other value, and the copies of such variables."""
     body = function.body
     sets = [said for code, said in body if code in (LOCAL_SET, LOCAL_TEE)]
     found = {name: size for name, size in frames_of(function).items() if sets.count(name) == 1}
@@ -141,8 +140,8 @@ def kept(function):
 
 
 def looks_at_stack(body, at):
-    """Whether the place of the stack is only compared with a number, as where a function sees that there is room; it may
-    be kept in a variable too, from which it is set again."""
+    """Whether the place of the stack is only compared with a number, as in a check for room. It may also be kept in a
+    variable, from which it is set again."""
     after = at + 2 if body[at + 1][0] == LOCAL_TEE else at + 1
     return body[at] == (GLOBAL_GET, 0) and body[after][0] == I64_CONST and 0x51 <= body[after + 1][0] <= 0x5A
 
@@ -181,7 +180,7 @@ class Writer:
         self.stack[height] = Value(name, value.type, frozenset([name]))
 
     def settle(self, name, but=-1):
-        """Keeps the values that a variable is in, before it changes."""
+        """Keeps the values that contain a variable, before it changes."""
         for height, value in enumerate(self.stack):
             if height != but and name in value.names and value.text != name:
                 self.keep(height)
@@ -189,13 +188,13 @@ class Writer:
                 self.keep(height)
 
     def settle_reads(self):
-        """Keeps the values for which memory is read, before it changes."""
+        """Keeps the values that read memory, before it changes."""
         for height, value in enumerate(self.stack):
             if value.reads:
                 self.keep(height)
 
     def settle_all(self):
-        """Keeps all values but numbers, where a block begins."""
+        """Keeps all values except numbers, before a block begins."""
         for height, value in enumerate(self.stack):
             if value.names or value.reads:
                 self.keep(height)
@@ -219,7 +218,7 @@ class Writer:
         return self.lines
 
     def skip(self, code):
-        """An instruction that nothing reaches."""
+        """Skips an instruction that nothing reaches."""
         if code in (BLOCK, LOOP, IF):
             self.dead += 1
         elif code == END or (code == ELSE and self.dead == 1):
@@ -229,7 +228,7 @@ class Writer:
                 self.end() if code == END else self.otherwise()
 
     def one(self, code, said):
-        """An instruction."""
+        """Writes an instruction."""
         if code in RUN_ENDS:
             self.near.ended()
         if code in (BLOCK, LOOP, IF):
@@ -250,7 +249,7 @@ class Writer:
             self.count(code)
 
     def begin(self, code, gives):
-        """A block, a loop or a condition."""
+        """Begins a block, a loop or a condition."""
         if gives not in (NO_RESULT, I32, I64):
             raise Unfit("a block takes something, or has several results")
         condition = self.pop() if code == IF else None
@@ -269,8 +268,8 @@ class Writer:
             self.say(f"if ({self.holds(condition)[0]}) {{")
 
     def folded(self, block):
-        """Writes what a loop leaves that makes an exclusive-or of octets, where these are in one piece. Whether it is
-        such a loop; then the same loop as it is comes next, in braces."""
+        """Writes the result of a loop that makes an exclusive-or of octets, for octets in one piece. Returns whether it
+        is such a loop. If so, the loop itself follows unchanged, in braces."""
         loop = exclusive_or(self.function.body, self.at)
         if not loop:
             return False
@@ -295,7 +294,7 @@ class Writer:
             self.keep(block.height)
 
     def otherwise(self):
-        """What is done where a condition doesn't hold."""
+        """Begins the part for a condition that doesn't hold."""
         block = self.blocks[-1]
         otherwise = block.known.pop(0)
         if block.is_reached:
@@ -307,7 +306,7 @@ class Writer:
         self.say("} else {")
 
     def end(self):
-        """The end of a block."""
+        """Ends a block."""
         block = self.blocks[-1]
         if block.is_reached:
             self.leave(block)
@@ -331,7 +330,7 @@ class Writer:
             self.stack.append(Value(name, kind, frozenset([name])))
 
     def way(self, depth):
-        """The words that go to the label of a block that is open, with the result in its place."""
+        """The words in C that jump to the label of an open block, with the result in its place."""
         if depth == len(self.blocks) - 1:
             return f"return {self.stack[-1].text};" if self.function.gives else "return;"
         block = self.blocks[-1 - depth]
@@ -397,7 +396,7 @@ class Writer:
         self.dead = 1
 
     def call(self, place):
-        """A call of another function."""
+        """Writes a call of another function."""
         called = self.module.functions[place]
         self.settle_reads()
         count = len(called.takes)
@@ -430,7 +429,7 @@ class Writer:
         self.get(place)
 
     def framed(self, place):
-        """Where a variable is the place of a frame, finds the octets of the frame."""
+        """If a variable is the place of a frame, finds the octets of the frame."""
         if place in self.frames:
             self.say(f"f{place} = at(m, v{place}, {self.frames[place]});")
 
@@ -446,7 +445,7 @@ class Writer:
     # ---- memory ----
 
     def frame(self, address, offset, octets):
-        """The octets in the frame that an address and an offset lead to, where they do."""
+        """The octets in the frame at an address and an offset, if they are in one."""
         place = next(iter(address.sum.parts), None) if address.sum and list(address.sum.parts.values()) == [1] else None
         first = address.sum.number + offset if address.sum else 0
         if place in self.frames and first + octets <= self.frames[place]:
@@ -454,8 +453,8 @@ class Writer:
         return None
 
     def held(self, address, offset, octets):
-        """The words for octets that are in what is held, where they are: what is held, the number of octets before
-        them, and its address."""
+        """The words for octets that are held, if they are: the held place, the number of octets before them, and its
+        address."""
         if not address.sum:
             return None
         first, found = self.near.accessed(self.at, address.sum, offset, octets)
@@ -513,11 +512,11 @@ class Writer:
     # ---- numbers ----
 
     def holds(self, value):
-        """How C says that a value isn't 0, and that it is."""
+        """The conditions in C that a value isn't 0, and that it is."""
         return value.holds or (value.text, f"{value.part()} == 0")
 
     def count(self, code):
-        """An instruction that makes a number of one or two."""
+        """Writes an instruction that makes a number from one or two."""
         for first, kind in ((0x45, I32), (0x50, I64)):
             if code == first:
                 value = self.pop()
@@ -545,7 +544,7 @@ class Writer:
         return self.truth(f"{left} {order} {right}", f"{left} {OPPOSITE[order]} {right}", a, b)
 
     def is_stack(self, value):
-        """Whether a value is the place of the stack or of a frame, which never is as low as a function asks: it is in a
+        """Whether a value is the place of the stack or of a frame. It is never as low as a function's limit: it is in a
         window, and a frame is held to it."""
         return value.text == "m->g0" or value.text in (f"v{place}" for place in self.frames)
 
@@ -563,7 +562,7 @@ class Writer:
         self.push(value_of(text, kind, a, b, sum=total))
 
     def change(self, code):
-        """An instruction that makes a number of another type, or spreads a sign."""
+        """Writes an instruction that changes a number's type, or extends its sign."""
         value = self.pop()
         if code == 0xA7:
             self.push(value_of(f"(u32){value.part()}", I32, value))

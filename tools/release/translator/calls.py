@@ -8,20 +8,20 @@ from bodies import TYPES, Writer, frames_of, looks_at_stack, own_frame
 from header import COUNT, NUMBERS
 from wasm import CALL, GLOBAL_GET, I32, I64, Unfit
 
-# the windows of machine.h: the first that a pointer of the caller's gets, and how many there are
+# the windows of machine.h: the first one for a pointer of the caller, and how many there are
 FIRST_GIVEN, WINDOWS = 2, 8
-# the limit of a message or forest, which is no number of elements
+# the limit of a message or forest, which doesn't count elements
 LIMIT = "max"
 KINDS = {"size_t": I64, "uint64_t": I64, "uint8_t": I32, "bool": I32, "uint16_t": I32, "uint32_t": I32}
 
 
 def wrapped(head, words, end):
-    """A line that is broken after a comma where it is too long."""
+    """A line, broken after a comma if it is too long."""
     return "\n".join(textwrap.wrap(head + words + end, 118, subsequent_indent="    ", break_long_words=False))
 
 
 def expected(call):
-    """The types that the module's function has for a call of the header."""
+    """The types of the module's function for a call of the header."""
     takes = [I64] if call.gives.startswith("struct ") else []
     takes += [I64 if it.is_pointer else KINDS[it.type] for it in call.takes]
     gives = [] if call.gives == "void" or call.gives.startswith("struct ") else [KINDS[call.gives]]
@@ -29,7 +29,7 @@ def expected(call):
 
 
 def counted(call, place):
-    """The argument that counts what a pointer leads to, or none where that is one."""
+    """The argument that counts the elements at a pointer, or None if there is only one."""
     one = call.takes[place]
     after = call.takes[place + 1] if place + 1 < len(call.takes) else None
     is_size = after and after.type == "size_t" and not after.is_pointer
@@ -63,8 +63,8 @@ class Depths:
 
 
 def octets_of(struct):
-    """Where each octet of a struct of the module lies on a machine, lowest first or last. One that is in no field lies
-    where it is: the module copies whole structs."""
+    """Where each octet of a struct of the module lies on a machine, lowest first or last. An octet outside all fields
+    keeps its place: the module copies whole structs."""
     lowest, highest = list(range(struct.octets)), list(range(struct.octets))
     for it in struct.fields:
         for place in range(it.octets):
@@ -88,7 +88,7 @@ def layout(struct):
 
 
 def element_of(struct):
-    """What the pointer in a struct leads to, where it has one."""
+    """What the pointer in a struct points to, if it has one."""
     pointers = [it for it in struct.fields if it.is_pointer]
     if not pointers:
         return "NULL", ""
@@ -107,7 +107,7 @@ def element_of(struct):
 
 
 def shape(struct):
-    """What machine.h has to know of a struct whose octets lie otherwise on some machine."""
+    """What machine.h needs for a struct whose octets lie elsewhere on some machine."""
     name = struct.name.removeprefix("scard_")
     lowest, highest = octets_of(struct)
     element, function = element_of(struct)
@@ -157,13 +157,13 @@ class Calls:
         return [it if names.count(it) == 1 else f"{it}_{at}" for at, it in enumerate(names)]
 
     def is_shaped(self, call):
-        """Whether a call is lent structs with pointers, whose octets lie otherwise on every machine."""
+        """Whether a call gets structs with pointers, whose octets lie elsewhere on every machine."""
         lent = [self.structs[it.type.removeprefix("struct ")] for it in call.takes
                 if it.is_pointer and it.is_const and it.type.startswith("struct ")]
         return any(it.has_pointers() for it in lent)
 
     def reached(self, places):
-        """Functions, with all that they call."""
+        """Some functions, with all that they call."""
         found, new = set(), set(places)
         while new:
             found |= new
@@ -171,7 +171,7 @@ class Calls:
         return found
 
     def writer(self, place):
-        """What writes a function; where no octets that it reaches lie otherwise on every machine, it holds accesses to
+        """The writer of a function. If no octets that it reaches lie elsewhere on every machine, it holds accesses to
         their windows together."""
         first = Writer(self.module, place, self.names)
         if place in self.shaped:
@@ -187,7 +187,7 @@ class Calls:
         return wrapped(f"static {gives} {self.names[place]}(", ", ".join(["struct call *m", *takes]), ")")
 
     def function(self, place):
-        """A function of the module."""
+        """Writes a function of the module."""
         function = self.module.functions[place]
         writer = self.writer(place)
         lines = writer.write()
@@ -206,8 +206,8 @@ class Calls:
         return "\n".join([self.head(place), "{", *own, *indented(lines), "}", ""])
 
     def lent(self, call):
-        """The lines that lend what a call's pointers lead to, the words that stand for its arguments, and the windows
-        that are structs."""
+        """The lines that lend what a call's pointers point to, the words for its arguments, and the windows that are
+        structs."""
         lines, given, window = [], [], FIRST_GIVEN
         shaped = 0
         for place, one in enumerate(call.takes):
@@ -251,7 +251,7 @@ class Calls:
         return found[0] if found else None
 
     def call(self, call):
-        """A call of the header."""
+        """Writes a call of the header."""
         function = self.module.exports[call.name]
         of_module = self.module.functions[function]
         if (of_module.takes, of_module.gives) != expected(call):
@@ -276,7 +276,7 @@ class Calls:
         return "\n".join([*text, *(broken(it) for it in lines), "}", ""])
 
     def ended(self, call, made, gives, place, image):
-        """The lines that make the module's call, and give what it gave."""
+        """The lines that make the module's call, and return its result."""
         if gives:
             return [f"{made};", *self.unpacked(gives, "result.", f"stack + {place}"), "return result;"]
         if image:
@@ -286,7 +286,7 @@ class Calls:
         return [f"return {made} != 0;" if call.gives == "bool" else f"return ({call.gives}){made};"]
 
     def unpacked(self, struct, to, image):
-        """The lines that read the fields of a struct of the module's from octets."""
+        """The lines that read the fields of a struct of the module from octets."""
         lines = []
         for it in struct.fields:
             read = f"get{8 * it.octets}({image}{f' + {it.place}' if it.place else ''})"
@@ -298,13 +298,13 @@ class Calls:
 
 
 def broken(line, depth=1):
-    """A line so far in, and further in where it goes on."""
+    """A line at this depth, indented further where it continues."""
     first, more = "    " * depth, "    " * (depth + 1)
     return "\n".join(textwrap.wrap(line, 118, initial_indent=first, subsequent_indent=more, break_long_words=False))
 
 
 def indented(lines):
-    """The lines of a function's body, each as far in as its braces say; a label is at the margin."""
+    """The lines of a function's body, each indented by its braces. A label is at the margin."""
     depth, found = 1, []
     for line in lines:
         if line.startswith("}"):

@@ -43,13 +43,13 @@ class Struct:
         return any(it.is_pointer for it in self.fields)
 
     def lies_otherwise(self):
-        """Whether there is a machine on which its octets don't lie as in the module."""
+        """Whether its octets lie elsewhere than in the module on some machine."""
         return any(it.octets > 1 for it in self.fields)
 
 
 @dataclasses.dataclass
 class Taken:
-    """What a call takes: its type without `const`, its name, and whether it is a pointer, and to what isn't changed."""
+    """An argument: its type without `const`, its name, whether it is a pointer, and whether to what isn't changed."""
 
     type: str
     name: str
@@ -59,7 +59,7 @@ class Taken:
 
 @dataclasses.dataclass
 class Call:
-    """A call: what it gives, its name, what it takes, and how the header says that."""
+    """A call: its result, its name, its arguments, and its text in the header."""
 
     gives: str
     name: str
@@ -76,7 +76,7 @@ def declared(text):
 
 
 def placed(kind, path, known):
-    """The fields of one value of a type from place 0 on, its octets and its alignment."""
+    """The fields of one value of a type at place 0, its octets and its alignment."""
     if kind.startswith("struct "):
         inner = known[kind.removeprefix("struct ")]
         return [(it.path, it.place, it.octets, it.is_pointer, it.type) for it in inner.fields], inner.octets, inner.aligned
@@ -110,7 +110,7 @@ def struct_of(name, body, known):
 
 
 def taken(text):
-    """What a call takes, by its declaration."""
+    """An argument of a call, by its declaration."""
     if text.strip() == "void":
         return []
     found = []

@@ -1,9 +1,9 @@
-"""Finds the loops of a function that make the exclusive-or of octets which lie one after another, as that of a block
-is made: their turns can be counted before the first, so all that they read is known to lie in one window, and the
-octets can be taken many at a time.
+"""Finds the loops of a function that make the exclusive-or of consecutive octets, such as that of a block. Their turns
+can be counted before the first one. So all that they read is known to lie in one window, and the octets can be taken
+many at a time.
 
-A number of 64 bits is followed through a turn as a sum: variables as they are when the turn begins, each so many times,
-and a number. Only sums that change by the same number in each turn are reckoned with.
+A number of 64 bits is followed through a turn as a sum: variables as they are when the turn begins, each with a factor,
+and a number. Only sums that change by the same number in each turn count.
 """
 
 import dataclasses
@@ -17,12 +17,12 @@ ONE = {EQZ32, EQZ64, 0x67, 0x68, 0x69, 0x79, 0x7A, 0x7B, 0xA7, 0xAC, 0xAD, *rang
 
 
 class Other(Exception):
-    """The loop isn't one of these."""
+    """The loop isn't such a loop."""
 
 
 @dataclasses.dataclass
 class Sum:
-    """Variables, each so many times, and a number."""
+    """Variables, each with a factor, and a number."""
 
     parts: dict
     number: int = 0
@@ -37,7 +37,7 @@ class Sum:
         return tuple(sorted(self.parts.items()))
 
     def text(self):
-        """The sum as C says it."""
+        """The sum in C."""
         words = []
         for name, count in sorted(self.parts.items()):
             if count == ALL - 1:
@@ -53,7 +53,7 @@ class Sum:
 
 @dataclasses.dataclass
 class Folded:
-    """The exclusive-or of variables and of loads of an octet each, by their numbers."""
+    """The exclusive-or of variables and of loads of one octet, by their numbers."""
 
     names: frozenset
     loads: list
@@ -61,10 +61,9 @@ class Folded:
 
 @dataclasses.dataclass
 class Loop:
-    """Such a loop: the turns after the first are `left` / `by`, where that leaves no rest; in the first turn it reads
-    `step` octets from the place `start` on, and in each other one those after them. `makes` is the variable for the
-    exclusive-or, and `others` are the other variables: what each has after the first turn, and by how much that grows in
-    each."""
+    """Such a loop. The turns after the first are `left` / `by`, if that has no remainder. The first turn reads `step`
+    octets from the place `start` on, and each other turn the next ones. `makes` is the variable for the exclusive-or.
+    `others` are the other variables: the value of each after the first turn, and by how much it grows in each turn."""
 
     left: Sum
     by: int
@@ -111,7 +110,7 @@ class Turn:
         return value
 
     def made(self, code, a, b):
-        """What two values make: a sum, or whether they differ."""
+        """The result of two values: a sum, or whether they differ."""
         if isinstance(a, Sum) and isinstance(b, Sum):
             if code in (ADD, SUB):
                 return a.plus(b, 1 if code == ADD else -1)
@@ -136,7 +135,7 @@ class Turn:
 
 
 def steps(turn):
-    """By how much each variable that the turn changes grows, where that is one number."""
+    """By how much each variable that the turn changes grows, if that is one number."""
     found = {}
     for name, value in turn.set.items():
         if isinstance(value, Sum) and value.plus(Sum({name: 1}), -1).parts == {}:
@@ -153,8 +152,8 @@ def growth(value, turn, growing):
 
 
 def read(turn, growing):
-    """The place from which the first turn reads, and how many octets: they lie one after another, and those of the next
-    turn after them."""
+    """The place from which the first turn reads, and how many octets. They are consecutive, and those of the next turn
+    follow them."""
     bases = {base.key() for base, _ in turn.loads}
     places = sorted((base.number + offset) % ALL for base, offset in turn.loads)
     if len(bases) != 1 or places != list(range(places[0], places[0] + len(places))):
@@ -166,7 +165,7 @@ def read(turn, growing):
 
 
 def turns(turn, growing):
-    """What has to be 0 after a turn for it to be the last, and by how much that falls in each turn."""
+    """The sum that is 0 after the last turn, and by how much it falls in each turn."""
     if len(turn.stack) != 1 or not isinstance(turn.stack[0], tuple) or turn.stack[0][0] != "so":
         raise Other
     left = turn.stack[0][1]
@@ -177,7 +176,7 @@ def turns(turn, growing):
 
 
 def made(turn, count):
-    """The variable that has the exclusive-or of all octets that are read, and of itself before."""
+    """The variable with the exclusive-or of its value before and of all octets that are read."""
     found = [name for name, value in turn.set.items() if isinstance(value, Folded)]
     if len(found) != 1 or turn.set[found[0]].names != {found[0]}:
         raise Other
@@ -187,7 +186,7 @@ def made(turn, count):
 
 
 def followed(body):
-    """A loop whose body this is, without its `end`."""
+    """The loop with this body, which is without its `end`."""
     if not body or body[-1] != (BR_IF, 0):
         raise Other
     turn = Turn()
@@ -200,13 +199,13 @@ def followed(body):
     rest = {name: it for name, it in turn.set.items() if name != makes}
     if any(not isinstance(it, Sum) or makes in it.parts for it in rest.values()):
         raise Other
-    # those that grow come last, since the others are made of them as they are before
+    # growing variables come last, since the others are made from their values before
     order = sorted(rest, key=lambda name: name in growing)
     return Loop(left, by, start, step, makes, [(name, rest[name], growth(rest[name], turn, growing)) for name in order])
 
 
 def exclusive_or(body, at):
-    """What is known of the loop that begins at an instruction, where it is such a one."""
+    """The loop that begins at an instruction, if it is such a loop."""
     depth, end = 1, at + 1
     while depth:
         depth += 1 if body[end][0] in (BLOCK, LOOP, IF) else -1 if body[end][0] == END else 0

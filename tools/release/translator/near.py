@@ -1,9 +1,9 @@
 """Finds the accesses of a function that can be held to their window together.
 
-In a straight run of instructions, which no jump leaves or enters, all accesses are made or none, so those whose
-addresses differ by a number alone are held to their window once, before the first, from the least of their octets to the
-last. That refuses just what holding each by itself refuses, since a window is in one piece. What was found so is known as
-long as none of the variables of the address changes, on each way that comes from there.
+In a straight run of instructions, which no jump leaves or enters, all accesses are made or none. So accesses whose
+addresses differ only by a number are held to their window once, before the first, from the lowest of their octets to
+the last. That refuses exactly what holding each access by itself refuses, since a window is in one piece. The result
+holds until a variable of the address changes, on each path from there.
 
 A function is followed twice: first to see which accesses each run has, and then to write them.
 """
@@ -14,7 +14,7 @@ import dataclasses
 from loops import ALL
 
 
-# more octets than this aren't held together
+# accesses over more octets than this aren't held together
 MOST = 1 << 31
 
 
@@ -37,23 +37,23 @@ def signed(number):
 
 
 class Near:
-    """What is known of the octets that a function reaches, where its writer is; and what each run accesses."""
+    """What is known at the writer's place about the octets that a function reaches; and what each run accesses."""
 
     def __init__(self, plan=None):
         self.plan, self.groups = plan or {}, {}
         self.run, self.known, self.changes = 0, frozenset(), collections.Counter()
 
     def ended(self):
-        """A run ends."""
+        """Ends a run."""
         self.run += 1
 
     def changed(self, variable):
-        """A variable changes."""
+        """Notes that a variable changes."""
         self.changes[variable] += 1
         self.known = frozenset(it for it in self.known if not it.mentions(variable))
 
     def accessed(self, at, address, offset, octets):
-        """An access by the instruction at a place: what has to be held first, if anything, and what it then is in."""
+        """Takes an access of the instruction at a place: what to hold first, if anything, and what it is then in."""
         key, first = address.key(), signed((address.number + offset) % ALL)
         group = (self.run, key, tuple(self.changes[name] for name, _ in key))
         self.groups.setdefault(group, []).append((at, first, first + octets))
@@ -65,7 +65,7 @@ class Near:
         return held, self.holding(key, first, octets)
 
     def holding(self, key, first, octets):
-        """Known octets that some are in."""
+        """Known octets that contain these."""
         fit = [it for it in self.known if it.key == key and it.first <= first and first + octets <= it.end]
         return min(fit, key=lambda it: it.name, default=None)
 

@@ -29,7 +29,7 @@ HERE = pathlib.Path(__file__).resolve().parent
 
 
 def constants(module):
-    """The constants of the module, whose first address is FIRST."""
+    """The module's constants in C. Their first address is FIRST."""
     octets = module.constants or b"\0"
     text = f"#define FIRST {module.first}u\n\nstatic const unsigned char constants[{len(octets)}] = {{\n{rows(octets)}\n}};\n"
     return "/* ---- the constants of the module ---- */\n\n" + text

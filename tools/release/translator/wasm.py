@@ -1,5 +1,5 @@
-"""Reads a module of WebAssembly: its sections, and of a module that tools/release/wasm made its functions, constants
-and globals."""
+"""Reads a module of WebAssembly: its sections and, if tools/release/wasm made it, its functions, constants and
+globals."""
 
 import dataclasses
 
@@ -16,7 +16,7 @@ NO_RESULT = 0x40
 
 
 class Unfit(Exception):
-    """A module that isn't as it has to be, and why."""
+    """A module with a wrong form, and why."""
 
 
 def number(octets, at):
@@ -50,7 +50,7 @@ def sections(module):
 
 @dataclasses.dataclass
 class Function:
-    """A function: what it takes and gives, its own variables, and its instructions, each with what is said with it."""
+    """A function: what it takes and returns, its own variables, and its instructions, each with its operand."""
 
     name: str
     takes: list
@@ -61,8 +61,8 @@ class Function:
 
 @dataclasses.dataclass
 class Module:
-    """The functions by their numbers, the numbers of those that are exported by their names, the types of the global
-    variables and what they begin with, and the constants with their first place."""
+    """The functions by number, the numbers of the exported ones by name, the types and first values of the global
+    variables, and the constants with their first place."""
 
     functions: list
     exports: dict
@@ -94,7 +94,7 @@ def several(octets, at):
 
 
 def types_of(octets):
-    """What the functions of each type take and give."""
+    """What the functions of each type take and return."""
     rows, at = each(octets)
     types = []
     for _ in rows:
@@ -148,7 +148,7 @@ def data_of(octets):
 
 
 def instruction(octets, at):
-    """An instruction with what is said with it, and where it ends."""
+    """An instruction with its operand, and where it ends."""
     code, at = octets[at], at + 1
     if code == MORE:
         more, at = number(octets, at)
@@ -182,7 +182,7 @@ def body_of(octets):
         at += 1
     while at < len(octets):
         one, at = instruction(octets, at)
-        # a variable that is set to what it has stays as it is
+        # an assignment of a variable to itself is left out
         if one[0] != LOCAL_TEE or body[-1] != (LOCAL_GET, one[1]):
             body.append(one)
     return variables, body[:-1]
