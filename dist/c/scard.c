@@ -303,10 +303,10 @@ static const unsigned char constants[7952] = {
 
 /* ---- the machine: written by hand ----
  *
- * The functions of the module see one memory. Here an address has the number of a window in its upper bits, and in the
- * lower ones a place in it: window 0 is the constants, 1 the stack of the call, and those after them are what the
- * caller's pointers lead to, each with its length. So a call uses the caller's buffers where they are, and whatever the
- * functions do, no access leaves the window that its address names: one that would calls scard_trap.
+ * The functions of the module see one memory. Here an address has the number of a window in its upper bits, and a place
+ * in the window in its lower bits. Window 0 is the constants, 1 the stack of the call, and the windows after them are
+ * what the caller's pointers point to, each with its length. So a call uses the caller's buffers where they are.
+ * Whatever the functions do, no access leaves the window of its address: one that would calls scard_trap.
  */
 #include <stdlib.h>
 #include <string.h>
@@ -315,9 +315,9 @@ typedef uint8_t u8;
 typedef uint32_t u32;
 typedef uint64_t u64;
 
-/* An access that would leave its window ends here, and so does a division by 0 and whatever else the module says is
- * never reached. It can't happen unless a promise of the caller's is broken, or one of the tools by which this file was
- * made is wrong. A program that defines SCARD_OWN_TRAP has a function scard_trap of its own, which may not return.
+/* An access that would leave its window ends here, and so does a division by 0 and anything else that the module marks
+ * as unreachable. It can't happen unless the caller breaks a promise, or a tool that made this file is wrong. A program
+ * that defines SCARD_OWN_TRAP has its own function scard_trap, which may not return.
  */
 #ifdef SCARD_OWN_TRAP
 #ifdef __cplusplus
@@ -353,16 +353,16 @@ static void scard_trap(void)
 #define INLINE static inline
 #endif
 
-/* What makes one access, which gcc may call instead where there are many, though that takes longer. */
+/* For functions that make one access: gcc may call them instead of inlining many, though that takes longer. */
 #if defined(__GNUC__) && defined(__OPTIMIZE__) && !defined(__OPTIMIZE_SIZE__)
 #define ACCESS __attribute__((unused, always_inline)) static inline
 #else
 #define ACCESS INLINE
 #endif
 
-/* Where numbers of several octets lie with the lowest octet first, as in the module, they are read and written as they
- * are; elsewhere, and where SCARD_BY_OCTETS is defined, octet by octet. So they are on an ARM that reads no number from
- * any place, as Cortex-M0, where memcpy would be called for each.
+/* If numbers of several octets lie with the lowest octet first, as in the module, they are read and written whole.
+ * Otherwise, or if SCARD_BY_OCTETS is defined, they are read and written octet by octet. So they are on an ARM without
+ * unaligned access, such as Cortex-M0, where memcpy would be called for each.
  */
 #if !defined(SCARD_BY_OCTETS) && !(defined(__arm__) && !defined(__ARM_FEATURE_UNALIGNED)) && \
     ((defined(__BYTE_ORDER__) && __BYTE_ORDER__ == __ORDER_LITTLE_ENDIAN__) || defined(_M_IX86) || defined(_M_X64) || \
@@ -380,7 +380,7 @@ static void scard_trap(void)
 #define HIGHEST_FIRST 0
 #endif
 
-/* Whether structs that are only numbers may lie otherwise here than in the module. */
+/* Whether structs of only numbers may lie here in another way than in the module. */
 #if HIGHEST_FIRST || defined(SCARD_SHAPED)
 #define MAY_LIE_OTHERWISE 1
 #else
@@ -464,9 +464,9 @@ ACCESS void put64(u8 *at, u64 number)
 #define WINDOWS 8
 #define ADDRESS(window) (((u64)(window) << SHIFT) + FIRST)
 
-/* An array of structs whose octets lie here otherwise than in the module, or that have pointers: `octet` has the place
- * of each octet of such a struct here, or IN_POINTER and its number in a pointer. `element` gives what the pointer in
- * a struct leads to, and its length; addresses of that are in the window `leads_to`.
+/* An array of structs whose octets lie here in another way than in the module, or that have pointers. `octet` has the
+ * place of each octet of such a struct here, or IN_POINTER and its number in a pointer. `element` returns what the
+ * pointer in a struct points to, and its length. Addresses of that are in the window `leads_to`.
  */
 #define IN_POINTER 0xFFF0u
 struct shaped {
@@ -478,16 +478,16 @@ struct shaped {
     u32 leads_to;
 };
 
-/* A call that is under way: its windows, and the global variables of the module. */
+/* A call in progress: its windows, and the global variables of the module. */
 struct call {
 #if IS_WIDE
-    u64 end[WINDOWS];       /* the first address after the window, less FIRST; 0 where there is none */
+    u64 end[WINDOWS];       /* the first address after the window, less FIRST; 0 without a window */
     uintptr_t from[WINDOWS]; /* what an address less FIRST has to be added to */
 #else
     u32 end[WINDOWS]; /* the length */
     u8 *from[WINDOWS];
 #endif
-    struct shaped *shaped; /* one for each window where there are any, else null */
+    struct shaped *shaped; /* one for each window if there are any, else null */
     u64 g0;
     u32 g1;
 };
@@ -503,9 +503,9 @@ struct call {
 #define PLACE(m, t) ((m)->from[WINDOW(t)] + (u32)(t))
 #endif
 
-/* ---- structs that lie otherwise ---- */
+/* ---- structs that lie in another way ---- */
 
-/* Which element an address less FIRST is in, and its window; WINDOWS where it is in no element. */
+/* Which element an address less FIRST is in, and its window; WINDOWS if it is in no element. */
 INLINE u32 leads(const struct call *m, u64 t, u64 *element)
 {
     u32 window;
@@ -527,7 +527,7 @@ INLINE u32 leads(const struct call *m, u64 t, u64 *element)
     return WINDOWS;
 }
 
-/* The octets of what a pointer in a struct leads to; null where the address is none of these. */
+/* The octets that a pointer in a struct points to; null if the address isn't that of such octets. */
 APART u8 *element_at(const struct call *m, u64 t, u64 n)
 {
     u64 element, size;
@@ -667,7 +667,7 @@ ACCESS void store64(const struct call *m, u64 a, u64 offset, u64 number)
     }
 }
 
-/* Where `n` octets from an address on are, 1 at least; null where they aren't in one piece. */
+/* Where `n` octets from an address on are, 1 at least; null if they aren't in one piece. */
 INLINE u8 *piece(const struct call *m, u64 a, u64 n)
 {
     u64 t = a - FIRST;
@@ -677,7 +677,7 @@ INLINE u8 *piece(const struct call *m, u64 a, u64 n)
     return SELDOM(LEAVES(m, t, n)) ? element_at(m, t, n) : PLACE(m, t);
 }
 
-/* The same for a number of octets below 2^31, where they are in one piece. */
+/* The same for fewer than 2^31 octets, which have to be in one piece. */
 APART u8 *element_only(const struct call *m, u64 t, u64 n)
 {
     u8 *found = element_at(m, t, n);
@@ -693,8 +693,9 @@ ACCESS u8 *at(const struct call *m, u64 a, u32 n)
     return SELDOM(LEAVES(m, t, n)) ? element_only(m, t, n) : PLACE(m, t);
 }
 
-/* Where `n` octets from an address on are that several accesses are in, which all are made or none: they are held to
- * their window here, once. On a machine where structs lie otherwise it may be null; then each access is to such a struct.
+/* Where `n` octets from an address on are. Several accesses are in them, which are all made or none, and are held to
+ * their window here, once. On a machine where structs lie in another way it may be null: then each access is to such a
+ * struct.
  */
 ACCESS u8 *held(const struct call *m, u64 a, u32 n)
 {
@@ -743,8 +744,8 @@ ACCESS void put_held64(u8 *p, u32 place, const struct call *m, u64 a, u64 number
     IS_HELD(p) ? put64(p + place, number) : apart_store(m, a + place - FIRST, 8, number);
 }
 
-/* Where a loop reads that goes on `turns` / `by` times after its first turn, `step` octets from an address on and then
- * those after them. Null where these aren't in one piece, or the turns can't be counted so.
+/* Where a loop reads that repeats `turns` / `by` times after its first turn: `step` octets from an address on, and then
+ * the next ones. Null if these aren't in one piece, or the turns can't be counted so.
  */
 INLINE const u8 *span(const struct call *m, u64 a, u64 turns, u32 by, u32 step)
 {
@@ -755,7 +756,7 @@ INLINE const u8 *span(const struct call *m, u64 a, u64 turns, u32 by, u32 step)
     return PLACE(m, t);
 }
 
-/* The exclusive-or of octets, 1 at least: 32 at a time, where there are so many. */
+/* The exclusive-or of octets, 1 at least: 32 at a time, if there are as many. */
 INLINE u32 exclusive_or(const u8 *at, u64 count)
 {
     u64 a = 0, b = 0, c = 0, d = 0;
@@ -932,7 +933,7 @@ INLINE u32 leading32(u32 number)
 
 /* ---- what the calls use ---- */
 
-/* Has a window lead to the caller's octets. */
+/* Sets a window to the caller's octets. */
 INLINE void lend(struct call *m, u32 window, const void *at, u64 size)
 {
     if (SELDOM(size >> (SHIFT - 1))) {
@@ -947,7 +948,7 @@ INLINE void lend(struct call *m, u32 window, const void *at, u64 size)
 #endif
 }
 
-/* The same for structs that lie otherwise here. */
+/* The same for structs that lie here in another way. */
 INLINE void lend_shaped(struct call *m, u32 window, const void *at, u64 count, struct shaped shape)
 {
     shape.at = (u8 *)(uintptr_t)at;
@@ -963,7 +964,7 @@ INLINE void lend_shaped(struct call *m, u32 window, const void *at, u64 count, s
 #define LEND(m, window, at, count, shape) lend(m, window, at, (u64)(count) * (shape).each)
 #endif
 
-/* Where a text of the module's is; the empty one where it has no place. */
+/* Where a text of the module is; the empty text if it has no place. */
 INLINE const char *constant_at(u64 address)
 {
     return address - FIRST < sizeof constants ? (const char *)constants + (address - FIRST) : "";
