@@ -240,8 +240,11 @@ taken_note words name =
 abbrev pub version_said : List ℕ
 version_said = codes "--version takes no other word: scard --version\n"
 
+abbrev pub has_word : List ℕ → List (List ℕ) → Bool
+has_word wanted words = list_any (λ word. bytes_eq word wanted) words
+
 abbrev pub has_version : List (List ℕ) → Bool
-has_version words = list_any (λ word. bytes_eq word (codes "--version")) words
+has_version words = has_word (codes "--version") words
 
 -- a subcommand that reads a file from standard input and takes no word for it
 abbrev pub reads_a_file : List ℕ → Bool

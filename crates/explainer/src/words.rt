@@ -3,7 +3,7 @@
 ghost use Rattle.std.specs.Prelude.{◌≡◌, ◌≢◌, [], IfOk, string_bytes};
 ghost use Rattle.clap.specs.Words.{fault_of};
 ghost use Rattle.command_line.specs.Form.{scard, texts};
-ghost use Rattle.explainer.specs.Words.{has_version, help_note, input_note, is_subcommand, nth_note, option_note, reads_a_file, taken_note, IsShownNote, IsWordsNote};
+ghost use Rattle.explainer.specs.Words.{has_version, has_word, help_note, input_note, is_subcommand, nth_note, option_note, reads_a_file, taken_note, IsShownNote, IsWordsNote};
 ghost use Rattle.explainer.specs.Places.{subcommand};
 
 use crate::built::build_note;
@@ -47,8 +47,15 @@ fn parser_note(alloc: Global, words: &[String], message: &str) -> Result<String,
 fn has_version(words: &[String]) -> bool
     ensures { result ≡ has_version (texts words.now) }
 {
+    has_word(words, "--version")
+}
+
+/// Whether one of these words is `wanted`. The text is a parameter, since a literal in a loop takes long to prove.
+fn has_word(words: &[String], wanted: &str) -> bool
+    ensures { result ≡ has_word wanted.now (texts words.now) }
+{
     for word in words {
-        if word.as_str() == "--version" {
+        if word.as_str() == wanted {
             return true;
         }
     }

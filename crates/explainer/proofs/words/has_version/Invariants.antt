@@ -1,8 +1,0 @@
-use Rattle.std.proofs.Common.{◌≡◌, drop}
-use Rattle.command_line.specs.Form.{texts}
-use Rattle.explainer.specs.Words.{has_version}
-use Rattle.explainer.proofs.words.has_version.Given as goal
-
--- no word so far is it, so it is among those that are left
-abbrev pub invariant-loop-word : goal.invariant-loop-word
-invariant-loop-word l = has_version (texts (drop l.word-index l.words)) ≡ has_version (texts l.words)
