@@ -17,8 +17,9 @@ use c_lent::verdict::Verdict;
 /// known value.
 ///
 /// Returns `ARGUMENT` with place 0 if a tag isn't valid, a format is above 2, or the list has more than 2^48 octets.
-/// Otherwise returns the refusal if the list is refused, or `DUPLICATE` if two known values have the same tag. The call
-/// compares all pairs of known values. For each entry it searches them one by one.
+/// Otherwise returns the refusal if the list is refused, or `DUPLICATE` if two known values have the same tag. If the
+/// buffer is too small, returns `ARGUMENT` with the room needed, and writes nothing. The call compares all pairs of
+/// known values. For each entry it searches them one by one.
 #[unsafe(no_mangle)]
 pub extern "C" fn scard_dol_fill(list: &[u8], known: &[CKnown<'_>], out: &mut [u8]) -> Verdict
     ensures filled { length list.now ≤ longest_list → AreKnown known.now → (IsRefusal result → ⊥)

@@ -1,10 +1,10 @@
 -- How many objects are open: as many as there are kept places after the octets that came.
 use Rattle.std.proofs.Common.{◌≡◌, ℕ, ◌+◌, ◌<◌, ◌≤◌, List, [], ◌∷◌, ◌++◌, length, take, refl, sym, ap, subst, ◌∙◌, inl, inr, arith, zero, suc, cond, Bool, nat_lt}
-use Rattle.std.specs.Prelude.{count_by, slice_set, slice_index}
+use Rattle.std.specs.Prelude.{count_by, slice_index}
 use Rattle.std.specs.List.{prefix_len}
 use borrow.Author.Tests.{lt-ltb, le-ltb}
-use Rattle.std.proofs.lemmas.Bool.{cases_lt, cases_eq}
-use Rattle.std.proofs.lemmas.List.{length-take, take-take, get_or-take, get_or-set_same, get_or-set_other}
+use Rattle.std.proofs.lemmas.Bool.{cases_lt}
+use Rattle.std.proofs.lemmas.List.{length-take, take-take, get_or-take}
 use Rattle.std.proofs.lemmas.List.Sums.{sum_by-cons, prefix_len-le-length}
 use Rattle.tlv_core.specs.Open.{AreEnds, AreFrom, AreNested, AreReached, AreUpTo, open_after, rooms_to}
 use Rattle.tlv_core.specs.Steps.{entered}
@@ -184,18 +184,4 @@ kept_up_to max count n places most ends h within i =
         get_or-take n places i 0 lt,
       )
       | inr le ↦ omega (arith, h i le, within)
-    ]
-
--- nor one more place that is written
-pub set_up_to : (max n e : ℕ) (places : List ℕ) → n < length places → AreUpTo max places → e ≤ max
-    → AreUpTo max (slice_set places n e)
-set_up_to max n e places room h most i =
-    elim (cases_eq i n) [
-      | inl same ↦ omega (
-        arith,
-        ap (λ (j : ℕ). slice_index (slice_set places n e) j) same,
-        get_or-set_same places n e 0 room,
-        most,
-      )
-      | inr other ↦ omega (arith, get_or-set_other places n i e 0 other, h i)
     ]

@@ -4,7 +4,7 @@ ghost use Rattle.std.specs.Prelude.{nat_lt, ◌≡◌, ◌+◌, ◌-◌, ◌<◌
 ghost use Rattle.tlv_core.specs.Open.{AreEnds, AreNested, AreReached, AreUpTo};
 
 use crate::progress::DEEPEST;
-use crate::short::{ShortHeader, short_header};
+use crate::short::{ShortHeader, outermost_header, short_header};
 
 /// The index of the spare place, after one place for each object that may be open. It takes the end of an object that
 /// doesn't stay open.
@@ -118,15 +118,20 @@ impl OpenEnds {
     }
 
     /// Returns the header of the next object if its length field has at most three octets, and the whole header is here
-    /// and fits. The value must be here too if the object is primitive.
+    /// and fits. The value must be here too if the object is primitive. Whether the object is taken as an outermost one
+    /// changes the time alone.
     #[inline(always)]
-    pub(crate) fn next_short(&self, octets: &[u8]) -> Option<ShortHeader>
+    pub(crate) fn next_short(&self, octets: &[u8], as_outermost: bool) -> Option<ShortHeader>
         ensures { IfSome result (MayCome (kept_idle self.now) octets.now) }
     {
         if self.level >= DEEPEST {
             return None;
         }
-        let object = short_header(octets)?;
+        let object = if as_outermost {
+            outermost_header(octets)?
+        } else {
+            short_header(octets)?
+        };
         if object.whole() > self.room() {
             return None;
         }
@@ -166,14 +171,16 @@ impl OpenEnds {
             return;
         }
         let place = self.place_for(whole, taken);
-        self.places[place] = (self.count + whole) as u32;
+        let end = (self.count + whole) as u32;
         self.count += taken;
-        self.level = number_after(&self.places, self.count);
+        // counted first, since a processor that reads four places at once waits for one that was just written
+        let around = number_after(&self.places, self.count);
+        self.places[place] = end;
+        self.level = level_after(self.level, whole, taken, around);
     }
 
     /// Returns the index of the place for the end of an object of `whole` octets, after `taken` of them. If the object
-    /// was taken whole, it is the spare place. The other places are counted next, and a processor that reads four
-    /// places at once waits for one that was just written.
+    /// was taken whole, it is the spare place. So the places that the next object counts stay as they were.
     #[inline(always)]
     fn place_for(&self, whole: usize, taken: usize) -> usize
         ensures open { taken < whole → result ≡ self.now.level }
@@ -198,6 +205,17 @@ impl OpenEnds {
         }
         self.level = number_after(&self.places, self.count);
     }
+}
+
+/// Returns how many objects are open after `taken` octets of an object of `whole`. Before it `level` objects were open,
+/// and `around` of them still are. If the object isn't taken whole, all of them are, and it is open too.
+#[inline(always)]
+fn level_after(level: usize, whole: usize, taken: usize, around: usize) -> usize
+    requires { level < 16 }
+    ensures open { taken < whole → result ≡ level + 1 }
+    ensures taken { whole ≤ taken → result ≡ around }
+{
+    if taken < whole { level + 1 } else { around }
 }
 
 /// Counts the places after `count` octets, without the spare one. The places follow no order here, so the loop compares

@@ -90,7 +90,11 @@ impl PartWalk {
         if self.progress.value_left() > 0 || self.progress.count() >= octets.len() {
             return None;
         }
-        take_short(&mut self.progress, octets)
+        // two calls, so that the compiler makes code for outermost objects alone, where no place is counted
+        match self.progress.level() {
+            0 => take_short(&mut self.progress, octets, true),
+            _ => take_short(&mut self.progress, octets, false),
+        }
     }
 }
 
@@ -144,15 +148,16 @@ fn advance(progress: &mut Progress, octets: &[u8]) -> Result<Option<PlacedPart>,
         progress.skip(left.min(octets.len() - progress.count()));
         return Ok(None);
     }
-    if let Some(part) = take_short(progress, octets) {
+    if let Some(part) = take_short(progress, octets, false) {
         return Ok(Some(part));
     }
     take_first(progress, octets)
 }
 
-/// Takes an object with a short header, if the next one has such a header.
+/// Takes an object with a short header, if the next one has such a header. Whether it is taken as an outermost one
+/// changes the time alone.
 #[inline(always)]
-fn take_short(progress: &mut Progress, octets: &[u8]) -> Option<PlacedPart>
+fn take_short(progress: &mut Progress, octets: &[u8], as_outermost: bool) -> Option<PlacedPart>
     requires here { progress.old.ends.count ≤ length octets.now }
     requires idle { progress.old.value_left ≡ 0 }
     ensures limit { progress.new.ends.max ≡ progress.old.ends.max }
@@ -164,7 +169,7 @@ fn take_short(progress: &mut Progress, octets: &[u8]) -> Option<PlacedPart>
     ensures none { IfNone result (progress.new ≡ progress.old) }
 {
     let count = progress.count();
-    let short = progress.next_short(&octets[count..])?;
+    let short = progress.next_short(&octets[count..], as_outermost)?;
     let place = count + usize::from(short.header);
     let part = PlacedPart::of(progress.level() + 1, short.object(), place);
     progress.pass(short);

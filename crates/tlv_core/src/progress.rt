@@ -245,7 +245,7 @@ impl Progress {
     {
         let mut ends = self.ends;
         let mut taken = 0;
-        while let Some(object) = ends.next_short(&octets[taken..]) {
+        while let Some(object) = ends.next_short(&octets[taken..], ends.level() == 0) {
             ends.pass(object);
             taken += object.taken();
         }
@@ -259,7 +259,7 @@ impl Progress {
     /// Returns the header of the next object if its length field has at most three octets, and the whole header is
     /// here and fits. The value must be here too if the object is primitive.
     #[inline(always)]
-    pub(crate) fn next_short(&self, octets: &[u8]) -> Option<ShortHeader>
+    pub(crate) fn next_short(&self, octets: &[u8], as_outermost: bool) -> Option<ShortHeader>
         requires { self.now.value_left ≡ 0 }
         ensures some { IfSome result (MayCome (kept_of self.now) octets.now) }
         ensures nothing { IfSome result (λ _. self.now.header ≡ Nothing) }
@@ -268,7 +268,7 @@ impl Progress {
         if !self.header.is_nothing() {
             return None;
         }
-        self.ends.next_short(octets)
+        self.ends.next_short(octets, as_outermost)
     }
 
     /// Passes over an object with a short header, or enters it if it is constructed and not empty.

@@ -162,7 +162,7 @@ impl ForestReader {
         ensures memory { OnErr result
             (HasAdvanced self.old octets.now self.new (Err refused.Memory)) }
     {
-        let Some(short) = self.progress.next_short(octets) else {
+        let Some(short) = self.progress.next_short(octets, false) else {
             return Ok(None);
         };
         self.tree.reserve()?;

@@ -85,67 +85,91 @@ impl ShortHeader {
     }
 }
 
-/// How many octets are copied to read a short header. It has at most six, and eight are copied in one step.
+/// How many octets a short header is read from. It has at most six, and eight are copied in one step.
 const FRONT: usize = 8;
 
 /// Returns the short header at the front of these octets, if they have all that is taken of the object in one step.
+///
+/// The octets of its tag are counted without a branch. Inside objects their number varies too much to be guessed.
 #[inline(always)]
 pub(crate) fn short_header(octets: &[u8]) -> Option<ShortHeader>
     ensures { IfSome result
         (λ object. IsShort octets.now object × (taken_of object ≤ length octets.now)) }
 {
-    let found = header_at(&front_of(octets))?;
+    match octets.first_chunk::<FRONT>() {
+        Some(front) => header_within(octets, front, tag_at(front)),
+        None => Some(header_of_few(octets)?),
+    }
+}
+
+/// Returns the short header of an outermost object, as [`short_header`] does.
+///
+/// The octets of its tag are counted by branches. A processor guesses these, and reads on before it knows the number.
+/// This saves a third of the time for a list of objects.
+#[inline(always)]
+pub(crate) fn outermost_header(octets: &[u8]) -> Option<ShortHeader>
+    ensures { IfSome result
+        (λ object. IsShort octets.now object × (taken_of object ≤ length octets.now)) }
+{
+    match octets.first_chunk::<FRONT>() {
+        Some(front) => header_within(octets, front, tag_by_branches(front)),
+        None => Some(header_of_few(octets)?),
+    }
+}
+
+/// Returns the short header of fewer octets. Zeros are put after them, so that the header is read from places that
+/// always exist. This is a separate function: inlined, its array would be cleared for every header. A caller takes its
+/// result apart by `?`, since what it returns is in memory, and another header is in registers.
+#[cold]
+#[inline(never)]
+fn header_of_few(octets: &[u8]) -> Option<ShortHeader>
+    requires { length octets.now < 8 }
+    ensures { IfSome result
+        (λ object. IsShort octets.now object × (taken_of object ≤ length octets.now)) }
+{
+    let mut front = [0; FRONT];
+    front[..octets.len()].copy_from_slice(octets);
+    header_within(octets, &front, tag_at(&front))
+}
+
+/// Returns the short header at the front of octets, if they have all that is taken of the object in one step. `front`
+/// begins with the first of them, and `tag` is the number of octets of the tag there.
+#[inline(always)]
+fn header_within(octets: &[u8], front: &[u8; FRONT], tag: Option<usize>) -> Option<ShortHeader>
+    requires front { take (length octets.now) front.now ≡ take 8 octets.now }
+    requires tag { IfSome tag (λ n. IsTag (take n front.now)) }
+    requires few { IfSome tag (λ n. (0 < n) × (n ≤ 3)) }
+    ensures { IfSome result
+        (λ object. IsShort octets.now object × (taken_of object ≤ length octets.now)) }
+{
+    let found = header_at(front, tag?)?;
     if found.taken() > octets.len() {
         return None;
     }
     Some(found)
 }
 
-/// Returns the first octets, with zeros after the last if there are fewer. They are copied so that the header is read
-/// from places that always exist. Reading from the octets themselves takes a quarter longer.
+/// Returns the short header at the front after a tag of `count` octets, if there is one.
 #[inline(always)]
-fn front_of(octets: &[u8]) -> [u8; FRONT]
-    ensures { take (length octets.now) result ≡ take 8 octets.now }
-{
-    if let Some(front) = octets.first_chunk::<FRONT>() {
-        return *front;
-    }
-    front_of_few(octets)
-}
-
-/// Returns fewer octets, with zeros after them. This is a separate function: inlined, its array would be cleared for
-/// every header.
-#[cold]
-#[inline(never)]
-fn front_of_few(octets: &[u8]) -> [u8; FRONT]
-    requires { length octets.now < 8 }
-    ensures { take (length octets.now) result ≡ take 8 octets.now }
-{
-    let mut front = [0; FRONT];
-    front[..octets.len()].copy_from_slice(octets);
-    front
-}
-
-/// Returns the short header at the front, if there is one.
-#[inline(always)]
-fn header_at(front: &[u8; FRONT]) -> Option<ShortHeader>
+fn header_at(front: &[u8; FRONT], count: usize) -> Option<ShortHeader>
+    requires tag { IsTag (take count front.now) }
+    requires some { 0 < count }
+    requires few { count ≤ 3 }
     ensures { IfSome result (IsShort front.now) }
 {
-    let count = tag_at(front)?;
     let length = length_at(front, count)?;
     Some(ShortHeader {
-        tag: Tag::front(front[0], front[1], front[2], count),
+        tag: Tag::front(front[0], front[1], front[2], count as u8),
         form: length.form,
-        header: count + 1 + length.form.further(),
+        header: count as u8 + 1 + length.form.further(),
         is_constructed: is_constructed(front[0]),
         len: length.len,
     })
 }
 
-/// Returns the number of octets of the tag at the front. It varies from object to object, so it is counted without a
-/// branch.
+/// Returns the number of octets of the tag at the front, without a branch.
 #[inline(always)]
-fn tag_at(front: &[u8; FRONT]) -> Option<u8>
+fn tag_at(front: &[u8; FRONT]) -> Option<usize>
     ensures tag { IfSome result (λ n. IsTag (take n front.now)) }
     ensures few { IfSome result (λ n. (0 < n) × (n ≤ 3)) }
 {
@@ -156,17 +180,36 @@ fn tag_at(front: &[u8; FRONT]) -> Option<u8>
     if !is_tag {
         return None;
     }
-    Some(1 + u8::from(is_long) + u8::from(is_longer))
+    Some(1 + usize::from(is_long) + usize::from(is_longer))
+}
+
+/// Returns the number of octets of the tag at the front, by a branch for each number. It is a `usize`, since a
+/// processor that writes one octet of a register waits for the others.
+#[inline(always)]
+fn tag_by_branches(front: &[u8; FRONT]) -> Option<usize>
+    ensures tag { IfSome result (λ n. IsTag (take n front.now)) }
+    ensures few { IfSome result (λ n. (0 < n) × (n ≤ 3)) }
+{
+    let [first, second, third, ..] = *front;
+    if !is_long(first) {
+        return if first == 0 { None } else { Some(1) };
+    }
+    if second < 0x80 {
+        return if second == 0 { None } else { Some(2) };
+    }
+    if second == 0x80 || third >= 0x80 {
+        return None;
+    }
+    Some(3)
 }
 
 /// Returns the length field after a tag of `tag` octets, if it has at most three octets.
 #[inline(always)]
-fn length_at(front: &[u8; FRONT], tag: u8) -> Option<ShortLength>
+fn length_at(front: &[u8; FRONT], tag: usize) -> Option<ShortLength>
     requires { tag ≤ 3 }
     ensures { IfSome result (IsShortLength (drop tag front.now)) }
 {
-    let at = usize::from(tag);
-    let (first, second, third) = (front[at], front[at + 1], front[at + 2]);
+    let (first, second, third) = (front[tag], front[tag + 1], front[tag + 2]);
     match first {
         0x81 => Some(ShortLength {
             form: Form::Two,

@@ -1,13 +1,14 @@
-use Rattle.std.proofs.Common.{◌≡◌, ◌<◌, ◌≤◌, ◌+◌, ◌-◌, ◌++◌, ◌∷◌, [], List, ℕ, take, length, refl, sym, ap, subst, inl, inr, nat_lt, arith}
+use Rattle.std.proofs.Common.{◌≡◌, ◌<◌, ◌≤◌, ◌+◌, ◌-◌, ◌++◌, ◌∷◌, [], List, ℕ, take, length, refl, sym, ap, subst, ◌∙◌, inl, inr, nat_lt, lt-ltb, le-ltb, cond, Bool, arith}
 use Rattle.std.specs.Prelude.{slice_set, slice_index, count_by}
 use Rattle.std.proofs.lemmas.Bool.{cases_lt, cases_eq}
+use Rattle.std.proofs.lemmas.List.Sums.{sum_by-set}
 use Rattle.std.proofs.lemmas.List.{length-take, length-append, take_more_set, take-set-le, get_or-set_same, get_or-set_other}
 use Rattle.tlv_core.specs.declared.open_ends.OpenEnds.{OpenEnds}
-use Rattle.tlv_core.specs.Open.{AreNested, AreReached, AreUpTo, open_after, rooms_to}
+use Rattle.tlv_core.specs.Open.{AreEnds, AreNested, AreReached, open_after, rooms_to}
 use Rattle.tlv_core.specs.Reasons.{room_of}
 use Rattle.tlv_core.specs.OpenEnds.{ends_of}
-use Rattle.tlv_core.proofs.Ends.{ends-now, ends-push, nested-now, nested-push, from-room, from-less, fewer-now, room-within}
-use Rattle.tlv_core.proofs.Counting.{Counted, counted, counted_reached, kept_up_to, set_up_to}
+use Rattle.tlv_core.proofs.Ends.{ends-all, ends-now, ends-push, nested-now, nested-push, from-room, from-less, fewer-now, room-within}
+use Rattle.tlv_core.proofs.Counting.{Counted, counted, counted_reached, kept_up_to}
 use Rattle.tlv_core.proofs.open_ends.OpenEnds.enter.Goals as goal
 
 -- an object of so many octets fits
@@ -102,55 +103,107 @@ placed_at s whole taken place h =
       | inr le ↦ omega (arith, h.passes le, h.all)
     ]
 
--- the spare place isn't after the octets
-spare_then : (s : OpenEnds) (whole taken place : ℕ) → Placed s whole taken place
-    → slice_index (with_place s whole place) 16 ≤ s.count + taken
-spare_then s whole taken place h =
+-- before it is written, that place isn't after the octets
+before : (s : OpenEnds) (whole taken place : ℕ) → Placed s whole taken place
+    → slice_index s.places place ≤ s.count + taken
+before s whole taken place h =
+    elim (cases_lt taken whole) [
+      | inl lt ↦ omega (arith, s.reached place (omega (arith, h.opens lt)))
+      | inr le ↦ omega (arith, s.reached place (omega (arith, h.passes le, h.shallow)))
+    ]
+
+-- an end is after the octets if some of the object are still to come
+end_after : (count whole taken : ℕ) → nat_lt (count + taken) (count + whole) ≡ nat_lt taken whole
+end_after count whole taken =
+    elim (cases_lt taken whole) [
+      | inl lt ↦ lt-ltb (count + taken) (count + whole) (omega (arith, lt)) ∙ sym (lt-ltb taken whole lt)
+      | inr le ↦ le-ltb (count + taken) (count + whole) (omega (arith, le)) ∙ sym (le-ltb taken whole le)
+    ]
+
+-- so many places are after the octets with it: those before, and its own if it is open
+with_own : (s : OpenEnds) (whole taken place n : ℕ) → Placed s whole taken place
+    → n ≡ count_by (λ place. nat_lt (s.count + taken) place) s.places
+    → n + cond (nat_lt taken whole) 1 0 ≡ count_by (λ place. nat_lt (s.count + taken) place) (with_place s whole place)
+with_own s whole taken place n h is =
+    let now = s.count + taken in
+    let e = s.count + whole in
+    let one : ℕ → ℕ = λ p. cond (nat_lt now p) 1 0 in
+    omega (
+      arith,
+      sum_by-set one s.places place e 0 (placed_at s whole taken place h),
+      ap {B = ℕ} (λ (b : Bool). cond b 1 0) (le-ltb now (slice_index s.places place) (before s whole taken place h)),
+      ap {B = ℕ} (λ (b : Bool). cond b 1 0) (end_after s.count whole taken),
+      is,
+    )
+
+-- around an object that is open, each object stays open
+all_around : (s : OpenEnds) (whole taken place n : ℕ) → Placed s whole taken place → taken < whole
+    → n ≡ count_by (λ place. nat_lt (s.count + taken) place) s.places → n ≡ s.level
+all_around s whole taken place n h lt is =
+    let now = s.count + taken in
+    let yet : AreEnds s.max now (ends_of s) = λ i inside. (
+      omega (arith, lt, h.fits, from-room s.max s.count (s.max - s.count) (ends_of s) s.ahead s.nested i inside),
+      (s.ahead i inside).1,
+    ) in
+    let then = counted now s.level n s.places (ends_of s) refl s.nested (λ i le. omega (arith, s.reached i le)) is in
+    omega (
+      arith,
+      then.number,
+      ap length (ends-all s.max now (ends_of s) yet),
+      length-take s.level s.places,
+      h.all,
+      s.levels,
+    )
+
+-- so many are open then
+with_level : (s : OpenEnds) (whole taken place n k : ℕ) → Placed s whole taken place
+    → n ≡ count_by (λ place. nat_lt (s.count + taken) place) s.places
+    → (taken < whole → k ≡ s.level + 1) → (whole ≤ taken → k ≡ n)
+    → k ≡ count_by (λ place. nat_lt (s.count + taken) place) (with_place s whole place)
+with_level s whole taken place n k h is opens passes =
     elim (cases_lt taken whole) [
       | inl lt ↦ omega (
         arith,
-        get_or-set_other s.places place 16 (s.count + whole) 0 (λ same. omega (arith, same, h.opens lt, h.shallow)),
-        s.reached 16 s.levels,
+        opens lt,
+        all_around s whole taken place n h lt is,
+        with_own s whole taken place n h is,
+        ap {B = ℕ} (λ (b : Bool). cond b 1 0) (lt-ltb taken whole lt),
       )
-      | inr le ↦ reached_then s whole taken place h le 16 s.levels
+      | inr le ↦ omega (
+        arith,
+        passes le,
+        with_own s whole taken place n h is,
+        ap {B = ℕ} (λ (b : Bool). cond b 1 0) (le-ltb taken whole le),
+      )
     ]
-
--- and none is after the limit
-up_to_then : (s : OpenEnds) (whole taken place : ℕ) → Placed s whole taken place
-    → AreUpTo 1048576 (with_place s whole place)
-up_to_then s whole taken place h i =
-    let here : AreUpTo s.max s.places =
-    kept_up_to s.max s.count s.level s.places (omega (arith, h.all, h.shallow)) s.ahead s.reached s.within in
-    omega (
-      arith,
-      set_up_to s.max place (s.count + whole) s.places (placed_at s whole taken place h) here (within s whole h.fits) i,
-      s.limit,
-    )
 
 pub overflow_add-self-2 : goal.overflow_add-self-2
 overflow_add-self-2 c = omega (arith, within c.args.self.now c.args.whole c.requires.fits, c.args.self.now.limit)
 
-pub overflow_cast-self : goal.overflow_cast-self
-overflow_cast-self c = omega (arith, within c.args.self.now c.args.whole c.requires.fits, c.args.self.now.limit)
+pub overflow_add-end : goal.overflow_add-end
+overflow_add-end c = omega (arith, within c.args.self.now c.args.whole c.requires.fits, c.args.self.now.limit)
 
-pub number_after-self-requires-clause-count : goal.number_after-self-requires-clause-count
-number_after-self-requires-clause-count c =
+pub overflow_cast-end : goal.overflow_cast-end
+overflow_cast-end c = omega (arith, within c.args.self.now c.args.whole c.requires.fits, c.args.self.now.limit)
+
+pub number_after-around-requires-clause-count : goal.number_after-around-requires-clause-count
+number_after-around-requires-clause-count c =
     let s = c.args.self.now in
     omega (arith, within s c.args.whole c.requires.fits, c.requires.within, s.limit)
 
-pub number_after-self-requires-clause-places : goal.number_after-self-requires-clause-places
-number_after-self-requires-clause-places c =
+pub number_after-around-requires-clause-places : goal.number_after-around-requires-clause-places
+number_after-around-requires-clause-places c =
     let s = c.args.self.now in
-    let h = placed s c.args.whole c.args.taken c.place_for-place.result c.requires.fits c.requires.within
-    c.requires.shallow (omega arith) c.place_for-place.ensures.open c.place_for-place.ensures.taken in
-    up_to_then s c.args.whole c.args.taken c.place_for-place.result h
+    λ i. omega (
+      arith,
+      kept_up_to s.max s.count s.level s.places (omega (arith, s.levels)) s.ahead s.reached s.within i,
+      s.limit,
+    )
 
-pub number_after-self-requires-clause-spare : goal.number_after-self-requires-clause-spare
-number_after-self-requires-clause-spare c =
+pub number_after-around-requires-clause-spare : goal.number_after-around-requires-clause-spare
+number_after-around-requires-clause-spare c =
     let s = c.args.self.now in
-    let h = placed s c.args.whole c.args.taken c.place_for-place.result c.requires.fits c.requires.within
-    c.requires.shallow (omega arith) c.place_for-place.ensures.open c.place_for-place.ensures.taken in
-    spare_then s c.args.whole c.args.taken c.place_for-place.result h
+    omega (arith, s.reached 16 s.levels)
 
 pub invariant_of-self : goal.invariant_of-self
 invariant_of-self c =
@@ -167,13 +220,16 @@ invariant_of-self c =
 pub invariant_of-self-2 : goal.invariant_of-self-2
 invariant_of-self-2 c =
     let s = c.args.self.now in
-    let k = c.number_after-self.result in
+    let k = c.level_after-self.result in
     let now = s.count + c.args.taken in
     let all : List ℕ = with_end s c.args.whole in
     let places : List ℕ = with_place s c.args.whole c.place_for-place.result in
     let h = placed s c.args.whole c.args.taken c.place_for-place.result c.requires.fits c.requires.within
     c.requires.shallow (omega arith) c.place_for-place.ensures.open c.place_for-place.ensures.taken in
-    let then = counted_then s c.args.whole c.args.taken c.place_for-place.result k h c.number_after-self.ensures in
+    let is = with_level s c.args.whole c.args.taken c.place_for-place.result c.number_after-around.result
+    c.level_after-self.result h c.number_after-around.ensures c.level_after-self.ensures.open
+    c.level_after-self.ensures.taken in
+    let then = counted_then s c.args.whole c.args.taken c.place_for-place.result k h is in
     let most = within s c.args.whole c.requires.fits in
     record {
       limit = s.limit;
@@ -197,5 +253,8 @@ returns-clause-ends c =
     let s = c.args.self.now in
     let h = placed s c.args.whole c.args.taken c.place_for-place.result c.requires.fits c.requires.within
     c.requires.shallow (omega arith) c.place_for-place.ensures.open c.place_for-place.ensures.taken in
-    (counted_then s c.args.whole c.args.taken c.place_for-place.result c.number_after-self.result h
-    c.number_after-self.ensures).front
+    let is = with_level s c.args.whole c.args.taken c.place_for-place.result c.number_after-around.result
+    c.level_after-self.result h c.number_after-around.ensures c.level_after-self.ensures.open
+    c.level_after-self.ensures.taken in
+    (counted_then s c.args.whole c.args.taken c.place_for-place.result
+    c.level_after-self.result h is).front
