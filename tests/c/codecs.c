@@ -16,6 +16,12 @@ static int reads(int codec, uint8_t ifs, const char *text, const char *wanted)
     return 1;
 }
 
+/* Returns whether a call refuses its arguments, whatever the room. */
+static int is_refused(struct scard_verdict v)
+{
+    return v.status == SCARD_ARGUMENT && v.place == 0;
+}
+
 static void atrs(void)
 {
     static const char *const rows[][2] = {
@@ -86,6 +92,12 @@ static void atr_fields(void)
     atr.indicated_count = 2;
     atr.historical_count = 16;
     CHECK(scard_atr_rates(&atr, &got) == SCARD_ARGUMENT);
+    memset(&atr, 0, sizeof atr);
+    atr.indicated_count = 1;
+    atr.indicated[0].protocol = 1;
+    CHECK(scard_atr_encode(&atr, buffer, sizeof buffer).place == 4 && is_hex(buffer, 4, "3B800181"));
+    atr.indicated[0].protocol = 16;
+    CHECK(is_refused(scard_atr_encode(&atr, buffer, sizeof buffer)));
     for (row = 0; row < sizeof rates / sizeof rates[0]; row++) {
         octets = of_hex(rates[row].atr);
         CHECK(scard_atr_decode(octets.at, octets.count, &atr).status == SCARD_OK);
@@ -139,6 +151,23 @@ static void blocks(void)
     free(octets.at);
 }
 
+/* Fields that no block of their kind can have, and some that it can have. */
+static void fields(void)
+{
+    static const uint8_t most[255] = {0}, reserved = 0xFF, none = 0;
+    uint8_t out[SCARD_BLOCK_ROOM];
+    CHECK(scard_block_i(0, 0, false, most, 254, out, sizeof out).place == SCARD_BLOCK_ROOM);
+    CHECK(is_refused(scard_block_i(0, 0, false, most, 255, out, sizeof out)));
+    CHECK(is_refused(scard_block_encode(0, 0x60, most, 255, out, sizeof out)));
+    CHECK(is_refused(scard_block_encode(0, 0xC1, &reserved, 1, out, sizeof out)));
+    CHECK(is_refused(scard_block_encode(0, 0xC1, NULL, 0, out, sizeof out)));
+    CHECK(is_refused(scard_block_s_request(0, SCARD_S_IFS, &reserved, 1, out, sizeof out)));
+    CHECK(is_refused(scard_block_s_request(0, SCARD_S_IFS, &none, 1, out, sizeof out)));
+    CHECK(is_refused(scard_block_s_request(0, SCARD_S_RESYNCH, &none, 1, out, sizeof out)));
+    CHECK(scard_block_s_response(0, SCARD_S_ABORT, NULL, 0, out, sizeof out).place == 4);
+    CHECK(is_refused(scard_block_s_response(0, SCARD_S_WTX, NULL, 0, out, sizeof out)));
+}
+
 static void chains(void)
 {
     struct octets message = of_hex("00A4040000");
@@ -148,6 +177,10 @@ static void chains(void)
     CHECK(strcmp(line_of(scard_chain_cut(message.at, message.count, 2, 0, out, 16), 3), "argument 17") == 0);
     v = scard_chain_block(message.at, message.count, 2, 2, 1, out, sizeof out);
     CHECK(v.status == SCARD_OK && is_hex(out, v.place, "006002040066"));
+    v = scard_chain_block(message.at, message.count, 4, 2, 0, out, sizeof out);
+    CHECK(v.status == SCARD_OK && is_hex(out, v.place, "0000010001"));
+    v = scard_chain_block(message.at, message.count, 5, 2, 0, out, sizeof out);
+    CHECK(v.status == SCARD_OK && is_hex(out, v.place, "00000000"));
     CHECK(scard_chain_block(message.at, message.count, 6, 2, 1, out, sizeof out).status == SCARD_ARGUMENT);
     v = scard_chain_cut(NULL, 0, 254, 1, out, sizeof out);
     CHECK(v.status == SCARD_OK && is_hex(out, v.place, "00400040"));
@@ -211,6 +244,34 @@ static void commands(void)
     CHECK(reads(SCARD_CODEC_COMMAND, 0, "00D60000000000AA", "refused at 7: Trailing"));
 }
 
+/* Bodies that the short and the extended form have a length for, and bodies that they have none for. */
+static void bodies(void)
+{
+    static const struct {
+        uint8_t shape;
+        size_t len;
+        uint32_t le;
+        size_t wanted; /* the length of the command, or 0 if there is none */
+    } rows[] = {{SCARD_CASE_2_SHORT, 0, 0, 0},     {SCARD_CASE_2_SHORT, 0, 256, 5},   {SCARD_CASE_2_SHORT, 0, 257, 0},
+                {SCARD_CASE_2_LONG, 0, 0, 0},      {SCARD_CASE_2_LONG, 0, 65536, 7},  {SCARD_CASE_2_LONG, 0, 65537, 0},
+                {SCARD_CASE_3_SHORT, 0, 0, 0},     {SCARD_CASE_3_SHORT, 255, 0, 260}, {SCARD_CASE_3_SHORT, 256, 0, 0},
+                {SCARD_CASE_3_SHORT, 65535, 0, 0}, {SCARD_CASE_3_LONG, 0, 0, 0},      {SCARD_CASE_3_LONG, 255, 0, 262},
+                {SCARD_CASE_3_LONG, 256, 0, 263},  {SCARD_CASE_3_LONG, 65535, 0, 65542},
+                {SCARD_CASE_3_LONG, 65536, 0, 0}};
+    uint8_t *data = (uint8_t *)calloc(65536, 1);
+    struct scard_command c;
+    size_t row;
+    memset(&c, 0, sizeof c);
+    for (row = 0; row < sizeof rows / sizeof rows[0]; row++) {
+        struct scard_verdict v;
+        c.shape = rows[row].shape;
+        c.le = rows[row].le;
+        v = scard_command_encode(&c, data, rows[row].len, NULL, 0);
+        CHECK(v.status == SCARD_ARGUMENT && v.place == rows[row].wanted);
+    }
+    free(data);
+}
+
 /* Checks that a call with too small a buffer for a response says how much room is needed, and leaves the buffer. */
 static void cut_responses(void)
 {
@@ -237,6 +298,7 @@ static void responses(void)
     CHECK(reads(SCARD_CODEC_RESPONSE, 0, "90", "short at 1"));
     CHECK(strcmp(line_of(scard_response_decode(long_one, 65539, &r), SCARD_CODEC_RESPONSE),
                  "refused at 65538: TooLong") == 0);
+    CHECK(scard_response_decode(long_one, 65538, &r).status == SCARD_OK && r.data_len == 65536);
     CHECK(strcmp(line_of(scard_response_encode(long_one, 65537, 0x90, 0, out, sizeof out), 5), "argument 0") == 0);
     CHECK(scard_status_class(0x61, 0x10) == SCARD_CLASS_NORMAL);
     CHECK(scard_status_class(0x62, 0x83) == SCARD_CLASS_WARNING);
@@ -323,8 +385,10 @@ int main(void)
     atrs();
     atr_fields();
     blocks();
+    fields();
     chains();
     commands();
+    bodies();
     responses();
     cut_responses();
     objects();

@@ -123,6 +123,90 @@ static size_t spoilt(const struct scard_lent_check *begun, struct octets rest)
     return none;
 }
 
+/* Returns a check of at most 64 octets after these. */
+static struct scard_lent_check after(const char *text)
+{
+    struct octets octets = of_hex(text);
+    struct scard_lent_check state;
+    CHECK(scard_lent_check_begin(&state, 64).status == SCARD_OK);
+    CHECK(scard_lent_check_feed(&state, octets.at, octets.count).status == SCARD_MORE);
+    free(octets.at);
+    return state;
+}
+
+static int fits(const struct scard_lent_check *state)
+{
+    return scard_lent_check_finish(state).status != SCARD_ARGUMENT;
+}
+
+/* Returns whether a state is valid with this number in place of its own one, which `field` points to. */
+static int fits_with(struct scard_lent_check *state, uint32_t *field, uint32_t number)
+{
+    uint32_t was = *field;
+    int fit;
+    *field = number;
+    fit = fits(state);
+    *field = was;
+    return fit;
+}
+
+/* Numbers that no octets lead to. Inside two objects, 30 octets are to come. */
+static void numbers(void)
+{
+    struct scard_lent_check p = after("7020701E"), value = after("7020701E5A1C");
+    CHECK(fits(&p) && p.level == 2 && fits(&value) && value.value_left == 28);
+    /* the inner object would end after the outer one */
+    CHECK(!fits_with(&p, &p.ends[1], 35));
+    /* the headers of two objects take four octets */
+    CHECK(!fits_with(&p, &p.count, 3) && !fits_with(&p, &p.count, 34));
+    CHECK(!fits_with(&p, &p.max, 33) && !fits_with(&p, &p.max, SCARD_TLV_LARGEST + 1));
+    /* the header of a value hasn't come, or the value would end after the objects */
+    CHECK(!fits_with(&p, &p.value_left, 1) && !fits_with(&value, &value.value_left, 29));
+    p.level = 3;
+    CHECK(!fits(&p));
+    p.level = 17;
+    CHECK(!fits(&p));
+}
+
+/* A tag passes the end of an object with two octets to come, but not that of one with 30. */
+static void refusals(void)
+{
+    struct scard_lent_check roomy = after("7020701E"), full = after("7002");
+    roomy.refused = full.refused = SCARD_TLV_OVERRUN;
+    CHECK(!fits(&roomy) && fits(&full));
+    full.refused = SCARD_TLV_TOO_DEEP;
+    CHECK(!fits(&full));
+}
+
+/* Headers that are under way in the state inside two objects, and headers that no octets lead to. */
+static void headers(void)
+{
+    static const struct {
+        uint32_t count; /* how many octets came: those of the objects, and fillers if there are more than four */
+        struct scard_lent_header header;
+        int fit;
+    } rows[] = {{8, {1, {0x9F, 0, 0}, 1, 0, 0, 0}, 1},
+                {8, {2, {0x9F, 0x81, 0}, 2, 0, 0, 0}, 1},
+                {8, {3, {0x5A, 0, 0}, 1, 0, 0, 0}, 1},
+                {8, {4, {0x5A, 0, 0}, 1, 3, 0, 0}, 1},
+                {8, {4, {0x5A, 0, 0}, 1, 3, 1, 0}, 1},
+                {4, {1, {0x9F, 0, 0}, 1, 0, 0, 0}, 0},
+                {8, {1, {0x5A, 0, 0}, 1, 0, 0, 0}, 0},
+                {8, {2, {0x9F, 0x80, 0}, 2, 0, 0, 0}, 0},
+                {8, {2, {0x5A, 0x81, 0}, 2, 0, 0, 0}, 0},
+                {8, {4, {0x5A, 0, 0}, 1, 3, 1, 256}, 0},
+                {8, {4, {0x5A, 0, 0}, 1, 3, 1, 255}, 0}, /* the value would have 65,280 octets at least */
+                {8, {4, {0x5A, 0, 0}, 1, 3, 2, 0}, 0},
+                {8, {4, {0x5A, 0, 0}, 1, 1, 0, 0}, 0}};
+    size_t row;
+    for (row = 0; row < sizeof rows / sizeof rows[0]; row++) {
+        struct scard_lent_check state = after("7020701E");
+        state.count = rows[row].count;
+        state.header = rows[row].header;
+        CHECK(fits(&state) == rows[row].fit);
+    }
+}
+
 static void states(void)
 {
     struct octets octets = of_hex("6F258407A0000000041010A51ABF0C17611584830000029F3800DF810184000000024142");
@@ -141,6 +225,9 @@ int main(void)
 {
     verdicts();
     argued();
+    numbers();
+    refusals();
+    headers();
     states();
     return verdict_of_checks("lent_check");
 }

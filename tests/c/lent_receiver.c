@@ -149,6 +149,32 @@ static void longest_fields(void)
     leave(&both);
 }
 
+/* Feeds 65,535 pairs of empty blocks after which more follow, and one more such block. */
+static void almost_full(struct scard_lent_receiver *state, const uint8_t *pair)
+{
+    size_t turn;
+    CHECK(scard_lent_receiver_begin(state, 254, 0, 0).status == SCARD_OK);
+    for (turn = 0; turn < 65535; turn++) {
+        CHECK(scard_lent_receiver_feed(state, NULL, 0, pair, 8).status == SCARD_MORE);
+    }
+    CHECK(scard_lent_receiver_feed(state, NULL, 0, pair, 4).status == SCARD_MORE);
+}
+
+/* A chain may have 131,072 blocks. The last of them can't be one after which more follow. */
+static void most_blocks(void)
+{
+    static const uint8_t pair[] = {0x00, 0x20, 0x00, 0x20, 0x00, 0x60, 0x00, 0x60}, last[] = {0x00, 0x40, 0x00, 0x40};
+    struct scard_lent_receiver state;
+    struct scard_verdict v;
+    almost_full(&state, pair);
+    CHECK(scard_lent_receiver_feed(&state, NULL, 0, last, 4).status == SCARD_OK && state.blocks == 131072);
+    v = scard_lent_receiver_message(&state, NULL, 0);
+    CHECK(v.status == SCARD_OK && v.place == 0);
+    almost_full(&state, pair);
+    v = scard_lent_receiver_feed(&state, NULL, 0, pair + 4, 4);
+    CHECK(strcmp(line_of(v, SCARD_CODEC_CHAIN), "refused at 524285: TooManyBlocks") == 0);
+}
+
 static void argued(void)
 {
     struct scard_lent_receiver state, before;
@@ -220,6 +246,7 @@ int main(void)
     chains();
     mutated();
     longest_fields();
+    most_blocks();
     argued();
     states();
     return verdict_of_checks("lent_receiver");

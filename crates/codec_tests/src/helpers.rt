@@ -1,6 +1,5 @@
-//! Comparisons that the other tests use, since they have no contract.
+//! What the other tests share, and a test that the comparisons without a contract tell values apart.
 
-use octet_core::Named;
 use std::alloc::Global;
 use std::fmt::Display;
 use std::process::Abort;
@@ -11,22 +10,30 @@ pub(super) fn octets(rt: &impl Abort, alloc: Global, text: &str) -> Vec<u8> {
     of_hex(alloc, text).expect(rt, "octets")
 }
 
-/// Whether a reason has this name and is printed as it.
-pub(super) fn is_named<R: Named + Display + Copy>(alloc: Global, reason: R, name: &str) -> bool {
-    same(reason.name(), name) && shows(alloc, &reason, name)
+/// Whether each value of these rows is printed as its text.
+pub(super) fn all_show<D: Display>(alloc: Global, rows: &[(D, &str)]) -> bool {
+    for (value, text) in rows {
+        if !shows(alloc, value, text) {
+            return false;
+        }
+    }
+    true
+}
+
+/// Whether `shows` and `debugs` tell one text from another.
+fn tells_texts(alloc: Global) -> bool {
+    shows(alloc, &"a", "a")
+        && !shows(alloc, &"a", "b")
+        && debugs(alloc, &Some(1u8), "Some(1)")
+        && !debugs(alloc, &Some(1u8), "Some(2)")
+}
+
+/// Whether `same` tells one value from another.
+fn tells_values() -> bool {
+    same(Some(1u8), Some(1)) && !same(Some(1u8), Some(2)) && !same(Some(1u8), None)
 }
 
 #[test]
-fn texts_are_told_apart(rt: HostRuntime) {
-    assert!(rt; shows(rt.alloc(), &"a", "a"));
-    assert!(rt; !shows(rt.alloc(), &"a", "b"));
-    assert!(rt; debugs(rt.alloc(), &Some(1u8), "Some(1)"));
-    assert!(rt; !debugs(rt.alloc(), &Some(1u8), "Some(2)"));
-}
-
-#[test]
-fn values_are_told_apart(rt: HostRuntime) {
-    assert!(rt; same(Some(1u8), Some(1)));
-    assert!(rt; !same(Some(1u8), Some(2)));
-    assert!(rt; !same(Some(1u8), None));
+fn texts_and_values_are_told_apart(rt: HostRuntime) {
+    assert!(rt; tells_texts(rt.alloc()) && tells_values());
 }
