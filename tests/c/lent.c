@@ -129,6 +129,39 @@ static void small(void)
     CHECK(answers[0][0] == 0 && commands[1][0] == 0);
 }
 
+/* An answer stays while the card is asked for a size, and the question is given up. */
+static void asked_in_vain(void)
+{
+    int turn;
+    begins(16);
+    CHECK(sends(transmit("00A4040000", 16), "00000500A4040000A5"));
+    CHECK(to_terminal("000002900092", 16).kind == SCARD_DONE);
+    CHECK(sends(scard_lent_terminal_ask_ifs(&terminal, commands[0], 16, answers[0], 16, 32, block, sizeof block),
+                "00C10120E0"));
+    for (turn = 0; turn < 3; turn++) {
+        CHECK(sends(quiet(16), "00C10120E0"));
+    }
+    CHECK(sends(quiet(16), "00C000C0"));
+    CHECK(to_terminal("00E000E0", 16).kind == SCARD_GIVEN_UP && answered("9000", 16));
+}
+
+/* A command and an answer with one octet more than there is room for. Both ends take their blocks for errors. */
+static void too_long(void)
+{
+    int turn;
+    begins(4);
+    CHECK(sends(to_card("00000500A4040000A5", 4), "00820082"));
+    CHECK(to_card("00000400A40400A4", 4).kind == SCARD_DONE && asked("00A40400", 4));
+    CHECK(sends(transmit("00A40400", 4), "00000400A40400A4"));
+    CHECK(sends(to_terminal("000005AABBCC900048", 4), "00820082"));
+    CHECK(sends(to_terminal("002002AABB33", 4), "00900090"));
+    for (turn = 0; turn < 3; turn++) {
+        CHECK(sends(to_terminal("004003CC90001F", 4), "00920092"));
+    }
+    CHECK(sends(to_terminal("004003CC90001F", 4), "00C000C0"));
+    CHECK(to_terminal("00E000E0", 4).kind == SCARD_GIVEN_UP && !answered("AABB", 4));
+}
+
 /* Invalid arguments, and buffers of other sizes. */
 static void refused(void)
 {
@@ -187,6 +220,8 @@ int main(void)
     disturbed();
     chained();
     small();
+    asked_in_vain();
+    too_long();
     refused();
     begins(16);
     spoilt();

@@ -11,11 +11,8 @@ FIELD = re.compile(r"^    (?:pub(?:\(\w+\))? )?(\w+): &?(?:'\w+ )?(?:mut )?(\w+)
 WORD = re.compile(r"\w+")
 # Code calls the functions of these traits without their names: a test tries them if its own name matches.
 TELLS = {"Display": re.compile("print|named"), "Debug": re.compile("show"), "PartialEq": re.compile("equal")}
-# Crates that are tested through the one above them.
-TESTED = {"dumps": "card_tool", "command_line": "card_tool", "card_words": "card_tool", "card_kinds": "card_tool", "explainer": "card_tool"}
 # The test modules that don't have the name of their crate without its '_core'.
-MODULES = {"card_tool": "tool", "notes": "noted", "stack_laws": "again", "simulator": "simulated",
-           "test_support": "helpers"}
+MODULES = {"test_support": "helpers"}
 NEVER = re.compile(r"(?!)")
 
 
@@ -67,8 +64,7 @@ class Tests:
     """The tests of a crate, which are a module of a crate of tests: each with its text and that of its helpers."""
 
     def __init__(self, name):
-        tested = TESTED.get(name, name)
-        module = MODULES.get(tested, tested.removesuffix("_core"))
+        module = MODULES.get(name, name.removesuffix("_core"))
         homes = [folder_of(it) / "src" / f"{module}.rt" for it in crates() if it.endswith("_tests")]
         self.homes = [it.relative_to(TOP) for it in homes if it.exists()]
         self.tests = [test for it in self.homes for test in tests_in(TOP / it)]

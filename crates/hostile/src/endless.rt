@@ -46,15 +46,31 @@ fn line_of(alloc: Global, given: u64, most: u64, pieces: usize) -> Result<String
     )?)
 }
 
-/// The command lines that read a file.
-const LINES: [&str; 6] = [
+/// The command lines that read a file, or octets from standard input.
+const LINES: [&str; 10] = [
     "replay --end terminal",
     "replay --end card",
     "migrate",
     "apdus",
     "record 3B808131204555",
     "judge 3B808131204555",
+    "check atr --stdin hex",
+    "show tlv --stdin octets",
+    "build tidy --stdin hex",
+    EXPLAINED,
 ];
+
+/// A command line for which the limit is explained.
+const EXPLAINED: &str = "migrate --explain";
+
+/// The line about an input that is too large.
+const TOO_LARGE: &str = "fault: TooLarge\n";
+
+/// The same with its explanation.
+const TOO_LARGE_EXPLAINED: &str = "fault: TooLarge
+standard input and the text of a session have at most 4194304 octets each
+to split a session, cut it after an answered exchange, where both ends send block 0 next
+";
 
 /// Checks that a file with this beginning is too large for each command line. Returns the greatest number of
 /// octets that one read.
@@ -114,26 +130,31 @@ fn file(alloc: Global, line: &str, text: &str) -> Result<u64, Fault> {
     if octets.is_empty() {
         return Err(Fault::Stream);
     }
-    let (is_too_large, given) = file_read(alloc, words(alloc, line)?, octets);
+    let text = if line == EXPLAINED {
+        TOO_LARGE_EXPLAINED
+    } else {
+        TOO_LARGE
+    };
+    let (is_too_large, given) = file_read(alloc, words(alloc, line)?, octets, text);
     let case = Case {
         what: "an endless file",
         octets,
         place: 0,
         piece: 0,
     };
-    case.expect(alloc, is_too_large && given <= LARGEST)?;
+    case.expect(alloc, is_too_large && given == LARGEST)?;
     Ok(given)
 }
 
-/// Runs the program on octets that repeat without an end. Returns whether it says that they are too large, and
-/// how many it read.
-fn file_read(alloc: Global, words: Vec<String>, octets: &[u8]) -> (bool, u64)
+/// Runs the program on octets that repeat without an end. Returns whether it writes this text, and how many it
+/// read.
+fn file_read(alloc: Global, words: Vec<String>, octets: &[u8], text: &str) -> (bool, u64)
     requires { 1 ≤ length octets.now }
 {
     let mut reader = Counted::new(Feeder::new(octets, 4096, After::Repeats));
     let mut writer = Counted::new(Taker::new(4096, 4096, After::End));
     let status = act(alloc, words, &mut reader, &mut writer);
-    let is_told = writer.into_inner().kept() == b"fault: TooLarge\n".as_slice();
+    let is_told = writer.into_inner().kept() == text.as_bytes();
     (
         status == Status::Fault && is_told,
         reader.into_inner().given(),

@@ -1,5 +1,5 @@
-//! Hostile use of octets and streams: octets that end early or were changed, readers and writers that fail, and input
-//! without an end.
+//! Hostile use of octets and streams: octets that end early or were changed, readers and writers that fail, the largest
+//! input, and input without an end.
 //!
 //! It writes a line for each list of cases, with their number. It prints the first case that goes wrong, and then ends
 //! with status 1. With the word `few` it tries only a few cases of the long lists.
@@ -12,13 +12,15 @@ mod cuts;
 mod endless;
 mod feeding;
 mod kind;
+mod largest;
 mod pieces;
 mod program;
+mod readers;
 mod streams;
 mod vectors;
 
 use card_tool::{Status, run};
-use octet_core::{Counted, Feeder, Taker};
+use octet_core::{Sink, Source};
 use std::alloc::Global;
 use std::io;
 use std::process::ExitCode;
@@ -36,11 +38,11 @@ fn main(rt: HostRuntime) -> io::Result<ExitCode> {
 
 /// Runs the program on these words, and returns its status. Only this function calls it, since the call takes long to
 /// prove if much else is known.
-fn act(
+fn act<R: Source, W: Sink>(
     alloc: Global,
     words: Vec<String>,
-    reader: &mut Counted<Feeder<'_>>,
-    writer: &mut Counted<Taker>,
+    reader: &mut R,
+    writer: &mut W,
 ) -> Status {
     run(alloc, words, reader, writer)
 }
@@ -56,6 +58,8 @@ fn tell_each(rt: &HostRuntime) -> Result<(), Fault> {
     tell(rt, changes::change_each(alloc, vectors, share))?;
     tell(rt, streams::fail_each(alloc))?;
     tell(rt, program::fail_each(alloc, share))?;
+    tell(rt, readers::fail_each(alloc, share))?;
+    tell(rt, largest::try_each(alloc, share))?;
     tell(rt, endless::end_each(alloc, share))
 }
 

@@ -1,8 +1,8 @@
-//! The program with writers that fail.
+//! The program with writers that fail, and the text of help.
 
 use crate::act;
 use card_tool::Status;
-use octet_core::{After, Counted, Feeder, Taker};
+use octet_core::{After, Counted, FailsOnce, Feeder, Taker};
 use std::alloc::{AllocError, Global};
 use test_support::{Case, Fault, Share};
 
@@ -54,9 +54,52 @@ const LINES: [&str; 39] = [
     "simulate 3B808131204555 00A4040000",
 ];
 
-/// Checks that each text is cut short by a writer that fails after each number of its octets.
+/// Checks the text of help. Then checks that each text is cut short by a writer that fails after each number of its
+/// octets.
 pub(crate) fn fail_each(alloc: Global, share: Share) -> Result<String, Fault> {
+    help_each(alloc)?;
     fail_in_each(alloc, &LINES, share)
+}
+
+/// Words that ask for help.
+const HELP: [&str; 9] = [
+    "--help",
+    "-h",
+    "help",
+    "help check",
+    "check --help",
+    "show --help",
+    "build --help",
+    "replay -h",
+    "simulate --help",
+];
+
+/// Parts of each text of help.
+const PARTS: [&str; 4] = ["Usage: scard", "--help", "Exit status:", "Examples:"];
+
+/// Checks that the text of help comes for all words that ask for it.
+fn help_each(alloc: Global) -> Result<(), Fault> {
+    for &line in &HELP {
+        let (text, status) = told(alloc, line, 4096, 4096, Failing::Fails)?;
+        let is_help = status == Status::Accepted && has_each(text.as_slice(), &PARTS);
+        case_of(line, text.len(), 4096).expect(alloc, is_help)?;
+    }
+    Ok(())
+}
+
+/// Whether a text has each of these parts.
+fn has_each(text: &[u8], parts: &[&str]) -> bool {
+    for &part in parts {
+        if !has(text, part.as_bytes()) {
+            return false;
+        }
+    }
+    true
+}
+
+/// Whether a text has a part.
+fn has(text: &[u8], part: &[u8]) -> bool {
+    text.windows(part.len().max(1)).any(|place| place == part)
 }
 
 /// Checks that the text of each of these lines is cut short.
@@ -94,11 +137,12 @@ fn fail_at_each(alloc: Global, line: &str, text: &[u8], share: Share) -> Result<
 }
 
 /// How many octets each writer takes in one call at most, and how it fails.
-const WRITERS: [(usize, Failing); 4] = [
+const WRITERS: [(usize, Failing); 5] = [
     (4096, Failing::Fails),
     (1, Failing::Fails),
     (7, Failing::Interrupted),
     (7, Failing::TakesNothing),
+    (7, Failing::Once),
 ];
 
 /// Checks that the text of a command line is cut short after `place` octets by writers of each
@@ -116,7 +160,7 @@ fn fail_at(alloc: Global, line: &str, text: &[u8], place: usize) -> Result<u64, 
 /// Returns the case of a command line whose writer fails after `place` octets.
 fn case_of(line: &str, place: usize, step: usize) -> Case<'_> {
     Case {
-        what: "the program over a writer that fails",
+        what: "the program over a writer",
         octets: line.as_bytes(),
         place,
         piece: step,
@@ -142,6 +186,8 @@ enum Failing {
     Fails,
     Interrupted,
     TakesNothing,
+    /// One call is interrupted. The next call would take octets again.
+    Once,
 }
 
 /// Returns what a writer with `room` octets of room holds after a command line, and the program's
@@ -154,10 +200,19 @@ fn told(
     failing: Failing,
 ) -> Result<(Vec<u8>, Status), Fault> {
     let words = words(alloc, line)?;
-    Ok(told_of(alloc, words, taker(room, step, failing))?)
+    Ok(told_of(alloc, words, writer(room, step, failing))?)
 }
 
 /// Makes a writer with `room` octets of room, which takes at most `step` octets in one call.
+fn writer(room: usize, step: usize, failing: Failing) -> FailsOnce<Taker> {
+    let left = match failing {
+        Failing::Once => room,
+        _ => usize::MAX,
+    };
+    FailsOnce::new(taker(room, step, failing), left, After::Interrupted)
+}
+
+/// Makes the writer behind it. If one call fails, that one has room for more.
 fn taker(room: usize, step: usize, failing: Failing) -> Taker {
     let room = room.min(4096);
     let step = step.max(1);
@@ -165,6 +220,7 @@ fn taker(room: usize, step: usize, failing: Failing) -> Taker {
         Failing::Fails => Taker::new(room, step, After::Fails),
         Failing::Interrupted => Taker::new(room, step, After::Interrupted),
         Failing::TakesNothing => Taker::new(room, step, After::End),
+        Failing::Once => Taker::new(4096, step, After::End),
     }
 }
 
@@ -172,12 +228,12 @@ fn taker(room: usize, step: usize, failing: Failing) -> Taker {
 fn told_of(
     alloc: Global,
     words: Vec<String>,
-    taker: Taker,
+    writer: FailsOnce<Taker>,
 ) -> Result<(Vec<u8>, Status), AllocError> {
     let mut reader = Counted::new(Feeder::new(FILE.as_bytes(), 64, After::End));
-    let mut writer = Counted::new(taker);
+    let mut writer = Counted::new(writer);
     let status = act(alloc, words, &mut reader, &mut writer);
-    let kept = Vec::from_slice(alloc, writer.into_inner().kept())?;
+    let kept = Vec::from_slice(alloc, writer.into_inner().into_inner().kept())?;
     Ok((kept, status))
 }
 

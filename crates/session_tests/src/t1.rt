@@ -1,93 +1,75 @@
-//! Calls that no clause of a contract covers, limits, and caller-owned buffers.
+//! Ends with limits of their own, and what `Debug` shows of turns.
 //!
-//! The folder `vectors` has sessions call by call, as files that each end replays.
+//! The folder `vectors` has sessions call by call, as files that each end replays, and `tests/c` has the calls.
 
-mod blocks;
-mod calls;
-mod lent;
-mod limits;
-mod printed;
-mod put;
-mod states;
-
-use crate::ends::{card, octets_of, terminal};
-use blocks::{ASK_FOR_32, DONE, DONE_BLOCK, RESYNCH, RESYNCHED, SELECT, SELECT_BLOCK, TIMES};
-use calls::{
-    Call, CardCall, CardWanted, Wanted, assert_gives, called, card_gives, gives, is_answer,
-};
+use atr_core::T1Params;
+use block_core::{Block, Number};
 use std::alloc::Global;
 use std::process::Abort;
-use t1_core::{Card, CardFault, Terminal, TerminalFault};
+use t1_core::{Card, CardFault, CardTurn, Terminal, TerminalFault, TerminalTurn};
+use test_support::debugs;
 
-/// Returns a terminal that sent a command of one block.
-fn in_answer(rt: &impl Abort, alloc: Global) -> Terminal {
-    let mut t = terminal(rt, alloc);
-    let wanted = Wanted::Block(&SELECT_BLOCK);
-    assert!(rt; gives(&mut t, Call::Transmit(&SELECT), wanted));
-    t
+/// Returns the parameters of a card that takes information fields of 32 octets.
+fn params(rt: &impl Abort) -> T1Params {
+    T1Params::new(32, 4, 5).expect(rt, "parameters")
 }
 
-/// Returns a card whose host owes the reply to a command of one block.
-fn in_reply(rt: &impl Abort, alloc: Global) -> Card {
-    let mut c = card(rt, alloc);
-    let select = CardCall::Received(&SELECT_BLOCK);
-    assert!(rt; card_gives(&mut c, select, CardWanted::Asked));
-    c
+fn terminal_for(rt: &impl Abort, alloc: Global, most: usize) -> Terminal {
+    Terminal::with_limits(alloc, params(rt), most, most).expect(rt, "a terminal")
 }
 
-/// Whether the terminal waits so many times the waiting time after a call.
-fn waits(t: &mut Terminal, call: Call<'_>, times: u8) -> bool {
-    match called(t, call) {
-        Ok(turn) => turn.waiting() == times,
-        Err(_) => false,
+fn card_for(rt: &impl Abort, alloc: Global, most: usize) -> Card {
+    Card::with_limits(alloc, params(rt), most, most).expect(rt, "a card")
+}
+
+/// Returns so many octets 00.
+fn zeros(rt: &impl Abort, alloc: Global, count: usize) -> Vec<u8> {
+    vec![in alloc; 0; count].expect(rt, "octets")
+}
+
+/// Whether a terminal refuses these octets as a command that is too long.
+fn refuses(t: &mut Terminal, octets: &[u8]) -> bool {
+    matches!(t.transmit(octets), Err(TerminalFault::TooLong))
+}
+
+/// Whether a terminal sends a block of these octets.
+fn sends(t: &mut Terminal, octets: &[u8]) -> bool {
+    matches!(t.transmit(octets), Ok(TerminalTurn::Send(_)))
+}
+
+/// Whether a card that got a command refuses these octets as a reply that is too long.
+fn is_refused_by_card(c: &mut Card, octets: &[u8]) -> bool {
+    let select = [0x00, 0x00, 0x05, 0x00, 0xA4, 0x04, 0x00, 0x00, 0xA5];
+    matches!(c.received(&select), Ok(CardTurn::Asked))
+        && matches!(c.reply(octets), Err(CardFault::TooLong))
+}
+
+/// Limits that a caller sets, and the longest command and reply under them.
+static LIMITS: [(usize, usize, usize); 2] = [(5, 5, 5), (usize::MAX, 65_544, 65_538)];
+
+#[test]
+fn limits_of_the_caller(rt: HostRuntime) {
+    for &(most, command, reply) in &LIMITS {
+        let mut t = terminal_for(&rt, rt.alloc(), most);
+        let long = zeros(&rt, rt.alloc(), command.saturating_add(1));
+        assert!(rt; refuses(&mut t, long.as_slice()));
+        let longest = zeros(&rt, rt.alloc(), command);
+        assert!(rt; sends(&mut t, longest.as_slice()));
+        let mut c = card_for(&rt, rt.alloc(), most);
+        let long = zeros(&rt, rt.alloc(), reply.saturating_add(1));
+        assert!(rt; is_refused_by_card(&mut c, long.as_slice()));
     }
 }
 
 #[test]
-fn how_long_is_waited(rt: HostRuntime) {
-    for (request, times) in &TIMES {
-        let mut t = in_answer(&rt, rt.alloc());
-        assert!(rt; waits(&mut t, Call::Received(request), *times));
-        assert!(rt; waits(&mut t, Call::Quiet, 1));
-        assert!(rt; waits(&mut t, Call::Received(&DONE_BLOCK), 1));
+fn turns_show_no_octet_of_a_message(rt: HostRuntime) {
+    match Block::info(0, Number::Zero, false, &[0x31, 0x32]) {
+        Some(block) => {
+            let seen =
+                "Send(Block { nad: 0, pcb: Info { number: Zero, more: false }, inf_octets: 2 })";
+            assert!(rt; debugs(rt.alloc(), &TerminalTurn::Send(block), seen));
+        }
+        None => assert!(rt; false),
     }
-}
-
-static GIVEN_UP_AFTER_AN_ANSWER: [(Call, Wanted); 7] = [
-    (Call::Received(&DONE_BLOCK), Wanted::Answered),
-    (Call::AskIfs(32), Wanted::Block(&ASK_FOR_32)),
-    (Call::Quiet, Wanted::Block(&ASK_FOR_32)),
-    (Call::Quiet, Wanted::Block(&ASK_FOR_32)),
-    (Call::Quiet, Wanted::Block(&ASK_FOR_32)),
-    (Call::Quiet, Wanted::Block(&RESYNCH)),
-    (Call::Received(&RESYNCHED), Wanted::GivenUp),
-];
-
-#[test]
-fn an_answer_outlives_a_question_given_up(rt: HostRuntime) {
-    let mut t = in_answer(&rt, rt.alloc());
-    assert_gives(&rt, &mut t, &GIVEN_UP_AFTER_AN_ANSWER);
-    assert!(rt; is_answer(&t, &DONE));
-}
-
-/// Whether a terminal refuses a command of so many octets as too long.
-fn is_command_refused(rt: &impl Abort, alloc: Global, count: usize) -> bool {
-    let command = octets_of(rt, alloc, 0xA5, count);
-    let mut t = terminal(rt, alloc);
-    let wanted = Wanted::Refused(TerminalFault::TooLong);
-    gives(&mut t, Call::Transmit(command.as_slice()), wanted)
-}
-
-/// Whether a card refuses a reply of so many octets as too long.
-fn is_reply_refused(rt: &impl Abort, alloc: Global, count: usize) -> bool {
-    let reply = octets_of(rt, alloc, 0x5A, count);
-    let mut c = in_reply(rt, alloc);
-    let wanted = CardWanted::Refused(CardFault::TooLong);
-    card_gives(&mut c, CardCall::Reply(reply.as_slice()), wanted)
-}
-
-#[test]
-fn messages_that_are_too_long(rt: HostRuntime) {
-    assert!(rt; is_command_refused(&rt, rt.alloc(), 65_545));
-    assert!(rt; is_reply_refused(&rt, rt.alloc(), 65_539));
+    assert!(rt; debugs(rt.alloc(), &CardTurn::Asked, "Asked"));
 }

@@ -1,64 +1,48 @@
-//! A card that serves lines which give what a script says.
+//! How serving ends, over lines that do one thing at each call.
 
-use super::steps::{Step, Steps};
-use super::{DONE, DONE_BLOCK, LONG, SELECT, SELECT_BLOCK};
-use crate::ends::{card, octets_of};
+use super::steps::Step;
+use super::{DONE, DONE_BLOCK, SELECT, SELECT_BLOCK, card};
 use line_core::{CardLine, Host, Received, ServeFault, serve};
 use std::io::{self, ErrorKind};
 use t1_core::{Card, CardFault};
-use test_support::same;
 
 const ASK_AGAIN: [u8; 4] = [0x00, 0x80, 0x00, 0x80];
 
-/// A card's line, which counts the blocks that the card sends.
+/// A card's line that does one thing at each call. It counts the blocks of the answer that the card sends.
 #[derive(Drop)]
-struct CardScript<'a> {
-    steps: Steps<'a>,
+struct Script<'a> {
+    step: Step<'a>,
     sends: bool,
-    said: u64,
-    is_done_said: bool,
+    done: u64,
 }
 
-fn card_over<'a>(first: &'a [Step<'a>], then: Step<'a>) -> CardScript<'a> {
-    CardScript {
-        steps: Steps { first, then },
-        sends: true,
-        said: 0,
-        is_done_said: false,
-    }
-}
-
-impl CardLine for CardScript<'_> {
+impl CardLine for Script<'_> {
     ghost said = { λ _ _ _. Unit {0} };
 
     fn receive(&mut self, room: &mut [u8]) -> io::Result<Received> {
-        self.steps.heard(room)
+        self.step.heard(room)
     }
 
     fn send(&mut self, block: &[u8]) -> io::Result<()> {
         if !self.sends {
-            return Err(ErrorKind::Other.into());
+            return Err(ErrorKind::BrokenPipe.into());
         }
-        self.said = self.said.saturating_add(1);
-        self.is_done_said = block == DONE_BLOCK.as_slice();
+        if block == DONE_BLOCK.as_slice() {
+            self.done = self.done.saturating_add(1);
+        }
         Ok(())
     }
 }
 
-/// A host that gives the same reply to every command.
+/// A host that gives the same reply to every command, and counts how often it got SELECT.
 #[derive(Drop)]
 pub(super) struct Replies<'a> {
     reply: &'a [u8],
     acted: u64,
-    is_select: bool,
 }
 
 pub(super) fn replying(reply: &[u8]) -> Replies<'_> {
-    Replies {
-        reply,
-        acted: 0,
-        is_select: false,
-    }
+    Replies { reply, acted: 0 }
 }
 
 impl Host for Replies<'_> {
@@ -67,8 +51,9 @@ impl Host for Replies<'_> {
     ghost reply = { λ h. h.reply.now };
 
     fn act(&mut self, command: &[u8]) {
-        self.acted = self.acted.saturating_add(1);
-        self.is_select = command == SELECT.as_slice();
+        if command == SELECT.as_slice() {
+            self.acted = self.acted.saturating_add(1);
+        }
     }
 
     fn reply(&self) -> &[u8] {
@@ -78,14 +63,14 @@ impl Host for Replies<'_> {
 
 /// How serving ends.
 #[derive(Clone, Copy, PartialEq, Eq)]
-pub(super) enum Served {
+enum Served {
     Done,
     Line(ErrorKind),
     UsedUp,
     Refused(CardFault),
 }
 
-pub(super) fn end_of(given: Result<(), ServeFault>) -> Served {
+fn end_of(given: Result<(), ServeFault>) -> Served {
     match given {
         Ok(()) => Served::Done,
         Err(ServeFault::Line(fault)) => Served::Line(fault.kind()),
@@ -94,88 +79,46 @@ pub(super) fn end_of(given: Result<(), ServeFault>) -> Served {
     }
 }
 
-/// Whether serving at most so many blocks ends like this, after so many blocks were sent in all.
-fn ends(
-    c: &mut Card,
-    line: &mut CardScript<'_>,
-    host: &mut Replies<'_>,
-    most_blocks: usize,
-    wanted: Served,
-    said: u64,
-) -> bool {
-    end_of(serve(c, line, host, most_blocks)) == wanted && line.said == said
-}
+/// What the line does, and whether it takes blocks; the most blocks that come; how serving ends, how often the card
+/// answered, and how often the host acted.
+type Row = (Step<'static>, bool, usize, Served, u64, u64);
 
-#[test]
-fn a_command_is_served(rt: HostRuntime) {
-    let mut c = card(&rt, rt.alloc());
-    let mut host = replying(&DONE);
-    let first = [
-        Step::Gives(&LONG),
-        Step::Gives(&[]),
+static ROWS: [Row; 6] = [
+    (Step::IsSilent, true, 9, Served::Done, 0, 0),
+    (Step::Fails, true, 9, Served::Line(ErrorKind::Other), 0, 0),
+    (Step::Gives(&SELECT_BLOCK), true, 0, Served::UsedUp, 0, 0),
+    (
         Step::Gives(&SELECT_BLOCK),
-    ];
-    let mut line = card_over(&first, Step::IsSilent);
-    assert!(rt; ends(&mut c, &mut line, &mut host, 9, Served::Done, 3));
-    assert!(rt; line.is_done_said);
-    assert!(rt; same((host.acted, host.is_select), (1, true)));
-}
+        false,
+        9,
+        Served::Line(ErrorKind::BrokenPipe),
+        0,
+        1,
+    ),
+    // The answer that wasn't sent is sent when the terminal asks for it.
+    (Step::Gives(&ASK_AGAIN), true, 1, Served::UsedUp, 1, 0),
+    (Step::Gives(&ASK_AGAIN), true, 2, Served::UsedUp, 2, 0),
+];
 
-#[test]
-fn a_budget_of_blocks(rt: HostRuntime) {
-    let mut c = card(&rt, rt.alloc());
+/// Whether a row is right.
+fn is_so(c: &mut Card, row: &Row) -> bool {
+    let (step, sends, most_blocks, served, done, acted) = *row;
     let mut host = replying(&DONE);
-    let mut line = card_over(&[], Step::Gives(&SELECT_BLOCK));
-    assert!(rt; ends(&mut c, &mut line, &mut host, 0, Served::UsedUp, 0));
-    assert!(rt; ends(&mut c, &mut line, &mut host, 1, Served::UsedUp, 1));
-    assert!(rt; line.is_done_said);
+    let mut line = Script {
+        step,
+        sends,
+        done: 0,
+    };
+    end_of(serve(c, &mut line, &mut host, most_blocks)) == served
+        && line.done == done
+        && host.acted == acted
 }
 
-/// Whether serving ends by a failure of the line before a block is sent.
-fn fails(c: &mut Card, mut line: CardScript<'_>, host: &mut Replies<'_>) -> bool {
-    let failed = Served::Line(ErrorKind::Other);
-    ends(c, &mut line, host, 9, failed, 0)
-}
-
-/// Whether the block that wasn't sent is sent when the terminal asks for it again.
-fn is_repaired(c: &mut Card, host: &mut Replies<'_>) -> bool {
-    let mut line = card_over(&[Step::Gives(&ASK_AGAIN)], Step::IsSilent);
-    ends(c, &mut line, host, 9, Served::Done, 1) && line.is_done_said
-}
-
+/// One session of a card, whose line does something else at each call.
 #[test]
-fn a_card_whose_line_fails(rt: HostRuntime) {
+fn how_serving_ends(rt: HostRuntime) {
     let mut c = card(&rt, rt.alloc());
-    let mut host = replying(&DONE);
-    let deaf = card_over(&[], Step::Fails);
-    let mut mute = card_over(&[], Step::Gives(&SELECT_BLOCK));
-    mute.sends = false;
-    assert!(rt; fails(&mut c, deaf, &mut host));
-    assert!(rt; fails(&mut c, mute, &mut host));
-    assert!(rt; is_repaired(&mut c, &mut host));
-    assert!(rt; host.acted == 1);
-}
-
-/// Whether a card accepts this reply.
-fn takes(c: &mut Card, reply: &[u8]) -> bool {
-    c.reply(reply).is_ok()
-}
-
-/// Whether a card refuses a host's reply, then refuses what comes, and the host acts once.
-fn is_refused(c: &mut Card, reply: &[u8]) -> bool {
-    let mut host = replying(reply);
-    let mut line = card_over(&[], Step::Gives(&SELECT_BLOCK));
-    let too_long = Served::Refused(CardFault::TooLong);
-    let order = Served::Refused(CardFault::Order);
-    ends(c, &mut line, &mut host, 9, too_long, 0)
-        && ends(c, &mut line, &mut host, 9, order, 0)
-        && host.acted == 1
-}
-
-#[test]
-fn a_reply_that_is_too_long(rt: HostRuntime) {
-    let mut c = card(&rt, rt.alloc());
-    let long = octets_of(&rt, rt.alloc(), 0, 65_539);
-    assert!(rt; is_refused(&mut c, long.as_slice()));
-    assert!(rt; takes(&mut c, &DONE));
+    for (place, row) in ROWS.iter().enumerate() {
+        assert!(rt; is_so(&mut c, row), "row {place}");
+    }
 }

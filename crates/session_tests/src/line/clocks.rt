@@ -1,12 +1,10 @@
 //! Lines over a device with a clock: what ends a burst, how long a call waits, and what is dropped.
 
-use super::{DONE, DONE_BLOCK, SELECT, SELECT_BLOCK, is_answer};
-use crate::ends::terminal;
+use super::{DONE_BLOCK, SELECT_BLOCK};
 use line_core::{
-    CardLine, LONGEST_ARRIVAL, Received, Silences, TerminalLine, TimedDevice, TimedLine, exchange,
+    CardLine, LONGEST_ARRIVAL, Received, Silences, TerminalLine, TimedDevice, TimedLine,
 };
 use std::io::{self, ErrorKind};
-use test_support::same;
 
 /// What one call of a device receives.
 #[derive(Clone, Copy)]
@@ -24,14 +22,12 @@ struct Script<'a> {
     heard: &'a [Heard<'a>],
     calls: usize,
     limits: [u64; 8],
-    sent: u64,
 }
 
 impl TimedDevice for Script<'_> {
     ghost heard = { λ _ _ _. Unit {0} };
 
-    fn send(&mut self, octets: &[u8]) -> io::Result<()> {
-        self.sent = self.sent.saturating_add(octets.len() as u64);
+    fn send(&mut self, _octets: &[u8]) -> io::Result<()> {
         Ok(())
     }
 
@@ -64,7 +60,6 @@ fn line_over<'a>(heard: &'a [Heard<'a>], after: u64) -> TimedLine<Script<'a>> {
         heard,
         calls: 0,
         limits: [u64::MAX; 8],
-        sent: 0,
     };
     let silences = Silences {
         bwt: BWT,
@@ -82,9 +77,15 @@ const REST: [u8; 3] = [0x6A, 0x82, 0xEF];
 
 /// What a terminal receives after one block. A row has the silence after a whole block that its line is made with, and
 /// the multiple of BWT. Then come the calls of the device, what came, and how long the calls may wait.
-type Row<'a> = (u64, u8, &'a [Heard<'a>], Option<&'a [u8]>, &'a [u64]);
+type Row = (
+    u64,
+    u8,
+    &'static [Heard<'static>],
+    Option<&'static [u8]>,
+    &'static [u64],
+);
 
-const ROWS: [Row<'static>; 9] = [
+static ROWS: [Row; 6] = [
     // A whole block ends after BGT.
     (
         BGT,
@@ -97,24 +98,9 @@ const ROWS: [Row<'static>; 9] = [
     (
         BGT,
         1,
-        &[Silence, Octets(&HARMED)],
-        Some(&HARMED),
-        &[BGT, BWT, CWT],
-    ),
-    (
-        BGT,
-        1,
         &[Silence, Octets(&DONE_BLOCK), Octets(&REST)],
         Some(&HARMED),
         &[BGT, BWT, BGT, CWT],
-    ),
-    // A block that breaks off ends after CWT.
-    (
-        BGT,
-        1,
-        &[Silence, Octets(&[0x00]), Octets(&[0x40])],
-        Some(&[0x00, 0x40]),
-        &[BGT, BWT, CWT, CWT],
     ),
     // The card was granted three times BWT, and nothing came.
     (BGT, 3, &[], None, &[BGT, 3 * BWT]),
@@ -141,7 +127,6 @@ const ROWS: [Row<'static>; 9] = [
         Some(&HARMED),
         &[0, BWT, CWT],
     ),
-    (0, 1, &[Octets(&DONE_BLOCK)], None, &[0, 0, BWT]),
 ];
 
 /// Whether the calls of a device had exactly these limits.
@@ -161,7 +146,7 @@ fn has_come(heard: Option<Received>, room: &[u8], octets: Option<&[u8]>) -> bool
 }
 
 /// Whether a row is right.
-fn is_so(row: &Row<'_>) -> bool {
+fn is_so(row: &Row) -> bool {
     let (after, waiting, heard, octets, limits) = *row;
     let mut room = [0; LONGEST_ARRIVAL];
     let mut line = line_over(heard, after);
@@ -173,84 +158,49 @@ fn is_so(row: &Row<'_>) -> bool {
 #[test]
 fn bursts_and_silences(rt: HostRuntime) {
     for (place, row) in ROWS.iter().enumerate() {
-        assert!(rt; same(is_so(row), true), "row {place}");
+        assert!(rt; is_so(row), "row {place}");
     }
 }
 
-/// Returns the calls and limits of two talks. The first receives this.
-fn two_talks<'a>(heard: &'a [Heard<'a>]) -> Script<'a> {
+/// What comes after two blocks, and how long the calls wait. After a whole block the line doesn't wait again. After a
+/// broken burst or a failure it has to be silent for BWT.
+static TALKS: [(&'static [Heard], &'static [u64]); 3] = [
+    (
+        &[Silence, Octets(&DONE_BLOCK), Silence],
+        &[BGT, BWT, BGT, 0, BWT],
+    ),
+    (
+        &[Silence, Octets(&REST), Silence, Octets(&REST)],
+        &[BGT, BWT, CWT, BWT, BWT, BWT],
+    ),
+    (&[Silence, Failure], &[BGT, BWT, BWT, BWT]),
+];
+
+/// Whether the calls of a device have these limits in two talks.
+fn are_limits(heard: &[Heard<'_>], limits: &[u64]) -> bool {
     let mut room = [0; LONGEST_ARRIVAL];
     let mut line = line_over(heard, BGT);
     let _first = line.transceive(&SELECT_BLOCK, 1, &mut room).is_ok();
     let _second = line.transceive(&SELECT_BLOCK, 1, &mut room).is_ok();
-    line.into_device()
+    had_limits(&line.into_device(), limits)
 }
 
-/// After a whole block the line doesn't wait again. After a broken burst or a failure it has to be silent for BWT.
-#[test]
-fn silence_before_the_next_block(rt: HostRuntime) {
-    let whole = two_talks(&[Silence, Octets(&DONE_BLOCK), Silence]);
-    assert!(rt; had_limits(&whole, &[BGT, BWT, BGT, 0, BWT]));
-    let broken = two_talks(&[Silence, Octets(&REST), Silence, Octets(&REST)]);
-    assert!(rt; had_limits(&broken, &[BGT, BWT, CWT, BWT, BWT, BWT]));
-    let failed = two_talks(&[Silence, Failure]);
-    assert!(rt; had_limits(&failed, &[BGT, BWT, BWT, BWT]));
-}
-
-/// What a card receives, and how long its calls wait: for a block without a limit, and for three quarters of BWT before
-/// it answers a broken burst.
-#[test]
-fn a_card_with_a_clock(rt: HostRuntime) {
+/// Whether a card hears a broken burst, and waits before it answers: for a block without a limit, and for three
+/// quarters of BWT before the answer.
+fn is_heard_by_a_card() -> bool {
     let mut room = [0; LONGEST_ARRIVAL];
     let mut line = line_over(&[Octets(&HARMED), Silence], BGT);
     let came = line.receive(&mut room).ok();
-    assert!(rt; has_come(came, &room, Some(&HARMED)));
-    assert!(rt; same(line.send(&DONE_BLOCK).is_ok(), true));
-    assert!(rt; had_limits(&line.into_device(), &[u64::MAX, CWT, 750]));
+    let is_sent = line.send(&DONE_BLOCK).is_ok();
+    has_come(came, &room, Some(&HARMED))
+        && is_sent
+        && had_limits(&line.into_device(), &[u64::MAX, CWT, 750])
 }
 
-/// A whole exchange, in which the line is silent once.
 #[test]
-fn an_exchange_with_a_clock(rt: HostRuntime) {
-    let mut t = terminal(&rt, rt.alloc());
-    let mut line = line_over(&[Silence, Silence, Silence, Octets(&DONE_BLOCK)], BGT);
-    assert!(rt; is_answer(exchange(&mut t, &mut line, &SELECT, 2), &DONE));
-    assert!(rt; same(line.into_device().sent, 13));
-}
-
-/// A line that is never silent fails before anything is sent.
-#[test]
-fn a_line_that_is_never_silent(rt: HostRuntime) {
-    let mut room = [0; LONGEST_ARRIVAL];
-    let mut line = TimedLine::new(
-        Noise { sent: false },
-        Silences {
-            bwt: BWT,
-            cwt: CWT,
-            after: BGT,
-        },
-    );
-    let came = line.transceive(&SELECT_BLOCK, 1, &mut room);
-    assert!(rt; same(came.is_err(), true));
-    assert!(rt; same(line.into_device().sent, false));
-}
-
-/// A device that receives an octet at each call.
-#[derive(Drop)]
-struct Noise {
-    sent: bool,
-}
-
-impl TimedDevice for Noise {
-    ghost heard = { λ _ _ _. Unit {0} };
-
-    fn send(&mut self, _octets: &[u8]) -> io::Result<()> {
-        self.sent = true;
-        Ok(())
+fn silence_before_the_next_block(rt: HostRuntime) {
+    for (place, (heard, limits)) in TALKS.iter().enumerate() {
+        assert!(rt; are_limits(heard, limits), "row {place}");
     }
-
-    fn receive(&mut self, room: &mut [u8], _microseconds: u64) -> io::Result<usize> {
-        room[0] = 0xFF;
-        Ok(1)
-    }
+    assert!(rt; is_heard_by_a_card());
 }
