@@ -1009,7 +1009,7 @@ static void tlv_core_progress_Progress_next(struct call *m, u64 v0, u64 v1, u32 
 static void tlv_core_checking_Checking_feed(struct call *m, u64 v0, u64 v1, u64 v2, u64 v3);
 static void tlv_core_progress_Progress_skip(struct call *m, u64 v0, u64 v1);
 static void tlv_core_progress_Progress_take(struct call *m, u64 v0, u64 v1, u32 v2);
-static void tlv_core_short_front_of_few(struct call *m, u64 v0, u64 v1, u64 v2);
+static void tlv_core_short_header_of_few(struct call *m, u64 v0, u64 v1, u64 v2);
 static u32 line_core_framing_sum_of(struct call *m, u64 v0, u64 v1);
 static void c_lent_kept_judge_CWatched_of(struct call *m, u64 v0, u64 v1);
 static void c_lent_kept_judge_CWatched_watched(struct call *m, u64 v0, u64 v1);
@@ -5537,191 +5537,285 @@ static void tlv_core_checking_Checking_feed(struct call *m, u64 v0, u64 v1, u64 
     u64 v8 = 0;
     u64 v9 = 0;
     u64 v10 = 0;
-    u64 v13 = 0;
+    u64 v11 = 0;
     u64 v14 = 0;
     u64 v15 = 0;
     u64 v16 = 0;
     u64 v17 = 0;
+    u64 v18 = 0;
     u64 v20 = 0;
-    u64 v21 = 0;
-    u32 v11 = 0;
+    u64 v36 = 0;
     u32 v12 = 0;
-    u32 v18 = 0;
+    u32 v13 = 0;
     u32 v19 = 0;
+    u32 v21 = 0;
+    u32 v22 = 0;
+    u32 v23 = 0;
+    u32 v24 = 0;
+    u32 v25 = 0;
+    u32 v26 = 0;
+    u32 v27 = 0;
+    u32 v28 = 0;
+    u32 v29 = 0;
+    u32 v30 = 0;
+    u32 v31 = 0;
+    u32 v32 = 0;
+    u32 v33 = 0;
+    u32 v34 = 0;
+    u32 v35 = 0;
     u32 t2 = 0;
-    u64 w0 = 0;
-    u8 *f21 = NULL;
-    u8 *p206 = NULL;
-    u8 *p497 = NULL;
-    u8 *p519 = NULL;
-    u8 *p534 = NULL;
-    u8 *p555 = NULL;
-    u8 *p564 = NULL;
-    v21 = m->g0 - 112ull;
-    f21 = at(m, v21, 112);
-    v4 = v21;
+    u64 w1 = 0;
+    u8 *f36 = NULL;
+    u8 *p196 = NULL;
+    u8 *p298 = NULL;
+    u8 *p340 = NULL;
+    u8 *p690 = NULL;
+    u8 *p712 = NULL;
+    u8 *p727 = NULL;
+    u8 *p748 = NULL;
+    u8 *p757 = NULL;
+    v36 = m->g0 - 112ull;
+    f36 = at(m, v36, 112);
+    v4 = v36;
     m->g0 = v4;
     if (load8(m, v1 + 120ull, 0) == 1u) { goto after2; }
     if (v3 == 0) { goto after5; }
-    v5 = v21 + 16ull;
-    v6 = v21 + 12ull;
+    v5 = v36 + 16ull;
+    v6 = v36 + 12ull;
     v7 = 0ull;
 again6:;
     v8 = v3 - v7;
     v9 = load64(m, v1 + 112ull, 0);
     if (v9 == 0) { goto after8; }
-    v9 = (v8 < v9) ? v8 : v9;
-    tlv_core_progress_Progress_skip(m, v1, v9);
+    v10 = (v8 < v9) ? v8 : v9;
+    tlv_core_progress_Progress_skip(m, v1, v10);
     goto after7;
 after8:;
-    v10 = v2 + v7;
+    v11 = v2 + v7;
     if (v8 < 2ull) { goto after11; }
     if ((load8(m, v1 + 96ull, 0) & 255u) == 0) { goto after10; }
 after11:;
-    put64(f21 + 8, 0ull);
-    put64(f21, 0ull);
-    put32(f21 + 16, 0u);
-    t2 = load8(m, v10, 0);
-    tlv_core_progress_Progress_take(m, v21, v1, t2);
-    v11 = get8(f21);
-    v12 = v11 ? get8(f21 + 1) : 0u;
+    put64(f36 + 8, 0ull);
+    put64(f36, 0ull);
+    put32(f36 + 16, 0u);
+    t2 = load8(m, v11, 0);
+    tlv_core_progress_Progress_take(m, v36, v1, t2);
+    v12 = get8(f36);
+    v13 = v12 ? get8(f36 + 1) : 0u;
     goto after9;
 after10:;
-    copy(m, v21, v1, 96ull);
-    v13 = get64(f21 + 88);
-    if (v13 > 15ull) { goto after12; }
-    v14 = get64(f21 + 8);
-    v15 = get64(f21);
+    copy(m, v36, v1, 96ull);
+    v9 = get64(f36 + 88);
+    if (v9 > 15ull) { goto after12; }
+    v14 = get64(f36 + 8);
+    v15 = get64(f36);
     v16 = v8;
-    v9 = 0ull;
-again13:;
-    put64(f21 + 104, 0ull);
-    v17 = v10 + v9;
-    if (v16 > 7ull) { goto after14; }
-    tlv_core_short_front_of_few(m, v21 + 104ull, v17, v16);
-    v17 = v21 + 104ull;
-after14:;
-    v17 = load64(m, v17, 0);
-    put64(f21 + 96, v17);
-    v18 = (u32)v17;
-    v11 = (u32)((v18 & 31u) == 31u);
-    v12 = (u32)(v17 >> 8);
-    v19 = v11 & ((u32)(((spread32(v12, 8)) ^ 0x80000000u) < (0u ^ 0x80000000u)));
-    if (v19 & ((u32)((v17 & 0x800000ull) >> 23))) { goto after15; }
-    if ((v18 & 255u) == 0) { goto after15; }
-    if (v11 & ((u32)((v12 & 127u) == 0))) { goto after15; }
-    v11 = (v11 ? 2u : 1u) + v19;
-    v20 = (v21 + 96ull) | ((u64)v11);
-    p206 = held(m, v20, 2);
-    v17 = (u64)held8(p206, 1, m, v20);
-    v19 = held8(p206, 0, m, v20);
-    switch (v19 + 0xFFFFFF80u) {
-        case 0: goto after15;
-        case 1: goto after19;
-        case 2: goto after18;
-        default: goto after17;
-    }
-after19:;
-    v12 = 1u;
-    goto after16;
-after18:;
-    v17 = (v17 << 8) | (u64)load8(m, v20, 2);
-    v12 = 2u;
-    goto after16;
-after17:;
-    v12 = 0u;
-    if (((spread32(v19, 8)) ^ 0x80000000u) < (0u ^ 0x80000000u)) { goto after15; }
-    v17 = (u64)v19;
-after16:;
-    v18 = v18 & 32u;
-    v20 = (u64)((v11 + v12) + 1u);
-    if (v16 < ((v18 ? 0ull : v17) + v20)) { goto after15; }
-    v17 = v17 + v20;
-    v16 = v15;
-    if (v13 == 0) { goto after20; }
-    v16 = (u64)load32(m, v6 + (v13 << 2), 0);
+    v10 = 0ull;
+again14:;
+    v17 = v11 + v10;
+    if (v9 != 0ull) { goto after16; }
+    put32(f36 + 104, 0u);
+    put64(f36 + 96, 0ull);
+    if (v16 < 8ull) { goto after18; }
+    v12 = load8(m, v17, 0);
+    if ((v12 & 31u) == 31u) { goto after20; }
+    if (v12 == 0) { goto after13; }
+    v18 = 1ull;
+    goto after19;
 after20:;
-    if ((v16 - v14) < v17) { goto after15; }
-    v16 = v18 ? v20 : v17;
-    if (v13 != 0ull) { goto after22; }
-    if (v16 != v17) { goto after22; }
-    v14 = v17 + v14;
-    v13 = 0ull;
-    goto after21;
-after22:;
-    store32(m, v5 + ((v16 < v17) ? (v13 << 2) : 64ull), 0, (u32)(v17 + v14));
-    v14 = v16 + v14;
-    v11 = (u32)v14;
-    w0 = ((u64)((u32)((get32(f21 + 20) ^ 0x80000000u) > (v11 ^ 0x80000000u)))) + ((u64)((u32)((get32(f21 + 16) ^
-        0x80000000u) > (v11 ^ 0x80000000u))));
-    w0 = (w0 + ((u64)((u32)((get32(f21 + 24) ^ 0x80000000u) > (v11 ^ 0x80000000u))))) + ((u64)((u32)((get32(f21 + 28)
-        ^ 0x80000000u) > (v11 ^ 0x80000000u))));
-    w0 = (w0 + ((u64)((u32)((get32(f21 + 32) ^ 0x80000000u) > (v11 ^ 0x80000000u))))) + ((u64)((u32)((get32(f21 + 36)
-        ^ 0x80000000u) > (v11 ^ 0x80000000u))));
-    w0 = (w0 + ((u64)((u32)((get32(f21 + 40) ^ 0x80000000u) > (v11 ^ 0x80000000u))))) + ((u64)((u32)((get32(f21 + 44)
-        ^ 0x80000000u) > (v11 ^ 0x80000000u))));
-    w0 = (w0 + ((u64)((u32)((get32(f21 + 48) ^ 0x80000000u) > (v11 ^ 0x80000000u))))) + ((u64)((u32)((get32(f21 + 52)
-        ^ 0x80000000u) > (v11 ^ 0x80000000u))));
-    w0 = (w0 + ((u64)((u32)((get32(f21 + 56) ^ 0x80000000u) > (v11 ^ 0x80000000u))))) + ((u64)((u32)((get32(f21 + 60)
-        ^ 0x80000000u) > (v11 ^ 0x80000000u))));
-    w0 = (w0 + ((u64)((u32)((get32(f21 + 64) ^ 0x80000000u) > (v11 ^ 0x80000000u))))) + ((u64)((u32)((get32(f21 + 68)
-        ^ 0x80000000u) > (v11 ^ 0x80000000u))));
-    w0 = (w0 + ((u64)((u32)((get32(f21 + 72) ^ 0x80000000u) > (v11 ^ 0x80000000u))))) + ((u64)((u32)((get32(f21 + 76)
-        ^ 0x80000000u) > (v11 ^ 0x80000000u))));
-    v13 = w0;
+    v19 = spread32(load8(m, v17, 1), 8);
+    if ((v19 ^ 0x80000000u) > (0xFFFFFFFFu ^ 0x80000000u)) { goto after21; }
+    if (v19 == 0xFFFFFF80u) { goto after13; }
+    if ((spread32(load8(m, v17, 2), 8) ^ 0x80000000u) <= (0xFFFFFFFFu ^ 0x80000000u)) { goto after13; }
+    v18 = 3ull;
+    goto after19;
 after21:;
-    put64(f21 + 8, v14);
-    v9 = v16 + v9;
-    v16 = v8 - v9;
-    put64(f21 + 88, v13);
-    if (v13 < 16ull) { goto again13; }
+    if (v19 == 0) { goto after13; }
+    v18 = 2ull;
+after19:;
+    v20 = v17 + v18;
+    p196 = held(m, v20, 2);
+    v17 = (u64)held8(p196, 1, m, v20);
+    v19 = held8(p196, 0, m, v20);
+    switch (v19 + 0xFFFFFF80u) {
+        case 0: goto after13;
+        case 1: goto after25;
+        case 2: goto after24;
+        default: goto after23;
+    }
+after25:;
+    v20 = 1ull;
+    goto after22;
+after24:;
+    v17 = (v17 << 8) | (u64)load8(m, v20, 2);
+    v20 = 2ull;
+    goto after22;
+after23:;
+    if (((spread32(v19, 8)) ^ 0x80000000u) < (0u ^ 0x80000000u)) { goto after13; }
+    v17 = (u64)v19;
+    v20 = 0ull;
+after22:;
+    v12 = (v12 & 32u) >> 5;
+    v18 = (v18 + v20) + 1ull;
+    if (v16 >= ((v12 ? 0ull : v17) + v18)) { goto after17; }
+    goto after13;
+after18:;
+    tlv_core_short_header_of_few(m, v36 + 96ull, v17, v16);
+    if (get8(f36 + 96) != 1u) { goto after13; }
+    v17 = (u64)get16(f36 + 106);
+    v18 = (u64)get8(f36 + 103);
+    v12 = get8(f36 + 104);
+after17:;
+    v17 = v18 + v17;
+    v16 = v15;
+    goto after15;
+after16:;
+    put32(f36 + 104, 0u);
+    put64(f36 + 96, 0ull);
+    if (v16 < 8ull) { goto after27; }
+    p298 = held(m, v17, 3);
+    v19 = held8(p298, 0, m, v17);
+    v12 = (u32)((v19 & 31u) == 31u);
+    v13 = held8(p298, 1, m, v17);
+    v21 = v12 & ((u32)(((spread32(v13, 8)) ^ 0x80000000u) < (0u ^ 0x80000000u)));
+    if (v21 & ((u32)((spread32(held8(p298, 2, m, v17), 8) ^ 0x80000000u) < (0u ^ 0x80000000u)))) { goto after13; }
+    if (v19 == 0) { goto after13; }
+    if (v12 & ((u32)((v13 & 127u) == 0))) { goto after13; }
+    v20 = (v12 ? 2ull : 1ull) + ((u64)v21);
+    v18 = v17 + v20;
+    p340 = held(m, v18, 2);
+    v17 = (u64)held8(p340, 1, m, v18);
+    v12 = held8(p340, 0, m, v18);
+    switch (v12 + 0xFFFFFF80u) {
+        case 0: goto after13;
+        case 1: goto after31;
+        case 2: goto after30;
+        default: goto after29;
+    }
+after31:;
+    v18 = 1ull;
+    goto after28;
+after30:;
+    v17 = (v17 << 8) | (u64)load8(m, v18, 2);
+    v18 = 2ull;
+    goto after28;
+after29:;
+    if (((spread32(v12, 8)) ^ 0x80000000u) < (0u ^ 0x80000000u)) { goto after13; }
+    v17 = (u64)v12;
+    v18 = 0ull;
+after28:;
+    v12 = (v19 & 32u) >> 5;
+    v18 = (v20 + v18) + 1ull;
+    if (v16 >= ((v12 ? 0ull : v17) + v18)) { goto after26; }
+    goto after13;
+after27:;
+    tlv_core_short_header_of_few(m, v36 + 96ull, v17, v16);
+    if (get8(f36 + 96) != 1u) { goto after13; }
+    v17 = (u64)get16(f36 + 106);
+    v18 = (u64)get8(f36 + 103);
+    v12 = get8(f36 + 104);
+after26:;
+    v17 = v18 + v17;
+    v16 = (u64)load32(m, v6 + (v9 << 2), 0);
 after15:;
-    if (v9 == 0) { goto after12; }
-    copy(m, v1, v21, 96ull);
+    if ((v16 - v14) < v17) { goto after13; }
+    v16 = (v12 & 1u) ? v18 : v17;
+    if (v9 != 0ull) { goto after33; }
+    if (v16 != v17) { goto after33; }
+    v14 = v17 + v14;
+    v9 = 0ull;
+    goto after32;
+after33:;
+    v19 = get32(f36 + 76);
+    v13 = get32(f36 + 72);
+    v21 = get32(f36 + 68);
+    v22 = get32(f36 + 64);
+    v23 = get32(f36 + 60);
+    v24 = get32(f36 + 56);
+    v25 = get32(f36 + 52);
+    v26 = get32(f36 + 48);
+    v27 = get32(f36 + 44);
+    v28 = get32(f36 + 40);
+    v29 = get32(f36 + 36);
+    v30 = get32(f36 + 32);
+    v31 = get32(f36 + 28);
+    v32 = get32(f36 + 24);
+    v33 = get32(f36 + 20);
+    v34 = get32(f36 + 16);
+    v35 = (u32)(v16 < v17);
+    store32(m, v5 + (v35 ? (v9 << 2) : 64ull), 0, (u32)(v17 + v14));
+    v14 = v16 + v14;
+    v12 = (u32)v14;
+    w1 = ((u64)((u32)((v33 ^ 0x80000000u) > (v12 ^ 0x80000000u)))) + ((u64)((u32)((v34 ^ 0x80000000u) > (v12 ^
+        0x80000000u))));
+    w1 = (w1 + ((u64)((u32)((v32 ^ 0x80000000u) > (v12 ^ 0x80000000u))))) + ((u64)((u32)((v31 ^ 0x80000000u) > (v12 ^
+        0x80000000u))));
+    w1 = (w1 + ((u64)((u32)((v30 ^ 0x80000000u) > (v12 ^ 0x80000000u))))) + ((u64)((u32)((v29 ^ 0x80000000u) > (v12 ^
+        0x80000000u))));
+    w1 = (w1 + ((u64)((u32)((v28 ^ 0x80000000u) > (v12 ^ 0x80000000u))))) + ((u64)((u32)((v27 ^ 0x80000000u) > (v12 ^
+        0x80000000u))));
+    w1 = (w1 + ((u64)((u32)((v26 ^ 0x80000000u) > (v12 ^ 0x80000000u))))) + ((u64)((u32)((v25 ^ 0x80000000u) > (v12 ^
+        0x80000000u))));
+    w1 = (w1 + ((u64)((u32)((v24 ^ 0x80000000u) > (v12 ^ 0x80000000u))))) + ((u64)((u32)((v23 ^ 0x80000000u) > (v12 ^
+        0x80000000u))));
+    w1 = (w1 + ((u64)((u32)((v22 ^ 0x80000000u) > (v12 ^ 0x80000000u))))) + ((u64)((u32)((v21 ^ 0x80000000u) > (v12 ^
+        0x80000000u))));
+    w1 = (w1 + ((u64)((u32)((v13 ^ 0x80000000u) > (v12 ^ 0x80000000u))))) + ((u64)((u32)((v19 ^ 0x80000000u) > (v12 ^
+        0x80000000u))));
+    v9 = v35 ? (get64(f36 + 88) + 1ull) : w1;
+after32:;
+    put64(f36 + 8, v14);
+    v10 = v16 + v10;
+    v16 = v8 - v10;
+    put64(f36 + 88, v9);
+    if (v9 < 16ull) { goto again14; }
+after13:;
+    if (v10 == 0) { goto after12; }
+    copy(m, v1, v36, 96ull);
     goto after7;
 after12:;
-    put64(f21 + 8, 0ull);
-    put64(f21, 0ull);
-    put32(f21 + 16, 0u);
-    t2 = load8(m, v10, 0);
-    tlv_core_progress_Progress_take(m, v21, v1, t2);
-    v11 = get8(f21);
-    v12 = v11 ? get8(f21 + 1) : 0u;
+    put64(f36 + 8, 0ull);
+    put64(f36, 0ull);
+    put32(f36 + 16, 0u);
+    t2 = load8(m, v11, 0);
+    tlv_core_progress_Progress_take(m, v36, v1, t2);
+    v12 = get8(f36);
+    v13 = v12 ? get8(f36 + 1) : 0u;
 after9:;
-    v18 = (u32)(v11 == 0);
-    if (v11) { goto after4; }
-    v9 = (u64)v18;
+    v19 = (u32)(v12 == 0);
+    if (v12) { goto after4; }
+    v10 = (u64)v19;
 after7:;
-    v7 = v9 + v7;
+    v7 = v10 + v7;
     if (v7 < v3) { goto again6; }
 after5:;
-    p497 = held(m, v0, 25);
-    put_held8(p497, 0, m, v0, 0u);
-    put_held64(p497, 8, m, v0, 0ull);
-    put_held64(p497, 16, m, v0, 0ull);
-    put_held8(p497, 24, m, v0, 0u);
+    p690 = held(m, v0, 25);
+    put_held8(p690, 0, m, v0, 0u);
+    put_held64(p690, 8, m, v0, 0ull);
+    put_held64(p690, 16, m, v0, 0ull);
+    put_held8(p690, 24, m, v0, 0u);
     goto after1;
 after4:;
-    p519 = held(m, v1 + 8ull, 114);
-    put_held8(p519, 113, m, v1 + 8ull, v12);
-    put_held8(p519, 112, m, v1 + 8ull, 1u);
-    v9 = held64(p519, 0, m, v1 + 8ull);
-    p534 = held(m, v0, 25);
-    put_held8(p534, 24, m, v0, v12);
-    put_held64(p534, 16, m, v0, v9);
-    put_held64(p534, 8, m, v0, 1ull);
-    put_held8(p534, 0, m, v0, 1u);
+    p712 = held(m, v1 + 8ull, 114);
+    put_held8(p712, 113, m, v1 + 8ull, v13);
+    put_held8(p712, 112, m, v1 + 8ull, 1u);
+    v9 = held64(p712, 0, m, v1 + 8ull);
+    p727 = held(m, v0, 25);
+    put_held8(p727, 24, m, v0, v13);
+    put_held64(p727, 16, m, v0, v9);
+    put_held64(p727, 8, m, v0, 1ull);
+    put_held8(p727, 0, m, v0, 1u);
     goto after1;
 after2:;
-    p555 = held(m, v1 + 8ull, 114);
-    v9 = held64(p555, 0, m, v1 + 8ull);
-    p564 = held(m, v0, 25);
-    put_held8(p564, 24, m, v0, held8(p555, 113, m, v1 + 8ull));
-    put_held64(p564, 16, m, v0, v9);
-    put_held64(p564, 8, m, v0, 1ull);
-    put_held8(p564, 0, m, v0, 1u);
+    p748 = held(m, v1 + 8ull, 114);
+    v9 = held64(p748, 0, m, v1 + 8ull);
+    p757 = held(m, v0, 25);
+    put_held8(p757, 24, m, v0, held8(p748, 113, m, v1 + 8ull));
+    put_held64(p757, 16, m, v0, v9);
+    put_held64(p757, 8, m, v0, 1ull);
+    put_held8(p757, 0, m, v0, 1u);
 after1:;
-    m->g0 = v21 + 112ull;
+    m->g0 = v36 + 112ull;
 }
 
 static void tlv_core_progress_Progress_skip(struct call *m, u64 v0, u64 v1)
@@ -5795,9 +5889,9 @@ static void tlv_core_progress_Progress_take(struct call *m, u64 v0, u64 v1, u32 
     u8 *p108 = NULL;
     u8 *p251 = NULL;
     u8 *p274 = NULL;
-    u8 *p315 = NULL;
-    u8 *p453 = NULL;
-    u8 *p493 = NULL;
+    u8 *p313 = NULL;
+    u8 *p328 = NULL;
+    u8 *p368 = NULL;
     v15 = m->g0 - 32ull;
     f15 = at(m, v15, 32);
     v3 = v15;
@@ -5865,66 +5959,133 @@ after8:;
     if (v7 != 2u) { goto after7; }
     if (v8 == 0) { goto after7; }
     if ((v13 & 32u) == 0) { goto after9; }
-    v5 = v1 + 16ull;
-    store32(m, v5 + (v4 << 2), 0, v8 + ((u32)v14));
-    p315 = held(m, v1 + 8ull, 88);
-    v2 = held32(p315, 0, m, v1 + 8ull);
-    w1 = ((u64)((u32)((held32(p315, 12, m, v1 + 8ull) ^ 0x80000000u) > (v2 ^ 0x80000000u)))) + ((u64)((u32)((load32(m,
-        v5, 0) ^ 0x80000000u) > (v2 ^ 0x80000000u))));
-    w1 = (w1 + ((u64)((u32)((held32(p315, 16, m, v1 + 8ull) ^ 0x80000000u) > (v2 ^ 0x80000000u))))) +
-        ((u64)((u32)((held32(p315, 20, m, v1 + 8ull) ^ 0x80000000u) > (v2 ^ 0x80000000u))));
-    w1 = (w1 + ((u64)((u32)((held32(p315, 24, m, v1 + 8ull) ^ 0x80000000u) > (v2 ^ 0x80000000u))))) +
-        ((u64)((u32)((held32(p315, 28, m, v1 + 8ull) ^ 0x80000000u) > (v2 ^ 0x80000000u))));
-    w1 = (w1 + ((u64)((u32)((held32(p315, 32, m, v1 + 8ull) ^ 0x80000000u) > (v2 ^ 0x80000000u))))) +
-        ((u64)((u32)((held32(p315, 36, m, v1 + 8ull) ^ 0x80000000u) > (v2 ^ 0x80000000u))));
-    w1 = (w1 + ((u64)((u32)((held32(p315, 40, m, v1 + 8ull) ^ 0x80000000u) > (v2 ^ 0x80000000u))))) +
-        ((u64)((u32)((held32(p315, 44, m, v1 + 8ull) ^ 0x80000000u) > (v2 ^ 0x80000000u))));
-    w1 = (w1 + ((u64)((u32)((held32(p315, 48, m, v1 + 8ull) ^ 0x80000000u) > (v2 ^ 0x80000000u))))) +
-        ((u64)((u32)((held32(p315, 52, m, v1 + 8ull) ^ 0x80000000u) > (v2 ^ 0x80000000u))));
-    w1 = (w1 + ((u64)((u32)((held32(p315, 56, m, v1 + 8ull) ^ 0x80000000u) > (v2 ^ 0x80000000u))))) +
-        ((u64)((u32)((held32(p315, 60, m, v1 + 8ull) ^ 0x80000000u) > (v2 ^ 0x80000000u))));
-    w1 = (w1 + ((u64)((u32)((held32(p315, 64, m, v1 + 8ull) ^ 0x80000000u) > (v2 ^ 0x80000000u))))) +
-        ((u64)((u32)((held32(p315, 68, m, v1 + 8ull) ^ 0x80000000u) > (v2 ^ 0x80000000u))));
-    put_held64(p315, 80, m, v1 + 8ull, w1);
+    store32(m, (v1 + (v4 << 2)) + 16ull, 0, v8 + ((u32)v14));
+    v1 = v1 + 88ull;
+    p313 = held(m, v1, 8);
+    put_held64(p313, 0, m, v1, held64(p313, 0, m, v1) + 1ull);
     goto after7;
 after9:;
     store64(m, v1 + 112ull, 0, (u64)v8);
 after7:;
-    p453 = held(m, v0, 20);
-    put_held16(p453, 0, m, v0, 0u);
-    put_held32(p453, 16, m, v0, v8);
-    put_held8(p453, 15, m, v0, v9);
-    put_held8(p453, 14, m, v0, v10);
-    put_held8(p453, 13, m, v0, v11);
-    put_held32(p453, 9, m, v0, v12);
-    put_held8(p453, 8, m, v0, v13);
-    put_held32(p453, 4, m, v0, v7);
+    p328 = held(m, v0, 20);
+    put_held16(p328, 0, m, v0, 0u);
+    put_held32(p328, 16, m, v0, v8);
+    put_held8(p328, 15, m, v0, v9);
+    put_held8(p328, 14, m, v0, v10);
+    put_held8(p328, 13, m, v0, v11);
+    put_held32(p328, 9, m, v0, v12);
+    put_held8(p328, 8, m, v0, v13);
+    put_held32(p328, 4, m, v0, v7);
     goto after1;
 after3:;
-    p493 = held(m, v0, 20);
-    put_held8(p493, 0, m, v0, 1u);
-    put_held64(p493, 4, m, v0, 0ull);
-    put_held8(p493, 1, m, v0, get8(f15 + 9));
-    put_held64(p493, 12, m, v0, 0ull);
+    p368 = held(m, v0, 20);
+    put_held8(p368, 0, m, v0, 1u);
+    put_held64(p368, 4, m, v0, 0ull);
+    put_held8(p368, 1, m, v0, get8(f15 + 9));
+    put_held64(p368, 12, m, v0, 0ull);
     goto after1;
 after1:;
     m->g0 = v15 + 32ull;
 }
 
-static void tlv_core_short_front_of_few(struct call *m, u64 v0, u64 v1, u64 v2)
+static void tlv_core_short_header_of_few(struct call *m, u64 v0, u64 v1, u64 v2)
 {
     u64 v3 = 0;
-    u64 v4 = 0;
-    u8 *f4 = NULL;
-    v4 = m->g0 - 16ull;
-    f4 = at(m, v4, 16);
-    v3 = v4;
+    u64 v15 = 0;
+    u32 v4 = 0;
+    u32 v5 = 0;
+    u32 v6 = 0;
+    u32 v7 = 0;
+    u32 v8 = 0;
+    u32 v9 = 0;
+    u32 v10 = 0;
+    u32 v11 = 0;
+    u32 v12 = 0;
+    u32 v13 = 0;
+    u32 v14 = 0;
+    u32 t0 = 0;
+    u8 *f15 = NULL;
+    u8 *p85 = NULL;
+    u8 *p210 = NULL;
+    v15 = m->g0 - 16ull;
+    f15 = at(m, v15, 16);
+    v3 = v15;
     if ((v3 ^ 0x8000000000000000ull) < (16ull ^ 0x8000000000000000ull)) { goto after1; }
-    put64(f4 + 8, 0ull);
+    put64(f15 + 8, 0ull);
     if (v2 == 0) { goto after2; }
-    copy(m, v4 + 8ull, v1, v2);
+    copy(m, v15 + 8ull, v1, v2);
 after2:;
-    store64(m, v0, 0, get64(f4 + 8));
+    v4 = get8(f15 + 8);
+    v5 = (u32)((v4 & 31u) == 31u);
+    v6 = get8(f15 + 9);
+    v7 = v5 & ((u32)(((spread32(v6, 8)) ^ 0x80000000u) < (0u ^ 0x80000000u)));
+    v8 = spread32(get8(f15 + 10), 8);
+    if (v7 & ((u32)((v8 ^ 0x80000000u) < (0u ^ 0x80000000u)))) { goto after6; }
+    if (v4 == 0) { goto after6; }
+    v9 = 0u;
+    v10 = 0u;
+    v11 = 0u;
+    v12 = 0u;
+    v13 = 0u;
+    v14 = 0u;
+    if (v5 & ((u32)((v6 & 127u) == 0))) { goto after3; }
+    v1 = (v5 ? 2ull : 1ull) + ((u64)v7);
+    v3 = (v15 + 8ull) | v1;
+    p85 = held(m, v3, 2);
+    v5 = held8(p85, 1, m, v3);
+    v9 = 0u;
+    v10 = 0u;
+    v11 = 0u;
+    v12 = 0u;
+    v13 = 0u;
+    v14 = 0u;
+    v7 = held8(p85, 0, m, v3);
+    switch (v7 + 0xFFFFFF80u) {
+        case 0: goto after3;
+        case 1: goto after8;
+        case 2: goto after10;
+        default: goto after9;
+    }
+after10:;
+    v13 = (v5 << 8) | load8(m, v3, 2);
+    v10 = 2u;
+    goto after7;
+after9:;
+    v9 = 0u;
+    v13 = spread32(v7, 8);
+    if ((v13 ^ 0x80000000u) < (0u ^ 0x80000000u)) { goto after5; }
+    v10 = 0u;
+    goto after7;
+after8:;
+    v13 = v5 & 255u;
+    v10 = 1u;
+after7:;
+    v14 = 1u;
+    v12 = (v4 >> 5) & 1u;
+    v9 = (u32)v1;
+    v11 = (v9 + v10) + 1u;
+    if (v2 >= ((v12 ? 0ull : (((u64)v13) & 65535ull)) + ((u64)v11))) { goto after4; }
+after6:;
+    v9 = 0u;
+after5:;
+    v10 = 0u;
+    v11 = 0u;
+    v12 = 0u;
+    v13 = 0u;
+    v14 = 0u;
+    goto after3;
+after4:;
+    t0 = (((v6 << 8) | v4) | ((v8 & 255u) << 16)) & ((0xFFFFFFFFu << ((v9 << 3) & 31)) ^ 0xFFFFFFFFu);
+    v9 = t0 | (v9 << 24);
+after3:;
+    p210 = held(m, v0, 12);
+    put_held16(p210, 0, m, v0, v14);
+    put_held16(p210, 10, m, v0, v13);
+    put_held8(p210, 9, m, v0, 0u);
+    put_held8(p210, 8, m, v0, v12);
+    put_held8(p210, 7, m, v0, v11);
+    put_held8(p210, 6, m, v0, v10);
+    put_held32(p210, 2, m, v0, v9);
     return;
 after1:;
     UNREACHABLE;
@@ -12274,29 +12435,44 @@ static void tlv_core_part_walk_next_part(struct call *m, u64 v0, u64 v1, u64 v2,
     u64 v8 = 0;
     u64 v9 = 0;
     u64 v10 = 0;
-    u64 v11 = 0;
+    u64 v16 = 0;
     u64 v17 = 0;
     u64 v18 = 0;
-    u64 v19 = 0;
+    u64 v32 = 0;
+    u32 v11 = 0;
     u32 v12 = 0;
     u32 v13 = 0;
     u32 v14 = 0;
     u32 v15 = 0;
-    u32 v16 = 0;
+    u32 v19 = 0;
+    u32 v20 = 0;
+    u32 v21 = 0;
+    u32 v22 = 0;
+    u32 v23 = 0;
+    u32 v24 = 0;
+    u32 v25 = 0;
+    u32 v26 = 0;
+    u32 v27 = 0;
+    u32 v28 = 0;
+    u32 v29 = 0;
+    u32 v30 = 0;
+    u32 v31 = 0;
     u32 t0 = 0;
     u32 t2 = 0;
     u64 w0 = 0;
-    u8 *f19 = NULL;
+    u64 w1 = 0;
+    u8 *f32 = NULL;
     u8 *p50 = NULL;
-    u8 *p145 = NULL;
-    u8 *p308 = NULL;
-    u8 *p560 = NULL;
-    u8 *p582 = NULL;
-    u8 *p600 = NULL;
-    u8 *p622 = NULL;
-    v19 = m->g0 - 32ull;
-    f19 = at(m, v19, 32);
-    v4 = v19;
+    u8 *p78 = NULL;
+    u8 *p121 = NULL;
+    u8 *p312 = NULL;
+    u8 *p619 = NULL;
+    u8 *p641 = NULL;
+    u8 *p659 = NULL;
+    u8 *p681 = NULL;
+    v32 = m->g0 - 32ull;
+    f32 = at(m, v32, 32);
+    v4 = v32;
     m->g0 = v4;
     v5 = load64(m, v1 + 8ull, 0);
     if (v5 >= v3) { goto after6; }
@@ -12310,104 +12486,130 @@ again7:;
     v9 = held64(p50, 0, m, v1 + 88ull);
     if (held8(p50, 8, m, v1 + 88ull)) { goto after10; }
     if (v9 > 15ull) { goto after10; }
-    put64(f19 + 8, 0ull);
-    v10 = v8;
-    v11 = v3 - v5;
-    if (v11 > 7ull) { goto after11; }
-    tlv_core_short_front_of_few(m, v19 + 8ull, v8, v11);
-    v10 = v19 + 8ull;
-after11:;
-    v10 = load64(m, v10, 0);
-    put64(f19, v10);
-    v12 = (u32)v10;
-    v13 = v12 & 31u;
-    v14 = (u32)(v13 == 31u);
-    v15 = (u32)(v10 >> 8);
-    v16 = v14 & ((u32)(((spread32(v15, 8)) ^ 0x80000000u) < (0u ^ 0x80000000u)));
-    if (v16 & ((u32)((v10 & 0x800000ull) >> 23))) { goto after10; }
-    if ((v12 & 255u) == 0) { goto after10; }
-    if (v14 & ((u32)((v15 & 127u) == 0))) { goto after10; }
-    v14 = 1u;
-    v13 = ((v13 == 31u) ? 2u : 1u) + v16;
-    v17 = v19 | ((u64)v13);
-    p145 = held(m, v17, 2);
-    v10 = (u64)held8(p145, 1, m, v17);
-    v16 = held8(p145, 0, m, v17);
-    switch (v16 + 0xFFFFFF80u) {
+    put32(f32 + 16, 0u);
+    put64(f32 + 8, 0ull);
+    v10 = v3 - v5;
+    if (v10 < 8ull) { goto after12; }
+    p78 = held(m, v8, 3);
+    v11 = held8(p78, 0, m, v8);
+    v12 = (u32)((v11 & 31u) == 31u);
+    v13 = held8(p78, 1, m, v8);
+    v14 = v12 & ((u32)(((spread32(v13, 8)) ^ 0x80000000u) < (0u ^ 0x80000000u)));
+    v15 = spread32(held8(p78, 2, m, v8), 8);
+    if (v14 & ((u32)((v15 ^ 0x80000000u) < (0u ^ 0x80000000u)))) { goto after10; }
+    if (v11 == 0) { goto after10; }
+    if (v12 & ((u32)((v13 & 127u) == 0))) { goto after10; }
+    v16 = (v12 ? 2ull : 1ull) + ((u64)v14);
+    v17 = v8 + v16;
+    p121 = held(m, v17, 2);
+    v18 = (u64)held8(p121, 1, m, v17);
+    v14 = held8(p121, 0, m, v17);
+    switch (v14 + 0xFFFFFF80u) {
         case 0: goto after10;
-        case 1: goto after12;
-        case 2: goto after14;
-        default: goto after13;
+        case 1: goto after16;
+        case 2: goto after15;
+        default: goto after14;
     }
-after14:;
-    v10 = (v10 << 8) | (u64)load8(m, v17, 2);
-    v14 = 2u;
-    goto after12;
-after13:;
-    v14 = 0u;
-    if (((spread32(v16, 8)) ^ 0x80000000u) < (0u ^ 0x80000000u)) { goto after10; }
-    v10 = (u64)v16;
-after12:;
-    v16 = v12 & 32u;
-    v17 = (u64)((v13 + v14) + 1u);
-    if (v11 < ((v16 ? 0ull : v10) + v17)) { goto after10; }
-    v11 = v10 + v17;
-    if (v9 != 0ull) { goto after16; }
-    v18 = load64(m, v1, 0);
-    goto after15;
 after16:;
-    v18 = (u64)load32(m, v7 + (v9 << 2), 0);
+    v12 = 1u;
+    goto after13;
 after15:;
-    if ((v18 - v5) < v11) { goto after10; }
-    t0 = ((((v15 << 8) & 65280u) | (v12 & 255u)) | (v12 & 0xFF0000u)) & ((0xFFFFFFFFu << ((v13 << 3) & 31)) ^
-        0xFFFFFFFFu);
-    v3 = (u64)(t0 | (v13 << 24));
-    v2 = v5 + v17;
-    v7 = ((u64)v14) << 32;
-    v17 = v16 ? v17 : v11;
-    if (v17 != v11) { goto after18; }
-    v8 = 0ull;
+    v18 = (v18 << 8) | (u64)load8(m, v17, 2);
+    v12 = 2u;
+    goto after13;
+after14:;
+    v12 = 0u;
+    if (((spread32(v14, 8)) ^ 0x80000000u) < (0u ^ 0x80000000u)) { goto after10; }
+    v18 = (u64)v14;
+after13:;
+    v19 = (v11 & 32u) >> 5;
+    v14 = (u32)v16;
+    v17 = (u64)((v14 + v12) + 1u);
+    if (v10 < ((v19 ? 0ull : v18) + v17)) { goto after10; }
+    t0 = (((v13 << 8) | v11) | ((v15 & 255u) << 16)) & ((0xFFFFFFFFu << ((v14 << 3) & 31)) ^ 0xFFFFFFFFu);
+    v11 = t0 | (v14 << 24);
+    goto after11;
+after12:;
+    tlv_core_short_header_of_few(m, v32 + 8ull, v8, v10);
+    if (get8(f32 + 8) != 1u) { goto after10; }
+    v18 = (u64)get16(f32 + 18);
+    v17 = (u64)get8(f32 + 15);
+    v19 = get8(f32 + 16);
+    v12 = get8(f32 + 14);
+    v11 = get32(f32 + 10);
+after11:;
+    v10 = v18 + v17;
     if (v9 != 0ull) { goto after18; }
-    store64(m, v1 + 8ull, 0, v11 + v5);
+    v16 = load64(m, v1, 0);
     goto after17;
 after18:;
-    store32(m, v6 + ((v17 < v11) ? (v9 << 2) : 64ull), 0, (u32)(v11 + v5));
-    v5 = v5 + v17;
-    p308 = held(m, v1 + 8ull, 72);
-    put_held64(p308, 0, m, v1 + 8ull, v5);
-    v12 = (u32)v5;
-    w0 = ((u64)((u32)((held32(p308, 8, m, v1 + 8ull) ^ 0x80000000u) > (v12 ^ 0x80000000u)))) +
-        ((u64)((u32)((held32(p308, 12, m, v1 + 8ull) ^ 0x80000000u) > (v12 ^ 0x80000000u))));
-    w0 = (w0 + ((u64)((u32)((held32(p308, 16, m, v1 + 8ull) ^ 0x80000000u) > (v12 ^ 0x80000000u))))) +
-        ((u64)((u32)((held32(p308, 20, m, v1 + 8ull) ^ 0x80000000u) > (v12 ^ 0x80000000u))));
-    w0 = (w0 + ((u64)((u32)((held32(p308, 24, m, v1 + 8ull) ^ 0x80000000u) > (v12 ^ 0x80000000u))))) +
-        ((u64)((u32)((held32(p308, 28, m, v1 + 8ull) ^ 0x80000000u) > (v12 ^ 0x80000000u))));
-    w0 = (w0 + ((u64)((u32)((held32(p308, 32, m, v1 + 8ull) ^ 0x80000000u) > (v12 ^ 0x80000000u))))) +
-        ((u64)((u32)((held32(p308, 36, m, v1 + 8ull) ^ 0x80000000u) > (v12 ^ 0x80000000u))));
-    w0 = (w0 + ((u64)((u32)((held32(p308, 40, m, v1 + 8ull) ^ 0x80000000u) > (v12 ^ 0x80000000u))))) +
-        ((u64)((u32)((held32(p308, 44, m, v1 + 8ull) ^ 0x80000000u) > (v12 ^ 0x80000000u))));
-    w0 = (w0 + ((u64)((u32)((held32(p308, 48, m, v1 + 8ull) ^ 0x80000000u) > (v12 ^ 0x80000000u))))) +
-        ((u64)((u32)((held32(p308, 52, m, v1 + 8ull) ^ 0x80000000u) > (v12 ^ 0x80000000u))));
-    w0 = (w0 + ((u64)((u32)((held32(p308, 56, m, v1 + 8ull) ^ 0x80000000u) > (v12 ^ 0x80000000u))))) +
-        ((u64)((u32)((held32(p308, 60, m, v1 + 8ull) ^ 0x80000000u) > (v12 ^ 0x80000000u))));
-    w0 = (w0 + ((u64)((u32)((held32(p308, 64, m, v1 + 8ull) ^ 0x80000000u) > (v12 ^ 0x80000000u))))) +
-        ((u64)((u32)((held32(p308, 68, m, v1 + 8ull) ^ 0x80000000u) > (v12 ^ 0x80000000u))));
-    v8 = w0;
+    v16 = (u64)load32(m, v7 + (v9 << 2), 0);
 after17:;
+    if ((v16 - v5) < v10) { goto after10; }
+    v3 = v5 + v17;
+    v2 = (((u64)v12) & 255ull) << 32;
+    v16 = (u64)v11;
+    v17 = (v19 & 1u) ? v17 : v10;
+    if (v17 != v10) { goto after20; }
+    v8 = 0ull;
+    if (v9 != 0ull) { goto after20; }
+    store64(m, v1 + 8ull, 0, v5 + v10);
+    goto after19;
+after20:;
+    v8 = v5 + v17;
+    p312 = held(m, v1 + 8ull, 88);
+    put_held64(p312, 0, m, v1 + 8ull, v8);
+    v12 = held32(p312, 68, m, v1 + 8ull);
+    v13 = held32(p312, 64, m, v1 + 8ull);
+    v14 = held32(p312, 60, m, v1 + 8ull);
+    v15 = held32(p312, 56, m, v1 + 8ull);
+    v19 = held32(p312, 52, m, v1 + 8ull);
+    v20 = held32(p312, 48, m, v1 + 8ull);
+    v21 = held32(p312, 44, m, v1 + 8ull);
+    v22 = held32(p312, 40, m, v1 + 8ull);
+    v23 = held32(p312, 36, m, v1 + 8ull);
+    v24 = held32(p312, 32, m, v1 + 8ull);
+    v25 = held32(p312, 28, m, v1 + 8ull);
+    v26 = held32(p312, 24, m, v1 + 8ull);
+    v27 = held32(p312, 20, m, v1 + 8ull);
+    v28 = held32(p312, 16, m, v1 + 8ull);
+    v29 = held32(p312, 8, m, v1 + 8ull);
+    v30 = held32(p312, 12, m, v1 + 8ull);
+    v31 = (u32)(v17 < v10);
+    store32(m, v6 + (v31 ? (v9 << 2) : 64ull), 0, (u32)(v5 + v10));
+    v11 = (u32)v8;
+    w1 = ((u64)((u32)((v29 ^ 0x80000000u) > (v11 ^ 0x80000000u)))) + ((u64)((u32)((v30 ^ 0x80000000u) > (v11 ^
+        0x80000000u))));
+    w1 = (w1 + ((u64)((u32)((v28 ^ 0x80000000u) > (v11 ^ 0x80000000u))))) + ((u64)((u32)((v27 ^ 0x80000000u) > (v11 ^
+        0x80000000u))));
+    w1 = (w1 + ((u64)((u32)((v26 ^ 0x80000000u) > (v11 ^ 0x80000000u))))) + ((u64)((u32)((v25 ^ 0x80000000u) > (v11 ^
+        0x80000000u))));
+    w1 = (w1 + ((u64)((u32)((v24 ^ 0x80000000u) > (v11 ^ 0x80000000u))))) + ((u64)((u32)((v23 ^ 0x80000000u) > (v11 ^
+        0x80000000u))));
+    w1 = (w1 + ((u64)((u32)((v22 ^ 0x80000000u) > (v11 ^ 0x80000000u))))) + ((u64)((u32)((v21 ^ 0x80000000u) > (v11 ^
+        0x80000000u))));
+    w1 = (w1 + ((u64)((u32)((v20 ^ 0x80000000u) > (v11 ^ 0x80000000u))))) + ((u64)((u32)((v19 ^ 0x80000000u) > (v11 ^
+        0x80000000u))));
+    w1 = (w1 + ((u64)((u32)((v15 ^ 0x80000000u) > (v11 ^ 0x80000000u))))) + ((u64)((u32)((v14 ^ 0x80000000u) > (v11 ^
+        0x80000000u))));
+    w1 = (w1 + ((u64)((u32)((v13 ^ 0x80000000u) > (v11 ^ 0x80000000u))))) + ((u64)((u32)((v12 ^ 0x80000000u) > (v11 ^
+        0x80000000u))));
+    v8 = v31 ? (held64(p312, 80, m, v1 + 8ull) + 1ull) : w1;
+after19:;
     put_held64(p50, 0, m, v1 + 88ull, v8);
-    v1 = (v2 & 0xFFFFFFFFull) | (v10 << 32);
-    v5 = (((v9 << 40) | v7) + v3) + 0x10000000000ull;
+    v1 = (v18 << 32) | (v3 & 0xFFFFFFFFull);
+    v5 = (((v9 << 40) | v2) + v16) + 0x10000000000ull;
     goto after2;
 after10:;
-    put32(f19 + 24, 0u);
-    put64(f19 + 16, 0ull);
-    put64(f19 + 8, 0ull);
+    put32(f32 + 24, 0u);
+    put64(f32 + 16, 0ull);
+    put64(f32 + 8, 0ull);
     t2 = load8(m, v8, 0);
-    tlv_core_progress_Progress_take(m, v19 + 8ull, v1, t2);
-    if (get8(f19 + 8)) { goto after5; }
-    if (get8(f19 + 12) != 2u) { goto after8; }
-    v1 = (u64)load32(m, v1 + 8ull, 0) | ((u64)get32(f19 + 24) << 32);
-    w0 = (((u64)get8(f19 + 20) << 32) | (((v9 << 40) + 0x10000000000ull) & 0xFF0000000000ull)) | (u64)get32(f19 + 16);
+    tlv_core_progress_Progress_take(m, v32 + 8ull, v1, t2);
+    if (get8(f32 + 8)) { goto after5; }
+    if (get8(f32 + 12) != 2u) { goto after8; }
+    v1 = (u64)load32(m, v1 + 8ull, 0) | ((u64)get32(f32 + 24) << 32);
+    w0 = (((u64)get8(f32 + 20) << 32) | (((v9 << 40) + 0x10000000000ull) & 0xFF0000000000ull)) | (u64)get32(f32 + 16);
     v5 = w0;
     goto after2;
 after9:;
@@ -12420,35 +12622,35 @@ after6:;
     if (load64(m, v1 + 88ull, 0) != 0ull) { goto after4; }
     if (load8(m, v1 + 96ull, 0)) { goto after4; }
     if (load64(m, v1 + 112ull, 0) != 0ull) { goto after4; }
-    p560 = held(m, v0, 25);
-    put_held8(p560, 24, m, v0, 0u);
-    put_held64(p560, 16, m, v0, 0ull);
-    put_held64(p560, 8, m, v0, 0ull);
-    put_held64(p560, 0, m, v0, 0ull);
+    p619 = held(m, v0, 25);
+    put_held8(p619, 24, m, v0, 0u);
+    put_held64(p619, 16, m, v0, 0ull);
+    put_held64(p619, 8, m, v0, 0ull);
+    put_held64(p619, 0, m, v0, 0ull);
     goto after1;
 after5:;
     v1 = load64(m, v1 + 8ull, 0);
-    p582 = held(m, v0, 25);
-    put_held8(p582, 24, m, v0, get8(f19 + 9));
-    put_held64(p582, 16, m, v0, v1);
-    put_held64(p582, 8, m, v0, 1ull);
-    put_held64(p582, 0, m, v0, 1ull);
+    p641 = held(m, v0, 25);
+    put_held8(p641, 24, m, v0, get8(f32 + 9));
+    put_held64(p641, 16, m, v0, v1);
+    put_held64(p641, 8, m, v0, 1ull);
+    put_held64(p641, 0, m, v0, 1ull);
     goto after1;
 after4:;
-    p600 = held(m, v0, 25);
-    put_held64(p600, 0, m, v0, 1ull);
-    put_held8(p600, 24, m, v0, 0u);
-    put_held64(p600, 16, m, v0, v5);
-    put_held64(p600, 8, m, v0, 0ull);
+    p659 = held(m, v0, 25);
+    put_held64(p659, 0, m, v0, 1ull);
+    put_held8(p659, 24, m, v0, 0u);
+    put_held64(p659, 16, m, v0, v5);
+    put_held64(p659, 8, m, v0, 0ull);
     goto after1;
 after2:;
-    p622 = held(m, v0, 25);
-    put_held64(p622, 0, m, v0, 0x100000000ull);
-    put_held8(p622, 24, m, v0, 0u);
-    put_held64(p622, 16, m, v0, v1);
-    put_held64(p622, 8, m, v0, v5);
+    p681 = held(m, v0, 25);
+    put_held64(p681, 0, m, v0, 0x100000000ull);
+    put_held8(p681, 24, m, v0, 0u);
+    put_held64(p681, 16, m, v0, v1);
+    put_held64(p681, 8, m, v0, v5);
 after1:;
-    m->g0 = v19 + 32ull;
+    m->g0 = v32 + 32ull;
 }
 
 static void tlv_core_tidy_form_put_objects(struct call *m, u64 v0, u64 v1, u64 v2, u64 v3, u64 v4, u64 v5)
@@ -12459,299 +12661,406 @@ static void tlv_core_tidy_form_put_objects(struct call *m, u64 v0, u64 v1, u64 v
     u64 v9 = 0;
     u64 v10 = 0;
     u64 v11 = 0;
-    u64 v12 = 0;
-    u64 v19 = 0;
+    u64 v13 = 0;
     u64 v21 = 0;
     u64 v22 = 0;
     u64 v23 = 0;
-    u64 v24 = 0;
-    u64 v25 = 0;
-    u64 v26 = 0;
-    u32 v13 = 0;
+    u64 v37 = 0;
+    u64 v38 = 0;
+    u64 v39 = 0;
+    u64 v40 = 0;
+    u32 v12 = 0;
     u32 v14 = 0;
     u32 v15 = 0;
     u32 v16 = 0;
     u32 v17 = 0;
     u32 v18 = 0;
+    u32 v19 = 0;
     u32 v20 = 0;
+    u32 v24 = 0;
+    u32 v25 = 0;
+    u32 v26 = 0;
+    u32 v27 = 0;
+    u32 v28 = 0;
+    u32 v29 = 0;
+    u32 v30 = 0;
+    u32 v31 = 0;
+    u32 v32 = 0;
+    u32 v33 = 0;
+    u32 v34 = 0;
+    u32 v35 = 0;
+    u32 v36 = 0;
     u32 t0 = 0;
-    u64 w0 = 0;
-    u8 *f26 = NULL;
-    u8 *p176 = NULL;
-    u8 *p515 = NULL;
-    u8 *p537 = NULL;
-    u8 *p564 = NULL;
-    u8 *p903 = NULL;
-    u8 *p904 = NULL;
-    v26 = m->g0 - 288ull;
-    f26 = at(m, v26, 288);
-    v6 = v26;
+    u64 w1 = 0;
+    u8 *f40 = NULL;
+    u8 *p116 = NULL;
+    u8 *p168 = NULL;
+    u8 *p362 = NULL;
+    u8 *p405 = NULL;
+    u8 *p784 = NULL;
+    u8 *p806 = NULL;
+    u8 *p833 = NULL;
+    u8 *p1172 = NULL;
+    u8 *p1173 = NULL;
+    v40 = m->g0 - 288ull;
+    f40 = at(m, v40, 288);
+    v6 = v40;
     m->g0 = v6;
-    put64(f26 + 32, 0ull);
-    put64(f26 + 24, 0ull);
-    put64(f26 + 16, 0ull);
-    put64(f26 + 8, 0ull);
-    put64(f26 + 120, v3);
-    memset(f26 + 128, (int)(0u & 255u), 112);
-    memset(f26 + 40, (int)(0u & 255u), 80);
-    v7 = (v26 + 8ull) | 5ull;
-    v8 = (v26 + 120ull) + 16ull;
-    v9 = v26 + 132ull;
+    put64(f40 + 32, 0ull);
+    put64(f40 + 24, 0ull);
+    put64(f40 + 16, 0ull);
+    put64(f40 + 8, 0ull);
+    put64(f40 + 120, v3);
+    memset(f40 + 128, (int)(0u & 255u), 112);
+    memset(f40 + 40, (int)(0u & 255u), 80);
+    v7 = (v40 + 8ull) | 5ull;
+    v8 = (v40 + 120ull) + 16ull;
+    v9 = v40 + 132ull;
 again2:;
-    put64(f26 + 264, 0ull);
-    put64(f26 + 256, 0ull);
-    put64(f26 + 248, 0ull);
-    put64(f26 + 240, 0ull);
-    if (get64(f26 + 232) != 0ull) { goto after4; }
-    v3 = get64(f26 + 128);
+    put64(f40 + 264, 0ull);
+    put64(f40 + 256, 0ull);
+    put64(f40 + 248, 0ull);
+    put64(f40 + 240, 0ull);
+    if (get64(f40 + 232) != 0ull) { goto after4; }
+    v3 = get64(f40 + 128);
     if (v2 <= v3) { goto after4; }
-    if (get8(f26 + 216)) { goto after4; }
-    v10 = get64(f26 + 208);
-    if (v10 > 15ull) { goto after4; }
+    v10 = v2 - v3;
     v11 = v1 + v3;
-    put64(f26 + 280, 0ull);
-    v12 = v2 - v3;
-    if (v12 > 7ull) { goto after5; }
-    tlv_core_short_front_of_few(m, v26 + 280ull, v11, v12);
-    v11 = v26 + 280ull;
-after5:;
-    v11 = load64(m, v11, 0);
-    put64(f26 + 272, v11);
-    v13 = (u32)v11;
-    v14 = v13 & 31u;
-    v15 = (u32)(v14 == 31u);
-    v16 = (u32)(v11 >> 8);
-    v17 = v15 & ((u32)(((spread32(v16, 8)) ^ 0x80000000u) < (0u ^ 0x80000000u)));
-    if (v17 & ((u32)((v11 & 0x800000ull) >> 23))) { goto after4; }
-    if ((v13 & 255u) == 0) { goto after4; }
-    if (v15 & ((u32)((v16 & 127u) == 0))) { goto after4; }
-    v15 = 1u;
-    v14 = ((v14 == 31u) ? 2u : 1u) + v17;
-    v11 = (v26 + 272ull) | ((u64)v14);
-    p176 = held(m, v11, 2);
-    v17 = held8(p176, 1, m, v11);
-    v18 = held8(p176, 0, m, v11);
-    switch (v18 + 0xFFFFFF80u) {
-        case 0: goto after4;
-        case 1: goto after9;
-        case 2: goto after8;
-        default: goto after7;
-    }
-after9:;
-    v17 = v17 & 255u;
-    goto after6;
-after8:;
-    v17 = (v17 << 8) | load8(m, v11, 2);
-    v15 = 2u;
-    goto after6;
-after7:;
-    v15 = 0u;
-    v17 = spread32(v18, 8);
-    if ((v17 ^ 0x80000000u) < (0u ^ 0x80000000u)) { goto after4; }
-after6:;
-    v19 = ((u64)v17) & 65535ull;
-    v18 = v13 & 32u;
-    v11 = (u64)((v14 + v15) + 1u);
-    if (v12 < ((v18 ? 0ull : v19) + v11)) { goto after4; }
-    v12 = v11 + v19;
-    if (v10 != 0ull) { goto after11; }
-    v19 = get64(f26 + 120);
-    goto after10;
-after11:;
-    v19 = (u64)load32(m, v9 + (v10 << 2), 0);
+    v12 = get8(f40 + 216);
+    v13 = get64(f40 + 208);
+    if (v13 != 0ull) { goto after6; }
+    if (v12 & 255u) { goto after4; }
+    put32(f40 + 280, 0u);
+    put64(f40 + 272, 0ull);
+    if (v10 < 8ull) { goto after8; }
+    p116 = held(m, v11, 3);
+    v14 = held8(p116, 2, m, v11);
+    v15 = held8(p116, 1, m, v11);
+    v12 = held8(p116, 0, m, v11);
+    if ((v12 & 31u) == 31u) { goto after10; }
+    if (v12 == 0) { goto after4; }
+    v13 = 1ull;
+    goto after9;
 after10:;
-    if ((v19 - v3) < v12) { goto after4; }
-    t0 = ((((v16 << 8) & 65280u) | (v13 & 255u)) | (v13 & 0xFF0000u)) & ((0xFFFFFFFFu << ((v14 << 3) & 31)) ^
-        0xFFFFFFFFu);
-    v16 = t0 | (v14 << 24);
-    v14 = v17 & 65535u;
-    v17 = ((u32)v10) + 1u;
-    v20 = (u32)(v3 + v11);
-    v19 = v18 ? v11 : v12;
-    if (v19 != v12) { goto after13; }
-    v11 = 0ull;
-    if (v10 != 0ull) { goto after13; }
-    put64(f26 + 128, v12 + v3);
+    v16 = spread32(v15, 8);
+    if ((v16 ^ 0x80000000u) > (0xFFFFFFFFu ^ 0x80000000u)) { goto after11; }
+    if (v16 == 0xFFFFFF80u) { goto after4; }
+    if (((spread32(v14, 8)) ^ 0x80000000u) <= (0xFFFFFFFFu ^ 0x80000000u)) { goto after4; }
+    v13 = 3ull;
+    goto after9;
+after11:;
+    if (v16 == 0) { goto after4; }
+    v13 = 2ull;
+after9:;
+    v11 = v11 + v13;
+    p168 = held(m, v11, 2);
+    v16 = held8(p168, 1, m, v11);
+    v17 = held8(p168, 0, m, v11);
+    switch (v17 + 0xFFFFFF80u) {
+        case 0: goto after4;
+        case 1: goto after15;
+        case 2: goto after14;
+        default: goto after13;
+    }
+after15:;
+    v16 = v16 & 255u;
+    v18 = 1u;
+    goto after12;
+after14:;
+    v16 = (v16 << 8) | load8(m, v11, 2);
+    v18 = 2u;
     goto after12;
 after13:;
-    store32(m, v8 + ((v19 < v12) ? (v10 << 2) : 64ull), 0, (u32)(v12 + v3));
-    v3 = v3 + v19;
-    put64(f26 + 128, v3);
-    v13 = (u32)v3;
-    w0 = ((u64)((u32)((get32(f26 + 136) ^ 0x80000000u) > (v13 ^ 0x80000000u)))) + ((u64)((u32)((get32(f26 + 140) ^
-        0x80000000u) > (v13 ^ 0x80000000u))));
-    w0 = (w0 + ((u64)((u32)((get32(f26 + 144) ^ 0x80000000u) > (v13 ^ 0x80000000u))))) + ((u64)((u32)((get32(f26 +
-        148) ^ 0x80000000u) > (v13 ^ 0x80000000u))));
-    w0 = (w0 + ((u64)((u32)((get32(f26 + 152) ^ 0x80000000u) > (v13 ^ 0x80000000u))))) + ((u64)((u32)((get32(f26 +
-        156) ^ 0x80000000u) > (v13 ^ 0x80000000u))));
-    w0 = (w0 + ((u64)((u32)((get32(f26 + 160) ^ 0x80000000u) > (v13 ^ 0x80000000u))))) + ((u64)((u32)((get32(f26 +
-        164) ^ 0x80000000u) > (v13 ^ 0x80000000u))));
-    w0 = (w0 + ((u64)((u32)((get32(f26 + 168) ^ 0x80000000u) > (v13 ^ 0x80000000u))))) + ((u64)((u32)((get32(f26 +
-        172) ^ 0x80000000u) > (v13 ^ 0x80000000u))));
-    w0 = (w0 + ((u64)((u32)((get32(f26 + 176) ^ 0x80000000u) > (v13 ^ 0x80000000u))))) + ((u64)((u32)((get32(f26 +
-        180) ^ 0x80000000u) > (v13 ^ 0x80000000u))));
-    w0 = (w0 + ((u64)((u32)((get32(f26 + 184) ^ 0x80000000u) > (v13 ^ 0x80000000u))))) + ((u64)((u32)((get32(f26 +
-        188) ^ 0x80000000u) > (v13 ^ 0x80000000u))));
-    w0 = (w0 + ((u64)((u32)((get32(f26 + 192) ^ 0x80000000u) > (v13 ^ 0x80000000u))))) + ((u64)((u32)((get32(f26 +
-        196) ^ 0x80000000u) > (v13 ^ 0x80000000u))));
-    v11 = w0;
+    v18 = 0u;
+    v16 = spread32(v17, 8);
+    if ((v16 ^ 0x80000000u) < (0u ^ 0x80000000u)) { goto after4; }
 after12:;
-    put16(f26 + 254, 0u);
-    put8(f26 + 253, v17);
-    put8(f26 + 252, v15);
-    put32(f26 + 248, v16);
-    put32(f26 + 260, v14);
-    put32(f26 + 256, v20);
-    put64(f26 + 208, v11);
-    v3 = get64(f26 + 248);
-    v11 = get64(f26 + 256);
+    v19 = (v12 & 32u) >> 5;
+    v17 = (u32)v13;
+    v20 = (v17 + v18) + 1u;
+    if (v10 < ((v19 ? 0ull : (((u64)v16) & 65535ull)) + ((u64)v20))) { goto after4; }
+    t0 = ((((v15 << 8) | v12) | (v14 << 16)) & ((0xFFFFFFFFu << ((v17 << 3) & 31)) ^ 0xFFFFFFFFu)) | (v17 << 24);
+    v15 = t0;
+    goto after7;
+after8:;
+    tlv_core_short_header_of_few(m, v40 + 272ull, v11, v10);
+    if (get8(f40 + 272) != 1u) { goto after4; }
+    v19 = get8(f40 + 280);
+    v16 = get16(f40 + 282);
+    v20 = get8(f40 + 279);
+    v18 = get8(f40 + 278);
+    v15 = get32(f40 + 274);
+after7:;
+    v11 = ((u64)v20) & 255ull;
+    v13 = v11 + (((u64)v16) & 65535ull);
+    if ((get64(f40 + 120) - v3) < v13) { goto after4; }
+    if (((u32)((v16 & 65535u) != 0u)) & v19) { goto after16; }
+    put64(f40 + 128, v3 + v13);
+    v12 = 1u;
+    v10 = 0ull;
+    goto after5;
+after16:;
+    put32(f40 + 136, (u32)(v3 + v13));
+    put64(f40 + 128, v3 + v11);
+    v10 = get64(f40 + 208) + 1ull;
+    v12 = 1u;
+    goto after5;
+after6:;
+    if (v13 > 15ull) { goto after4; }
+    if (v12 & 255u) { goto after4; }
+    put32(f40 + 280, 0u);
+    put64(f40 + 272, 0ull);
+    if (v10 < 8ull) { goto after18; }
+    p362 = held(m, v11, 3);
+    v12 = held8(p362, 0, m, v11);
+    v16 = (u32)((v12 & 31u) == 31u);
+    v15 = held8(p362, 1, m, v11);
+    v18 = v16 & ((u32)(((spread32(v15, 8)) ^ 0x80000000u) < (0u ^ 0x80000000u)));
+    v14 = spread32(held8(p362, 2, m, v11), 8);
+    if (v18 & ((u32)((v14 ^ 0x80000000u) < (0u ^ 0x80000000u)))) { goto after4; }
+    if (v12 == 0) { goto after4; }
+    if (v16 & ((u32)((v15 & 127u) == 0))) { goto after4; }
+    v21 = (v16 ? 2ull : 1ull) + ((u64)v18);
+    v11 = v11 + v21;
+    p405 = held(m, v11, 2);
+    v16 = held8(p405, 1, m, v11);
+    v17 = held8(p405, 0, m, v11);
+    switch (v17 + 0xFFFFFF80u) {
+        case 0: goto after4;
+        case 1: goto after22;
+        case 2: goto after21;
+        default: goto after20;
+    }
+after22:;
+    v16 = v16 & 255u;
+    v18 = 1u;
+    goto after19;
+after21:;
+    v16 = (v16 << 8) | load8(m, v11, 2);
+    v18 = 2u;
+    goto after19;
+after20:;
+    v18 = 0u;
+    v16 = spread32(v17, 8);
+    if ((v16 ^ 0x80000000u) < (0u ^ 0x80000000u)) { goto after4; }
+after19:;
+    v19 = (v12 & 32u) >> 5;
+    v17 = (u32)v21;
+    v20 = (v17 + v18) + 1u;
+    if (v10 < ((v19 ? 0ull : (((u64)v16) & 65535ull)) + ((u64)v20))) { goto after4; }
+    t0 = (((v15 << 8) | v12) | ((v14 & 255u) << 16)) & ((0xFFFFFFFFu << ((v17 << 3) & 31)) ^ 0xFFFFFFFFu);
+    v15 = t0 | (v17 << 24);
+    goto after17;
+after18:;
+    tlv_core_short_header_of_few(m, v40 + 272ull, v11, v10);
+    if (get8(f40 + 272) != 1u) { goto after4; }
+    v19 = get8(f40 + 280);
+    v16 = get16(f40 + 282);
+    v20 = get8(f40 + 279);
+    v18 = get8(f40 + 278);
+    v15 = get32(f40 + 274);
+after17:;
+    v21 = v13 << 2;
+    v11 = ((u64)v20) & 255ull;
+    v10 = v11 + (((u64)v16) & 65535ull);
+    if (((u64)load32(m, v9 + v21, 0) - v3) < v10) { goto after4; }
+    v22 = (v19 & 1u) ? v11 : v10;
+    v23 = v3 + v22;
+    put64(f40 + 128, v23);
+    v14 = get32(f40 + 196);
+    v17 = get32(f40 + 192);
+    v20 = get32(f40 + 188);
+    v19 = get32(f40 + 184);
+    v24 = get32(f40 + 180);
+    v25 = get32(f40 + 176);
+    v26 = get32(f40 + 172);
+    v27 = get32(f40 + 168);
+    v28 = get32(f40 + 164);
+    v29 = get32(f40 + 160);
+    v30 = get32(f40 + 156);
+    v31 = get32(f40 + 152);
+    v32 = get32(f40 + 148);
+    v33 = get32(f40 + 144);
+    v34 = get32(f40 + 136);
+    v35 = get32(f40 + 140);
+    v36 = (u32)(v22 < v10);
+    store32(m, v8 + (v36 ? v21 : 64ull), 0, (u32)(v3 + v10));
+    v12 = (u32)v23;
+    w1 = ((u64)((u32)((v34 ^ 0x80000000u) > (v12 ^ 0x80000000u)))) + ((u64)((u32)((v35 ^ 0x80000000u) > (v12 ^
+        0x80000000u))));
+    w1 = (w1 + ((u64)((u32)((v33 ^ 0x80000000u) > (v12 ^ 0x80000000u))))) + ((u64)((u32)((v32 ^ 0x80000000u) > (v12 ^
+        0x80000000u))));
+    w1 = (w1 + ((u64)((u32)((v31 ^ 0x80000000u) > (v12 ^ 0x80000000u))))) + ((u64)((u32)((v30 ^ 0x80000000u) > (v12 ^
+        0x80000000u))));
+    w1 = (w1 + ((u64)((u32)((v29 ^ 0x80000000u) > (v12 ^ 0x80000000u))))) + ((u64)((u32)((v28 ^ 0x80000000u) > (v12 ^
+        0x80000000u))));
+    w1 = (w1 + ((u64)((u32)((v27 ^ 0x80000000u) > (v12 ^ 0x80000000u))))) + ((u64)((u32)((v26 ^ 0x80000000u) > (v12 ^
+        0x80000000u))));
+    w1 = (w1 + ((u64)((u32)((v25 ^ 0x80000000u) > (v12 ^ 0x80000000u))))) + ((u64)((u32)((v24 ^ 0x80000000u) > (v12 ^
+        0x80000000u))));
+    w1 = (w1 + ((u64)((u32)((v19 ^ 0x80000000u) > (v12 ^ 0x80000000u))))) + ((u64)((u32)((v20 ^ 0x80000000u) > (v12 ^
+        0x80000000u))));
+    w1 = (w1 + ((u64)((u32)((v17 ^ 0x80000000u) > (v12 ^ 0x80000000u))))) + ((u64)((u32)((v14 ^ 0x80000000u) > (v12 ^
+        0x80000000u))));
+    v10 = v36 ? (get64(f40 + 208) + 1ull) : w1;
+    v12 = ((u32)v13) + 1u;
+after5:;
+    put16(f40 + 254, 0u);
+    put8(f40 + 253, v12);
+    put8(f40 + 252, v18);
+    put32(f40 + 248, v15);
+    put32(f40 + 260, v16 & 65535u);
+    put32(f40 + 256, (u32)(v3 + v11));
+    put64(f40 + 208, v10);
+    v3 = get64(f40 + 248);
+    v11 = get64(f40 + 256);
     goto after3;
 after4:;
-    tlv_core_part_walk_next_part(m, v26 + 240ull, v26 + 120ull, v1, v2);
-    v11 = get64(f26 + 256);
-    v3 = get64(f26 + 248);
-    if (get8(f26 + 240)) { goto after15; }
-    if ((get8(f26 + 244) & 255u) == 1u) { goto after3; }
-    tlv_core_tidy_form_TidyForm_close_to(m, v26 + 40ull, 1ull, v4, v5);
-    p515 = held(m, v0, 25);
-    put_held8(p515, 24, m, v0, 0u);
-    put_held64(p515, 16, m, v0, 0ull);
-    put_held64(p515, 0, m, v0, 0ull);
-    put_held64(p515, 8, m, v0, (u64)get32(f26 + 112));
-    goto after14;
-after15:;
-    v13 = get8(f26 + 264);
-    p537 = held(m, v0, 25);
-    put_held64(p537, 0, m, v0, 1ull);
-    put_held8(p537, 24, m, v0, v13);
-    put_held64(p537, 16, m, v0, v11);
-    put_held64(p537, 8, m, v0, v3 & 255ull);
-after14:;
-    m->g0 = v26 + 288ull;
+    tlv_core_part_walk_next_part(m, v40 + 240ull, v40 + 120ull, v1, v2);
+    v11 = get64(f40 + 256);
+    v3 = get64(f40 + 248);
+    if (get8(f40 + 240)) { goto after24; }
+    if ((get8(f40 + 244) & 255u) == 1u) { goto after3; }
+    tlv_core_tidy_form_TidyForm_close_to(m, v40 + 40ull, 1ull, v4, v5);
+    p784 = held(m, v0, 25);
+    put_held8(p784, 24, m, v0, 0u);
+    put_held64(p784, 16, m, v0, 0ull);
+    put_held64(p784, 0, m, v0, 0ull);
+    put_held64(p784, 8, m, v0, (u64)get32(f40 + 112));
+    goto after23;
+after24:;
+    v12 = get8(f40 + 264);
+    p806 = held(m, v0, 25);
+    put_held64(p806, 0, m, v0, 1ull);
+    put_held8(p806, 24, m, v0, v12);
+    put_held64(p806, 16, m, v0, v11);
+    put_held64(p806, 8, m, v0, v3 & 255ull);
+after23:;
+    m->g0 = v40 + 288ull;
     return;
 after3:;
-    p564 = held(m, v7, 3);
-    put_held16(p564, 0, m, v7, 0u);
-    put_held8(p564, 2, m, v7, 0u);
-    v21 = v11 & 0xFFFFFFFFull;
-    put64(f26 + 16, v21);
-    put32(f26 + 8, (u32)v3);
-    put8(f26 + 12, (u32)(v3 >> 32));
-    v19 = v1 + v21;
-    put64(f26 + 24, v19);
+    p833 = held(m, v7, 3);
+    put_held16(p833, 0, m, v7, 0u);
+    put_held8(p833, 2, m, v7, 0u);
+    v22 = v11 & 0xFFFFFFFFull;
+    put64(f40 + 16, v22);
+    put32(f40 + 8, (u32)v3);
+    put8(f40 + 12, (u32)(v3 >> 32));
+    v21 = v1 + v22;
+    put64(f40 + 24, v21);
     v11 = v11 >> 32;
-    v10 = v2 - v21;
-    v10 = (v11 < v10) ? v11 : v10;
-    put64(f26 + 32, v10);
-    tlv_core_tidy_form_TidyForm_close_to(m, v26 + 40ull, (v3 >> 40) & 255ull, v4, v5);
-    v12 = (v3 >> 24) & 255ull;
-    v22 = (u64)get32(f26 + 112);
-    v11 = v12 + v22;
-    if (v11 > v5) { goto after16; }
-    if (v12 == 0) { goto after16; }
-    copy(m, v4 + v22, v26 + 8ull, v12);
-after16:;
+    v13 = v2 - v22;
+    v13 = (v11 < v13) ? v11 : v13;
+    put64(f40 + 32, v13);
+    tlv_core_tidy_form_TidyForm_close_to(m, v40 + 40ull, (v3 >> 40) & 255ull, v4, v5);
+    v10 = (v3 >> 24) & 255ull;
+    v23 = (u64)get32(f40 + 112);
+    v11 = v10 + v23;
+    if (v11 > v5) { goto after25; }
+    if (v10 == 0) { goto after25; }
+    copy(m, v4 + v23, v40 + 8ull, v10);
+after25:;
     v11 = (v11 < 0xFFFFFFFFull) ? v11 : 0xFFFFFFFFull;
-    v13 = (u32)v11;
-    put32(f26 + 112, v13);
-    if ((v3 & 32ull) == 0) { goto after17; }
-    v3 = get64(f26 + 104);
+    v12 = (u32)v11;
+    put32(f40 + 112, v12);
+    if ((v3 & 32ull) == 0) { goto after26; }
+    v3 = get64(f40 + 104);
     if (v3 > 15ull) { goto again2; }
-    store32(m, (v26 + 40ull) + (v3 << 2), 0, v13);
-    put64(f26 + 104, v3 + 1ull);
+    store32(m, (v40 + 40ull) + (v3 << 2), 0, v12);
+    put64(f40 + 104, v3 + 1ull);
     goto again2;
-after17:;
-    if (v10 > 127ull) { goto after19; }
-    v13 = (u32)v10;
+after26:;
+    if (v13 > 127ull) { goto after28; }
+    v12 = (u32)v13;
     v3 = 1ull;
-    v12 = 0ull;
+    v10 = 0ull;
     v16 = 0u;
     v15 = 0u;
-    v14 = 0u;
-    goto after18;
-after19:;
-    if (v10 > 255ull) { goto after20; }
-    v16 = (u32)v10;
+    v18 = 0u;
+    goto after27;
+after28:;
+    if (v13 > 255ull) { goto after29; }
+    v16 = (u32)v13;
     v3 = 2ull;
-    v12 = 0ull;
+    v10 = 0ull;
     v15 = 0u;
-    v13 = 129u;
-    v14 = 0u;
-    goto after18;
-after20:;
-    v17 = (u32)(v10 >> 8);
-    if (v10 > 65535ull) { goto after21; }
-    v15 = (u32)v10;
+    v12 = 129u;
+    v18 = 0u;
+    goto after27;
+after29:;
+    v14 = (u32)(v13 >> 8);
+    if (v13 > 65535ull) { goto after30; }
+    v15 = (u32)v13;
     v3 = 3ull;
-    v12 = 0ull;
-    v14 = 0u;
-    v13 = 130u;
-    v16 = v17;
-    goto after18;
-after21:;
-    v3 = v10 >> 16;
-    if (v10 > 0xFFFFFFull) { goto after22; }
-    v13 = (u32)v10;
-    v16 = right32(v13 & 255u, 8u);
-    v15 = (v16 | ((v13 << 8) & 0xFF0000u)) >> 16;
-    v14 = v16 >> 24;
+    v10 = 0ull;
+    v18 = 0u;
+    v12 = 130u;
+    v16 = v14;
+    goto after27;
+after30:;
+    v3 = v13 >> 16;
+    if (v13 > 0xFFFFFFull) { goto after31; }
+    v12 = (u32)v13;
+    v16 = right32(v12 & 255u, 8u);
+    v15 = (v16 | ((v12 << 8) & 0xFF0000u)) >> 16;
+    v18 = v16 >> 24;
     v16 = (u32)v3;
     v3 = 4ull;
-    v12 = 0ull;
-    v13 = 131u;
-    goto after18;
-after22:;
-    v12 = (v10 << 32) & 0xFF00000000ull;
-    v16 = (u32)(v10 >> 24);
+    v10 = 0ull;
+    v12 = 131u;
+    goto after27;
+after31:;
+    v10 = (v13 << 32) & 0xFF00000000ull;
+    v16 = (u32)(v13 >> 24);
     v15 = (u32)v3;
     v3 = 5ull;
-    v13 = 132u;
-    v14 = v17;
-after18:;
-    put64(f26 + 240, v12 | ((u64)((((v16 & 255u) << 8) | v13) | ((v14 << 24) | ((v15 << 16) & 0xFF0000u)))));
-    put64(f26 + 248, v3);
-    v12 = v3 + v11;
-    if (v12 > v5) { goto after23; }
-    if (v3 == 0) { goto after23; }
-    copy(m, v4 + v11, v26 + 240ull, v3);
-after23:;
-    v23 = (v12 < 0xFFFFFFFFull) ? v12 : 0xFFFFFFFFull;
-    v24 = v23 + v10;
-    if (v24 > v5) { goto after24; }
-    v22 = v4 + v23;
-    if ((v22 - v19) >= v10) { goto after25; }
-    v12 = v10 & 3ull;
+    v12 = 132u;
+    v18 = v14;
+after27:;
+    put64(f40 + 240, v10 | ((u64)((((v16 & 255u) << 8) | v12) | ((v18 << 24) | ((v15 << 16) & 0xFF0000u)))));
+    put64(f40 + 248, v3);
+    v10 = v3 + v11;
+    if (v10 > v5) { goto after32; }
+    if (v3 == 0) { goto after32; }
+    copy(m, v4 + v11, v40 + 240ull, v3);
+after32:;
+    v37 = (v10 < 0xFFFFFFFFull) ? v10 : 0xFFFFFFFFull;
+    v38 = v37 + v13;
+    if (v38 > v5) { goto after33; }
+    v23 = v4 + v37;
+    if ((v23 - v21) >= v13) { goto after34; }
+    v10 = v13 & 3ull;
     v11 = 0ull;
-    if (v10 < 4ull) { goto after26; }
-    v25 = v10 & 0xFFFFFFFCull;
+    if (v13 < 4ull) { goto after35; }
+    v39 = v13 & 0xFFFFFFFCull;
     v11 = 0ull;
-again27:;
-    v3 = v22 + v11;
-    v10 = v19 + v11;
-    p903 = held(m, v10, 4);
-    p904 = held(m, v3, 4);
-    put_held8(p904, 0, m, v3, held8(p903, 0, m, v10));
-    put_held8(p904, 1, m, v3, held8(p903, 1, m, v10));
-    put_held8(p904, 2, m, v3, held8(p903, 2, m, v10));
-    put_held8(p904, 3, m, v3, held8(p903, 3, m, v10));
+again36:;
+    v3 = v23 + v11;
+    v13 = v21 + v11;
+    p1172 = held(m, v13, 4);
+    p1173 = held(m, v3, 4);
+    put_held8(p1173, 0, m, v3, held8(p1172, 0, m, v13));
+    put_held8(p1173, 1, m, v3, held8(p1172, 1, m, v13));
+    put_held8(p1173, 2, m, v3, held8(p1172, 2, m, v13));
+    put_held8(p1173, 3, m, v3, held8(p1172, 3, m, v13));
     v11 = v11 + 4ull;
-    if (v25 != v11) { goto again27; }
-    if (v12 == 0) { goto after24; }
-after26:;
-    v3 = v4 + (v11 + v23);
-    v11 = v1 + (v11 + v21);
-again28:;
+    if (v39 != v11) { goto again36; }
+    if (v10 == 0) { goto after33; }
+after35:;
+    v3 = v4 + (v11 + v37);
+    v11 = v1 + (v11 + v22);
+again37:;
     store8(m, v3, 0, load8(m, v11, 0));
     v3 = v3 + 1ull;
     v11 = v11 + 1ull;
-    v12 = v12 + 0xFFFFFFFFFFFFFFFFull;
-    if (v12 != 0ull) { goto again28; }
-    goto after24;
-after25:;
-    if (v10 == 0) { goto after24; }
-    copy(m, v22, v19, v10);
-after24:;
-    put32(f26 + 112, (u32)((v24 < 0xFFFFFFFFull) ? v24 : 0xFFFFFFFFull));
+    v10 = v10 + 0xFFFFFFFFFFFFFFFFull;
+    if (v10 != 0ull) { goto again37; }
+    goto after33;
+after34:;
+    if (v13 == 0) { goto after33; }
+    copy(m, v23, v21, v13);
+after33:;
+    put32(f40 + 112, (u32)((v38 < 0xFFFFFFFFull) ? v38 : 0xFFFFFFFFull));
     goto again2;
 }
 
@@ -19129,295 +19438,544 @@ static void rattle_export_scard_tlv_parts(struct call *m, u64 v0, u64 v1, u64 v2
     u64 v12 = 0;
     u64 v13 = 0;
     u64 v14 = 0;
-    u64 v15 = 0;
-    u64 v22 = 0;
-    u64 v23 = 0;
-    u64 v24 = 0;
-    u64 v25 = 0;
-    u32 v16 = 0;
+    u64 v16 = 0;
+    u64 v21 = 0;
+    u64 v26 = 0;
+    u64 v27 = 0;
+    u64 v40 = 0;
+    u32 v15 = 0;
     u32 v17 = 0;
     u32 v18 = 0;
     u32 v19 = 0;
     u32 v20 = 0;
-    u32 v21 = 0;
+    u32 v22 = 0;
+    u32 v23 = 0;
+    u32 v24 = 0;
+    u32 v25 = 0;
+    u32 v28 = 0;
+    u32 v29 = 0;
+    u32 v30 = 0;
+    u32 v31 = 0;
+    u32 v32 = 0;
+    u32 v33 = 0;
+    u32 v34 = 0;
+    u32 v35 = 0;
+    u32 v36 = 0;
+    u32 v37 = 0;
+    u32 v38 = 0;
+    u32 v39 = 0;
     u32 t0 = 0;
-    u32 t1 = 0;
-    u64 w0 = 0;
-    u8 *f25 = NULL;
-    u8 *p211 = NULL;
-    u8 *p442 = NULL;
-    u8 *p619 = NULL;
-    u8 *p962 = NULL;
-    u8 *p1047 = NULL;
-    v25 = m->g0 - 176ull;
-    f25 = at(m, v25, 176);
-    v6 = v25;
+    u64 w1 = 0;
+    u8 *f40 = NULL;
+    u8 *p144 = NULL;
+    u8 *p197 = NULL;
+    u8 *p429 = NULL;
+    u8 *p472 = NULL;
+    u8 *p802 = NULL;
+    u8 *p905 = NULL;
+    u8 *p964 = NULL;
+    u8 *p1087 = NULL;
+    u8 *p1130 = NULL;
+    u8 *p1599 = NULL;
+    u8 *p1682 = NULL;
+    v40 = m->g0 - 176ull;
+    f40 = at(m, v40, 176);
+    v6 = v40;
     m->g0 = v6;
     v7 = 0ull;
     v8 = 4ull;
-    if (v3 > 0x100000ull) { goto after1; }
+    if (v3 > 0x100000ull) { goto after2; }
     v9 = v4 + ((v4 == 0) ? 4096ull : 0ull);
     v10 = v1 + ((v1 == 0) ? 4096ull : 0ull);
-    memset(f25 + 16, (int)(0u & 255u), 112);
-    put64(f25 + 8, v3);
-    v11 = v25 + 24ull;
-    v12 = v25 + 20ull;
-    v3 = 0ull;
+    memset(f40 + 16, (int)(0u & 255u), 112);
+    put64(f40 + 8, v3);
+    v11 = v40 + 24ull;
+    v12 = v40 + 20ull;
     v7 = 0ull;
+    v3 = 0ull;
 again5:;
-    if (v3 != 0ull) { goto after10; }
+    if (v3 == 0) { goto after8; }
+    put64(f40 + 152, 0ull);
+    put64(f40 + 144, 0ull);
+    put64(f40 + 136, 0ull);
+    put64(f40 + 128, 0ull);
+    goto after7;
+after8:;
     v4 = v9 + (v7 * 24ull);
-    v13 = get64(f25 + 8);
-    v3 = get64(f25 + 16);
-again11:;
-    if (v2 <= v3) { goto after8; }
-    if (get8(f25 + 104) == 0) { goto after12; }
-    put64(f25 + 152, 0ull);
-    put64(f25 + 144, 0ull);
-    put64(f25 + 136, 0ull);
-    put64(f25 + 128, 0ull);
-    goto after7;
-after12:;
-    v1 = get64(f25 + 96);
-    if (v1 < 16ull) { goto after13; }
-    put64(f25 + 152, 0ull);
-    put64(f25 + 144, 0ull);
-    put64(f25 + 136, 0ull);
-    put64(f25 + 128, 0ull);
-    goto after7;
-after13:;
-    put64(f25 + 128, 0ull);
-    v14 = v10 + v3;
-    v8 = v14;
-    v15 = v2 - v3;
-    if (v15 > 7ull) { goto after14; }
-    tlv_core_short_front_of_few(m, v25 + 128ull, v14, v15);
-    v8 = v25 + 128ull;
-after14:;
-    v8 = load64(m, v8, 0);
-    put64(f25 + 168, v8);
-    v16 = (u32)v8;
-    v17 = v16 & 31u;
-    v18 = (u32)(v17 == 31u);
-    v19 = (u32)(v8 >> 8);
-    v20 = v18 & ((u32)(((spread32(v19, 8)) ^ 0x80000000u) < (0u ^ 0x80000000u)));
-    if ((v16 >> 23) & v20) { goto after9; }
-    if ((v16 & 255u) == 0) { goto after9; }
-    if (v18 & ((u32)((v19 & 127u) == 0))) { goto after9; }
-    v21 = 1u;
-    v17 = ((v17 == 31u) ? 2u : 1u) + v20;
-    v8 = (v25 + 168ull) | ((u64)v17);
-    p211 = held(m, v8, 2);
-    v22 = (u64)held8(p211, 1, m, v8);
-    v18 = held8(p211, 0, m, v8);
-    switch (v18 + 0xFFFFFF80u) {
-        case 0: goto after9;
-        case 1: goto after15;
-        case 2: goto after17;
-        default: goto after16;
+    v13 = get64(f40 + 8);
+    v3 = get64(f40 + 16);
+again18:;
+    if (v2 <= v3) { goto after12; }
+    v14 = v2 - v3;
+    v8 = v10 + v3;
+    v15 = get8(f40 + 104);
+    v16 = get64(f40 + 96);
+    if (v16 != 0ull) { goto after20; }
+    if (v15 & 255u) { goto after17; }
+    put32(f40 + 136, 0u);
+    put64(f40 + 128, 0ull);
+    if (v14 < 8ull) { goto after24; }
+    p144 = held(m, v8, 3);
+    v17 = held8(p144, 2, m, v8);
+    v18 = spread32(v17, 8);
+    v19 = held8(p144, 1, m, v8);
+    v20 = spread32(v19, 8);
+    v15 = held8(p144, 0, m, v8);
+    if ((v15 & 31u) == 31u) { goto after26; }
+    if (v15 == 0) { goto after23; }
+    v21 = 1ull;
+    goto after25;
+after26:;
+    if ((v20 ^ 0x80000000u) > (0xFFFFFFFFu ^ 0x80000000u)) { goto after27; }
+    if (v20 == 0xFFFFFF80u) { goto after23; }
+    if ((v18 ^ 0x80000000u) <= (0xFFFFFFFFu ^ 0x80000000u)) { goto after23; }
+    v21 = 3ull;
+    goto after25;
+after27:;
+    if (v20 == 0) { goto after23; }
+    v21 = 2ull;
+after25:;
+    v1 = v8 + v21;
+    p197 = held(m, v1, 2);
+    v22 = held8(p197, 1, m, v1);
+    v23 = held8(p197, 0, m, v1);
+    switch (v23 + 0xFFFFFF80u) {
+        case 0: goto after23;
+        case 1: goto after31;
+        case 2: goto after30;
+        default: goto after29;
     }
-after17:;
-    v22 = (v22 << 8) | (u64)load8(m, v8, 2);
-    v21 = 2u;
+after31:;
+    v24 = v22 & 255u;
+    v22 = 1u;
+    goto after28;
+after30:;
+    v24 = (v22 << 8) | load8(m, v1, 2);
+    v22 = 2u;
+    goto after28;
+after29:;
+    v22 = 0u;
+    v24 = spread32(v23, 8);
+    if ((v24 ^ 0x80000000u) < (0u ^ 0x80000000u)) { goto after23; }
+after28:;
+    v1 = ((u64)v24) & 65535ull;
+    v25 = (v15 & 32u) >> 5;
+    v23 = (u32)v21;
+    v21 = (u64)((v23 + v22) + 1u);
+    if (v14 < ((v25 ? 0ull : v1) + v21)) { goto after23; }
+    t0 = ((((v19 << 8) | v15) | (v17 << 16)) & ((0xFFFFFFFFu << ((v23 << 3) & 31)) ^ 0xFFFFFFFFu)) | (v23 << 24);
+    v23 = t0;
+    goto after21;
+after24:;
+    tlv_core_short_header_of_few(m, v40 + 128ull, v8, v14);
+    if (get8(f40 + 128) == 1u) { goto after22; }
+    put64(f40 + 152, 0ull);
+    put64(f40 + 144, 0ull);
+    put64(f40 + 136, 0ull);
+    put64(f40 + 128, 0ull);
+    put32(f40 + 168, 0u);
+    put64(f40 + 160, 0ull);
+    goto after11;
+after23:;
+    put64(f40 + 152, 0ull);
+    put64(f40 + 144, 0ull);
+    put64(f40 + 136, 0ull);
+    put64(f40 + 128, 0ull);
     goto after15;
-after16:;
-    v21 = 0u;
-    if (((spread32(v18, 8)) ^ 0x80000000u) < (0u ^ 0x80000000u)) { goto after9; }
-    v22 = (u64)v18;
-after15:;
-    v18 = v16 & 32u;
-    v23 = (u64)((v17 + v21) + 1u);
-    if (v15 < ((v18 ? 0ull : v22) + v23)) { goto after9; }
-    v8 = v22 + v23;
-    v24 = v13;
-    if (v1 == 0) { goto after18; }
-    v24 = (u64)load32(m, v12 + (v1 << 2), 0);
-after18:;
-    if ((v24 - v3) < v8) { goto after9; }
-    v24 = v18 ? v23 : v8;
-    if (v1 != 0ull) { goto after20; }
-    if (v24 != v8) { goto after20; }
-    v8 = v8 + v3;
-    v24 = 0ull;
+after22:;
+    v24 = get16(f40 + 138);
+    v1 = ((u64)v24) & 65535ull;
+    v21 = (u64)get8(f40 + 135);
+    v25 = get8(f40 + 136);
+    v22 = get8(f40 + 134);
+    v23 = get32(f40 + 130);
+after21:;
+    v16 = v21 + v1;
+    if ((v13 - v3) < v16) { goto after16; }
+    if (v25 & ((u32)((v24 & 65535u) != 0u))) { goto after32; }
+    v8 = v16 + v3;
+    put64(f40 + 16, v8);
+    v15 = 1u;
+    v14 = 0ull;
+    goto after19;
+after32:;
+    put32(f40 + 24, (u32)(v16 + v3));
+    v8 = v21 + v3;
+    put64(f40 + 16, v8);
+    v15 = 1u;
+    v14 = 1ull;
     goto after19;
 after20:;
-    store32(m, v11 + ((v24 < v8) ? (v1 << 2) : 64ull), 0, (u32)(v8 + v3));
-    v8 = v24 + v3;
-    v18 = (u32)v8;
-    w0 = ((u64)((u32)((get32(f25 + 28) ^ 0x80000000u) > (v18 ^ 0x80000000u)))) + ((u64)((u32)((get32(f25 + 24) ^
-        0x80000000u) > (v18 ^ 0x80000000u))));
-    w0 = (w0 + ((u64)((u32)((get32(f25 + 32) ^ 0x80000000u) > (v18 ^ 0x80000000u))))) + ((u64)((u32)((get32(f25 + 36)
-        ^ 0x80000000u) > (v18 ^ 0x80000000u))));
-    w0 = (w0 + ((u64)((u32)((get32(f25 + 40) ^ 0x80000000u) > (v18 ^ 0x80000000u))))) + ((u64)((u32)((get32(f25 + 44)
-        ^ 0x80000000u) > (v18 ^ 0x80000000u))));
-    w0 = (w0 + ((u64)((u32)((get32(f25 + 48) ^ 0x80000000u) > (v18 ^ 0x80000000u))))) + ((u64)((u32)((get32(f25 + 52)
-        ^ 0x80000000u) > (v18 ^ 0x80000000u))));
-    w0 = (w0 + ((u64)((u32)((get32(f25 + 56) ^ 0x80000000u) > (v18 ^ 0x80000000u))))) + ((u64)((u32)((get32(f25 + 60)
-        ^ 0x80000000u) > (v18 ^ 0x80000000u))));
-    w0 = (w0 + ((u64)((u32)((get32(f25 + 64) ^ 0x80000000u) > (v18 ^ 0x80000000u))))) + ((u64)((u32)((get32(f25 + 68)
-        ^ 0x80000000u) > (v18 ^ 0x80000000u))));
-    w0 = (w0 + ((u64)((u32)((get32(f25 + 72) ^ 0x80000000u) > (v18 ^ 0x80000000u))))) + ((u64)((u32)((get32(f25 + 76)
-        ^ 0x80000000u) > (v18 ^ 0x80000000u))));
-    w0 = (w0 + ((u64)((u32)((get32(f25 + 80) ^ 0x80000000u) > (v18 ^ 0x80000000u))))) + ((u64)((u32)((get32(f25 + 84)
-        ^ 0x80000000u) > (v18 ^ 0x80000000u))));
-    v24 = w0;
+    v15 = v15 & 255u;
+    v23 = (u32)(v15 != 0u);
+    v22 = (u32)(v16 > 15ull);
+    if (v22) { goto after34; }
+    if (v15) { goto after34; }
+    put32(f40 + 136, 0u);
+    put64(f40 + 128, 0ull);
+    if (v14 < 8ull) { goto after36; }
+    p429 = held(m, v8, 3);
+    v15 = held8(p429, 0, m, v8);
+    v22 = (u32)((v15 & 31u) == 31u);
+    v23 = held8(p429, 1, m, v8);
+    v24 = v22 & ((u32)(((spread32(v23, 8)) ^ 0x80000000u) < (0u ^ 0x80000000u)));
+    v25 = spread32(held8(p429, 2, m, v8), 8);
+    if (v24 & ((u32)((v25 ^ 0x80000000u) < (0u ^ 0x80000000u)))) { goto after14; }
+    if (v15 == 0) { goto after14; }
+    if (v22 & ((u32)((v23 & 127u) == 0))) { goto after14; }
+    v26 = (v22 ? 2ull : 1ull) + ((u64)v24);
+    v21 = v8 + v26;
+    p472 = held(m, v21, 2);
+    v1 = (u64)held8(p472, 1, m, v21);
+    v24 = held8(p472, 0, m, v21);
+    switch (v24 + 0xFFFFFF80u) {
+        case 0: goto after14;
+        case 1: goto after40;
+        case 2: goto after39;
+        default: goto after38;
+    }
+after40:;
+    v22 = 1u;
+    goto after37;
+after39:;
+    v1 = (v1 << 8) | (u64)load8(m, v21, 2);
+    v22 = 2u;
+    goto after37;
+after38:;
+    v22 = 0u;
+    if (((spread32(v24, 8)) ^ 0x80000000u) < (0u ^ 0x80000000u)) { goto after14; }
+    v1 = (u64)v24;
+after37:;
+    v20 = (v15 & 32u) >> 5;
+    v24 = (u32)v26;
+    v21 = (u64)((v24 + v22) + 1u);
+    if (v14 < ((v20 ? 0ull : v1) + v21)) { goto after14; }
+    t0 = (((v23 << 8) | v15) | ((v25 & 255u) << 16)) & ((0xFFFFFFFFu << ((v24 << 3) & 31)) ^ 0xFFFFFFFFu);
+    v23 = t0 | (v24 << 24);
+    goto after35;
+after36:;
+    tlv_core_short_header_of_few(m, v40 + 128ull, v8, v14);
+    if (get8(f40 + 128) != 1u) { goto after14; }
+    v1 = (u64)get16(f40 + 138);
+    v21 = (u64)get8(f40 + 135);
+    v20 = get8(f40 + 136);
+    v22 = get8(f40 + 134);
+    v23 = get32(f40 + 130);
+after35:;
+    v27 = v16 << 2;
+    v26 = v21 + v1;
+    if (((u64)load32(m, v12 + v27, 0) - v3) >= v26) { goto after33; }
+    v22 = 0u;
+    v23 = 0u;
+after34:;
+    put64(f40 + 152, 0ull);
+    put64(f40 + 144, 0ull);
+    put64(f40 + 136, 0ull);
+    put64(f40 + 128, 0ull);
+    if (v22) { goto after7; }
+    if (v23 == 0) { goto after13; }
+    goto after7;
+after33:;
+    v14 = (v20 & 1u) ? v21 : v26;
+    v8 = v14 + v3;
+    put64(f40 + 16, v8);
+    v24 = get32(f40 + 84);
+    v20 = get32(f40 + 80);
+    v25 = get32(f40 + 76);
+    v17 = get32(f40 + 72);
+    v19 = get32(f40 + 68);
+    v18 = get32(f40 + 64);
+    v28 = get32(f40 + 60);
+    v29 = get32(f40 + 56);
+    v30 = get32(f40 + 52);
+    v31 = get32(f40 + 48);
+    v32 = get32(f40 + 44);
+    v33 = get32(f40 + 40);
+    v34 = get32(f40 + 36);
+    v35 = get32(f40 + 32);
+    v36 = get32(f40 + 28);
+    v37 = get32(f40 + 24);
+    v38 = (u32)(v14 < v26);
+    store32(m, v11 + (v38 ? v27 : 64ull), 0, (u32)(v26 + v3));
+    v15 = (u32)v8;
+    w1 = ((u64)((u32)((v36 ^ 0x80000000u) > (v15 ^ 0x80000000u)))) + ((u64)((u32)((v37 ^ 0x80000000u) > (v15 ^
+        0x80000000u))));
+    w1 = (w1 + ((u64)((u32)((v35 ^ 0x80000000u) > (v15 ^ 0x80000000u))))) + ((u64)((u32)((v34 ^ 0x80000000u) > (v15 ^
+        0x80000000u))));
+    w1 = (w1 + ((u64)((u32)((v33 ^ 0x80000000u) > (v15 ^ 0x80000000u))))) + ((u64)((u32)((v32 ^ 0x80000000u) > (v15 ^
+        0x80000000u))));
+    w1 = (w1 + ((u64)((u32)((v31 ^ 0x80000000u) > (v15 ^ 0x80000000u))))) + ((u64)((u32)((v30 ^ 0x80000000u) > (v15 ^
+        0x80000000u))));
+    w1 = (w1 + ((u64)((u32)((v29 ^ 0x80000000u) > (v15 ^ 0x80000000u))))) + ((u64)((u32)((v28 ^ 0x80000000u) > (v15 ^
+        0x80000000u))));
+    w1 = (w1 + ((u64)((u32)((v18 ^ 0x80000000u) > (v15 ^ 0x80000000u))))) + ((u64)((u32)((v19 ^ 0x80000000u) > (v15 ^
+        0x80000000u))));
+    w1 = (w1 + ((u64)((u32)((v17 ^ 0x80000000u) > (v15 ^ 0x80000000u))))) + ((u64)((u32)((v25 ^ 0x80000000u) > (v15 ^
+        0x80000000u))));
+    w1 = (w1 + ((u64)((u32)((v20 ^ 0x80000000u) > (v15 ^ 0x80000000u))))) + ((u64)((u32)((v24 ^ 0x80000000u) > (v15 ^
+        0x80000000u))));
+    v14 = v38 ? (get64(f40 + 96) + 1ull) : w1;
+    v15 = ((u32)v16) + 1u;
 after19:;
-    put64(f25 + 96, v24);
-    put64(f25 + 16, v8);
-    if (v7 >= v5) { goto after21; }
-    p442 = held(m, v4, 24);
-    put_held8(p442, 0, m, v4, ((u32)v1) + 1u);
-    put_held64(p442, 16, m, v4, v22);
-    put_held64(p442, 8, m, v4, (v3 + v23) & 0xFFFFFFFFull);
-    t1 = (((v19 << 8) & 65280u) | (v16 & 0xFF00FFu)) & ((0xFFFFFFFFu << ((v17 << 3) & 31)) ^ 0xFFFFFFFFu);
-    v18 = t1;
-    put_held32(p442, 3, m, v4, v18 | (v17 << 24));
-    put_held8(p442, 2, m, v4, v21 + 1u);
-    put_held8(p442, 1, m, v4, (v18 >> 5) & 1u);
-after21:;
+    put64(f40 + 96, v14);
+    if (v7 >= v5) { goto after41; }
+    p802 = held(m, v4, 24);
+    put_held8(p802, 0, m, v4, v15);
+    put_held64(p802, 16, m, v4, v1);
+    put_held32(p802, 3, m, v4, v23);
+    put_held8(p802, 2, m, v4, v22 + 1u);
+    put_held64(p802, 8, m, v4, (v21 + v3) & 0xFFFFFFFFull);
+    put_held8(p802, 1, m, v4, (v23 >> 5) & 1u);
+after41:;
     v4 = v4 + 24ull;
     v7 = v7 + 1ull;
     v3 = v8;
-    if (get64(f25 + 120) == 0) { goto again11; }
-after10:;
-    put64(f25 + 152, 0ull);
-    put64(f25 + 144, 0ull);
-    put64(f25 + 136, 0ull);
-    put64(f25 + 128, 0ull);
+    if (get64(f40 + 120) == 0) { goto again18; }
+    put64(f40 + 152, 0ull);
+    put64(f40 + 144, 0ull);
+    put64(f40 + 136, 0ull);
+    put64(f40 + 128, 0ull);
     goto after7;
-after9:;
-    put64(f25 + 152, 0ull);
-    put64(f25 + 144, 0ull);
-    put64(f25 + 136, 0ull);
-    put64(f25 + 128, 0ull);
-    put64(f25 + 168, 0ull);
-    if (v15 > 7ull) { goto after22; }
-    tlv_core_short_front_of_few(m, v25 + 168ull, v14, v15);
-    v14 = v25 + 168ull;
-after22:;
-    v8 = load64(m, v14, 0);
-    put64(f25 + 160, v8);
-    v18 = (u32)v8;
-    v17 = v18 & 31u;
-    v21 = (u32)(v17 == 31u);
-    v16 = (u32)(v8 >> 8);
-    v19 = v21 & ((u32)(((spread32(v16, 8)) ^ 0x80000000u) < (0u ^ 0x80000000u)));
-    if ((v18 >> 23) & v19) { goto after7; }
-    if ((v18 & 255u) == 0) { goto after7; }
-    if (v21 & ((u32)((v16 & 127u) == 0))) { goto after7; }
-    v21 = 1u;
-    v17 = ((v17 == 31u) ? 2u : 1u) + v19;
-    v8 = (v25 + 160ull) | ((u64)v17);
-    p619 = held(m, v8, 2);
-    v19 = held8(p619, 1, m, v8);
-    v20 = held8(p619, 0, m, v8);
-    switch (v20 + 0xFFFFFF80u) {
+after17:;
+    put64(f40 + 152, 0ull);
+    put64(f40 + 144, 0ull);
+    put64(f40 + 136, 0ull);
+    put64(f40 + 128, 0ull);
+    goto after7;
+after16:;
+    put64(f40 + 152, 0ull);
+    put64(f40 + 144, 0ull);
+    put64(f40 + 136, 0ull);
+    put64(f40 + 128, 0ull);
+    put32(f40 + 168, 0u);
+    put64(f40 + 160, 0ull);
+    if (v14 < 8ull) { goto after11; }
+    p905 = held(m, v8, 3);
+    v18 = held8(p905, 2, m, v8);
+    v20 = held8(p905, 1, m, v8);
+    v15 = held8(p905, 0, m, v8);
+after15:;
+    if ((v15 & 31u) == 31u) { goto after43; }
+    if ((v15 & 255u) == 0) { goto after7; }
+    v4 = 1ull;
+    goto after42;
+after43:;
+    if (((spread32(v20, 8)) ^ 0x80000000u) > (0xFFFFFFFFu ^ 0x80000000u)) { goto after44; }
+    if (((spread32(v18, 8)) ^ 0x80000000u) < (0u ^ 0x80000000u)) { goto after7; }
+    if ((v20 & 255u) == 128u) { goto after7; }
+    v4 = 3ull;
+    goto after42;
+after44:;
+    if ((v20 & 255u) == 0) { goto after7; }
+    v4 = 2ull;
+after42:;
+    v8 = v8 + v4;
+    p964 = held(m, v8, 2);
+    v22 = held8(p964, 1, m, v8);
+    v23 = held8(p964, 0, m, v8);
+    switch (v23 + 0xFFFFFF80u) {
         case 0: goto after7;
-        case 1: goto after26;
-        case 2: goto after25;
-        default: goto after24;
+        case 1: goto after48;
+        case 2: goto after47;
+        default: goto after46;
     }
-after26:;
-    v19 = v19 & 255u;
-    goto after23;
-after25:;
-    v19 = (v19 << 8) | load8(m, v8, 2);
-    v21 = 2u;
-    goto after23;
-after24:;
-    v21 = 0u;
-    v19 = spread32(v20, 8);
-    if ((v19 ^ 0x80000000u) < (0u ^ 0x80000000u)) { goto after7; }
-after23:;
-    v4 = ((u64)v19) & 65535ull;
-    v20 = v18 & 32u;
-    v8 = (u64)((v17 + v21) + 1u);
-    if (v15 < ((v20 ? 0ull : v4) + v8)) { goto after7; }
-    v4 = v8 + v4;
-    if (v1 == 0) { goto after27; }
-    v13 = (u64)load32(m, v12 + (v1 << 2), 0);
-after27:;
+after48:;
+    v22 = v22 & 255u;
+    v24 = 1u;
+    goto after45;
+after47:;
+    v22 = (v22 << 8) | load8(m, v8, 2);
+    v24 = 2u;
+    goto after45;
+after46:;
+    v24 = 0u;
+    v22 = spread32(v23, 8);
+    if ((v22 ^ 0x80000000u) < (0u ^ 0x80000000u)) { goto after7; }
+after45:;
+    v1 = ((u64)v22) & 65535ull;
+    v25 = (v15 >> 5) & 1u;
+    v23 = (u32)v4;
+    v8 = (u64)((v23 + v24) + 1u);
+    if (v14 < ((v25 ? 0ull : v1) + v8)) { goto after7; }
+    t0 = ((((v20 & 255u) << 8) | (v15 & 255u)) | ((v18 & 255u) << 16)) & ((0xFFFFFFFFu << ((v23 << 3) & 31)) ^
+        0xFFFFFFFFu);
+    v23 = t0 | (v23 << 24);
+    goto after10;
+after14:;
+    put64(f40 + 152, 0ull);
+    put64(f40 + 144, 0ull);
+    put64(f40 + 136, 0ull);
+    put64(f40 + 128, 0ull);
+after13:;
+    put32(f40 + 168, 0u);
+    put64(f40 + 160, 0ull);
+    if (v14 < 8ull) { goto after50; }
+    p1087 = held(m, v8, 3);
+    v15 = held8(p1087, 0, m, v8);
+    v22 = (u32)((v15 & 31u) == 31u);
+    v23 = held8(p1087, 1, m, v8);
+    v24 = v22 & ((u32)(((spread32(v23, 8)) ^ 0x80000000u) < (0u ^ 0x80000000u)));
+    v20 = spread32(held8(p1087, 2, m, v8), 8);
+    if (v24 & ((u32)((v20 ^ 0x80000000u) < (0u ^ 0x80000000u)))) { goto after7; }
+    if (v15 == 0) { goto after7; }
+    if (v22 & ((u32)((v23 & 127u) == 0))) { goto after7; }
+    v4 = (v22 ? 2ull : 1ull) + ((u64)v24);
+    v8 = v8 + v4;
+    p1130 = held(m, v8, 2);
+    v22 = held8(p1130, 1, m, v8);
+    v25 = held8(p1130, 0, m, v8);
+    switch (v25 + 0xFFFFFF80u) {
+        case 0: goto after7;
+        case 1: goto after54;
+        case 2: goto after53;
+        default: goto after52;
+    }
+after54:;
+    v22 = v22 & 255u;
+    v24 = 1u;
+    goto after51;
+after53:;
+    v22 = (v22 << 8) | load8(m, v8, 2);
+    v24 = 2u;
+    goto after51;
+after52:;
+    v24 = 0u;
+    v22 = spread32(v25, 8);
+    if ((v22 ^ 0x80000000u) < (0u ^ 0x80000000u)) { goto after7; }
+after51:;
+    v1 = ((u64)v22) & 65535ull;
+    v17 = (v15 & 32u) >> 5;
+    v25 = (u32)v4;
+    v8 = (u64)((v25 + v24) + 1u);
+    if (v14 < ((v17 ? 0ull : v1) + v8)) { goto after7; }
+    t0 = (((v23 << 8) | v15) | ((v20 & 255u) << 16)) & ((0xFFFFFFFFu << ((v25 << 3) & 31)) ^ 0xFFFFFFFFu);
+    v23 = t0 | (v25 << 24);
+    goto after49;
+after50:;
+    tlv_core_short_header_of_few(m, v40 + 160ull, v8, v14);
+    if (get8(f40 + 160) != 1u) { goto after7; }
+    v22 = get16(f40 + 170);
+    v1 = ((u64)v22) & 65535ull;
+    v8 = (u64)get8(f40 + 167);
+    v17 = get8(f40 + 168);
+    v24 = get8(f40 + 166);
+    v23 = get32(f40 + 162);
+after49:;
+    v14 = v16 << 2;
+    v4 = v8 + v1;
+    if (((u64)load32(m, v12 + v14, 0) - v3) < v4) { goto after7; }
+    v1 = (v17 & 1u) ? v8 : v4;
+    v21 = v1 + v3;
+    put64(f40 + 16, v21);
+    v20 = get32(f40 + 84);
+    v25 = get32(f40 + 80);
+    v17 = get32(f40 + 76);
+    v19 = get32(f40 + 72);
+    v18 = get32(f40 + 68);
+    v28 = get32(f40 + 64);
+    v29 = get32(f40 + 60);
+    v30 = get32(f40 + 56);
+    v31 = get32(f40 + 52);
+    v32 = get32(f40 + 48);
+    v33 = get32(f40 + 44);
+    v34 = get32(f40 + 40);
+    v35 = get32(f40 + 36);
+    v36 = get32(f40 + 32);
+    v37 = get32(f40 + 28);
+    v38 = get32(f40 + 24);
+    v39 = (u32)(v1 < v4);
+    store32(m, v11 + (v39 ? v14 : 64ull), 0, (u32)(v4 + v3));
+    v15 = (u32)v21;
+    w1 = ((u64)((u32)((v37 ^ 0x80000000u) > (v15 ^ 0x80000000u)))) + ((u64)((u32)((v38 ^ 0x80000000u) > (v15 ^
+        0x80000000u))));
+    w1 = (w1 + ((u64)((u32)((v36 ^ 0x80000000u) > (v15 ^ 0x80000000u))))) + ((u64)((u32)((v35 ^ 0x80000000u) > (v15 ^
+        0x80000000u))));
+    w1 = (w1 + ((u64)((u32)((v34 ^ 0x80000000u) > (v15 ^ 0x80000000u))))) + ((u64)((u32)((v33 ^ 0x80000000u) > (v15 ^
+        0x80000000u))));
+    w1 = (w1 + ((u64)((u32)((v32 ^ 0x80000000u) > (v15 ^ 0x80000000u))))) + ((u64)((u32)((v31 ^ 0x80000000u) > (v15 ^
+        0x80000000u))));
+    w1 = (w1 + ((u64)((u32)((v30 ^ 0x80000000u) > (v15 ^ 0x80000000u))))) + ((u64)((u32)((v29 ^ 0x80000000u) > (v15 ^
+        0x80000000u))));
+    w1 = (w1 + ((u64)((u32)((v28 ^ 0x80000000u) > (v15 ^ 0x80000000u))))) + ((u64)((u32)((v18 ^ 0x80000000u) > (v15 ^
+        0x80000000u))));
+    w1 = (w1 + ((u64)((u32)((v19 ^ 0x80000000u) > (v15 ^ 0x80000000u))))) + ((u64)((u32)((v17 ^ 0x80000000u) > (v15 ^
+        0x80000000u))));
+    w1 = (w1 + ((u64)((u32)((v25 ^ 0x80000000u) > (v15 ^ 0x80000000u))))) + ((u64)((u32)((v20 ^ 0x80000000u) > (v15 ^
+        0x80000000u))));
+    v4 = v39 ? (get64(f40 + 96) + 1ull) : w1;
+    v15 = ((u32)v16) + 1u;
+    goto after9;
+after12:;
+    put64(f40 + 152, 0ull);
+    put64(f40 + 144, 0ull);
+    put64(f40 + 136, 0ull);
+    put64(f40 + 128, 0ull);
+    goto after7;
+after11:;
+    tlv_core_short_header_of_few(m, v40 + 160ull, v8, v14);
+    if (get8(f40 + 160) != 1u) { goto after7; }
+    v22 = get16(f40 + 170);
+    v1 = ((u64)v22) & 65535ull;
+    v8 = (u64)get8(f40 + 167);
+    v25 = get8(f40 + 168);
+    v24 = get8(f40 + 166);
+    v23 = get32(f40 + 162);
+after10:;
+    v4 = v8 + v1;
     if ((v13 - v3) < v4) { goto after7; }
-    t0 = (((v16 << 8) & 65280u) | (v18 & 0xFF00FFu)) & ((0xFFFFFFFFu << ((v17 << 3) & 31)) ^ 0xFFFFFFFFu);
-    v16 = t0 | (v17 << 24);
-    v22 = v20 ? v8 : v4;
-    v17 = v19 & 65535u;
-    v19 = ((u32)v1) + 1u;
-    v20 = (u32)(v3 + v8);
-    if (v1 != 0ull) { goto after29; }
-    if (v22 != v4) { goto after29; }
-    v3 = v4 + v3;
-    v8 = 0ull;
-    goto after28;
-after29:;
-    store32(m, v11 + ((v22 < v4) ? (v1 << 2) : 64ull), 0, (u32)(v4 + v3));
-    v3 = v22 + v3;
-    v18 = (u32)v3;
-    w0 = ((u64)((u32)((get32(f25 + 28) ^ 0x80000000u) > (v18 ^ 0x80000000u)))) + ((u64)((u32)((get32(f25 + 24) ^
-        0x80000000u) > (v18 ^ 0x80000000u))));
-    w0 = (w0 + ((u64)((u32)((get32(f25 + 32) ^ 0x80000000u) > (v18 ^ 0x80000000u))))) + ((u64)((u32)((get32(f25 + 36)
-        ^ 0x80000000u) > (v18 ^ 0x80000000u))));
-    w0 = (w0 + ((u64)((u32)((get32(f25 + 40) ^ 0x80000000u) > (v18 ^ 0x80000000u))))) + ((u64)((u32)((get32(f25 + 44)
-        ^ 0x80000000u) > (v18 ^ 0x80000000u))));
-    w0 = (w0 + ((u64)((u32)((get32(f25 + 48) ^ 0x80000000u) > (v18 ^ 0x80000000u))))) + ((u64)((u32)((get32(f25 + 52)
-        ^ 0x80000000u) > (v18 ^ 0x80000000u))));
-    w0 = (w0 + ((u64)((u32)((get32(f25 + 56) ^ 0x80000000u) > (v18 ^ 0x80000000u))))) + ((u64)((u32)((get32(f25 + 60)
-        ^ 0x80000000u) > (v18 ^ 0x80000000u))));
-    w0 = (w0 + ((u64)((u32)((get32(f25 + 64) ^ 0x80000000u) > (v18 ^ 0x80000000u))))) + ((u64)((u32)((get32(f25 + 68)
-        ^ 0x80000000u) > (v18 ^ 0x80000000u))));
-    w0 = (w0 + ((u64)((u32)((get32(f25 + 72) ^ 0x80000000u) > (v18 ^ 0x80000000u))))) + ((u64)((u32)((get32(f25 + 76)
-        ^ 0x80000000u) > (v18 ^ 0x80000000u))));
-    w0 = (w0 + ((u64)((u32)((get32(f25 + 80) ^ 0x80000000u) > (v18 ^ 0x80000000u))))) + ((u64)((u32)((get32(f25 + 84)
-        ^ 0x80000000u) > (v18 ^ 0x80000000u))));
-    v8 = w0;
-after28:;
-    put16(f25 + 142, 0u);
-    put8(f25 + 141, v19);
-    put8(f25 + 140, v21);
-    put32(f25 + 136, v16);
-    put32(f25 + 148, v17);
-    put32(f25 + 144, v20);
-    put64(f25 + 96, v8);
-    put64(f25 + 16, v3);
-    v3 = get64(f25 + 136);
-    v4 = get64(f25 + 144);
+    if (v25 & ((u32)((v22 & 65535u) != 0u))) { goto after55; }
+    put64(f40 + 16, v4 + v3);
+    v15 = 1u;
+    v4 = 0ull;
+    goto after9;
+after55:;
+    put32(f40 + 24, (u32)(v4 + v3));
+    put64(f40 + 16, v8 + v3);
+    v15 = 1u;
+    v4 = 1ull;
+after9:;
+    put16(f40 + 142, 0u);
+    put8(f40 + 141, v15);
+    put8(f40 + 140, v24);
+    put32(f40 + 136, v23);
+    put32(f40 + 148, v22 & 65535u);
+    put32(f40 + 144, (u32)(v8 + v3));
+    put64(f40 + 96, v4);
+    v3 = get64(f40 + 136);
+    v4 = get64(f40 + 144);
     goto after6;
-after8:;
-    put64(f25 + 152, 0ull);
-    put64(f25 + 144, 0ull);
-    put64(f25 + 136, 0ull);
-    put64(f25 + 128, 0ull);
 after7:;
-    tlv_core_part_walk_next_part(m, v25 + 128ull, v25 + 8ull, v10, v2);
-    v4 = get64(f25 + 144);
-    v3 = get64(f25 + 136);
-    if (get8(f25 + 128)) { goto after4; }
-    if ((get8(f25 + 132) & 255u) != 1u) { goto after2; }
+    tlv_core_part_walk_next_part(m, v40 + 128ull, v40 + 8ull, v10, v2);
+    v4 = get64(f40 + 144);
+    v3 = get64(f40 + 136);
+    if (get8(f40 + 128)) { goto after4; }
+    if ((get8(f40 + 132) & 255u) != 1u) { goto after3; }
 after6:;
-    if (v7 >= v5) { goto after30; }
+    if (v7 >= v5) { goto after56; }
     v8 = v9 + (v7 * 24ull);
-    p962 = held(m, v8, 24);
-    put_held8(p962, 0, m, v8, (u32)(v3 >> 40));
-    put_held64(p962, 16, m, v8, v4 >> 32);
-    put_held64(p962, 8, m, v8, v4 & 0xFFFFFFFFull);
-    put_held32(p962, 3, m, v8, (u32)v3);
-    put_held8(p962, 2, m, v8, ((u32)(v3 >> 32)) + 1u);
-    put_held8(p962, 1, m, v8, (((u32)v3) >> 5) & 1u);
-after30:;
+    p1599 = held(m, v8, 24);
+    put_held8(p1599, 0, m, v8, (u32)(v3 >> 40));
+    put_held64(p1599, 16, m, v8, v4 >> 32);
+    put_held64(p1599, 8, m, v8, v4 & 0xFFFFFFFFull);
+    put_held32(p1599, 3, m, v8, (u32)v3);
+    put_held8(p1599, 2, m, v8, ((u32)(v3 >> 32)) + 1u);
+    put_held8(p1599, 1, m, v8, (((u32)v3) >> 5) & 1u);
+after56:;
     v7 = v7 + 1ull;
-    v3 = get64(f25 + 120);
+    v3 = get64(f40 + 120);
     goto again5;
 after4:;
-    v8 = ((v3 & 255ull) == 0) ? 1ull : (((((u64)(get8(f25 + 152) + 1u)) & 255ull) << 8) | 2ull);
+    v8 = ((v3 & 255ull) == 0) ? 1ull : (((((u64)(get8(f40 + 152) + 1u)) & 255ull) << 8) | 2ull);
     v7 = v4;
-    goto after1;
-after2:;
+    goto after2;
+after3:;
     v8 = (v7 > v5) ? 4ull : 0ull;
-after1:;
-    p1047 = held(m, v0, 16);
-    put_held64(p1047, 8, m, v0, v7);
-    put_held64(p1047, 0, m, v0, v8);
-    m->g0 = v25 + 176ull;
+after2:;
+    p1682 = held(m, v0, 16);
+    put_held64(p1682, 8, m, v0, v7);
+    put_held64(p1682, 0, m, v0, v8);
+    m->g0 = v40 + 176ull;
+    return;
 }
 
 static void module_scard_tlv_tidy(struct call *m, u64 v0, u64 v1, u64 v2, u64 v3, u64 v4, u64 v5)
