@@ -1,7 +1,6 @@
 -- A line that comes apart at its first mark.
 use Rattle.std.proofs.Common.{◌≡◌, ◌<◌, ◌∙◌, ◌+◌, ◌++◌, ℕ, List, [], ◌∷◌, Option, Some, None, option_map, add-one, ap, drop, drop-cons, get_or, length, sym, take, take-suc}
-use Rattle.answer_json.specs.Forms.{or_else}
-use Rattle.answer_json.specs.Notes.{note_after}
+use Rattle.answer_json.specs.Notes.{note_after, or_else}
 use Rattle.answer_json.specs.Words.{after}
 
 at-none : (mark front line rest : List ℕ) (x : ℕ) → line ≡ x ∷ rest → after mark line ≡ None

@@ -1,8 +1,5 @@
 pub mod Words
-pub mod Named
-pub mod Forms
-pub mod Table
-pub mod Answers
 pub mod Strings
+pub mod Forms
+pub mod Answers
 pub mod Notes
-pub mod Lost

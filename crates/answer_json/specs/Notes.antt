@@ -1,9 +1,14 @@
 -- The notes on lines as an array of objects.
 use Rattle.std.specs.Prelude.{ℕ, ◌==◌, List, [], ◌∷◌, ◌++◌, Option, Some, None, option_map, codes}
 use Rattle.std.specs.List.{slice_split}
-use Rattle.answer_json.specs.Forms.{or_else}
-use Rattle.answer_json.specs.Strings.{line_string, separator}
+use Rattle.answer_json.specs.Strings.{line_string}
+use Rattle.layouts.specs.Items.{with_item}
 use Rattle.answer_json.specs.Words.{after}
+
+-- the first, if there is one, and else the second
+abbrev pub or_else : {X : Type 0} → Option X → Option X → Option X
+or_else (Some x) other = Some x
+or_else None other = other
 
 -- a line up to its first mark, and the rest after it, if there is one; `front` comes before this rest of the line
 abbrev pub note_after : List ℕ → List ℕ → List ℕ → Option (List ℕ × List ℕ)
@@ -21,7 +26,7 @@ note_object line note =
     codes "{\"line\":" ++ (line_string line ++ (codes ",\"note\":" ++ (line_string note ++ codes "}")))
 
 abbrev pub with_object : List ℕ → List ℕ → List ℕ → List ℕ
-with_object items line note = items ++ (separator items ++ note_object line note)
+with_object items line note = with_item items (note_object line note)
 
 -- the items of an array, and a line if it has a note
 abbrev pub with_note : List ℕ → Option (List ℕ × List ℕ) → List ℕ

@@ -1,9 +1,10 @@
 -- Lines as an array of strings.
-use Rattle.std.specs.Prelude.{ℕ, ◌==◌, List, [], ◌∷◌, ◌++◌}
+use Rattle.std.specs.Prelude.{ℕ, ◌==◌, List, [], ◌∷◌}
 use Rattle.std.specs.List.{slice_split}
 use Rattle.serde_json.specs.Data.{string}
 use Rattle.serde_json.specs.Written.{compact_text}
 use Rattle.answer_json.specs.Words.{characters}
+use Rattle.layouts.specs.Items.{with_item}
 
 -- a text as a JSON string, with its quotation marks
 abbrev pub json_string : List ℕ → List ℕ
@@ -13,15 +14,10 @@ json_string text = compact_text (string text)
 abbrev pub line_string : List ℕ → List ℕ
 line_string line = json_string (characters line)
 
--- what separates the items of an array from the next item
-abbrev pub separator : List ℕ → List ℕ
-separator [] = []
-separator (x ∷ items) = 44 ∷ []
-
 -- a line after the items of an array; an empty line is left out
 abbrev pub with_string : List ℕ → List ℕ → List ℕ
 with_string items [] = items
-with_string items (x ∷ line) = items ++ (separator items ++ line_string (x ∷ line))
+with_string items (x ∷ line) = with_item items (line_string (x ∷ line))
 
 abbrev pub with_strings : List ℕ → List (List ℕ) → List ℕ
 with_strings items [] = items

@@ -1,5 +1,5 @@
--- Texts that are split at an octet, and the words in them.
-use Rattle.std.specs.Prelude.{ℕ, ◌+◌, ◌==◌, ◌||◌, List, [], ◌∷◌, ◌++◌, take, drop, Bool, Option, Some, None, option_map, encode_utf8, if◌then◌else◌}
+-- Parts of texts, and octets as text.
+use Rattle.std.specs.Prelude.{ℕ, ◌+◌, ◌==◌, List, [], ◌∷◌, ◌++◌, take, drop, Option, Some, None, option_map, encode_utf8, if◌then◌else◌}
 use Rattle.std.specs.List.{position_from, slice_split}
 use Rattle.std.specs.Borrow.{Bor}
 
@@ -26,26 +26,6 @@ abbrev pub after : List ℕ → List ℕ → Option (List ℕ)
 after [] line = Some line
 after (x ∷ text) [] = None
 after (x ∷ text) (y ∷ line) = if x == y then after text line else None
-
--- a word ends before a blank or a colon
-abbrev pub ends_word : ℕ → Bool
-ends_word x = x == 32 || x == 58
-
-abbrev pub up_to : List ℕ → Option ℕ → List ℕ × List ℕ
-up_to line None = (line, [])
-up_to line (Some place) = (take place line, drop place line)
-
--- the word at the front of a line, and the rest of the line
-abbrev pub word_and_rest : List ℕ → List ℕ × List ℕ
-word_and_rest line = up_to line (position_from ends_word 0 line)
-
--- a number also ends before a comma
-abbrev pub ends_number : ℕ → Bool
-ends_number x = ends_word x || x == 44
-
--- the number at the front of a line, and the rest of the line
-abbrev pub number_and_rest : List ℕ → List ℕ × List ℕ
-number_and_rest line = up_to line (position_from ends_number 0 line)
 
 -- octets as text: each becomes the character with its number
 abbrev pub characters : List ℕ → List ℕ

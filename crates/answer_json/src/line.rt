@@ -1,60 +1,55 @@
-//! The lines of an answer as one line of JSON.
+//! The line of a refusal or a fault as an object.
 
-ghost use Rattle.std.specs.Prelude.{◌≡◌, string_bytes, IfOk};
-ghost use Rattle.serde_json.specs.View.{view};
-ghost use Rattle.serde_json.specs.Written.{compact_text};
-ghost use Rattle.answer_json.specs.Answers.{begun_by, json_data, json_text};
+ghost use Rattle.std.specs.Prelude.{◌≡◌, IfOk, string_bytes};
+ghost use Rattle.answer_json.specs.Answers.{json_text, members_of, other_members, text_members};
 
-use crate::answer::Answer;
-use crate::forms::Array;
+use crate::forms::line_members;
+use crate::strings::line_strings;
 use crate::words::parted;
-use serde_json::Value;
+use layouts::Members;
 use std::alloc::{AllocError, Global};
 
-/// Returns the object of an answer in one line. The text is all lines of the answer, each with its LF.
+/// Returns a text as a JSON object on one line.
 ///
-/// Any text has an object. A line without a form is a string of its array `other`, and so is a line with a member that
-/// the object already has. An empty line adds nothing. Each octet becomes the character with its number.
+/// The line of a refusal or a fault, with its LF, gives the members `verdict` and what else the line says: `at`,
+/// `line`, `reason` or `fault`, in the order of their names. Any other text gives the array `other` of its lines as
+/// strings, without empty ones. Each octet becomes the character with its number.
+#[tactic(auto, unfolding(crate::specs::Answers::json_text))]
 pub fn json_line(alloc: Global, text: &[u8]) -> Result<String, AllocError>
     ensures { IfOk result (λ line. string_bytes line ≡ json_text text.now) }
 {
-    let mut line = object_text(alloc, text)?;
+    let mut line = String::new(alloc);
+    members_of(alloc, text)?.push_to(&mut line)?;
     line.push('\n')?;
     Ok(line)
 }
 
-/// Returns the object of an answer as text.
-fn object_text(alloc: Global, text: &[u8]) -> Result<String, AllocError>
-    ensures { IfOk result (λ object. string_bytes object ≡ compact_text (json_data text.now)) }
+/// Returns the members of the object of a text.
+fn members_of(alloc: Global, text: &[u8]) -> Result<Members, AllocError>
+    ensures { IfOk result (λ members. members ≡ members_of text.now) }
 {
-    json_value(alloc, text)?.to_string(alloc)
+    match text_members(alloc, text)? {
+        Some(members) => Ok(members),
+        None => other_members(alloc, text),
+    }
 }
 
-/// Returns the object of an answer.
-#[tactic(auto, unfolding(crate::specs::Answers::json_data))]
-fn json_value(alloc: Global, text: &[u8]) -> Result<Value, AllocError>
-    ensures { IfOk result (λ value. view value ≡ json_data text.now) }
+/// Returns the members of a text that is the line of a refusal or a fault.
+fn text_members(alloc: Global, text: &[u8]) -> Result<Option<Members>, AllocError>
+    ensures { IfOk result (λ members. members ≡ text_members text.now) }
 {
-    let mut answer = Answer::new(alloc, begun_by(text));
-    let mut left = text;
-    'lines: loop {
-        let (line, more) = parted(left, b'\n');
-        answer.take(alloc, line)?;
-        match more {
-            Some(more) => left = more,
-            None => break,
-        }
+    match parted(text, b'\n') {
+        (line, Some([])) => line_members(alloc, line),
+        _ => Ok(None),
     }
-    answer.end(alloc)
 }
 
-/// Returns the array that has begun before the first line. An answer without lines has an empty array of exchanges.
-fn begun_by(text: &[u8]) -> Option<Array>
-    ensures { result ≡ begun_by text.now }
+/// Returns the array of the lines of any other text, as a member.
+fn other_members(alloc: Global, text: &[u8]) -> Result<Members, AllocError>
+    ensures { IfOk result (λ members. members ≡ other_members text.now) }
 {
-    if text.is_empty() {
-        Some(Array::Exchanges)
-    } else {
-        None
-    }
+    let lines = line_strings(alloc, text)?;
+    let mut members = Members::new(alloc);
+    members.array(alloc, "other", lines.as_str())?;
+    Ok(members)
 }

@@ -3,8 +3,9 @@
 ghost use Rattle.std.specs.Prelude.{◌≡◌, ◌++◌, IfOk, OnOk, option_map, string_bytes};
 ghost use Rattle.answer_json.specs.Notes.{line_and_note, note_items, note_object, with_note, with_object};
 
-use crate::strings::{line_string, separator};
+use crate::strings::line_string;
 use crate::words::{after, parted};
+use layouts::push_separator;
 use std::alloc::{AllocError, Global};
 
 /// Returns the lines of a text that have a note as the items of a JSON array, with a comma between two. An item is an
@@ -49,7 +50,7 @@ fn push_object(
         ≡ with_object (string_bytes items.old) line.now note.now) }
 {
     let object = note_object(alloc, line, note)?;
-    items.push_str(separator(items.as_str()))?;
+    push_separator(items)?;
     items.push_str(object.as_str())
 }
 

@@ -1,9 +1,10 @@
 //! Lines as an array of strings.
 
 ghost use Rattle.std.specs.Prelude.{◌≡◌, IfOk, OnOk, string_bytes};
-ghost use Rattle.answer_json.specs.Strings.{json_string, line_string, line_strings, separator, with_string};
+ghost use Rattle.answer_json.specs.Strings.{json_string, line_string, line_strings, with_string};
 
 use crate::words::{characters, parted};
+use layouts::push_separator;
 use serde_json::Value;
 use std::alloc::{AllocError, Global};
 
@@ -41,7 +42,7 @@ fn push_line(alloc: Global, items: &mut String, line: &[u8]) -> Result<(), Alloc
         return Ok(());
     }
     let item = line_string(alloc, line)?;
-    items.push_str(separator(items.as_str()))?;
+    push_separator(items)?;
     items.push_str(item.as_str())
 }
 
@@ -50,11 +51,4 @@ pub(crate) fn line_string(alloc: Global, line: &[u8]) -> Result<String, AllocErr
     ensures { IfOk result (λ item. string_bytes item ≡ line_string line.now) }
 {
     json_string(alloc, characters(alloc, line)?)
-}
-
-/// Returns what separates the items of an array from the next item.
-pub(crate) fn separator(items: &str) -> &'static str
-    ensures { result.now ≡ separator items.now }
-{
-    if items.is_empty() { "" } else { "," }
 }

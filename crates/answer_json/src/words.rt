@@ -1,8 +1,8 @@
-//! Texts that are split at an octet, and the words in them.
+//! Parts of texts, and octets as text.
 
 ghost use Rattle.std.specs.Prelude.{◌≡◌, ◌==◌, ◌∷◌, ◌<◌, length, option_map, string_bytes, IfOk, IfSome};
 ghost use Rattle.std.specs.List.{position_from, slice_split};
-ghost use Rattle.answer_json.specs.Words.{after, after_mark, characters, ends_number, ends_word, lent, number_and_rest, parted, word_and_rest};
+ghost use Rattle.answer_json.specs.Words.{after, after_mark, characters, lent, parted};
 
 use std::alloc::{AllocError, Global};
 
@@ -41,56 +41,6 @@ pub(crate) fn after<'a>(text: &[u8], line: &'a [u8]) -> Option<&'a [u8]>
         left = more;
     }
     Some(rest)
-}
-
-/// Returns the word at the front of a line, up to a blank or a colon, and the rest of the line.
-pub(crate) fn word(line: &[u8]) -> (&[u8], &[u8])
-    ensures { (result.0.now, result.1.now) ≡ word_and_rest line.now }
-{
-    match end_of_word(line) {
-        Some(place) => (&line[..place], &line[place..]),
-        None => (line, &[]),
-    }
-}
-
-/// Returns the number at the front of a line, up to a blank, a colon or a comma, and the rest of the line.
-pub(crate) fn number(line: &[u8]) -> (&[u8], &[u8])
-    ensures { (result.0.now, result.1.now) ≡ number_and_rest line.now }
-{
-    match end_of_number(line) {
-        Some(place) => (&line[..place], &line[place..]),
-        None => (line, &[]),
-    }
-}
-
-/// Returns the place where the number at the front of a line ends.
-fn end_of_number(line: &[u8]) -> Option<usize>
-    ensures place { result ≡ position_from ends_number 0 line.now }
-    ensures inside { IfSome result (λ place. place < length line.now) }
-{
-    line.iter().position(|&x| ends_number(x))
-}
-
-/// Whether a number ends before this octet.
-fn ends_number(x: u8) -> bool
-    ensures { result ≡ ends_number x }
-{
-    ends_word(x) || x == b','
-}
-
-/// Returns the place where the word at the front of a line ends.
-fn end_of_word(line: &[u8]) -> Option<usize>
-    ensures place { result ≡ position_from ends_word 0 line.now }
-    ensures inside { IfSome result (λ place. place < length line.now) }
-{
-    line.iter().position(|&x| ends_word(x))
-}
-
-/// Whether a word ends before this octet.
-fn ends_word(x: u8) -> bool
-    ensures { result ≡ ends_word x }
-{
-    x == b' ' || x == b':'
 }
 
 /// Returns octets as text: each becomes the character with its number.

@@ -85,26 +85,27 @@ abbrev pub more_text : List ℕ → List ℕ
 more_text [] = []
 more_text (number ∷ numbers) = codes "," ++ (decimal number ++ more_text numbers)
 
-abbrev pub numbers_text : List ℕ → List ℕ
-numbers_text [] = codes "none"
-numbers_text (number ∷ numbers) = decimal number ++ more_text numbers
+-- the same, or a word if there are none
+abbrev pub numbers_or : List ℕ → List ℕ → List ℕ
+numbers_or none [] = none
+numbers_or none (number ∷ numbers) = decimal number ++ more_text numbers
 
--- the microseconds between two moments
-abbrev pub time_text : Span → List ℕ
-time_text Unknown = codes "none"
-time_text (Since first) = codes "none"
-time_text (Between first last) = decimal (last - first)
+-- the microseconds between two moments, or a word if they are unknown
+abbrev pub time_or : List ℕ → Span → List ℕ
+time_or none Unknown = none
+time_or none (Since first) = none
+time_or none (Between first last) = decimal (last - first)
 
 -- how many blocks were sent, and which of them were lost or damaged
 abbrev pub blocks_text : Account → Begun → List ℕ
 blocks_text a begun =
     codes " blocks " ++ (decimal (a.sent - begun.before)
-    ++ (codes " lost " ++ (numbers_text begun.lost
-    ++ (codes " damaged " ++ numbers_text begun.damaged))))
+    ++ (codes " lost " ++ (numbers_or (codes "none") begun.lost
+    ++ (codes " damaged " ++ numbers_or (codes "none") begun.damaged))))
 
 -- what comes after an answer
 abbrev pub rest_text : Account → Begun → List ℕ
-rest_text a begun = blocks_text a begun ++ (codes " time " ++ (time_text a.span ++ codes "\n"))
+rest_text a begun = blocks_text a begun ++ (codes " time " ++ (time_or (codes "none") a.span ++ codes "\n"))
 
 -- the end of a line, if one is begun
 abbrev pub ended_by : Account → List ℕ → Option Begun → List ℕ

@@ -11,7 +11,7 @@ use exchange_text::{Exchange, Line, Name, push_message};
 use std::alloc::{AllocError, Global};
 
 /// The word instead of an answer, if the file ends or the next command comes before one.
-const OPEN: &str = "open";
+pub(crate) const OPEN: &str = "open";
 
 /// The word for no blocks, and for an unknown time.
 const NONE: &str = "none";
@@ -141,7 +141,7 @@ fn push_rest(
 {
     push_blocks(alloc, text, account, begun)?;
     text.push_str(" time ")?;
-    push_time(alloc, text, account.span)?;
+    push_time(alloc, text, account.span, NONE)?;
     text.push_str("\n")
 }
 
@@ -158,18 +158,23 @@ fn push_blocks(
     text.push_str(" blocks ")?;
     push_number(alloc, text, account.sent.saturating_sub(begun.before))?;
     text.push_str(" lost ")?;
-    push_numbers(alloc, text, &begun.lost)?;
+    push_numbers(alloc, text, &begun.lost, NONE)?;
     text.push_str(" damaged ")?;
-    push_numbers(alloc, text, &begun.damaged)
+    push_numbers(alloc, text, &begun.damaged, NONE)
 }
 
-/// Appends numbers with commas between them, or `none`.
-fn push_numbers(alloc: Global, text: &mut String, numbers: &Numbers) -> Result<(), AllocError>
+/// Appends numbers with commas between them, or a word if there are none.
+pub(crate) fn push_numbers(
+    alloc: Global,
+    text: &mut String,
+    numbers: &Numbers,
+    none: &str,
+) -> Result<(), AllocError>
     ensures { OnOk result (string_bytes text.new
-        ≡ string_bytes text.old ++ listing.numbers_text numbers.now) }
+        ≡ string_bytes text.old ++ listing.numbers_or none.now numbers.now) }
 {
     match numbers.get() {
-        [] => text.push_str(NONE),
+        [] => text.push_str(none),
         [first, more @ ..] => {
             push_number(alloc, text, *first)?;
             push_more(alloc, text, more)
@@ -196,16 +201,21 @@ fn push_number(alloc: Global, text: &mut String, number: usize) -> Result<(), Al
     text.push_str(format!(in alloc; "{number}")?.as_str())
 }
 
-/// Appends how many microseconds a span has.
-fn push_time(alloc: Global, text: &mut String, span: Span) -> Result<(), AllocError>
+/// Appends how many microseconds a span has, or a word if that is unknown.
+pub(crate) fn push_time(
+    alloc: Global,
+    text: &mut String,
+    span: Span,
+    none: &str,
+) -> Result<(), AllocError>
     ensures { OnOk result (string_bytes text.new
-        ≡ string_bytes text.old ++ listing.time_text span) }
+        ≡ string_bytes text.old ++ listing.time_or none.now span) }
 {
     match span {
         Span::Between(first, last) => {
             let time = last.saturating_sub(first);
             text.push_str(format!(in alloc; "{time}")?.as_str())
         }
-        Span::Unknown | Span::Since(_) => text.push_str(NONE),
+        Span::Unknown | Span::Since(_) => text.push_str(none),
     }
 }

@@ -65,7 +65,7 @@ use Rattle.card_kinds.specs.Texts.{octets_text, refused_text}
 use Rattle.card_kinds.specs.Verdicts.{Shows, Tells, accepted, refused}
 use Rattle.card_kinds.specs.declared.status.Status.{Status}
 use Rattle.card_words.specs.declared.request.Expected.{Expected}
-use Rattle.card_words.specs.declared.request.Layout.TheVariants.{Lines}
+use Rattle.layouts.specs.declared.layout.Layout.TheVariants.{Lines}
 use Rattle.card_words.specs.declared.request.Kind.{Kind}
 use Rattle.card_words.specs.declared.request.Kind.TheVariants as kind
 

@@ -2,8 +2,7 @@
 use Rattle.std.proofs.Common.{◌≡◌, ◌≢◌, ◌∙◌, ◌==◌, ◌++◌, ℕ, List, [], ◌∷◌, Bool, true, false, Option, Some, None, option_map, ap, append-nil, append_assoc, arith, refl, sym, if◌then◌else◌}
 use Rattle.std.proofs.lemmas.Bool.Decides.{nat_tests}
 use Rattle.std.proofs.lemmas.List.Elements.{All-head, All-tail}
-use Rattle.answer_json.specs.Forms.{or_else}
-use Rattle.answer_json.specs.Notes.{line_and_note, note_after}
+use Rattle.answer_json.specs.Notes.{line_and_note, note_after, or_else}
 use Rattle.answer_json.specs.Words.{after}
 use Rattle.notes.specs.Noted.{mark, LacksSign}
 

@@ -25,7 +25,7 @@ use Rattle.card_kinds.specs.ForestTexts.{forest_codec, tidied_text}
 use Rattle.card_kinds.specs.ListTexts as list_texts
 use Rattle.card_kinds.specs.ListTexts.{filled_text}
 use Rattle.card_words.specs.declared.request.Kind.{Kind}
-use Rattle.card_words.specs.declared.request.Layout.{Layout}
+use Rattle.layouts.specs.declared.layout.Layout.{Layout}
 use Rattle.card_words.specs.declared.request.Kind.TheVariants.{Atr, Block, Chain, Command, Response, Tlv, Dol}
 use Rattle.card_words.specs.declared.request.Expected.{Expected}
 use Rattle.card_kinds.specs.declared.status.Status.{Status}

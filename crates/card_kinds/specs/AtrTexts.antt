@@ -14,7 +14,7 @@ use Rattle.atr_core.specs.Names.{param_fault_name}
 use Rattle.notes.specs.Noted.{where_noted}
 use Rattle.notes.specs.Says.{note_of, t1_says, ta_says, tck_says, td_says, text_note}
 use Rattle.card_kinds.specs.Texts.{octets_text}
-use Rattle.card_kinds.specs.Json.{with_item}
+use Rattle.layouts.specs.Items.{with_item}
 use Rattle.octet_core.specs.Grammar.{self_ended}
 use Rattle.atr_core.specs.declared.reason.AtrReason.{AtrReason}
 use Rattle.card_kinds.specs.Codec.{Codec}

@@ -3,8 +3,8 @@ use Rattle.std.specs.Prelude.{ℕ, List, ◌++◌, Bool, true, false, Result, Ok
 use Rattle.octet_core.specs.Grammar.{Ending, Accepts, Refuses, RefusesUnlessMemory}
 use Rattle.octet_core.specs.declared.stop.Refused.{Refused}
 use Rattle.octet_core.specs.declared.stop.Stop.{Stop}
-use Rattle.card_words.specs.declared.request.Layout.{Layout}
-use Rattle.card_words.specs.declared.request.Layout.TheVariants.{Lines, Json}
+use Rattle.layouts.specs.declared.layout.Layout.{Layout}
+use Rattle.layouts.specs.declared.layout.Layout.TheVariants.{Lines, Json}
 use Rattle.card_kinds.specs.Json.{notes_member}
 
 -- where a value V ends, which octets spell it, why octets are refused, the names of these reasons R, the lines of a

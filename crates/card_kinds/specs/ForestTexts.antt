@@ -11,7 +11,7 @@ pub use Rattle.tlv_core.specs.Names.{reason_name as reason_text}
 use Rattle.notes.specs.Noted.{where_noted}
 use Rattle.notes.specs.Says.{header_place, object_note}
 use Rattle.card_kinds.specs.Texts.{octets_text}
-use Rattle.card_kinds.specs.Json.{with_item}
+use Rattle.layouts.specs.Items.{with_item}
 use Rattle.octet_core.specs.Grammar.{whole}
 use Rattle.tlv_core.specs.Reasons.{IsReason}
 use Rattle.tlv_core.specs.declared.reason.TlvReason.{TlvReason}

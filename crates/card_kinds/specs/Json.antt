@@ -1,18 +1,9 @@
 -- What the program prints about octets as a JSON object: its members, in their order, with a comma between two.
-use Rattle.std.specs.Prelude.{ℕ, ◌-◌, List, [], ◌∷◌, ◌++◌, codes, decimal, length, take}
+use Rattle.std.specs.Prelude.{ℕ, ◌-◌, List, ◌++◌, codes, decimal, length, take}
 use Rattle.answer_json.specs.Notes.{note_items}
 use Rattle.notes.specs.Noted.{mark}
 use Rattle.octet_core.specs.declared.stop.Stop.{Stop}
 use Rattle.octet_core.specs.declared.stop.Stop.TheVariants.{Short, At}
-
--- what separates the items of an array from the next item
-abbrev pub separator : List ℕ → List ℕ
-separator [] = []
-separator (x ∷ items) = codes ","
-
--- the items of an array, with one item appended
-abbrev pub with_item : List ℕ → List ℕ → List ℕ
-with_item items item = items ++ (separator items ++ item)
 
 -- the octets are a value of n octets
 abbrev pub accepted_members : ℕ → List ℕ

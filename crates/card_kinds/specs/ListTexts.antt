@@ -5,7 +5,7 @@ pub use Rattle.tlv_core.specs.Names.{dol_reason_name as reason_text}
 use Rattle.notes.specs.Noted.{where_noted}
 use Rattle.notes.specs.Says.{list_note}
 use Rattle.card_kinds.specs.Texts.{octets_text}
-use Rattle.card_kinds.specs.Json.{with_item}
+use Rattle.layouts.specs.Items.{with_item}
 use Rattle.octet_core.specs.Grammar.{whole}
 use Rattle.tlv_core.specs.Dol.{IsDol, IsDolReason}
 use Rattle.tlv_core.specs.declared.reason.DolReason.{DolReason}

@@ -25,8 +25,8 @@ use Rattle.card_words.specs.declared.fault.Fault.{Fault}
 use Rattle.card_words.specs.declared.request.Kind.{Kind}
 use Rattle.card_words.specs.declared.request.Kind.TheVariants.{Atr, Block, Chain, Command, Response, Tlv, Dol}
 use Rattle.card_words.specs.declared.request.Expected.{Expected}
-use Rattle.card_words.specs.declared.request.Layout.{Layout}
-use Rattle.card_words.specs.declared.request.Layout.TheVariants.{Lines, Json}
+use Rattle.layouts.specs.declared.layout.Layout.{Layout}
+use Rattle.layouts.specs.declared.layout.Layout.TheVariants.{Lines, Json}
 
 -- the text and the status for the verdict on octets, with these texts of a value and of a refusal
 pub data TellsBy {V R : Type 0} (c : Codec V R) (told : V → ℕ → List ℕ) (untold : Stop R → List ℕ) (b text : List ℕ)

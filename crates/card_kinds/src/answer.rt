@@ -8,7 +8,8 @@ ghost use Rattle.card_kinds.specs.declared.status.Status.TheVariants as ended;
 
 use crate::json::{accepted_object, refused_object};
 use crate::status::Status;
-use card_words::{Fault, Kind, Layout};
+use card_words::{Fault, Kind};
+use layouts::Layout;
 use octet_core::{Named, Octets, Stop};
 use std::alloc::{AllocError, Global};
 

@@ -6,9 +6,9 @@ ghost use Rattle.card_kinds.specs.AtrTexts.{atr_members, byte_object, interface_
 
 use crate::atr::convention_name;
 use crate::atr_lines::push_rate;
-use crate::json::push_separator;
 use crate::text::{push_hex, push_octet};
 use atr_core::{Atr, Indicated, Interface, ParamFault, T1Params, rates, t1_params};
+use layouts::push_separator;
 use octet_core::Named;
 use std::alloc::{AllocError, Global};
 

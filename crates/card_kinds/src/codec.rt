@@ -7,7 +7,8 @@ ghost use Rattle.card_kinds.specs.Codec.{Codec as AnyCodec, IsVerdict, StopsUnle
 
 use crate::answer::Answer;
 use crate::shown::Shown;
-use card_words::{Expected, FieldSize, Layout};
+use card_words::{Expected, FieldSize};
+use layouts::Layout;
 use octet_core::{Named, Refused, Stop};
 use std::alloc::{AllocError, Global};
 

@@ -10,14 +10,14 @@ ghost use Rattle.card_kinds.specs.Codec.{IsVerdict};
 ghost use Rattle.card_kinds.specs.Verdicts.{Tells};
 ghost use Rattle.card_kinds.specs.ForestTexts.{forest_codec, header_members, lines_text, objects_head, part_object, part_text, parts_members, parts_text, place_members, tidied_text, value_member, value_text, with_objects};
 ghost use Rattle.notes.specs.Says.{header_place};
-ghost use Rattle.card_kinds.specs.Json.{with_item};
+ghost use Rattle.layouts.specs.Items.{with_item};
 
 use crate::answer::Answer;
 use crate::codec::{Codec, Judged, Outcome};
-use crate::json::push_separator;
 use crate::shown::{Showable, Shown};
 use crate::text::{octets_word, push_hex, push_word};
-use card_words::{Expected, FieldSize, Layout};
+use card_words::{Expected, FieldSize};
+use layouts::{Layout, push_separator};
 use notes::{forest_refusal_note, push_object_note};
 use octet_core::{Refused, Stop};
 use std::alloc::{AllocError, Global};

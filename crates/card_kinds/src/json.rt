@@ -1,7 +1,7 @@
 //! JSON objects with what the program prints about octets.
 
 ghost use Rattle.std.specs.Prelude.{◌≡◌, ◌++◌, IfOk, OnOk, string_bytes};
-ghost use Rattle.card_kinds.specs.Json.{accepted_members, notes_member, object_head, object_line, refused_at_members, refused_members, separator, short_members};
+ghost use Rattle.card_kinds.specs.Json.{accepted_members, notes_member, object_head, object_line, refused_at_members, refused_members, short_members};
 ghost use Rattle.card_kinds.specs.Verdicts.{kind_name};
 
 use answer_json::note_items;
@@ -105,19 +105,4 @@ fn refused_at_members(alloc: Global, place: usize, reason: &str) -> Result<Strin
     ensures { IfOk result (λ text. string_bytes text ≡ refused_at_members place reason.now) }
 {
     format!(in alloc; "\"verdict\":\"refused\",\"at\":{place},\"reason\":\"{reason}\"")
-}
-
-/// Appends what separates the items of an array from the next item.
-pub(crate) fn push_separator(items: &mut String) -> Result<(), AllocError>
-    ensures { OnOk result (string_bytes items.new
-        ≡ string_bytes items.old ++ separator (string_bytes items.old)) }
-{
-    items.push_str(separator(items.as_str()))
-}
-
-/// Returns what separates the items of an array from the next item.
-fn separator(items: &str) -> &'static str
-    ensures { result.now ≡ separator items.now }
-{
-    if items.is_empty() { "" } else { "," }
 }

@@ -8,8 +8,9 @@ use crate::codec;
 use apdu_core::{Command, Response};
 use atr_core::Atr;
 use block_core::Block;
-use card_words::{Expected, Kind, Layout};
+use card_words::{Expected, Kind};
 use chain_core::Receiver;
+use layouts::Layout;
 use std::alloc::{AllocError, Global};
 use tlv_core::{Dol, Forest};
 

@@ -5,14 +5,14 @@ ghost use Rattle.tlv_core.specs.Fill.{filled, HasDuplicate};
 ghost use Rattle.card_kinds.specs.Codec.{IsVerdict};
 ghost use Rattle.card_kinds.specs.Verdicts.{IsFilled, IsFilledBy};
 ghost use Rattle.card_kinds.specs.ListTexts.{dol_members, dol_text, entries_text, entry_object, entry_text, filled_text, list_codec, with_entries};
-ghost use Rattle.card_kinds.specs.Json.{with_item};
+ghost use Rattle.layouts.specs.Items.{with_item};
 
 use crate::answer::Answer;
 use crate::codec::{Codec, Judged, Outcome};
-use crate::json::push_separator;
 use crate::shown::{Showable, Shown};
 use crate::text::{octets_word, push_hex};
-use card_words::{Expected, Fault, FieldSize, Knowns, Layout};
+use card_words::{Expected, Fault, FieldSize, Knowns};
+use layouts::{Layout, push_separator};
 use notes::push_list_note;
 use octet_core::{Refused, Stop};
 use std::alloc::{AllocError, Global};

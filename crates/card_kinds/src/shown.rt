@@ -6,7 +6,8 @@ ghost use Rattle.card_kinds.specs.Json.{accepted_members, notes_member, object_l
 ghost use Rattle.card_kinds.specs.Verdicts.{kind_name, laid_out};
 
 use crate::json::{kind_name, notes_member, push_accepted, push_head};
-use card_words::{Kind, Layout};
+use card_words::Kind;
+use layouts::Layout;
 use std::alloc::{AllocError, Global};
 
 /// The initial capacity of a text in octets.

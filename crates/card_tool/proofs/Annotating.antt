@@ -13,7 +13,7 @@ use Rattle.card_kinds.specs.declared.status.Status.TheVariants as status
 use Rattle.card_tool.specs.Answers.{ShowsNoted, ShowsNotedObject}
 use Rattle.card_tool.specs.Judged.{IsRefusalBy, IsRefusalLine}
 use Rattle.card_words.specs.declared.request.Expected.{Expected}
-use Rattle.card_words.specs.declared.request.Layout.TheVariants.{Json, Lines}
+use Rattle.layouts.specs.declared.layout.Layout.TheVariants.{Json, Lines}
 use Rattle.notes.proofs.Cutting.{cut-noted}
 use Rattle.notes.proofs.Ends.{line-noted}
 use Rattle.notes.specs.Noted.{IsNoted, noted_line}

@@ -2,6 +2,7 @@
 use Rattle.std.proofs.Common.{◌≡◌, ◌++◌, inl, inr, ℕ, List, MatchResult, Result, Ok, Err, IfOk, IsOkAnd, Some, String, string_bytes, subst}
 use Rattle.std.specs.declared.alloc.Global.{Global}
 use Rattle.card_words.specs.declared.request.FileTask.{FileTask}
+use Rattle.layouts.specs.declared.layout.Layout.{Layout}
 use Rattle.card_kinds.specs.declared.answer.Answer.{Answer}
 use Rattle.card_kinds.specs.declared.status.Status.TheVariants as status
 use Rattle.exchange_text.specs.Exchange.{ExchangeParts}
@@ -14,7 +15,7 @@ use Rattle.block_core.specs.declared.side.Side.{Side}
 use Rattle.block_core.specs.declared.side.Side.TheVariants as side
 use Rattle.card_tool.specs.Explained.{AreDifferenceNotes, IsDifferenceNote, IsFileNote, IsNoteSo}
 use Rattle.card_tool.specs.FileNotes.{fault_note}
-use Rattle.card_tool.specs.ExchangeTexts.{both_text, file_fault_text, AreReplayed, IsOutcome, IsReplayed, IsToldSo, TellsFile}
+use Rattle.card_tool.specs.ExchangeTexts.{both_in, file_fault_text, AreReplayed, IsOutcome, IsReplayed, IsToldSo, TellsFile}
 use Rattle.card_tool.specs.Judged.{AreOf}
 use Rattle.card_tool.specs.Lines.{worse}
 use Rattle.card_tool.specs.declared.judged.WithNote.{WithNote}
@@ -40,7 +41,7 @@ of-exchange task file e made (inr said) h =
     × IfOk made.note (λ note. MatchResult r (λ e. IsNoteSo task file e (string_bytes note))
     (λ fault. string_bytes note ≡ fault_note file fault))) said h
 
-module _ (file : List ℕ) (e : ExchangeParts) where
+module _ (how : Layout) (file : List ℕ) (e : ExchangeParts) where
   -- the terminal's note and then the card's
   joined-notes : {E : Type 0} (note one other : Result (String Global) E)
       → IfOk one (λ text. IsDifferenceNote file e side.Terminal (string_bytes text))
@@ -61,10 +62,11 @@ module _ (file : List ℕ) (e : ExchangeParts) where
 
   -- what is said of both ends
   pub of-both-ends : {E : Type 0} (r : Result Answer E) (terminal card : Answer)
-      → IsReplayed e side.Terminal terminal.text terminal.status → IsReplayed e side.Card card.text card.status
-      → IfOk r (λ both. both.text ≡ both_text terminal.text card.text)
+      → IsReplayed how e side.Terminal terminal.text terminal.status
+      → IsReplayed how e side.Card card.text card.status
+      → IfOk r (λ both. both.text ≡ both_in how terminal.text card.text both.status)
       → IfOk r (λ both. both.status ≡ worse terminal.status card.status)
-      → IfOk r (λ both. AreReplayed e both.text both.status)
+      → IfOk r (λ both. AreReplayed how e both.text both.status)
   of-both-ends (Ok both) terminal card one other text ended = record {
     terminal = terminal.text;
     one = terminal.status;
@@ -79,13 +81,13 @@ module _ (file : List ℕ) (e : ExchangeParts) where
 
   -- the same with their notes
   pub of-both : (terminal card made : WithNote)
-      → AreOf (IsReplayed e side.Terminal) (IsDifferenceNote file e side.Terminal) terminal
-      → AreOf (IsReplayed e side.Card) (IsDifferenceNote file e side.Card) card
-      → made.answer.text ≡ both_text terminal.answer.text card.answer.text
+      → AreOf (IsReplayed how e side.Terminal) (IsDifferenceNote file e side.Terminal) terminal
+      → AreOf (IsReplayed how e side.Card) (IsDifferenceNote file e side.Card) card
+      → made.answer.text ≡ both_in how terminal.answer.text card.answer.text made.answer.status
       → made.answer.status ≡ worse terminal.answer.status card.answer.status
       → IfOk made.note (λ text. IsOkAnd terminal.note (λ a. IsOkAnd card.note (λ b. string_bytes text ≡ string_bytes a
       ++ string_bytes b)))
-      → AreOf (AreReplayed e) (AreDifferenceNotes file e) made
+      → AreOf (AreReplayed how e) (AreDifferenceNotes file e) made
   of-both terminal card made one other text ended notes = (
     record {
       terminal = terminal.answer.text;

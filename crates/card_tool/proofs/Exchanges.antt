@@ -10,7 +10,7 @@ use Rattle.card_words.specs.declared.request.Ends.{Ends}
 use Rattle.card_words.specs.declared.request.Ends.TheVariants as end
 use Rattle.card_words.specs.declared.request.FileTask.{FileTask}
 use Rattle.card_words.specs.declared.request.FileTask.TheVariants.{Replay, Migrate, Apdus, Draw}
-use Rattle.apdu_list.specs.Listing.{apdus_text}
+use Rattle.layouts.specs.declared.layout.Layout.{Layout}
 use Rattle.exchange_text.specs.Exchange.{ExchangeParts, migrated}
 use Rattle.exchange_text.specs.Reading.{at, atr_by, atr_said, exchange_by, exchange_said, is_line_feed, lines_said, octets_said, parts_said, version_said, words_of}
 use Rattle.exchange_core.specs.Replay as replay
@@ -21,7 +21,8 @@ use Rattle.block_core.specs.declared.side.Side.{Side}
 use Rattle.block_core.specs.declared.side.Side.TheVariants as side
 use Rattle.exchange_core.proofs.Found.{one-replay, some-replay}
 use Rattle.exchange_text.proofs.Sound.{bind, octets-sound, same-ok}
-use Rattle.card_tool.specs.ExchangeTexts.{agrees_text, both_text, differs_text, drawn, file_fault_text, AreReplayed, IsReplayed, IsReplayedAt, IsToldSo, TellsFile, agrees, differs}
+use Rattle.card_tool.specs.ExchangeTexts.{agrees_in, both_in, differs_in, drawn, file_fault_text, listed_in, AreReplayed, IsReplayed, IsReplayedAt, IsReplayAnswer, IsToldSo, TellsFile, agrees, differs}
+use Rattle.card_tool.specs.Laid.{laid}
 use Rattle.card_tool.specs.Lines.{worse}
 use Rattle.card_kinds.specs.declared.status.Status.{Status}
 use Rattle.card_kinds.specs.declared.status.Status.TheVariants as status
@@ -94,8 +95,9 @@ same-here : (line place : ℕ) (gives given : List ℕ) → here line gives ≡ 
     × (gives ≡ given)
 same-here line place gives given e = (ap place-of e, ap given-at e)
 
-module _ (e : ExchangeParts) (which : Side) where
-  one-replayed : (t u : List ℕ) (s q : Status) → IsReplayed e which t s → IsReplayed e which u q → (t ≡ u) × (s ≡ q)
+module _ (how : Layout) (e : ExchangeParts) (which : Side) where
+  one-replayed : (t u : List ℕ) (s q : Status) → IsReplayed how e which t s → IsReplayed how e which u q
+      → (t ≡ u) × (s ≡ q)
   one-replayed t u s q (agrees r text ended) (agrees x other different) = (text ∙ sym other, ended ∙ sym different)
   one-replayed t u s q (agrees r text ended) (differs line gives x other different) =
       absurd (none-some line gives (one-replay one-accepted e.atr e.lines which _ _ r x))
@@ -103,41 +105,44 @@ module _ (e : ExchangeParts) (which : Side) where
       absurd (none-some line gives (one-replay one-accepted e.atr e.lines which _ _ x r))
   one-replayed t u s q (differs line gives r text ended) (differs place given x other different) =
       let same = same-here line place gives given (one-replay one-accepted e.atr e.lines which _ _ r x) in (
-        text ∙ ap (λ (n : ℕ). differs_text n gives) same.0 ∙ ap (differs_text place) same.1 ∙ sym other,
+        text ∙ ap (λ (n : ℕ). differs_in how n gives) same.0 ∙ ap (differs_in how place) same.1 ∙ sym other,
         ended
             ∙ sym different,
       )
 
   replayed-by : (difference : Option (ℕ × List ℕ)) → replay.Replays e.atr e.lines which difference → (t : List ℕ)
-      × (s : Status) × IsReplayed e which t s
-  replayed-by None r = (agrees_text e, status.Accepted, agrees r refl refl)
-  replayed-by (Some (line, gives)) r = (differs_text line gives, status.Refused, differs line gives r refl refl)
+      × (s : Status) × IsReplayed how e which t s
+  replayed-by None r = (agrees_in how e, status.Accepted, agrees r refl refl)
+  replayed-by (Some (line, gives)) r = (differs_in how line gives, status.Refused, differs line gives r refl refl)
 
-  some-replayed : AreOctets e.atr → (t : List ℕ) × (s : Status) × IsReplayed e which t s
+  some-replayed : AreOctets e.atr → (t : List ℕ) × (s : Status) × IsReplayed how e which t s
   some-replayed octets = let r = some-replay one-accepted e.atr e.lines which (atr_goes.one-verdict e.atr octets) in
       replayed-by r.0 r.1
 
-  replayed-at : AreOctets e.atr → OneText (IsReplayed e which)
+  replayed-at : AreOctets e.atr → OneText (IsReplayed how e which)
   replayed-at octets = record { one = one-replayed; some = some-replayed octets }
 
-module _ (e : ExchangeParts) where
-  one-both : (t u : List ℕ) (s q : Status) → AreReplayed e t s → AreReplayed e u q → (t ≡ u) × (s ≡ q)
+module _ (how : Layout) (e : ExchangeParts) where
+  one-both : (t u : List ℕ) (s q : Status) → AreReplayed how e t s → AreReplayed how e u q → (t ≡ u) × (s ≡ q)
   one-both t u s q h g =
-      let terminal = one-replayed e side.Terminal h.terminal g.terminal h.one g.one h.is_terminal g.is_terminal in
-      let card = one-replayed e side.Card h.card g.card h.other g.other h.is_card g.is_card in (
-        h.is_text ∙ ap (λ (l : List ℕ). both_text l h.card) terminal.0 ∙ ap (both_text g.terminal) card.0
-            ∙ sym g.is_text,
-        h.is_ended ∙ ap (λ (w : Status). worse w h.other) terminal.1 ∙ ap (worse g.one) card.1 ∙ sym g.is_ended,
+      let terminal = one-replayed how e side.Terminal h.terminal g.terminal h.one g.one h.is_terminal g.is_terminal in
+      let card = one-replayed how e side.Card h.card g.card h.other g.other h.is_card g.is_card in
+      let ended : s ≡ q = h.is_ended ∙ ap (λ (w : Status). worse w h.other) terminal.1 ∙ ap (worse g.one) card.1
+      ∙ sym g.is_ended in (
+        h.is_text ∙ ap (λ (l : List ℕ). both_in how l h.card s) terminal.0
+            ∙ ap (λ (l : List ℕ). both_in how g.terminal l s) card.0
+            ∙ ap (both_in how g.terminal g.card) ended ∙ sym g.is_text,
+        ended,
       )
 
-  both-replayed : AreOctets e.atr → OneText (AreReplayed e)
+  both-replayed : AreOctets e.atr → OneText (AreReplayed how e)
   both-replayed octets =
-      let terminal = some-replayed e side.Terminal octets in
-      let card = some-replayed e side.Card octets in
+      let terminal = some-replayed how e side.Terminal octets in
+      let card = some-replayed how e side.Card octets in
       record {
         one = one-both;
         some = (
-          both_text terminal.0 card.0,
+          both_in how terminal.0 card.0 (worse terminal.1 card.1),
           worse terminal.1 card.1,
           record {
             terminal = terminal.0;
@@ -152,10 +157,22 @@ module _ (e : ExchangeParts) where
         );
       }
 
-  at-once : (which : Ends) → AreOctets e.atr → OneText (IsReplayedAt which e)
-  at-once end.Terminal octets = replayed-at e side.Terminal octets
-  at-once end.Card octets = replayed-at e side.Card octets
+  at-once : (which : Ends) → AreOctets e.atr → OneText (IsReplayedAt which how e)
+  at-once end.Terminal octets = replayed-at how e side.Terminal octets
+  at-once end.Card octets = replayed-at how e side.Card octets
   at-once end.Both octets = both-replayed octets
+
+  -- the answer is the one text laid out
+  answer-once : (which : Ends) → OneText (IsReplayedAt which how e) → OneText (IsReplayAnswer which how e)
+  answer-once which once = record {
+    one = λ t u s q h g. let same = once.one h.said g.said s q h.is_said g.is_said in
+        (h.is_text ∙ ap (laid how (codes "replay")) same.0 ∙ sym g.is_text, same.1);
+    some = (
+      laid how (codes "replay") once.some.0,
+      once.some.1,
+      record { said = once.some.0; is_said = once.some.2; is_text = refl },
+    );
+  }
 
 -- ---- files
 
@@ -169,9 +186,9 @@ told-said task (Err fault) once = ended-by (file_fault_text fault) status.Fault
 
 -- an exchange is told by one text, where its answer to reset is octets
 told-so : (task : FileTask) (e : ExchangeParts) → AreOctets e.atr → OneText (IsToldSo task e)
-told-so (Replay which) e octets = at-once e which octets
+told-so (Replay which how) e octets = answer-once how e which (at-once how e which octets)
 told-so Migrate e octets = plain (exchange_text (migrated e))
-told-so Apdus e octets = plain (apdus_text e.lines)
+told-so (Apdus how) e octets = plain (laid how (codes "apdus") (listed_in how e.lines))
 told-so (Draw drawing) e octets = plain (drawn drawing e)
 
 -- a file comes to one text with one status

@@ -1,5 +1,5 @@
 -- That a trace comes to one text.
-use Rattle.std.proofs.Common.{◌≡◌, ◌≢◌, ◌∙◌, inl, inr, ℕ, List, length, Result, Ok, Err, IfOk, ap, refl, subst, sym}
+use Rattle.std.proofs.Common.{◌≡◌, ◌≢◌, ◌∙◌, inl, inr, ℕ, List, codes, length, Result, Ok, Err, IfOk, ap, refl, subst, sym}
 use Rattle.atr_core.proofs.Goes as atr_goes
 use Rattle.atr_core.proofs.Unique.{one-accepted}
 use Rattle.octet_core.specs.Octets.{AreOctets}
@@ -13,16 +13,16 @@ use Rattle.atr_core.specs.Atr.{AtrParts, IsAtr}
 use Rattle.atr_core.specs.T1.{t1_params_of, T1Values}
 use Rattle.atr_core.specs.declared.params.ParamFault.{ParamFault}
 use Rattle.trace_judge.proofs.Once.{judgment-or-fault, one-judgment, one-text-fault, some-judgment}
-use Rattle.card_kinds.specs.Texts.{refused_as_text}
 use Rattle.card_kinds.specs.declared.answer.Answer.{Answer}
 use Rattle.card_kinds.specs.declared.status.Status.{Status}
 use Rattle.card_kinds.specs.declared.status.Status.TheVariants as status
 use Rattle.card_kinds.proofs.OneOf.{OneText}
 use Rattle.card_words.specs.declared.request.Judging.{Judging}
 use Rattle.card_tool.specs.ExchangeTexts.{file_fault_text}
+use Rattle.card_tool.specs.Laid.{laid}
 use Rattle.card_tool.specs.FileNotes.{trace_note}
 use Rattle.card_tool.specs.Judged.{AreOf}
-use Rattle.card_tool.specs.JudgeTexts.{at_line, expected_words, faulty, judged, judged_status, on_text, refused, scope_of, used, IsJudgeNote, IsOffer, IsTextNote, JudgesText, JudgesTrace}
+use Rattle.card_tool.specs.JudgeTexts.{at_line, expected_words, faulty, judged, judged_status, on_text, refused, scope_of, unusable_in, used, IsJudgeNote, IsOffer, IsTextNote, JudgesText, JudgesTrace}
 use Rattle.card_tool.specs.declared.judged.WithNote.{WithNote}
 use Rattle.card_tool.proofs.Simulations.{apart, if-ok, same-name}
 
@@ -63,8 +63,10 @@ module _ (offered : Offered) (judging : Judging) (file : List ℕ) where
   one-judged : (t u : List ℕ) (p q : Status) → JudgesText offered judging file t p → JudgesText offered judging file u q
       → (t ≡ u) × (p ≡ q)
   one-judged t u p q (judged a h text stops) (judged b g other differs) =
-      let same = one-judgment offered (scope_of judging) file a b h g in
-      (text ∙ same.0 ∙ sym other, stops ∙ ap judged_status same.1 ∙ sym differs)
+      let same = one-judgment offered (scope_of judging) file a b h g in (
+        text ∙ ap (laid judging.layout (codes "judge")) same.0 ∙ sym other,
+        stops ∙ ap judged_status same.1 ∙ sym differs,
+      )
   one-judged t u p q (judged a h text stops) (faulty x g known other differs) =
       absurd (judgment-or-fault offered (scope_of judging) file a x known h g)
   one-judged t u p q (faulty x g known other differs) (judged a h text stops) =
@@ -76,7 +78,11 @@ module _ (offered : Offered) (judging : Judging) (file : List ℕ) where
   some-judged : (t : List ℕ) × (p : Status) × JudgesText offered judging file t p
   some-judged =
       elim (some-judgment offered (scope_of judging) file) [
-        | inl one ↦ (one.0.text, judged_status one.0.deviates, judged one.0 one.1 refl refl)
+        | inl one ↦ (
+          laid judging.layout (codes "judge") one.0.text,
+          judged_status one.0.deviates,
+          judged one.0 one.1 refl refl,
+        )
         | inr fault ↦ (file_fault_text fault.0, status.Fault, faulty fault.0 fault.2 fault.1 refl refl)
       ]
 
@@ -115,10 +121,13 @@ used-noted atr offered judging file (Err e) found h = tt
 -- ---- with an answer to reset
 
 module _ (atr : List ℕ) (judging : Judging) (file : List ℕ) where
+  abbrev unusable : List ℕ → List ℕ
+  unusable name = laid judging.layout (codes "judge") (unusable_in judging.layout name)
+
   one-traced : (t u : List ℕ) (p q : Status) → JudgesTrace atr judging file t p → JudgesTrace atr judging file u q
       → (t ≡ u) × (p ≡ q)
   one-traced t u p q (refused a f text stops) (refused b g other differs) =
-      (text ∙ ap refused_as_text (same-name atr a b f g) ∙ sym other, stops ∙ sym differs)
+      (text ∙ ap unusable (same-name atr a b f g) ∙ sym other, stops ∙ sym differs)
   one-traced t u p q (refused a f text stops) (used b g told) =
       absurd (apart atr b.values.ifsc a (found-by atr b g) f)
   one-traced t u p q (used a f told) (refused b g other differs) =
@@ -132,7 +141,7 @@ module _ (atr : List ℕ) (judging : Judging) (file : List ℕ) where
       let offer = some-offer atr ifsc f in
       let told = some-judged offer.0 judging file in
       (told.0, told.1, used offer.0 offer.1 told.2)
-  some-traced (Err name) f = (refused_as_text name, status.Refused, refused name f refl refl)
+  some-traced (Err name) f = (unusable name, status.Refused, refused name f refl refl)
 
 -- a text comes to one text with one status, where the answer to reset is octets
 pub judged-once : (atr : List ℕ) → AreOctets atr → (judging : Judging) (file : List ℕ)

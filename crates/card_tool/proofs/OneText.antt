@@ -20,8 +20,8 @@ use Rattle.card_words.specs.declared.request.Asked.{Asked}
 use Rattle.card_words.specs.declared.request.Asked.TheVariants.{Once, Lines}
 use Rattle.card_words.specs.declared.request.Aim.{Aim}
 use Rattle.card_words.specs.declared.request.Aim.TheVariants.{Check, Show, Note}
-use Rattle.card_words.specs.declared.request.Layout.{Layout}
-use Rattle.card_words.specs.declared.request.Layout.TheVariants as layout
+use Rattle.layouts.specs.declared.layout.Layout.{Layout}
+use Rattle.layouts.specs.declared.layout.Layout.TheVariants as layout
 use Rattle.card_words.specs.declared.request.Request.TheVariants.{BuildChain, BuildTidy, BuildFill, Tell, File, Record, Judge, Simulate, SimulateLines, Help, Version}
 use Rattle.card_tool.specs.Calls.{calls}
 use Rattle.card_tool.specs.Answers as same_text

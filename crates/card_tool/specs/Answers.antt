@@ -27,8 +27,8 @@ use Rattle.card_words.specs.declared.fault.Fault.{Fault}
 use Rattle.card_words.specs.declared.fault.Fault.TheVariants.{Memory}
 use Rattle.card_words.specs.declared.request.Aim.{Aim}
 use Rattle.card_words.specs.declared.request.Aim.TheVariants.{Check, Show, Note}
-use Rattle.card_words.specs.declared.request.Layout.{Layout}
-use Rattle.card_words.specs.declared.request.Layout.TheVariants as layout
+use Rattle.layouts.specs.declared.layout.Layout.{Layout}
+use Rattle.layouts.specs.declared.layout.Layout.TheVariants as layout
 use Rattle.card_words.specs.declared.request.Asked.{Asked}
 use Rattle.card_words.specs.declared.request.Asked.TheVariants.{Once, Lines}
 use Rattle.card_words.specs.declared.request.Expected.{Expected}

@@ -70,7 +70,7 @@ IsNoteAt end.Both file e = AreDifferenceNotes file e
 
 -- the note on the answer about an exchange: only a replay has one
 abbrev pub IsNoteSo : FileTask → List ℕ → ExchangeParts → List ℕ → Type 0
-IsNoteSo (Replay end) file e = IsNoteAt end file e
+IsNoteSo (Replay end how) file e = IsNoteAt end file e
 IsNoteSo _ file e = λ note. note ≡ []
 
 -- the note on a file: that on its exchange, or on the line with its first fault

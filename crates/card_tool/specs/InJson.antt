@@ -1,21 +1,18 @@
 -- The text for words as lines, or as a JSON object if they ask for it.
-use Rattle.std.specs.Prelude.{◌≡◌, ℕ, List, [], ◌∷◌, ◌++◌, Result, Ok, Err, codes, drop, true, false}
+use Rattle.std.specs.Prelude.{◌≡◌, ℕ, List, [], ◌∷◌, ◌++◌, Result, Ok, Err, codes, true, false}
 use Rattle.command_line.specs.Asked.{asks_for_json}
 use Rattle.card_words.specs.Texts.{fault_text}
 use Rattle.card_words.specs.declared.fault.Fault.{Fault}
 use Rattle.card_words.specs.declared.fault.Fault.TheVariants.{Memory}
-use Rattle.card_words.specs.declared.request.Ends.{Ends}
-use Rattle.card_words.specs.declared.request.Ends.TheVariants as end
 use Rattle.card_words.specs.declared.request.FileTask.{FileTask}
 use Rattle.card_words.specs.declared.request.FileTask.TheVariants.{Replay, Migrate, Apdus, Draw}
-use Rattle.card_words.specs.declared.request.Layout.{Layout}
-use Rattle.card_words.specs.declared.request.Layout.TheVariants as layout
+use Rattle.layouts.specs.declared.layout.Layout.{Layout}
+use Rattle.layouts.specs.declared.layout.Layout.TheVariants as layout
 use Rattle.card_words.specs.declared.request.Request.{Request}
 use Rattle.card_words.specs.declared.request.Request.TheVariants.{BuildChain, BuildTidy, BuildFill, Tell, File, Record, Judge, Simulate, SimulateLines, Help, Version}
 use Rattle.card_words.specs.declared.request.Task.{Task}
 use Rattle.card_kinds.specs.Json.{object_head, with_member}
 use Rattle.card_kinds.specs.Verdicts.{kind_name}
-use Rattle.answer_json.specs.Answers.{json_text}
 use Rattle.answer_json.specs.Strings.{json_string, line_strings}
 use Rattle.card_kinds.specs.declared.status.Status.{Status}
 use Rattle.card_kinds.specs.declared.status.Status.TheVariants as status
@@ -23,13 +20,13 @@ use Rattle.card_tool.specs.Calls.{Calls}
 use Rattle.card_tool.specs.Answers.{json_object, object_of, IsReadFrom}
 use Rattle.card_tool.specs.Explained.{IsRightWith, IsSaid}
 use Rattle.card_tool.specs.declared.json.Object.{Object}
-use Rattle.card_tool.specs.declared.json.Object.TheVariants.{Told, Report, Judged, Content}
+use Rattle.card_tool.specs.declared.json.Object.TheVariants.{Told, Report, Laid, Content}
 
 -- the subcommand's name, which is the subject of an answer about a file
 abbrev pub file_subject : FileTask → List ℕ
-file_subject (Replay ends) = codes "replay"
+file_subject (Replay ends how) = codes "replay"
 file_subject Migrate = codes "migrate"
-file_subject Apdus = codes "apdus"
+file_subject (Apdus how) = codes "apdus"
 file_subject (Draw drawing) = codes "draw"
 
 -- the subject of the object that answers a request: the kind of the octets, or the subcommand
@@ -62,26 +59,17 @@ content_object about status.Accepted told = object_with_lines about told
 content_object about status.Refused told = json_object about told
 content_object about status.Fault told = json_object about told
 
--- the verdict's member for lines without it, by the status: a fault already has it
-abbrev pub verdict_member : Status → List ℕ
-verdict_member status.Accepted = codes "\"verdict\":\"ok\","
-verdict_member status.Refused = codes "\"verdict\":\"differs\","
-verdict_member status.Fault = []
-
--- lines without their verdict as an object by their forms, with the verdict
-abbrev pub judged_object : List ℕ → Status → List ℕ → List ℕ
-judged_object about ended lines = object_head about ++ (verdict_member ended ++ drop 1 (json_text lines))
-
--- the object of a replay: at both ends it has the verdict of both
-abbrev pub replay_object : Ends → Status → List ℕ → List ℕ
-replay_object end.Terminal ended told = json_object (codes "replay") told
-replay_object end.Card ended told = json_object (codes "replay") told
-replay_object end.Both ended told = judged_object (codes "replay") ended told
+-- an answer in this layout as an object: in the layout JSON it is one already, unless it is the line of a fault
+abbrev pub laid_object : Layout → List ℕ → Status → List ℕ → List ℕ
+laid_object layout.Lines about ended told = content_object about ended told
+laid_object layout.Json about status.Accepted told = told
+laid_object layout.Json about status.Refused told = told
+laid_object layout.Json about status.Fault told = json_object about told
 
 -- the object about a file: an account of it, or its content in another form
 abbrev pub file_object : FileTask → Status → List ℕ → List ℕ
-file_object (Replay ends) ended told = replay_object ends ended told
-file_object Apdus ended told = judged_object (codes "apdus") ended told
+file_object (Replay ends how) ended told = laid_object how (codes "replay") ended told
+file_object (Apdus how) ended told = laid_object how (codes "apdus") ended told
 file_object Migrate ended told = content_object (codes "migrate") ended told
 file_object (Draw drawing) ended told = content_object (codes "draw") ended told
 
@@ -89,7 +77,7 @@ file_object (Draw drawing) ended told = content_object (codes "draw") ended told
 abbrev pub request_object : Request → Status → List ℕ → List ℕ
 request_object (Tell task given) ended told = told_object task.layout task ended told
 request_object (File task) ended told = file_object task ended told
-request_object (Judge atr judging) ended told = json_object (codes "judge") told
+request_object (Judge atr judging) ended told = laid_object judging.layout (codes "judge") ended told
 request_object request ended told = content_object (subject request) ended told
 
 -- the object of the answer to words, by what they were read as
@@ -101,7 +89,7 @@ object_by (Err fault) ended told = json_object (codes "words") told
 abbrev pub object_as : Object → Status → List ℕ → List ℕ
 object_as (Told task) ended told = told_object task.layout task ended told
 object_as (Report about) ended told = json_object about.now told
-object_as (Judged about) ended told = judged_object about.now ended told
+object_as (Laid how about) ended told = laid_object how about.now ended told
 object_as (Content about) ended told = content_object about.now ended told
 
 -- the member for an explanation

@@ -1,11 +1,14 @@
 -- What the program prints about a trace that it judges.
-use Rattle.std.specs.Prelude.{◌≡◌, ◌≢◌, ℕ, List, [], codes, Bool, true, false, Option, Some, None, Ok, Err}
+use Rattle.std.specs.Prelude.{◌≡◌, ◌≢◌, ◌++◌, ℕ, List, [], codes, Bool, true, false, Option, Some, None, Ok, Err}
 use Rattle.card_kinds.specs.Texts.{refused_as_text}
 use Rattle.card_kinds.specs.declared.status.Status.{Status}
 use Rattle.card_kinds.specs.declared.status.Status.TheVariants as status
 use Rattle.card_words.specs.declared.request.Ends.{Ends}
 use Rattle.card_words.specs.declared.request.Ends.TheVariants as end
 use Rattle.card_words.specs.declared.request.Judging.{Judging}
+use Rattle.layouts.specs.declared.layout.Layout.{Layout}
+use Rattle.layouts.specs.declared.layout.Layout.TheVariants as layout
+use Rattle.card_tool.specs.Laid.{laid}
 use Rattle.atr_core.specs.Atr.{AtrParts, IsAtr}
 use Rattle.atr_core.specs.T1.{t1_params_of}
 use Rattle.exchange_core.specs.Replay.{IsFound}
@@ -29,7 +32,12 @@ only_of end.Both = None
 
 -- the scope of a judgment
 abbrev pub scope_of : Judging → Scope
-scope_of judging = record { only = only_of judging.ends; clock = judging.clock; rules = judging.rules }
+scope_of judging = record {
+  only = only_of judging.ends;
+  clock = judging.clock;
+  rules = judging.rules;
+  layout = judging.layout;
+}
 
 -- Octets are exactly one answer to reset with parameters of T=1. They offer these parameters, F and D.
 pub record IsOffer (atr : List ℕ) (offered : Offered) : Type 0 where
@@ -44,15 +52,22 @@ judged_status false = status.Accepted
 
 -- The answer about a text for a card that offers this: its judgment, or its first fault.
 pub data JudgesText (offered : Offered) (judging : Judging) (file text : List ℕ) (ended : Status) : Type 0 where
-  judged : (judgment : Judgment) → Judges offered (scope_of judging) file (Ok judgment) → text ≡ judgment.text
+  judged : (judgment : Judgment) → Judges offered (scope_of judging) file (Ok judgment)
+      → text ≡ laid judging.layout (codes "judge") judgment.text
       → ended ≡ judged_status judgment.deviates → JudgesText offered judging file text ended
   faulty : (fault : ExchangeFault) → Judges offered (scope_of judging) file (Err fault) → fault ≢ Memory
       → text ≡ file_fault_text fault → ended ≡ status.Fault → JudgesText offered judging file text ended
 
+-- the answer to reset can't be used, by the name of the reason
+abbrev pub unusable_in : Layout → List ℕ → List ℕ
+unusable_in layout.Lines name = refused_as_text name
+unusable_in layout.Json name = codes "\"reason\":\"" ++ (name ++ codes "\",\"verdict\":\"refused\"")
+
 -- The answer about an answer to reset and a text: the answer to reset can't be used, or the answer is that about the
 -- text.
 pub data JudgesTrace (atr : List ℕ) (judging : Judging) (file text : List ℕ) (ended : Status) : Type 0 where
-  refused : (name : List ℕ) → IsFound atr (Err name) → text ≡ refused_as_text name → ended ≡ status.Refused
+  refused : (name : List ℕ) → IsFound atr (Err name)
+      → text ≡ laid judging.layout (codes "judge") (unusable_in judging.layout name) → ended ≡ status.Refused
       → JudgesTrace atr judging file text ended
   used : (offered : Offered) → IsOffer atr offered → JudgesText offered judging file text ended
       → JudgesTrace atr judging file text ended

@@ -16,8 +16,8 @@ use Rattle.card_kinds.specs.Texts.{refused_text}
 use Rattle.card_kinds.specs.Verdicts.{codec_of}
 use Rattle.card_kinds.specs.declared.status.Status.{Status}
 use Rattle.card_kinds.specs.declared.status.Status.TheVariants as status
-use Rattle.card_words.specs.declared.request.Layout.{Layout}
-use Rattle.card_words.specs.declared.request.Layout.TheVariants.{Json}
+use Rattle.layouts.specs.declared.layout.Layout.{Layout}
+use Rattle.layouts.specs.declared.layout.Layout.TheVariants.{Json}
 use Rattle.explainer.specs.Notes.{least_of, verdict_text}
 use Rattle.explainer.specs.Sentences.{atr_sentence, block_sentence, chain_sentence, command_sentence, dol_sentence, response_sentence, tlv_sentence}
 use Rattle.card_tool.specs.declared.judged.Annotatable.{Annotatable}

@@ -1,5 +1,6 @@
 pub mod Files
 pub mod Lines
+pub mod Laid
 pub mod ExchangeTexts
 pub mod SimulationTexts
 pub mod Waits

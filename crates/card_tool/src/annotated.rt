@@ -7,13 +7,14 @@ ghost use Rattle.card_kinds.specs.declared.status.Status.TheVariants as ended;
 ghost use Rattle.card_tool.specs.Answers.{ShowsNoted, ShowsNotedObject};
 ghost use Rattle.card_tool.specs.Judged.{IsRefusalLine};
 ghost use Rattle.card_words.specs.declared.request.Expected.{Expected as AnyExpected};
-ghost use Rattle.card_words.specs.declared.request.Layout.TheVariants as layout;
+ghost use Rattle.layouts.specs.declared.layout.Layout.TheVariants as layout;
 ghost use Rattle.octet_core.specs.declared.stop.Stop.{Stop as AnyStop};
 
 use crate::json::with_notes;
 use card_kinds::{Answer, Status, Verdict};
-use card_words::{Kind, Layout};
+use card_words::Kind;
 use explainer::least_wanting;
+use layouts::Layout;
 use notes::{noted_line, wanting_note};
 use octet_core::{Named, Octets, Stop};
 use std::alloc::{AllocError, Global};

@@ -9,12 +9,13 @@ ghost use Rattle.card_tool.specs.Answers.{json_object, noted_as};
 ghost use Rattle.answer_json.specs.Answers.{json_text};
 ghost use Rattle.answer_json.specs.Strings.{line_strings};
 ghost use Rattle.card_tool.specs.Explained.{said_of};
-ghost use Rattle.card_tool.specs.InJson.{content_object, file_object, file_subject, judged_object, object_as, object_by, object_with_lines, request_object, subject, verdict_member, with_explanation, explanation_member, told_object};
+ghost use Rattle.card_tool.specs.InJson.{content_object, file_object, file_subject, laid_object, object_as, object_by, object_with_lines, request_object, subject, with_explanation, explanation_member, told_object};
 
 use crate::judged::WithNote;
 use answer_json::{json_line, json_string, line_strings};
 use card_kinds::{Answer, Status, kind_name, notes_member, object_head};
-use card_words::{Aim, Ends, Fault, FileTask, Layout, Request, Task};
+use card_words::{Aim, Fault, FileTask, Request, Task};
+use layouts::Layout;
 use octet_core::Octets;
 use std::alloc::{AllocError, Global};
 
@@ -29,8 +30,9 @@ pub(crate) enum Object {
     Told(Task),
     /// Lines about this subject, whose forms give the object its members.
     Report(&'static str),
-    /// Lines about this subject without their verdict, whose forms give the object its other members.
-    Judged(&'static str),
+    /// An answer about this subject in this layout. With the layout JSON it already is an object, unless it is the line
+    /// of a fault.
+    Laid(Layout, &'static str),
     /// Lines about this subject that are content. They go into an array unchanged, unless they are a refusal or a
     /// fault.
     Content(&'static str),
@@ -55,7 +57,7 @@ fn request_object(request: &Request) -> Object
     match request {
         Request::Tell(task, _) => Object::Told(*task),
         Request::File(task) => file_object(*task),
-        Request::Judge { .. } => Object::Report(subject(request)),
+        Request::Judge { judging, .. } => Object::Laid(judging.layout, subject(request)),
         Request::BuildChain { .. }
         | Request::BuildTidy(_)
         | Request::BuildFill { .. }
@@ -73,8 +75,9 @@ fn file_object(task: FileTask) -> Object
         → object_as result ended told ≡ file_object task ended told }
 {
     match task {
-        FileTask::Replay(Ends::Terminal | Ends::Card) => Object::Report(file_subject(task)),
-        FileTask::Replay(Ends::Both) | FileTask::Apdus => Object::Judged(file_subject(task)),
+        FileTask::Replay(_, layout) | FileTask::Apdus(layout) => {
+            Object::Laid(layout, file_subject(task))
+        }
         FileTask::Migrate | FileTask::Draw(_) => Object::Content(file_subject(task)),
     }
 }
@@ -102,9 +105,9 @@ fn file_subject(task: FileTask) -> &'static str
     ensures { result.now ≡ file_subject task }
 {
     match task {
-        FileTask::Replay(_) => "replay",
+        FileTask::Replay(..) => "replay",
         FileTask::Migrate => "migrate",
-        FileTask::Apdus => "apdus",
+        FileTask::Apdus(_) => "apdus",
         FileTask::Draw(_) => "draw",
     }
 }
@@ -177,7 +180,7 @@ fn object_of(alloc: Global, object: &Object, answer: Answer) -> Result<Octets, A
     match object {
         Object::Told(task) => told_object(alloc, *task, answer),
         Object::Report(about) => object_of_lines(alloc, about, answer.text.get()),
-        Object::Judged(about) => judged_object(alloc, about, answer),
+        Object::Laid(layout, about) => laid_object(alloc, *layout, about, answer),
         Object::Content(about) => content_object(alloc, about, answer),
     }
 }
@@ -192,6 +195,23 @@ fn told_object(alloc: Global, task: Task, answer: Answer) -> Result<Octets, Allo
         Layout::Lines => {
             object_of_lines(alloc, kind_name(task.expected.kind), answer.text.get())
         }
+    }
+}
+
+/// Returns an answer in a layout as an object. With the layout JSON it already is one, unless it is the line of a fault.
+fn laid_object(
+    alloc: Global,
+    layout: Layout,
+    about: &str,
+    answer: Answer,
+) -> Result<Octets, AllocError>
+    ensures { IfOk result (λ text.
+        text ≡ laid_object layout about.now answer.status answer.text) }
+{
+    match (layout, answer.status) {
+        (Layout::Lines, _) => content_object(alloc, about, answer),
+        (Layout::Json, Status::Accepted | Status::Refused) => Ok(answer.text),
+        (Layout::Json, Status::Fault) => object_of_lines(alloc, about, answer.text.get()),
     }
 }
 
@@ -269,26 +289,6 @@ fn members_after(alloc: Global, head: String, lines: &[u8]) -> Result<Octets, Al
     let mut text = head.into_bytes();
     text.extend_from_slice(after_first(line.as_bytes()))?;
     Ok(Octets::of(text))
-}
-
-/// Returns lines that don't have their verdict as a JSON object about a subject, with the verdict.
-fn judged_object(alloc: Global, about: &str, answer: Answer) -> Result<Octets, AllocError>
-    ensures { IfOk result (λ text. text ≡ judged_object about.now answer.status answer.text) }
-{
-    let mut head = object_head(alloc, about)?;
-    head.push_str(verdict_member(answer.status))?;
-    members_after(alloc, head, answer.text.get())
-}
-
-/// Returns the verdict's member for lines that don't have it, by the status. A fault already has it.
-fn verdict_member(status: Status) -> &'static str
-    ensures { result.now ≡ verdict_member status }
-{
-    match status {
-        Status::Accepted => "\"verdict\":\"ok\",",
-        Status::Refused => "\"verdict\":\"differs\",",
-        Status::Fault => "",
-    }
 }
 
 /// Returns all octets except the first.

@@ -10,7 +10,7 @@ ghost use Rattle.card_tool.specs.Explained.{said_of, IsFillNote};
 ghost use Rattle.command_line.specs.Form.{texts};
 ghost use Rattle.explainer.specs.Notes.{least_of, verdict_text};
 ghost use Rattle.card_tool.specs.Judged.{AreAnnotatable, AreOf, IsForestNote, IsKindNote, IsNoteBy, IsRefusalBy, IsRefusalLine, SaysIf};
-ghost use Rattle.card_words.specs.declared.request.Layout.TheVariants as layout;
+ghost use Rattle.layouts.specs.declared.layout.Layout.TheVariants as layout;
 
 use crate::annotated::{annotated, annotated_object, refusal_line, words_on};
 use crate::telling::Telling;
@@ -21,9 +21,10 @@ use card_kinds::{
     Answer, Codec, Judged, Verdict, check_with_verdict, fill_with_verdict, show_with_verdict,
     tidy_with_verdict,
 };
-use card_words::{Aim, Fault, Kind, Knowns, Layout, Task};
+use card_words::{Aim, Fault, Kind, Knowns, Task};
 use chain_core::Receiver;
 use explainer::{Explained, duplicate_note, known_note, least_wanting, verdict_note};
+use layouts::Layout;
 use octet_core::Octets;
 use std::alloc::{AllocError, Global};
 use tlv_core::{Dol, DolReason, Forest};

@@ -1,6 +1,6 @@
 //! Traces of a line, judged by what the standard permits each end to send.
 
-ghost use Rattle.std.specs.Prelude.{◌≡◌, ◌≢◌, Err, IfErr, IfOk};
+ghost use Rattle.std.specs.Prelude.{◌≡◌, ◌≢◌, Err, IfErr, IfOk, codes};
 ghost use Rattle.exchange_core.specs.Faults.{atr_fault_name};
 ghost use Rattle.exchange_core.specs.Replay.{IsFound};
 ghost use Rattle.exchange_text.specs.declared.fault.ExchangeFault.TheVariants.{Memory};
@@ -8,17 +8,20 @@ ghost use Rattle.card_tool.specs.ExchangeTexts.{file_fault_text};
 ghost use Rattle.card_tool.specs.FileNotes.{trace_note};
 ghost use Rattle.card_kinds.specs.declared.status.Status.TheVariants as ended;
 ghost use Rattle.card_tool.specs.Judged.{AreOf};
-ghost use Rattle.card_tool.specs.JudgeTexts.{expected_words, judged_status, only_of, scope_of, IsJudgeNote, IsOffer, IsTextNote, JudgesText, JudgesTrace};
+ghost use Rattle.card_tool.specs.JudgeTexts.{expected_words, judged_status, only_of, scope_of, unusable_in, IsJudgeNote, IsOffer, IsTextNote, JudgesText, JudgesTrace};
+ghost use Rattle.card_tool.specs.Laid.{laid};
 
 use crate::exchange::refused;
 use crate::file_notes::trace_note;
 use crate::judged::WithNote;
+use crate::laid::laid;
 use atr_core::{decode, t1_params};
 use card_kinds::{Answer, Status};
 use card_words::{Ends, Judging};
 use exchange_core::{AtrFault, ExchangeFault};
 use explainer::session_note;
 use judge_core::Side;
+use layouts::Layout;
 use octet_core::Named;
 use std::alloc::{AllocError, Global};
 use trace_judge::{Judgment, Offer, Scope, judge_trace, rates_before};
@@ -52,6 +55,7 @@ fn scope_of(judging: Judging) -> Scope
         only: only_of(judging.ends),
         clock: judging.clock,
         rules: judging.rules,
+        layout: judging.layout,
     }
 }
 
@@ -66,7 +70,7 @@ fn only_of(ends: Ends) -> Option<Side>
     }
 }
 
-/// Returns a judgment as an answer: its text, and the status by whether an end deviates.
+/// Returns what a judgment says: its text, and the status by whether an end deviates.
 fn answer_of(judgment: Judgment) -> Answer
     ensures text { result.text ≡ judgment.text }
     ensures status { result.status ≡ judged_status judgment.deviates }
@@ -93,11 +97,27 @@ pub(crate) fn judged(
     match offer_of(atr) {
         Ok(offer) => text_judged(alloc, offer, judging, text),
         Err(fault) => {
-            let answer = Answer::refused_as(alloc, fault.name())?;
+            let answer = unusable(alloc, judging.layout, fault.name())?;
             let note = session_note(alloc, atr);
             Ok(WithNote { answer, note })
         }
     }
+}
+
+/// Returns the answer for an answer to reset that can't be used, by the name of the reason.
+fn unusable(alloc: Global, layout: Layout, name: &str) -> Result<Answer, AllocError>
+    ensures text { IfOk result (λ answer. answer.text
+        ≡ laid layout (codes "judge") (unusable_in layout name.now)) }
+    ensures status { IfOk result (λ answer. answer.status ≡ ended.Refused) }
+{
+    let said = match layout {
+        Layout::Lines => Answer::refused_as(alloc, name)?,
+        Layout::Json => {
+            let text = format!(in alloc; "\"reason\":\"{name}\",\"verdict\":\"refused\"")?;
+            Answer::of(text, Status::Refused)
+        }
+    };
+    laid(alloc, layout, "judge", said)
 }
 
 /// Judges a text for a card that offers this.
@@ -111,10 +131,10 @@ fn text_judged(
         (IsTextNote offer judging text.now)) }
 {
     match judge_trace(alloc, offer, scope_of(judging), text) {
-        Ok(judgment) => Ok(WithNote {
-            answer: answer_of(judgment),
-            note: Ok(String::new(alloc)),
-        }),
+        Ok(judgment) => {
+            let answer = laid(alloc, judging.layout, "judge", answer_of(judgment))?;
+            Ok(WithNote::alone(alloc, answer))
+        }
         Err(fault) => fault_with_note(alloc, text, fault),
     }
 }

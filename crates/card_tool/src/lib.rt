@@ -19,6 +19,7 @@ pub mod host;
 mod json;
 mod judged;
 mod judging;
+mod laid;
 pub mod laws;
 pub mod lines;
 pub mod program;
@@ -30,13 +31,14 @@ mod trace_place;
 mod waits;
 
 pub use card_kinds::Status;
-pub use card_words::{Aim, Expected, Fault, Layout, Task};
+pub use card_words::{Aim, Expected, Fault, Task};
 pub use conversation::{Conversation, Streams};
 pub use exchange_core::{
     Arrival, Exchange, ExchangeFault, Line, Lines, ReplayFault, Side, Version, migrate,
     read_exchange, replay, write_exchange,
 };
 pub use host::serve;
+pub use layouts::Layout;
 pub use lines::answer_lines;
 pub use octet_core::Counted;
 pub use program::{report, run};

@@ -17,7 +17,8 @@ use crate::json::{explained, object_told};
 use crate::judged::WithNote;
 use crate::telling::{Telling, line_told, with_indented};
 use card_kinds::{Answer, Status};
-use card_words::{Aim, Fault, Layout, Task};
+use card_words::{Aim, Fault, Task};
+use layouts::Layout;
 use octet_core::{Octets, Sink, Source, WriteFault};
 use std::alloc::{AllocError, Global};
 

@@ -13,7 +13,7 @@ use Rattle.card_words.specs.Given.{asks_for_lines, form_of, given_of, GivesOctet
 use Rattle.card_words.specs.PairLines.{are_lines}
 use Rattle.card_words.specs.Session.{blocks_of, pair_of, pairs_of, AreOctetPairs}
 use Rattle.card_words.specs.Value.{◌>>=◌, hex_octets, octets_of_word, parted, UnlessMemory}
-use Rattle.card_words.specs.Words.{byte_or, size_of, number_of, number_of_word, needed, kind_of, expected_of, short_message, told_by, told_of, chain_by, chain_of, tidy_of, fill_of, build_words, build_of, end_of_word, atr_of, clock_of, judge_of, judged_ends, record_of, replay_of, all_or_none, asked_size, session_of, drawing_of, layout_of, request_by, show_aim, asked_by, asked_of, HasOctets, HaveOctets, IsRead, AreSized, IsSized, called_for_version, taken, called_for_help, not_taken, session_by, simulate_by, simulate_of, has_flag}
+use Rattle.card_words.specs.Words.{byte_or, size_of, number_of, number_of_word, needed, kind_of, expected_of, short_message, told_by, told_of, chain_by, chain_of, tidy_of, fill_of, build_words, build_of, end_of_word, atr_of, clock_of, judge_of, judged_ends, judging_of, record_of, replay_of, all_or_none, asked_size, session_of, drawing_of, layout_of, request_by, show_aim, asked_by, asked_of, HasOctets, HaveOctets, IsRead, AreSized, IsSized, called_for_version, taken, called_for_help, not_taken, session_by, simulate_by, simulate_of}
 use Rattle.command_line.specs.Form.{scard}
 use Rattle.card_words.specs.declared.fault.Fault.{Fault}
 use Rattle.card_words.specs.declared.fault.Fault.TheVariants.{Words}
@@ -26,7 +26,6 @@ use Rattle.card_words.specs.declared.request.Aim.TheVariants.{Check}
 use Rattle.card_words.specs.declared.request.Task.{Task}
 use Rattle.card_words.specs.declared.request.Asked.{Asked}
 use Rattle.card_words.specs.declared.request.Asked.TheVariants.{Once, Lines}
-use Rattle.card_words.specs.declared.request.Judging.{Judging}
 use Rattle.card_words.specs.declared.request.Request.{Request}
 use Rattle.card_words.specs.declared.request.Request.TheVariants.{BuildTidy, File, Record, Judge, Help, Version}
 use Rattle.card_words.specs.declared.request.FileTask.TheVariants.{Migrate, Apdus, Draw}
@@ -247,8 +246,7 @@ judge-proper rows request h =
     let ends = both-steps (judged_ends (first_of (codes "end") rows)) _ request h in
     let clock = both-steps (clock_of (first_of (codes "clock") rows)) _ request ends.2 in
     let atr = both-steps (atr_of rows) _ request clock.2 in
-    let judging : Judging = record { ends = ends.0; clock = clock.0; rules = has_flag (codes "rules") rows } in
-    subst IsProper (same (Judge atr.0 judging) request atr.2)
+    subst IsProper (same (Judge atr.0 (judging_of ends.0 clock.0 rows)) request atr.2)
     (tt, atr-octets rows atr.0 atr.1)
 
 seen-proper : (name : List ℕ) (rows : List Row) (request : Request)
@@ -295,8 +293,9 @@ request-proper name rows request h =
                 elim (one-of (bytes_eq name (codes "migrate")) (Ok (File Migrate)) _ request last) [
                   | inl migrate ↦ subst IsProper (same (File Migrate) request migrate) (tt, tt)
                   | inr listed ↦
-                      elim (one-of (bytes_eq name (codes "apdus")) (Ok (File Apdus)) _ request listed) [
-                        | inl apdus ↦ subst IsProper (same (File Apdus) request apdus) (tt, tt)
+                      elim (one-of (bytes_eq name (codes "apdus")) (Ok (File (Apdus (layout_of rows)))) _ request
+                      listed) [
+                        | inl apdus ↦ subst IsProper (same (File (Apdus (layout_of rows))) request apdus) (tt, tt)
                         | inr drawn ↦ drawn-proper name rows request drawn
                       ]
                 ]

@@ -30,8 +30,9 @@ use Rattle.card_words.specs.declared.request.FileTask.TheVariants.{Replay, Migra
 use Rattle.card_words.specs.declared.request.Expected.{Expected}
 use Rattle.card_words.specs.declared.request.Aim.{Aim}
 use Rattle.card_words.specs.declared.request.Aim.TheVariants.{Check, Show, Note}
-use Rattle.card_words.specs.declared.request.Layout.{Layout}
-use Rattle.card_words.specs.declared.request.Layout.TheVariants as layout
+use Rattle.layouts.specs.declared.layout.Layout.{Layout}
+use Rattle.layouts.specs.declared.layout.Layout.TheVariants as layout
+use Rattle.card_words.specs.declared.request.Judging.{Judging}
 use Rattle.card_words.specs.declared.request.Task.{Task}
 use Rattle.card_words.specs.declared.request.Asked.{Asked}
 use Rattle.card_words.specs.declared.request.Asked.TheVariants.{Once, Lines}
@@ -181,7 +182,7 @@ abbrev pub replay_of : List Row → Result Request Fault
 replay_of rows = do
   word ← needed (first_of (codes "end") rows)
   side ← end_of_word word
-  Ok (File (Replay side))
+  Ok (File (Replay side (layout_of rows)))
 
 -- how recorded exchanges are drawn: as text, or as a picture if one is asked for
 abbrev pub drawing_of : List Row → Drawing
@@ -209,13 +210,18 @@ abbrev pub clock_of : Option (List ℕ) → Result (Option ℕ) Fault
 clock_of None = Ok None
 clock_of (Some word) = hertz_of (decimal_number word)
 
+-- what is judged, and how
+abbrev pub judging_of : Ends → Option ℕ → List Row → Judging
+judging_of ends clock rows =
+    record { ends = ends; clock = clock; rules = has_flag (codes "rules") rows; layout = layout_of rows }
+
 -- these come first, and then the answer to reset of the card on the line
 abbrev pub judge_of : List Row → Result Request Fault
 judge_of rows = do
   ends ← judged_ends (first_of (codes "end") rows)
   clock ← clock_of (first_of (codes "clock") rows)
   atr ← atr_of rows
-  Ok (Judge atr (record { ends = ends; clock = clock; rules = has_flag (codes "rules") rows }))
+  Ok (Judge atr (judging_of ends clock rows))
 
 -- an information size, if there is a word for it
 abbrev pub asked_size : Option (List ℕ) → Result (Option ℕ) Fault
@@ -252,7 +258,7 @@ request_by name rows =
     if bytes_eq name (codes "build") then build_of rows
     else (if bytes_eq name (codes "replay") then replay_of rows
     else (if bytes_eq name (codes "migrate") then Ok (File Migrate)
-    else (if bytes_eq name (codes "apdus") then Ok (File Apdus)
+    else (if bytes_eq name (codes "apdus") then Ok (File (Apdus (layout_of rows)))
     else (if bytes_eq name (codes "draw") then Ok (File (Draw (drawing_of rows)))
     else (if bytes_eq name (codes "record") then record_of rows
     else (if bytes_eq name (codes "judge") then judge_of rows

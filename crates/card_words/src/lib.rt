@@ -23,7 +23,7 @@ pub use given::{Form, OctetSource};
 pub use loose::loose_octets;
 pub use pair_lines::read_pair_lines;
 pub use request::{
-    Aim, Asked, Drawing, Ends, Expected, FileTask, Judging, Kind, Knowns, Layout, Request, Task,
+    Aim, Asked, Drawing, Ends, Expected, FileTask, Judging, Kind, Knowns, Request, Task,
 };
 pub use session::{BlockNumbers, MOST_NAMED, Pair, Pairs, Session, read_blocks};
 pub use words::read;

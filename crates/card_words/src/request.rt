@@ -7,6 +7,7 @@ use crate::field_size::FieldSize;
 use crate::given::OctetSource;
 use crate::session::Session;
 use block_core::Number;
+use layouts::Layout;
 use octet_core::{Listed, Octets, Text};
 use tlv_core::Known;
 
@@ -49,6 +50,7 @@ pub struct Judging {
     pub clock: Option<u64>,
     /// Whether to count how often each end kept and broke each rule, and to say which block was due.
     pub rules: bool,
+    pub layout: Layout,
 }
 
 /// What octets are read as.
@@ -74,11 +76,11 @@ pub enum Drawing {
 #[derive(Clone, Copy, Debug, PartialEq, Eq)]
 pub enum FileTask {
     /// Replay it at this end, or at both.
-    Replay(Ends),
+    Replay(Ends, Layout),
     /// Write it in the newest version.
     Migrate,
     /// List its commands and answers.
-    Apdus,
+    Apdus(Layout),
     /// Draw it.
     Draw(Drawing),
 }
@@ -92,15 +94,6 @@ pub enum Aim {
     Show,
     /// Show the value that they spell, with notes after its lines.
     Note,
-}
-
-/// How an answer is laid out.
-#[derive(Clone, Copy, Debug, PartialEq, Eq)]
-pub enum Layout {
-    /// As lines of text.
-    Lines,
-    /// As a JSON object on one line.
-    Json,
 }
 
 /// What to do with octets, and what they are read as.

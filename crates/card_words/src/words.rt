@@ -13,15 +13,14 @@ use crate::given::{asks_for_lines, read_given};
 use crate::known::knowns;
 use crate::numerals::{asked_size, number, number_or_zero, size};
 use crate::pair_lines::are_lines;
-use crate::request::{
-    Aim, Asked, Drawing, Ends, Expected, FileTask, Judging, Kind, Layout, Request, Task,
-};
+use crate::request::{Aim, Asked, Drawing, Ends, Expected, FileTask, Judging, Kind, Request, Task};
 use crate::session::{Session, read_blocks, read_pairs};
 use crate::value::octets;
 use chain_core::LONGEST_MESSAGE;
 use clap::error::ErrorKind;
 use clap::{ArgMatches, Error};
 use command_line::{asks_for_version, matches_of};
+use layouts::Layout;
 use octet_core::{Octets, Text, decimal_of};
 use std::alloc::Global;
 
@@ -65,7 +64,7 @@ fn request(alloc: Global, name: &str, matches: &ArgMatches) -> Result<Request, F
         "build" => build(alloc, matches),
         "replay" => replay(matches),
         "migrate" => Ok(Request::File(FileTask::Migrate)),
-        "apdus" => Ok(Request::File(FileTask::Apdus)),
+        "apdus" => Ok(Request::File(FileTask::Apdus(layout(matches)))),
         "draw" => Ok(Request::File(FileTask::Draw(drawing(matches)))),
         "record" => record(alloc, matches),
         "judge" => judge(alloc, matches),
@@ -172,7 +171,7 @@ fn replay(matches: &ArgMatches) -> Result<Request, Fault>
     ensures { result ≡ replay_of (rows_of (found_of matches.now)) }
 {
     let side = end(word(matches, "end").ok_or(Fault::Words)?)?;
-    Ok(Request::File(FileTask::Replay(side)))
+    Ok(Request::File(FileTask::Replay(side, layout(matches))))
 }
 
 /// Returns how to draw a recorded exchange: as text, or with `--svg` as a picture.
@@ -200,8 +199,12 @@ fn judge(alloc: Global, matches: &ArgMatches) -> Result<Request, Fault>
     let ends = judged_ends(word(matches, "end"))?;
     let clock = clock(word(matches, "clock"))?;
     let atr = atr(alloc, matches)?;
-    let rules = has_flag(matches, "rules");
-    let judging = Judging { ends, clock, rules };
+    let judging = Judging {
+        ends,
+        clock,
+        rules: has_flag(matches, "rules"),
+        layout: layout(matches),
+    };
     Ok(Request::Judge { atr, judging })
 }
 

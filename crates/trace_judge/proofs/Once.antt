@@ -1,5 +1,5 @@
 -- That a trace has one judgment, or one fault.
-use Rattle.std.proofs.Common.{◌≡◌, ◌≢◌, ◌<◌, ◌≤◌, ◌⊎◌, ◌∙◌, ◌||◌, ◌&&◌, ◌+◌, ◌++◌, ◌==◌, inl, inr, not, ℕ, List, [], ◌∷◌, codes, length, Bool, true, false, Option, Some, None, Result, Ok, Err, MatchResult, if◌then◌else◌, ap, arith, refl, subst, sym}
+use Rattle.std.proofs.Common.{◌≡◌, ◌≢◌, ◌<◌, ◌≤◌, ◌⊎◌, ◌∙◌, ◌||◌, ◌&&◌, ◌+◌, ◌==◌, inl, inr, not, ℕ, List, [], ◌∷◌, codes, length, Bool, true, false, Option, Some, None, Result, Ok, Err, MatchResult, if◌then◌else◌, ap, arith, refl, subst, sym}
 use Rattle.std.specs.Str.{bytes_eq}
 use Rattle.std.specs.List.{slice_split}
 use Rattle.std.proofs.lemmas.Bool.{cases_lt}
@@ -27,9 +27,8 @@ use Rattle.trace_judge.specs.declared.entry.Reach.TheVariants.{Unsaid, Lost}
 use Rattle.trace_judge.specs.declared.standing.Judgment.{Judgment}
 use Rattle.trace_judge.specs.declared.standing.Scope.{Scope}
 use Rattle.trace_judge.specs.Waiting.{Offered}
-use Rattle.trace_judge.specs.Coverage.{coverage_part}
 use Rattle.trace_judge.specs.Reading.{◌>>=◌, block_said, entry_said, hex_said, is_empty, moment_by, named_said, octets_by, reach_said, words_of, Words}
-use Rattle.trace_judge.specs.Judging.{at_moment, deviations, ended, is_before, is_line_end, start, summary, told_before, told_block, Concludes, ExercisesIf, Fails, IsBlockTold, IsEntered, IsFalling, IsTold, Judges, JudgesLine, JudgesLines, Standing}
+use Rattle.trace_judge.specs.Judging.{at_moment, deviations, ended, is_before, is_line_end, judged_text, start, told_before, told_block, Concludes, ExercisesIf, Fails, IsBlockTold, IsEntered, IsFalling, IsTold, Judges, JudgesLine, JudgesLines, Standing}
 use Rattle.trace_judge.proofs.SeenOnce.{one-seen, one-taking, some-arrival, some-seen, IsOfOctets}
 
 -- ---- what a line says
@@ -339,8 +338,7 @@ module _ (offered : Offered) (scope : Scope) (text : List ℕ) where
       ⊎ ((x : ExchangeFault) × (x ≢ Memory) × Judges offered scope text (Err x))
   some-concluded (Ok s) h =
       let judgment : Judgment = record {
-        text = (ended s).text ++ coverage_part (ended s).scope.rules (ended s).coverage
-            ++ summary (ended s).monitor.blocks (ended s).tally;
+        text = judged_text (ended s);
         deviates = not (deviations (ended s).tally == 0);
       } in
       inl (judgment, inr (Ok s, h, record { text = refl; deviates = refl }))

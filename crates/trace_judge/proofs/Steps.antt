@@ -1,5 +1,5 @@
 -- What calls tell of a block, and at the end.
-use Rattle.std.proofs.Common.{◌≡◌, ◌∙◌, ◌++◌, ◌==◌, ℕ, List, true, Option, not, nat_lt, ap, arith, sym}
+use Rattle.std.proofs.Common.{◌≡◌, ◌∙◌, ◌==◌, ℕ, List, true, Option, not, nat_lt, ap, arith, sym}
 use Rattle.std.proofs.lemmas.Bool.Decides.{nat_tests}
 use Rattle.block_core.specs.declared.side.Side.{Side}
 use Rattle.judge_core.specs.declared.monitor.Monitor.{Monitor}
@@ -8,8 +8,8 @@ use Rattle.judge_core.specs.declared.exercise.Exercise.{Exercise}
 use Rattle.trace_judge.specs.declared.standing.Judgment.{Judgment}
 use Rattle.trace_judge.specs.declared.timing.Late.{Late}
 use Rattle.trace_judge.specs.declared.timing.Timing.{Timing}
-use Rattle.trace_judge.specs.Judging.{deviations, ended, late_from, summary, told_block, told_exercise, told_late, told_report, IsConcluded, Standing}
-use Rattle.trace_judge.specs.Coverage.{coverage_part}
+use Rattle.trace_judge.specs.Judging.{deviations, ended, judged_text, late_from, told_block, told_exercise, told_late, told_report, with_summary, IsConcluded, Standing}
+use Rattle.trace_judge.specs.Coverage.{with_coverage}
 use Rattle.trace_judge.specs.Waiting.{timed}
 
 -- a block: the report on it, and then whether it was late
@@ -34,14 +34,12 @@ told-by s old counted told after monitor from octets exercise report timing late
 some-counted : (n : ℕ) → nat_lt 0 n ≡ not (n == 0)
 some-counted n = grind (arith, nat_tests)
 
--- the end: the lines of rules and states, and then the last one
+-- the end: what is said of rules and states, and then the counts
 pub concluded-by : (s m : Standing) (judgment : Judgment) (covered : List ℕ) → m ≡ ended s
-    → covered ≡ m.text ++ coverage_part m.scope.rules m.coverage
-    → judgment.text ≡ covered ++ summary m.monitor.blocks m.tally
+    → covered ≡ with_coverage m.scope.layout m.scope.rules m.text m.coverage
+    → judgment.text ≡ with_summary m.scope.layout covered m.monitor.blocks m.tally
     → judgment.deviates ≡ nat_lt 0 (deviations m.tally) → IsConcluded s judgment
 concluded-by s m judgment covered is counts text deviates = record {
-  text = text ∙ ap (λ (t : List ℕ). t ++ summary m.monitor.blocks m.tally) counts
-      ∙ ap (λ (e : Standing). e.text ++ coverage_part e.scope.rules e.coverage
-      ++ summary e.monitor.blocks e.tally) is;
+  text = text ∙ ap (λ (t : List ℕ). with_summary m.scope.layout t m.monitor.blocks m.tally) counts ∙ ap judged_text is;
   deviates = deviates ∙ some-counted (deviations m.tally) ∙ ap (λ (e : Standing). not (deviations e.tally == 0)) is;
 }

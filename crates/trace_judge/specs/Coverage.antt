@@ -1,4 +1,5 @@
--- The counts of a trace and their lines: how often each end kept and broke each rule, and how often each state was due.
+-- The counts of a trace, and what the judgment says of them: how often each end kept and broke each rule, and how often
+-- each state was due.
 use Rattle.std.specs.Prelude.{ℕ, ◌==◌, ◌&&◌, List, [], ◌∷◌, ◌++◌, codes, decimal, replicate, slice_index, slice_set, Bool, true, false, Option, Some, None, if◌then◌else◌}
 use Rattle.block_core.specs.declared.side.Side.{Side}
 use Rattle.block_core.specs.declared.side.Side.TheVariants.{Terminal, Card}
@@ -11,6 +12,10 @@ use Rattle.judge_core.specs.Monitored.{number_after}
 use Rattle.judge_core.specs.Rules.{rule_name, rule_place, rules}
 use Rattle.judge_core.specs.Stakes.{at_stake, came_in}
 use Rattle.judge_core.specs.States.{state_name, state_place, states}
+use Rattle.layouts.specs.Items.{with_item}
+use Rattle.layouts.specs.declared.layout.Layout.{Layout}
+use Rattle.layouts.specs.declared.layout.Layout.TheVariants.{Lines, Json}
+use Rattle.trace_judge.specs.Objects.{rule_object, state_object}
 use Rattle.trace_judge.specs.declared.coverage.Counts.{Counts}
 use Rattle.trace_judge.specs.declared.coverage.Coverage.{Coverage}
 
@@ -71,9 +76,16 @@ rule_line coverage r = codes "rule " ++ (rule_name r ++ of_rule
     (slice_index coverage.terminal.kept (rule_place r)) (slice_index coverage.terminal.broken (rule_place r))
     (slice_index coverage.card.kept (rule_place r)) (slice_index coverage.card.broken (rule_place r)))
 
-abbrev pub rule_lines : Coverage → List Rule → List ℕ
-rule_lines coverage [] = []
-rule_lines coverage (r ∷ more) = rule_line coverage r ++ rule_lines coverage more
+-- the text so far, and a line or an object about a rule
+abbrev pub with_rule : Layout → List ℕ → Coverage → Rule → List ℕ
+with_rule Lines text coverage r = text ++ rule_line coverage r
+with_rule Json items coverage r = with_item items (rule_object r
+    (slice_index coverage.terminal.kept (rule_place r)) (slice_index coverage.terminal.broken (rule_place r))
+    (slice_index coverage.card.kept (rule_place r)) (slice_index coverage.card.broken (rule_place r)))
+
+abbrev pub with_rules : Layout → List ℕ → Coverage → List Rule → List ℕ
+with_rules how text coverage [] = text
+with_rules how text coverage (r ∷ more) = with_rules how (with_rule how text coverage r) coverage more
 
 abbrev pub of_state : ℕ → ℕ → List ℕ
 of_state terminal card =
@@ -84,14 +96,17 @@ abbrev pub state_line : Coverage → State → List ℕ
 state_line coverage state = codes "state " ++ (state_name state ++ of_state
     (slice_index coverage.terminal.states (state_place state)) (slice_index coverage.card.states (state_place state)))
 
-abbrev pub state_lines : Coverage → List State → List ℕ
-state_lines coverage [] = []
-state_lines coverage (state ∷ more) = state_line coverage state ++ state_lines coverage more
+-- the text so far, and a line or an object about a state
+abbrev pub with_state : Layout → List ℕ → Coverage → State → List ℕ
+with_state Lines text coverage state = text ++ state_line coverage state
+with_state Json items coverage state = with_item items (state_object state
+    (slice_index coverage.terminal.states (state_place state)) (slice_index coverage.card.states (state_place state)))
 
-abbrev pub coverage_text : Coverage → List ℕ
-coverage_text coverage = rule_lines coverage rules ++ state_lines coverage states
+abbrev pub with_states : Layout → List ℕ → Coverage → List State → List ℕ
+with_states how text coverage [] = text
+with_states how text coverage (state ∷ more) = with_states how (with_state how text coverage state) coverage more
 
--- the lines of the counts, if rules and states are counted
-abbrev pub coverage_part : Bool → Coverage → List ℕ
-coverage_part true coverage = coverage_text coverage
-coverage_part false coverage = []
+-- the text so far, and lines or objects about each rule and each state, if they are counted
+abbrev pub with_coverage : Layout → Bool → List ℕ → Coverage → List ℕ
+with_coverage how true text coverage = with_states how (with_rules how text coverage rules) coverage states
+with_coverage how false text coverage = text

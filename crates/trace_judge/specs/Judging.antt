@@ -3,6 +3,10 @@ use Rattle.std.specs.Prelude.{◌≡◌, ◌⊎◌, ◌+◌, ◌/◌, ◌%◌, �
 use Rattle.std.specs.List.{slice_split}
 use Rattle.octet_core.specs.Octets.{xor_of}
 use Rattle.line_core.specs.Bursts.{most_counted}
+use Rattle.layouts.specs.Items.{with_item}
+use Rattle.layouts.specs.Members.{with_array, with_number, with_string}
+use Rattle.layouts.specs.declared.layout.Layout.{Layout}
+use Rattle.layouts.specs.declared.layout.Layout.TheVariants.{Lines, Json}
 use Rattle.atr_core.specs.Rates.{baud_rates, clock_rates}
 use Rattle.exchange_text.specs.declared.fault.ExchangeFault.{ExchangeFault}
 use Rattle.exchange_text.specs.declared.fault.ExchangeFault.TheVariants.{Falls, Memory}
@@ -35,9 +39,10 @@ use Rattle.trace_judge.specs.declared.timing.Late.{Late}
 use Rattle.trace_judge.specs.declared.timing.Timing.{Timing}
 use Rattle.trace_judge.specs.declared.standing.Judgment.{Judgment}
 use Rattle.trace_judge.specs.declared.coverage.Coverage.{Coverage}
-use Rattle.trace_judge.specs.Coverage.{coverage_part, covered, nothing_covered}
+use Rattle.trace_judge.specs.Coverage.{covered, nothing_covered, with_coverage}
 use Rattle.trace_judge.specs.Reading.{entry_said, words_of}
-use Rattle.trace_judge.specs.Saying.{certain_text, deviation_text, late_text, neither_text, possible_text, unseen_text}
+use Rattle.trace_judge.specs.Objects.{pps_object}
+use Rattle.trace_judge.specs.Telling.{with_certain, with_deviation, with_late, with_neither, with_possible, with_unseen}
 use Rattle.trace_judge.specs.Waiting.{lateness, new_timing, past, timed, Offered, Rates}
 
 -- The state of the judgment after the lines so far.
@@ -94,10 +99,10 @@ unseen_in tally = record tally { unseen = number_after tally.unseen }
 abbrev pub late_in : Tally → Tally
 late_in tally = record tally { late = number_after tally.late }
 
--- the standing with one more line and this tally, if this end is judged
+-- the standing with this text and this tally, if this end is judged
 abbrev pub tells : Standing → Side → Tally → List ℕ → Standing
-tells s side tally line =
-    if is_judged s.scope.only side then record s { tally = tally; text = s.text ++ line } else s
+tells s side tally text =
+    if is_judged s.scope.only side then record s { tally = tally; text = text } else s
 
 -- the standing with what a block of an end exercised, if this end is judged
 abbrev pub told_exercise : Standing → Side → Exercise → Standing
@@ -107,17 +112,20 @@ told_exercise s side exercise =
 -- the standing after a card sent no block
 abbrev pub told_silence : Standing → Silence → Standing
 told_silence s No = s
-told_silence s (Possible number) = tells s Card (unseen_in s.tally) (possible_text number)
+told_silence s (Possible number) =
+    tells s Card (unseen_in s.tally) (with_possible s.scope.layout s.text number)
 told_silence s (Certain number) =
-    told_exercise (tells s Card (deviation_of Card s.tally) (certain_text number)) Card (Breaks SilenceRule None)
+    told_exercise (tells s Card (deviation_of Card s.tally) (with_certain s.scope.layout s.text number)) Card
+    (Breaks SilenceRule None)
 
 -- the standing after a block of an end
 abbrev pub told_verdict : Standing → Side → ℕ → Verdict → Standing
 told_verdict s from before Permitted = s
 told_verdict s from before Unseen =
-    tells s from (unseen_in s.tally) (unseen_text s.monitor.blocks from before)
+    tells s from (unseen_in s.tally) (with_unseen s.scope.layout s.text s.monitor.blocks from before)
 told_verdict s from before (Deviates broken due) =
-    tells s from (deviation_of from s.tally) (deviation_text s.monitor.blocks from broken due)
+    tells s from (deviation_of from s.tally)
+    (with_deviation s.scope.layout s.text s.monitor.blocks from broken due)
 
 abbrev pub told_said : Standing → Side → ℕ → Said → Standing
 told_said s from before Damage = s
@@ -133,7 +141,8 @@ late_from s Card = lateness s.offered.values s.scope.clock s.timing s.monitor.ca
 
 abbrev pub told_late : Standing → ℕ → Option Late → Standing
 told_late s before None = s
-told_late s before (Some late) = tells s Card (late_in s.tally) (late_text s.monitor.blocks before late)
+told_late s before (Some late) =
+    tells s Card (late_in s.tally) (with_late s.scope.layout s.text s.monitor.blocks before late)
 
 -- ---- before the first block: PPS (ISO/IEC 7816-3:2006, clause 9)
 
@@ -153,18 +162,21 @@ rate_text (Some rate) = decimal rate
 abbrev pub rates_at : ℕ → Rates
 rates_at pps1 = (slice_index_or clock_rates (pps1 / 16) None, slice_index_or baud_rates (pps1 % 16) None)
 
-abbrev pub pps_text : ℕ → List ℕ
-pps_text pps1 = codes "pps F " ++ (rate_text (rates_at pps1).0
-    ++ (codes " D " ++ (rate_text (rates_at pps1).1 ++ codes "\n")))
+abbrev pub rates_text : Option ℕ → Option ℕ → List ℕ
+rates_text f d = codes "pps F " ++ (rate_text f ++ (codes " D " ++ (rate_text d ++ codes "\n")))
 
 -- octets before the first block, with FF instead of a node address
 abbrev pub is_before : Standing → List ℕ → Bool
 is_before s octets = not s.begun && (slice_index octets 0 == 255)
 
--- The line of PPS: the card's answer is in force.
-abbrev pub pps_said : Side → List ℕ → List ℕ
-pps_said Terminal octets = []
-pps_said Card octets = pps_text (pps1_of octets)
+abbrev pub with_pps : Layout → List ℕ → ℕ → List ℕ
+with_pps Lines text pps1 = text ++ rates_text (rates_at pps1).0 (rates_at pps1).1
+with_pps Json items pps1 = with_item items (pps_object (rates_at pps1).0 (rates_at pps1).1)
+
+-- What is said of PPS: the card's answer is in force.
+abbrev pub with_pps_of : Layout → List ℕ → Side → List ℕ → List ℕ
+with_pps_of how text Terminal octets = text
+with_pps_of how text Card octets = with_pps how text (pps1_of octets)
 
 abbrev pub pps_timed : Timing → Side → List ℕ → Timing
 pps_timed timing Terminal octets = past timing
@@ -173,7 +185,8 @@ pps_timed timing Card octets = record timing { rates = rates_at (pps1_of octets)
 abbrev pub told_before : Standing → Side → List ℕ → Standing
 told_before s from octets = record s {
   timing = if is_pps octets then pps_timed s.timing from octets else past s.timing;
-  text = s.text ++ (if is_pps octets then pps_said from octets else neither_text s.number);
+  text = if is_pps octets then with_pps_of s.scope.layout s.text from octets
+      else with_neither s.scope.layout s.text s.number;
 }
 
 -- ---- lines
@@ -287,13 +300,49 @@ abbrev pub summary : ℕ → Tally → List ℕ
 summary blocks tally =
     if deviations tally == 0 then ok_text blocks tally.unseen else deviations_text blocks tally
 
+-- a member with a number, unless that is 0
+abbrev pub with_unless_zero : List ℕ → List ℕ → ℕ → List ℕ
+with_unless_zero members name n = if n == 0 then members else with_number members name n
+
+-- the members of an object if no end deviates, with an array of these items
+abbrev pub ok_members : ℕ → ℕ → List ℕ → List ℕ
+ok_members blocks unseen items = with_string
+    (with_unless_zero (with_array (with_number [] (codes "blocks") blocks) (codes "told") items)
+    (codes "unseen") unseen)
+    (codes "verdict") (codes "ok")
+
+-- the members for the counts of the blocks and the deviations
+abbrev pub deviation_counts : ℕ → Tally → List ℕ
+deviation_counts blocks tally = with_number (with_unless_zero (with_number (with_number
+    (with_number [] (codes "blocks") blocks) (codes "card") tally.card) (codes "deviations") (deviations tally))
+    (codes "late") tally.late) (codes "terminal") tally.terminal
+
+-- the members of an object if an end deviates, with an array of these items
+abbrev pub deviations_members : ℕ → Tally → List ℕ → List ℕ
+deviations_members blocks tally items = with_string (with_number
+    (with_array (deviation_counts blocks tally) (codes "told") items) (codes "unseen") tally.unseen)
+    (codes "verdict") (codes "deviates")
+
+abbrev pub summary_members : ℕ → Tally → List ℕ → List ℕ
+summary_members blocks tally items =
+    if deviations tally == 0 then ok_members blocks tally.unseen items else deviations_members blocks tally items
+
+-- the text about a trace with its summary: its lines and a last one, or the members of an object
+abbrev pub with_summary : Layout → List ℕ → ℕ → Tally → List ℕ
+with_summary Lines text blocks tally = text ++ summary blocks tally
+with_summary Json items blocks tally = summary_members blocks tally items
+
 -- the standing at the end of the trace, where the card may owe a block
 abbrev pub ended : Standing → Standing
 ended s = told_silence s (silence_of s.monitor.card.heard s.monitor.terminal.number)
 
+-- the whole text of a standing at the end
+abbrev pub judged_text : Standing → List ℕ
+judged_text s = with_summary s.scope.layout (with_coverage s.scope.layout s.scope.rules s.text s.coverage)
+    s.monitor.blocks s.tally
+
 pub record IsConcluded (s : Standing) (judgment : Judgment) : Type 0 where
-  pub text : judgment.text ≡ (ended s).text ++ coverage_part (ended s).scope.rules (ended s).coverage
-      ++ summary (ended s).monitor.blocks (ended s).tally
+  pub text : judgment.text ≡ judged_text (ended s)
   pub deviates : judgment.deviates ≡ not (deviations (ended s).tally == 0)
 
 abbrev pub Concludes : Result Standing ExchangeFault → Result Judgment ExchangeFault → Type 0

@@ -1,6 +1,8 @@
 -- to be believed: what a text says, and what is reported about it
 pub mod Reading
 pub mod Saying
+pub mod Objects
+pub mod Telling
 pub mod Waiting
 pub mod Coverage
 pub mod Judging

@@ -1,12 +1,16 @@
 //! How often a trace exercises each rule and each state.
 
-ghost use Rattle.std.specs.Prelude.{◌≡◌, ◌++◌, ◌==◌, ◌&&◌, OnOk, slice_index, string_bytes};
-ghost use Rattle.judge_core.specs.Rules.{rule_place};
-ghost use Rattle.judge_core.specs.States.{state_place};
-ghost use Rattle.trace_judge.specs.Coverage.{bumped, came, counted_by, coverage_part, coverage_text, covered, kept_and_broken, kept_of, kept_one, no_counts, nothing_covered, of_rule, of_state, rule_line, rule_lines, state_line, state_lines};
+ghost use Rattle.std.specs.Prelude.{◌≡◌, ◌++◌, ◌==◌, ◌&&◌, [], IfOk, OnOk, codes, slice_index, string_bytes};
+ghost use Rattle.layouts.specs.Items.{with_item};
+ghost use Rattle.trace_judge.specs.Objects.{card_members, counted_rule, counted_state, rule_object, state_object};
+ghost use Rattle.judge_core.specs.Rules.{rule_name, rule_place};
+ghost use Rattle.judge_core.specs.States.{state_name, state_place};
+ghost use Rattle.trace_judge.specs.Coverage.{bumped, came, counted_by, covered, kept_and_broken, kept_of, kept_one, no_counts, nothing_covered, of_rule, of_state, with_coverage, with_rule, with_rules, with_state, with_states};
 
+use crate::objects::push_never;
 use crate::saying::push_number;
 use judge_core::{Exercise, RULES, Rule, STATES, Side, Stakes, State};
+use layouts::{Layout, Members};
 use octet_core::Named;
 use std::alloc::{AllocError, Global};
 
@@ -89,75 +93,91 @@ impl Coverage {
         }
     }
 
-    /// Appends a line for each rule, and a line for each state.
-    fn push(&self, alloc: Global, text: &mut String) -> Result<(), AllocError>
-        ensures { OnOk result (string_bytes text.new
-            ≡ string_bytes text.old ++ coverage_text self.now) }
-    {
-        self.push_rules(alloc, text, &RULES)?;
-        self.push_states(alloc, text, &STATES)
-    }
-
-    /// Appends these lines, if rules and states are counted.
+    /// Appends a line or an object for each rule and each state, if they are counted.
     pub(crate) fn push_if(
         &self,
         alloc: Global,
         text: &mut String,
+        layout: Layout,
         are_counted: bool,
     ) -> Result<(), AllocError>
         ensures { OnOk result (string_bytes text.new
-            ≡ string_bytes text.old ++ coverage_part are_counted self.now) }
+            ≡ with_coverage layout are_counted (string_bytes text.old) self.now) }
     {
         if are_counted {
-            self.push(alloc, text)
+            self.push_rules(alloc, text, layout, &RULES)?;
+            self.push_states(alloc, text, layout, &STATES)
         } else {
             Ok(())
         }
     }
 
-    fn push_rules(&self, alloc: Global, text: &mut String, rules: &[Rule]) -> Result<(), AllocError>
+    fn push_rules(
+        &self,
+        alloc: Global,
+        text: &mut String,
+        layout: Layout,
+        rules: &[Rule],
+    ) -> Result<(), AllocError>
         ensures { OnOk result (string_bytes text.new
-            ≡ string_bytes text.old ++ rule_lines self.now rules.now) }
+            ≡ with_rules layout (string_bytes text.old) self.now rules.now) }
     {
         for rule in rules {
-            self.push_rule(alloc, text, *rule)?;
+            self.push_rule(alloc, text, layout, *rule)?;
         }
         Ok(())
     }
 
-    fn push_rule(&self, alloc: Global, text: &mut String, rule: Rule) -> Result<(), AllocError>
+    fn push_rule(
+        &self,
+        alloc: Global,
+        text: &mut String,
+        layout: Layout,
+        rule: Rule,
+    ) -> Result<(), AllocError>
         ensures { OnOk result (string_bytes text.new
-            ≡ string_bytes text.old ++ rule_line self.now rule) }
+            ≡ with_rule layout (string_bytes text.old) self.now rule) }
     {
-        text.push_str("rule ")?;
-        text.push_str(rule.name())?;
-        push_of_rule(alloc, text, self.terminal.of(rule), self.card.of(rule))
+        let terminal = self.terminal.of(rule);
+        let card = self.card.of(rule);
+        match layout {
+            Layout::Lines => push_rule_line(alloc, text, rule, terminal, card),
+            Layout::Json => push_rule_object(alloc, text, rule, terminal, card),
+        }
     }
 
     fn push_states(
         &self,
         alloc: Global,
         text: &mut String,
+        layout: Layout,
         states: &[State],
     ) -> Result<(), AllocError>
         ensures { OnOk result (string_bytes text.new
-            ≡ string_bytes text.old ++ state_lines self.now states.now) }
+            ≡ with_states layout (string_bytes text.old) self.now states.now) }
     {
         for state in states {
-            self.push_state(alloc, text, *state)?;
+            self.push_state(alloc, text, layout, *state)?;
         }
         Ok(())
     }
 
-    fn push_state(&self, alloc: Global, text: &mut String, state: State) -> Result<(), AllocError>
+    fn push_state(
+        &self,
+        alloc: Global,
+        text: &mut String,
+        layout: Layout,
+        state: State,
+    ) -> Result<(), AllocError>
         ensures { OnOk result (string_bytes text.new
-            ≡ string_bytes text.old ++ state_line self.now state) }
+            ≡ with_state layout (string_bytes text.old) self.now state) }
     {
-        text.push_str("state ")?;
-        text.push_str(state.name())?;
         let terminal = self.terminal.came_in(state);
         let card = self.card.came_in(state);
-        push_of_state(alloc, text, terminal, card)
+        match layout {
+            Layout::Lines => push_state_line(alloc, text, state, terminal, card),
+            Layout::Json => push_state_object(alloc, text, state, terminal, card),
+        }
     }
 }
 
@@ -193,6 +213,121 @@ fn bump_rule(counts: &mut [u64; 22], rule: Rule)
 {
     let count = &mut counts[rule.place()];
     *count = count.saturating_add(1);
+}
+
+/// Appends the line of a rule.
+fn push_rule_line(
+    alloc: Global,
+    text: &mut String,
+    rule: Rule,
+    terminal: (u64, u64),
+    card: (u64, u64),
+) -> Result<(), AllocError>
+    ensures { OnOk result (string_bytes text.new ≡ string_bytes text.old ++ (codes "rule "
+        ++ (rule_name rule ++ of_rule terminal.0 terminal.1 card.0 card.1))) }
+{
+    text.push_str("rule ")?;
+    text.push_str(rule.name())?;
+    push_of_rule(alloc, text, terminal, card)
+}
+
+/// Appends the object of a rule.
+fn push_rule_object(
+    alloc: Global,
+    items: &mut String,
+    rule: Rule,
+    terminal: (u64, u64),
+    card: (u64, u64),
+) -> Result<(), AllocError>
+    ensures { OnOk result (string_bytes items.new ≡ with_item (string_bytes items.old)
+        (rule_object rule terminal.0 terminal.1 card.0 card.1)) }
+{
+    if is_never(terminal) && is_never(card) {
+        return push_never(alloc, items, "rule", rule.name());
+    }
+    push_counted_rule(alloc, items, rule, terminal, card)
+}
+
+/// Appends the object of a rule that an end kept or broke.
+fn push_counted_rule(
+    alloc: Global,
+    items: &mut String,
+    rule: Rule,
+    terminal: (u64, u64),
+    card: (u64, u64),
+) -> Result<(), AllocError>
+    ensures { OnOk result (string_bytes items.new ≡ with_item (string_bytes items.old)
+        (counted_rule rule terminal.0 terminal.1 card.0 card.1)) }
+{
+    let mut members = card_members(alloc, rule, card)?;
+    members.number(alloc, "terminal_broken", terminal.1)?;
+    members.number(alloc, "terminal_kept", terminal.0)?;
+    members.push_to(items)
+}
+
+/// Returns the members that say how often the card kept a rule and broke it.
+#[tactic(auto, unfolding(crate::specs::Objects::card_members))]
+fn card_members(alloc: Global, rule: Rule, card: (u64, u64)) -> Result<Members, AllocError>
+    ensures { IfOk result (λ members. members ≡ card_members rule card.0 card.1) }
+{
+    let mut members = Members::new(alloc);
+    members.number(alloc, "card_broken", card.1)?;
+    members.number(alloc, "card_kept", card.0)?;
+    members.string(alloc, "kind", "rule")?;
+    members.string(alloc, "rule", rule.name())?;
+    Ok(members)
+}
+
+/// Appends the line of a state.
+fn push_state_line(
+    alloc: Global,
+    text: &mut String,
+    state: State,
+    terminal: u64,
+    card: u64,
+) -> Result<(), AllocError>
+    ensures { OnOk result (string_bytes text.new ≡ string_bytes text.old ++ (codes "state "
+        ++ (state_name state ++ of_state terminal card))) }
+{
+    text.push_str("state ")?;
+    text.push_str(state.name())?;
+    push_of_state(alloc, text, terminal, card)
+}
+
+/// Appends the object of a state.
+fn push_state_object(
+    alloc: Global,
+    items: &mut String,
+    state: State,
+    terminal: u64,
+    card: u64,
+) -> Result<(), AllocError>
+    ensures { OnOk result (string_bytes items.new ≡ with_item (string_bytes items.old)
+        (state_object state terminal card)) }
+{
+    if terminal == 0 && card == 0 {
+        return push_never(alloc, items, "state", state.name());
+    }
+    push_counted_state(alloc, items, state, terminal, card)
+}
+
+/// Appends the object of a state that came at an end.
+fn push_counted_state(
+    alloc: Global,
+    items: &mut String,
+    state: State,
+    terminal: u64,
+    card: u64,
+) -> Result<(), AllocError>
+    ensures { OnOk result (string_bytes items.new ≡ with_item (string_bytes items.old)
+        (counted_state state terminal card)) }
+{
+    let mut members = Members::new(alloc);
+    members.number(alloc, "card", card)?;
+    members.string(alloc, "kind", "state")?;
+    members.string(alloc, "state", state.name())?;
+    members.number(alloc, "terminal", terminal)?;
+    members.push_to(items)
 }
 
 /// Appends how often each end kept a rule and broke it, and the end of its line.

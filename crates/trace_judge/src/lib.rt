@@ -1,19 +1,21 @@
 //! Judges the trace of a line: which end broke the T=1 protocol, at which block, and by which clause (ISO/IEC
 //! 7816-3:2006, clause 11).
 //!
-//! [`judge_trace`] reads the text of a trace line by line. It passes each block to a `Monitor` of judge_core, and
-//! returns a line for each deviation and a last line with the counts. It can also count which rules and states of the
-//! protocol the trace exercises.
+//! [`judge_trace`] reads the text of a trace line by line. It passes each block to a `Monitor` of judge_core. It returns
+//! a line for each deviation and a last line with the counts, or the same as the members of a JSON object. It can also
+//! count which rules and states of the protocol the trace exercises.
 #![tactic(auto)]
 
 mod coverage;
 mod entry;
 pub mod laws;
 mod line_words;
+mod objects;
 mod pps;
 mod saying;
 pub mod standing;
 mod tally;
+mod telling;
 pub mod timing;
 
 pub use standing::{Judgment, Scope, judge_trace};

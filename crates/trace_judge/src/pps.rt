@@ -1,13 +1,15 @@
 //! The exchange of PPS, which may come before the first block (ISO/IEC 7816-3:2006, clause 9).
 
 ghost use Rattle.std.specs.Prelude.{◌≡◌, ◌++◌, OnOk, string_bytes, slice_index};
-ghost use Rattle.trace_judge.specs.Judging.{is_pps, pps1_of, pps_said, pps_text, pps_timed, rate_text, rates_at};
+ghost use Rattle.trace_judge.specs.Judging.{is_pps, pps1_of, pps_timed, rate_text, rates_at, rates_text, with_pps, with_pps_of};
 
+use crate::objects;
 use crate::saying::push_number;
 use crate::timing::{Rates, Timing};
 use arrayvec::ArrayVec;
 use atr_core::{Atr, Convention, Interface, rates};
 use judge_core::Side;
+use layouts::Layout;
 use octet_core::lrc;
 use std::alloc::{AllocError, Global};
 
@@ -38,31 +40,47 @@ fn pps1_of(octets: &[u8]) -> u8
     }
 }
 
-/// Appends the line of F and D in PPS1, from the tables of TA1.
-fn push_pps(alloc: Global, text: &mut String, pps1: u8) -> Result<(), AllocError>
-    ensures { OnOk result (string_bytes text.new ≡ string_bytes text.old ++ pps_text pps1) }
+/// Appends what PPS1 says of F and D, from the tables of TA1.
+fn push_pps(alloc: Global, text: &mut String, layout: Layout, pps1: u8) -> Result<(), AllocError>
+    ensures { OnOk result (string_bytes text.new ≡ with_pps layout (string_bytes text.old) pps1) }
 {
     let (fi, di) = rates_of(pps1);
+    match layout {
+        Layout::Lines => push_line(alloc, text, fi, di),
+        Layout::Json => objects::push_pps(alloc, text, fi, di),
+    }
+}
+
+/// Appends the line of F and D.
+fn push_line(
+    alloc: Global,
+    text: &mut String,
+    f: Option<u16>,
+    d: Option<u16>,
+) -> Result<(), AllocError>
+    ensures { OnOk result (string_bytes text.new ≡ string_bytes text.old ++ rates_text f d) }
+{
     text.push_str("pps F ")?;
-    push_rate(alloc, text, fi)?;
+    push_rate(alloc, text, f)?;
     text.push_str(" D ")?;
-    push_rate(alloc, text, di)?;
+    push_rate(alloc, text, d)?;
     text.push_str("\n")
 }
 
-/// Appends the line of a card's answer to a PPS request. It appends nothing for the request.
+/// Appends what a card's answer to a PPS request says. It appends nothing for the request.
 pub(crate) fn push_answered_pps(
     alloc: Global,
     text: &mut String,
+    layout: Layout,
     from: Side,
     octets: &[u8],
 ) -> Result<(), AllocError>
-    ensures { OnOk result (string_bytes text.new ≡ string_bytes text.old
-        ++ pps_said from octets.now) }
+    ensures { OnOk result (string_bytes text.new
+        ≡ with_pps_of layout (string_bytes text.old) from octets.now) }
 {
     match from {
         Side::Terminal => Ok(()),
-        Side::Card => push_pps(alloc, text, pps1_of(octets)),
+        Side::Card => push_pps(alloc, text, layout, pps1_of(octets)),
     }
 }
 

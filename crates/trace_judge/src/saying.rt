@@ -1,6 +1,6 @@
 //! The texts about the blocks of a trace, as lines.
 
-ghost use Rattle.std.specs.Prelude.{◌≡◌, ◌++◌, OnOk, codes, decimal, string_bytes};
+ghost use Rattle.std.specs.Prelude.{◌≡◌, ◌++◌, IfOk, OnOk, codes, decimal, string_bytes};
 ghost use Rattle.judge_core.specs.Rules.{rule_name};
 ghost use Rattle.trace_judge.specs.Saying.{after_text, asked_text, block_text, certain_text, clause_text, condition_text, deviation_text, digit_text, due_text, elapsed_text, late_text, neither_text, permitted_text, possible_text, side_text, subject_text, unseen_text};
 
@@ -173,6 +173,15 @@ fn push_due(text: &mut String, end: &End, owed: Owed) -> Result<(), AllocError>
     }
 }
 
+/// Returns what is due from an end.
+pub(crate) fn due_words(alloc: Global, end: &End, owed: Owed) -> Result<String, AllocError>
+    ensures { IfOk result (λ text. string_bytes text ≡ due_text end.now owed) }
+{
+    let mut text = String::new(alloc);
+    push_due(&mut text, end, owed)?;
+    Ok(text)
+}
+
 /// Appends a word, and the number of a block.
 fn push_numbered(text: &mut String, word: &str, number: Number) -> Result<(), AllocError>
     ensures { OnOk result (string_bytes text.new
@@ -215,7 +224,7 @@ pub(crate) fn push_number(alloc: Global, text: &mut String, number: u64) -> Resu
 }
 
 /// Returns the word for an end.
-fn side_word(side: Side) -> &'static str
+pub(crate) fn side_word(side: Side) -> &'static str
     ensures { result.now ≡ side_text side }
 {
     match side {

@@ -9,13 +9,14 @@ use crate::coverage::Coverage;
 use crate::entry::{Entry, Reach, entry_said};
 use crate::line_words::LineWords;
 use crate::pps::{is_pps, octet_at, pps_timed, push_answered_pps};
-use crate::saying::{
-    push_certain, push_deviation, push_late, push_neither, push_possible, push_unseen,
-};
 use crate::tally::Tally;
+use crate::telling::{
+    tell_certain, tell_deviation, tell_late, tell_neither, tell_possible, tell_unseen,
+};
 use crate::timing::{Late, Offer, Timing, lateness};
 use exchange_text::ExchangeFault;
 use judge_core::{Exercise, Monitor, Report, Rule, Said, Side, Silence, Verdict};
+use layouts::Layout;
 use octet_core::{Octets, Text};
 use std::alloc::{AllocError, Global};
 use std::marker::Model;
@@ -29,13 +30,16 @@ pub struct Scope {
     pub clock: Option<u64>,
     /// Whether to count how often each end kept and broke each rule, and what was due.
     pub rules: bool,
+    /// How the judgment is laid out.
+    pub layout: Layout,
 }
 
 /// The judgment on a trace.
 #[derive(Debug, Drop)]
 pub struct Judgment {
     /// A line for each deviation; a line for each rule and each state, if they are counted; and a last line with the
-    /// counts.
+    /// counts. Or the same as the members of a JSON object, with commas between them: an array of objects, the counts
+    /// and the verdict.
     pub text: Text,
     /// Whether there was a deviation.
     pub deviates: bool,
@@ -270,10 +274,10 @@ impl Standing {
     {
         if is_pps(octets) {
             self.timing = pps_timed(self.timing, from, octets);
-            push_answered_pps(alloc, &mut self.text, from, octets)
+            push_answered_pps(alloc, &mut self.text, self.scope.layout, from, octets)
         } else {
             self.timing.now = None;
-            push_neither(alloc, &mut self.text, self.number as u64)
+            tell_neither(alloc, &mut self.text, self.scope.layout, self.number as u64)
         }
     }
 
@@ -296,13 +300,13 @@ impl Standing {
         match silence {
             Silence::Possible(number) if self.is_judged(Side::Card) => {
                 self.tally.unseen_in();
-                push_possible(alloc, &mut self.text, number)
+                tell_possible(alloc, &mut self.text, self.scope.layout, number)
             }
             Silence::Certain(number) if self.is_judged(Side::Card) => {
                 self.tally.deviation_of(Side::Card);
                 let exercise = Exercise::Breaks(Rule::Silence, None);
                 self.coverage.cover(Side::Card, &exercise);
-                push_certain(alloc, &mut self.text, number)
+                tell_certain(alloc, &mut self.text, self.scope.layout, number)
             }
             Silence::No | Silence::Possible(_) | Silence::Certain(_) => Ok(()),
         }
@@ -318,15 +322,16 @@ impl Standing {
         ensures said { OnOk result (self.new ≡ told_verdict self.old from before verdict.now) }
         ensures number { OnOk result (self.new.number ≡ self.old.number) }
     {
+        let layout = self.scope.layout;
         let number = self.monitor.blocks;
         match verdict {
             Verdict::Unseen if self.is_judged(from) => {
                 self.tally.unseen_in();
-                push_unseen(alloc, &mut self.text, number, from, before)
+                tell_unseen(alloc, &mut self.text, layout, number, from, before)
             }
             Verdict::Deviates(broken, due) if self.is_judged(from) => {
                 self.tally.deviation_of(from);
-                push_deviation(alloc, &mut self.text, number, from, *broken, due)
+                tell_deviation(alloc, &mut self.text, layout, number, from, *broken, due)
             }
             Verdict::Permitted | Verdict::Unseen | Verdict::Deviates(..) => Ok(()),
         }
@@ -355,7 +360,15 @@ impl Standing {
         match late {
             Some(late) if self.is_judged(Side::Card) => {
                 self.tally.late_in();
-                push_late(alloc, &mut self.text, self.monitor.blocks, before, late)
+                let number = self.monitor.blocks;
+                tell_late(
+                    alloc,
+                    &mut self.text,
+                    self.scope.layout,
+                    number,
+                    before,
+                    late,
+                )
             }
             Some(_) | None => Ok(()),
         }
@@ -376,13 +389,14 @@ impl Standing {
     {
         let silence = self.monitor.silence();
         self.silence(alloc, silence)?;
-        self.coverage
-            .push_if(alloc, &mut self.text, self.scope.rules)?;
-        self.tally
-            .push_summary(alloc, &mut self.text, self.monitor.blocks)?;
+        let Scope { layout, rules, .. } = self.scope;
+        self.coverage.push_if(alloc, &mut self.text, layout, rules)?;
+        let tally = self.tally;
+        let blocks = self.monitor.blocks;
+        let text = tally.with_summary(alloc, self.text, layout, blocks)?;
         Ok(Judgment {
-            text: Text::of(self.text),
-            deviates: self.tally.deviations() > 0,
+            text: Text::of(text),
+            deviates: tally.deviations() > 0,
         })
     }
 }

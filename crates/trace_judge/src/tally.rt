@@ -1,10 +1,11 @@
 //! How many deviations a trace has.
 
-ghost use Rattle.std.specs.Prelude.{◌≡◌, ◌++◌, OnOk, string_bytes};
-ghost use Rattle.trace_judge.specs.Judging.{counted, deviation_of, deviations, deviations_text, ends_text, late_in, late_part, nothing_told, ok_text, summary, unseen_in, unseen_part};
+ghost use Rattle.std.specs.Prelude.{◌≡◌, ◌++◌, [], IfOk, OnOk, codes, string_bytes};
+ghost use Rattle.trace_judge.specs.Judging.{counted, deviation_counts, deviation_of, deviations, deviations_members, deviations_text, ends_text, late_in, late_part, nothing_told, ok_members, ok_text, summary, summary_members, unseen_in, unseen_part, with_summary, with_unless_zero};
 
 use crate::saying::push_number;
 use judge_core::Side;
+use layouts::{Layout, Members};
 use std::alloc::{AllocError, Global};
 
 /// How many deviations each end has, and the card in time, and how many blocks must have been damaged or lost unseen.
@@ -62,13 +63,91 @@ impl Tally {
             .saturating_add(self.late)
     }
 
-    /// Appends the last line.
-    pub(crate) fn push_summary(
+    /// Returns the text about a trace: its lines and a last one with the counts, or the members of an object, which are
+    /// an array of its items and the counts.
+    pub(crate) fn with_summary(
         &self,
         alloc: Global,
-        text: &mut String,
+        told: String,
+        layout: Layout,
         blocks: u64,
-    ) -> Result<(), AllocError>
+    ) -> Result<String, AllocError>
+        ensures { IfOk result (λ text. string_bytes text
+            ≡ with_summary layout (string_bytes told) blocks self.now) }
+    {
+        match layout {
+            Layout::Lines => self.with_line(alloc, told, blocks),
+            Layout::Json => self.members(alloc, told.as_str(), blocks),
+        }
+    }
+
+    /// Returns lines with the last one.
+    fn with_line(&self, alloc: Global, lines: String, blocks: u64) -> Result<String, AllocError>
+        ensures { IfOk result (λ text. string_bytes text
+            ≡ string_bytes lines ++ summary blocks self.now) }
+    {
+        let mut text = lines;
+        self.push_summary(alloc, &mut text, blocks)?;
+        Ok(text)
+    }
+
+    /// Returns the members of an object with an array of these items.
+    fn members(&self, alloc: Global, items: &str, blocks: u64) -> Result<String, AllocError>
+        ensures { IfOk result (λ text. string_bytes text
+            ≡ summary_members blocks self.now items.now) }
+    {
+        let members = if self.deviations() == 0 {
+            self.ok_members(alloc, items, blocks)?
+        } else {
+            self.deviations_members(alloc, items, blocks)?
+        };
+        Ok(members.into_text())
+    }
+
+    /// Returns the members of an object if no end deviates, with an array of these items.
+    fn ok_members(&self, alloc: Global, items: &str, blocks: u64) -> Result<Members, AllocError>
+        ensures { IfOk result (λ members. members ≡ ok_members blocks self.now.unseen items.now) }
+    {
+        let mut members = Members::new(alloc);
+        members.number(alloc, "blocks", blocks)?;
+        members.array(alloc, "told", items)?;
+        push_unless_zero(alloc, &mut members, "unseen", self.unseen)?;
+        members.string(alloc, "verdict", "ok")?;
+        Ok(members)
+    }
+
+    /// Returns the members of an object if an end deviates, with an array of these items.
+    fn deviations_members(
+        &self,
+        alloc: Global,
+        items: &str,
+        blocks: u64,
+    ) -> Result<Members, AllocError>
+        ensures { IfOk result (λ members. members
+            ≡ deviations_members blocks self.now items.now) }
+    {
+        let mut members = self.counts(alloc, blocks)?;
+        members.array(alloc, "told", items)?;
+        members.number(alloc, "unseen", self.unseen)?;
+        members.string(alloc, "verdict", "deviates")?;
+        Ok(members)
+    }
+
+    /// Returns the members for the counts of the blocks and the deviations.
+    fn counts(&self, alloc: Global, blocks: u64) -> Result<Members, AllocError>
+        ensures { IfOk result (λ members. members ≡ deviation_counts blocks self.now) }
+    {
+        let mut members = Members::new(alloc);
+        members.number(alloc, "blocks", blocks)?;
+        members.number(alloc, "card", self.card)?;
+        members.number(alloc, "deviations", self.deviations())?;
+        push_unless_zero(alloc, &mut members, "late", self.late)?;
+        members.number(alloc, "terminal", self.terminal)?;
+        Ok(members)
+    }
+
+    /// Appends the last line.
+    fn push_summary(&self, alloc: Global, text: &mut String, blocks: u64) -> Result<(), AllocError>
         ensures { OnOk result (string_bytes text.new ≡ string_bytes text.old
             ++ summary blocks self.now) }
     {
@@ -137,6 +216,21 @@ impl Tally {
         text.push_str(", unseen ")?;
         push_number(alloc, text, self.unseen)
     }
+}
+
+/// Appends a member with a number, unless that is 0.
+fn push_unless_zero(
+    alloc: Global,
+    members: &mut Members,
+    name: &str,
+    number: u64,
+) -> Result<(), AllocError>
+    ensures { OnOk result (members.new ≡ with_unless_zero members.old name.now number) }
+{
+    if number == 0 {
+        return Ok(());
+    }
+    members.number(alloc, name, number)
 }
 
 /// Appends a number with the name of what it counts.

@@ -1,12 +1,18 @@
+use Rattle.std.proofs.Common.{◌∙◌, ap, codes}
+use Rattle.std.proofs.lemmas.Result.{IfOk-weaker}
+use Rattle.card_tool.specs.Laid.{laid}
 use Rattle.card_tool.specs.JudgeTexts.{judged, silent}
 use Rattle.card_tool.proofs.Judgments.{faulty-noted}
 use Rattle.card_tool.proofs.judging.text_judged.Goals as goal
 
-pub returns-in-Ok : goal.returns-in-Ok
-returns-in-Ok c =
-    let told = rw c.scope_of.ensures at c.in-Ok.ensures in (
-      judged c.in-Ok.judgment told c.answer_of.ensures.text c.answer_of.ensures.status,
-      silent c.in-Ok.judgment told c.new.ensures.bytes,
+pub returns-in_ok-answer-in-Ok : goal.returns-in_ok-answer-in-Ok
+returns-in_ok-answer-in-Ok c =
+    let told = rw c.scope_of.ensures at c.in-Ok.ensures in
+    let text = c.in_ok-answer-in-Ok.ensures.text
+    ∙ ap (laid c.args.judging.layout (codes "judge")) c.answer_of.ensures.text in
+    rw c.alone.ensures.answer (
+      judged c.in-Ok.judgment told text (c.in_ok-answer-in-Ok.ensures.status ∙ c.answer_of.ensures.status),
+      IfOk-weaker c.alone.result.note _ _ (λ note none. silent c.in-Ok.judgment told none) c.alone.ensures.note,
     )
 
 pub returns-in-Err : goal.returns-in-Err

@@ -10,5 +10,5 @@ returns c =
     ∙ ap (told_silence c.args.self) c.silence-silence.ensures
     ∙ ap (λ (s : Standing). told_silence c.args.self
     (silence_of s.monitor.card.heard s.monitor.terminal.number)) c.self.view_is in
-    concluded-by c.args.self _ _ _ ended-is c.in_ok-push_if.ensures (c.of.ensures ∙ c.in_ok-push_summary.ensures)
+    concluded-by c.args.self _ _ _ ended-is c.in_ok-push_if.ensures (c.of.ensures ∙ c.in_ok-text.ensures)
     (ap (nat_lt 0) c.deviations.ensures)
