@@ -61,6 +61,35 @@ class Schema(unittest.TestCase):
             del wrong[name]
             self.assertFalse(self.validator.is_valid(wrong), name)
 
+    def test_mistakes_in_a_judgment_do_not_fit(self):
+        found = {
+            "kind": "deviation", "block": 2, "end": "card", "rule": "no I-block", "due": "I-block 0",
+            "clause": "11.6.2.3 rule 2.1",
+        }
+        judged = {
+            "version": 1, "kind": "judge", "verdict": "deviates", "blocks": 2, "deviations": 1, "terminal": 0,
+            "card": 1, "unseen": 0, "told": [found],
+        }
+        self.assertTrue(self.validator.is_valid(judged))
+        for name, value in (("verdict", "ok"), ("deviations", 0), ("late", 0), ("told", {}), ("other", 1)):
+            self.assertFalse(self.validator.is_valid({**judged, name: value}), name)
+        for name, value in (
+            ("kind", "late"), ("block", 0), ("end", "reader"), ("rule", "no block at all"), ("due", "I-block 2"),
+            ("clause", "2.1"), ("before", 1),
+        ):
+            self.assertFalse(self.validator.is_valid({**judged, "told": [{**found, name: value}]}), name)
+        for name in found:
+            wrong = {member: value for member, value in found.items() if member != name}
+            self.assertFalse(self.validator.is_valid({**judged, "told": [wrong]}), name)
+
+
+class Names(unittest.TestCase):
+    def test_the_schema_has_the_names_of_all_rules_and_states(self):
+        for name, page in (("rule", "Rules"), ("state", "States")):
+            text = (TOP / "crates" / "judge_core" / "specs" / f"{page}.antt").read_text(encoding="utf-8")
+            names = re.findall(rf'^{name}_name {name}\.\w+ = codes "(.*)"$', text, re.MULTILINE)
+            self.assertEqual(SCHEMA["$defs"][name]["enum"], names)
+
 
 if __name__ == "__main__":
     unittest.main()
