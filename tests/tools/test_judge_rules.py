@@ -1,6 +1,6 @@
 #!/usr/bin/env python3
 """Tests tools/common/t1_rules.py, the second reading of the rules of T=1, and that the file judge.next of the vectors
-is its output. crates/conformance tests that the program prints the same."""
+is its output. tools/gate/try-vectors tests that the program prints the same."""
 
 import pathlib
 import sys
