@@ -6,41 +6,46 @@ use std::io::{self, ErrorKind};
 use std::time::Instant;
 
 /// How often a block is decoded for each of the 256 node addresses.
-const ROUNDS: usize = 400;
+const ROUNDS: usize = 40;
 
 /// Decodes blocks with information fields of 5 and of 254 octets, with a copied and with a borrowed
 /// field.
 pub(crate) fn decode_each(rt: &HostRuntime, timed: bool) -> io::Result<()> {
-    let field = [0xA5u8; 254];
-    for len in [5usize, 254] {
-        let Some(block) = Block::info(0, Number::Zero, false, &field[..len]) else {
-            return Err(ErrorKind::InvalidData.into());
-        };
-        decode_both(rt, encode(&block).as_mut_slice(), len, timed)?;
+    decode_with(rt, &[0xA5; 5], timed)?;
+    decode_with(rt, &[0xA5; 254], timed)
+}
+
+/// Decodes a block with this field both ways.
+fn decode_with(rt: &HostRuntime, field: &[u8], timed: bool) -> io::Result<()> {
+    match Block::info(0, Number::Zero, false, field) {
+        Some(block) => decode_both(rt, encode(&block).as_mut_slice(), field.len(), timed),
+        None => Err(ErrorKind::InvalidData.into()),
     }
-    Ok(())
 }
 
 /// Decodes a block with a field of `len` octets both ways.
 fn decode_both(rt: &HostRuntime, octets: &mut [u8], len: usize, timed: bool) -> io::Result<()> {
+    decode_copied(rt, octets, len, timed)?;
+    decode_lent(rt, octets, len, timed)
+}
+
+fn decode_copied(rt: &HostRuntime, octets: &mut [u8], len: usize, timed: bool) -> io::Result<()> {
     let started = Instant::now(rt)?;
-    if !is_decoded(octets, len) {
-        return Err(ErrorKind::InvalidData.into());
-    }
-    told("block decoded", octets.len()).tell(rt, started, timed)?;
+    let times = is_decoded(octets, len).then_some(256 * ROUNDS);
+    told("block decoded", octets).tell(rt, started, times, timed)
+}
+
+fn decode_lent(rt: &HostRuntime, octets: &mut [u8], len: usize, timed: bool) -> io::Result<()> {
     let started = Instant::now(rt)?;
-    if !is_lent(octets, len) {
-        return Err(ErrorKind::InvalidData.into());
-    }
-    told("block decoded in place", octets.len()).tell(rt, started, timed)
+    let times = is_lent(octets, len).then_some(256 * ROUNDS);
+    told("block decoded in place", octets).tell(rt, started, times, timed)
 }
 
 /// Returns the work of decoding a block.
-fn told(name: &'static str, octets: usize) -> Work {
+fn told(name: &'static str, octets: &[u8]) -> Work {
     Work {
         name,
-        octets,
-        parts: 256 * ROUNDS,
+        octets: octets.len(),
         unit: "times",
     }
 }
@@ -65,7 +70,7 @@ fn is_lent(octets: &mut [u8], len: usize) -> bool {
         for nad in 0..=255u8 {
             readdress(octets, nad);
             match BlockRef::decode(octets, 254) {
-                Ok((block, _)) if block.nad() == nad && block.inf().len() == len => {}
+                Ok((block, _)) if is_lent_such(&block, nad, len) => {}
                 _ => return false,
             }
         }
@@ -76,6 +81,11 @@ fn is_lent(octets: &mut [u8], len: usize) -> bool {
 /// Whether this is the block. The function isn't inlined, so that the whole block has to be made.
 #[inline(never)]
 fn is_such(block: &Block, nad: u8, len: usize) -> bool {
+    block.nad() == nad && block.inf().len() == len
+}
+
+/// Whether this is the block that borrows its field.
+fn is_lent_such(block: &BlockRef<'_>, nad: u8, len: usize) -> bool {
     block.nad() == nad && block.inf().len() == len
 }
 

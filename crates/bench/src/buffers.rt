@@ -1,56 +1,66 @@
-//! Exchanges between both ends of T=1 in memory, whose blocks are written to two buffers.
+//! An exchange by hand between both ends of T=1 in memory, whose blocks are written to two buffers.
 
 ghost use Rattle.std.specs.Prelude.{◌≤◌, length, IfSome};
 
-use crate::session::{ends, told};
+use crate::ends::{MOST_BLOCKS, Messages, told};
 use block_core::LONGEST_BLOCK;
 use std::io;
 use std::time::Instant;
-use t1_core::{Card, EncodedCardTurn, EncodedTerminalTurn, Terminal};
+use t1_core::{Card, EncodedCardTurn, EncodedTerminalTurn, Terminal, TerminalFault};
 
-/// Exchanges the longest command and response with information field sizes of 254 and 32.
-pub(crate) fn exchange_each(
+/// Exchanges these messages, and prints the work.
+pub(crate) fn exchange_in_time(
     rt: &HostRuntime,
-    command: &[u8],
-    reply: &[u8],
+    terminal: &mut Terminal,
+    card: &mut Card,
+    messages: Messages<'_>,
     timed: bool,
 ) -> io::Result<()> {
-    for (size, name) in [
-        (254, "longest exchange in two buffers, sizes 254"),
-        (32, "longest exchange in two buffers, sizes 32"),
-    ] {
-        let (mut terminal, mut card) = ends(rt.alloc(), size)?;
-        let started = Instant::now(rt)?;
-        let blocks = exchange(&mut terminal, &mut card, command, reply);
-        told(name, blocks)?.tell(rt, started, timed)?;
-    }
-    Ok(())
+    let started = Instant::now(rt)?;
+    let blocks = exchange(terminal, card, messages);
+    told("longest exchange by hand").tell(rt, started, blocks, timed)
 }
 
 /// Returns how many blocks an exchange over a line without faults takes, or `None` if it isn't
 /// answered.
-fn exchange(
-    terminal: &mut Terminal,
-    card: &mut Card,
-    command: &[u8],
-    reply: &[u8],
-) -> Option<usize> {
+fn exchange(terminal: &mut Terminal, card: &mut Card, messages: Messages<'_>) -> Option<usize> {
     let mut sent = [0; LONGEST_BLOCK];
     let mut back = [0; LONGEST_BLOCK];
-    let mut turn = terminal.transmit_into(command, &mut sent);
-    for pairs in 0..140_000usize {
-        match turn {
-            Ok(EncodedTerminalTurn::Send { count, .. }) => {
-                let count = served(card, sent.get(..count)?, reply, &mut back)?;
-                turn = terminal.received_into(back.get(..count)?, &mut sent);
-            }
-            Ok(EncodedTerminalTurn::Answered) if terminal.answer() == Some(reply) => {
-                return Some(2 * pairs);
-            }
-            _ => return None,
-        }
+    let mut next = count_of(terminal.transmit_into(messages.command, &mut sent));
+    for pairs in 0..MOST_BLOCKS {
+        let Some(count) = next else {
+            return (terminal.answer() == Some(messages.reply)).then_some(2 * pairs);
+        };
+        next = carried(terminal, card, &mut sent, &mut back, count, messages.reply);
     }
     None
+}
+
+/// Carries a block of `count` octets to the card, and the card's block back. Returns the length of the
+/// terminal's next block.
+fn carried(
+    terminal: &mut Terminal,
+    card: &mut Card,
+    sent: &mut [u8; LONGEST_BLOCK],
+    back: &mut [u8; LONGEST_BLOCK],
+    count: usize,
+    reply: &[u8],
+) -> Option<usize> {
+    let count = served(card, sent.get(..count)?, reply, back)?;
+    taken(terminal, back.get(..count)?, sent)
+}
+
+/// Returns the length of the terminal's next block after this one.
+fn taken(terminal: &mut Terminal, block: &[u8], sent: &mut [u8; LONGEST_BLOCK]) -> Option<usize> {
+    count_of(terminal.received_into(block, sent))
+}
+
+/// Returns the length of the block that the terminal sends, if it sends one.
+fn count_of(turn: Result<EncodedTerminalTurn, TerminalFault>) -> Option<usize> {
+    match turn {
+        Ok(EncodedTerminalTurn::Send { count, .. }) => Some(count),
+        _ => None,
+    }
 }
 
 /// Returns how many octets the card sends for a block, with a host that replies at once.

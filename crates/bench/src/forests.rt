@@ -3,108 +3,122 @@
 ghost use Rattle.std.specs.Prelude.{◌<◌, length};
 
 use crate::work::Work;
-use std::alloc::Global;
-use std::io::{self, ErrorKind};
+use std::alloc::{AllocError, Global};
+use std::io;
 use std::time::Instant;
-use tlv_core::{FlatForest, ForestCheck, ForestReader, LARGEST_FOREST};
+use tlv_core::{FlatForest, ForestCheck, decode};
+
+/// The most octets of a forest.
+const SIZE: usize = 65_536;
 
 /// Four objects at three depths, in 18 octets.
-pub(crate) const OBJECTS: [u8; 18] = [
+const NESTED: [u8; 18] = [
     0x70, 0x10, 0x5A, 0x06, 0x12, 0x34, 0x56, 0x78, 0x90, 0x12, 0x70, 0x06, 0x9F, 0x02, 0x03, 0x00,
     0x10, 0x00,
 ];
 
-/// A primitive object with a value of six octets.
-const OBJECT: [u8; 9] = [0x9F, 0x02, 0x06, 0x00, 0x00, 0x00, 0x12, 0x34, 0x56];
-
-/// The first octets of a primitive object whose value has 60,000 octets.
-const LARGE: [u8; 4] = [0x5A, 0x82, 0xEA, 0x60];
-
-/// Checks and reads forests of many small and of few large objects, of 64 KiB and of 1 MiB, and a flat
-/// forest of 370 small objects.
+/// Judges a forest of nested objects, and one of 372 objects beside each other with values of 173 octets.
 pub(crate) fn judge_each(rt: &HostRuntime, timed: bool) -> io::Result<()> {
-    for size in [65_536, LARGEST_FOREST] {
-        let many = many(rt.alloc(), &OBJECTS, size)?;
-        judge(rt, timed, "many objects", many.as_slice())?;
-        let large = large(rt.alloc(), size)?;
-        judge(rt, timed, "large objects", large.as_slice())?;
-    }
-    let flat = many(rt.alloc(), &OBJECT, 370 * OBJECT.len())?;
-    judge(rt, timed, "flat objects", flat.as_slice())
+    judge_many(rt, "nested objects", &NESTED, timed)?;
+    let mut object = [0u8; 176];
+    object[..3].copy_from_slice(&[0x5A, 0x81, 173]);
+    judge_many(rt, "flat objects", &object, timed)
 }
 
-/// Repeats objects, in at most `size` octets.
-pub(crate) fn many(alloc: Global, objects: &[u8], size: usize) -> io::Result<Vec<u8>>
+/// Judges a forest in which these objects are repeated.
+fn judge_many(rt: &HostRuntime, name: &'static str, objects: &[u8], timed: bool) -> io::Result<()>
+    requires { 0 < length objects.now }
+{
+    let forest = many(rt.alloc(), objects)?;
+    judge(rt, name, forest.as_slice(), timed)
+}
+
+/// Repeats objects, in at most 64 KiB.
+fn many(alloc: Global, objects: &[u8]) -> Result<Vec<u8>, AllocError>
     requires { 0 < length objects.now }
 {
     let mut octets = Vec::new(alloc);
-    for _ in 0..size / objects.len() {
+    for _ in 0..SIZE / objects.len() {
         octets.extend_from_slice(objects)?;
     }
     Ok(octets)
 }
 
-/// Makes objects with values of 60,000 octets, in at most `size` octets.
-fn large(alloc: Global, size: usize) -> io::Result<Vec<u8>> {
-    let value = vec![in alloc; 0x00u8; 60_000]?;
-    let mut octets = Vec::new(alloc);
-    for _ in 0..size / (LARGE.len() + value.len()) {
-        octets.extend_from_slice(&LARGE)?;
-        octets.extend_from_slice(value.as_slice())?;
-    }
-    Ok(octets)
+/// Checks a forest at once and octet by octet, reads its parts, and reads its tree and drops it.
+fn judge(rt: &HostRuntime, name: &'static str, octets: &[u8], timed: bool) -> io::Result<()> {
+    check(rt, name, octets, timed)?;
+    check_in_pieces(rt, name, octets, timed)?;
+    lend(rt, name, octets, timed)?;
+    read(rt, name, octets, timed)
 }
 
-/// Checks a forest, reads its parts, and reads its tree.
-fn judge(rt: &HostRuntime, timed: bool, name: &'static str, octets: &[u8]) -> io::Result<()> {
+fn check(rt: &HostRuntime, name: &'static str, octets: &[u8], timed: bool) -> io::Result<()> {
     let started = Instant::now(rt)?;
-    let checked = checked(octets)?;
-    told(name, octets, checked, "check").tell(rt, started, timed)?;
+    let checks = checked(octets);
+    told(name, octets, "check").tell(rt, started, checks, timed)
+}
+
+fn check_in_pieces(
+    rt: &HostRuntime,
+    name: &'static str,
+    octets: &[u8],
+    timed: bool,
+) -> io::Result<()> {
     let started = Instant::now(rt)?;
-    let lent = lent(rt.alloc(), octets)?;
-    told(name, octets, lent, "parts lent").tell(rt, started, timed)?;
+    let pieces = checked_in_pieces(octets);
+    told(name, octets, "pieces").tell(rt, started, pieces, timed)
+}
+
+fn lend(rt: &HostRuntime, name: &'static str, octets: &[u8], timed: bool) -> io::Result<()> {
     let started = Instant::now(rt)?;
-    let read = read(rt.alloc(), octets)?;
-    told(name, octets, read, "tops read").tell(rt, started, timed)
+    let parts = parts(rt.alloc(), octets);
+    told(name, octets, "parts lent").tell(rt, started, parts, timed)
+}
+
+fn read(rt: &HostRuntime, name: &'static str, octets: &[u8], timed: bool) -> io::Result<()> {
+    let started = Instant::now(rt)?;
+    let tops = tops(rt.alloc(), octets);
+    told(name, octets, "tops read").tell(rt, started, tops, timed)
 }
 
 /// Returns the work on a forest.
-fn told(name: &'static str, octets: &[u8], parts: usize, unit: &'static str) -> Work {
+fn told(name: &'static str, octets: &[u8], unit: &'static str) -> Work {
     Work {
         name,
         octets: octets.len(),
-        parts,
         unit,
     }
 }
 
 /// Checks a forest once.
-fn checked(octets: &[u8]) -> io::Result<usize> {
-    let mut check = ForestCheck::new(LARGEST_FOREST);
-    if check.feed(octets).is_err() || check.finish().is_err() {
-        return Err(ErrorKind::InvalidData.into());
+fn checked(octets: &[u8]) -> Option<usize> {
+    let mut check = ForestCheck::new(SIZE);
+    (check.feed(octets).is_ok() && check.finish().is_ok()).then_some(1)
+}
+
+/// Checks a forest octet by octet, and returns how many there are.
+fn checked_in_pieces(octets: &[u8]) -> Option<usize> {
+    let mut check = ForestCheck::new(SIZE);
+    for octet in octets {
+        if check.feed(&[*octet]).is_err() {
+            return None;
+        }
     }
-    Ok(1)
+    check.finish().is_ok().then_some(octets.len())
 }
 
 /// Reads a forest's parts, and returns how many there are.
-fn lent(alloc: Global, octets: &[u8]) -> io::Result<usize> {
-    match FlatForest::read(alloc, octets, LARGEST_FOREST) {
-        Ok(forest) => Ok(forest.parts().len()),
-        Err(_) => Err(ErrorKind::InvalidData.into()),
+fn parts(alloc: Global, octets: &[u8]) -> Option<usize> {
+    match FlatForest::read(alloc, octets, SIZE) {
+        Ok(forest) => Some(forest.parts().len()),
+        Err(_) => None,
     }
 }
 
-/// Reads a forest's tree in pieces, and returns how many objects it has at the top.
-fn read(alloc: Global, octets: &[u8]) -> io::Result<usize> {
-    let mut reader = ForestReader::new(alloc, LARGEST_FOREST)?;
-    for piece in octets.chunks(1_000) {
-        if reader.feed(piece).is_err() {
-            return Err(ErrorKind::InvalidData.into());
-        }
-    }
-    match reader.finish() {
-        Ok(forest) => Ok(forest.nodes().get().len()),
-        Err(_) => Err(ErrorKind::InvalidData.into()),
+/// Reads a forest's tree, and returns how many objects it has at the top.
+fn tops(alloc: Global, octets: &[u8]) -> Option<usize> {
+    match decode(alloc, octets, SIZE) {
+        Ok(forest) => Some(forest.nodes().get().len()),
+        Err(_) => None,
     }
 }

@@ -1,123 +1,84 @@
-//! The same exchanges by the calls over a line. A card is at the end of the terminal's line, and a
-//! terminal at the end of the card's.
+//! The same exchange by the calls over a line. A card is at the end of the terminal's line, and a terminal at the end
+//! of the card's.
 
 ghost use Rattle.std.specs.Prelude.{◌≤◌, length};
 
 use crate::buffers::served;
-use crate::session::{ends, told};
+use crate::ends::{MOST_BLOCKS, Messages, told};
 use block_core::LONGEST_BLOCK;
 use line_core::{CardLine, Host, Received, TerminalLine, exchange, serve};
 use std::io::{self, ErrorKind};
 use std::time::Instant;
 use t1_core::{Card, EncodedTerminalTurn, Terminal};
 
-/// More blocks than an end sends in the longest exchange.
-const MOST_BLOCKS: usize = 10_000;
-
-/// Exchanges the longest command and response with information field sizes of 254 and 32, by `exchange`.
-pub(crate) fn exchange_each(
-    rt: &HostRuntime,
-    command: &[u8],
-    reply: &[u8],
-    timed: bool,
-) -> io::Result<()> {
-    for (size, name) in [
-        (254, "longest exchange over a line, sizes 254"),
-        (32, "longest exchange over a line, sizes 32"),
-    ] {
-        let (mut terminal, card) = ends(rt.alloc(), size)?;
-        let mut line = CardAtLine {
-            card,
-            reply,
-            blocks: 0,
-        };
-        exchange_over(rt, &mut terminal, &mut line, command, name, timed)?;
-    }
-    Ok(())
-}
-
-fn exchange_over(
+/// Exchanges these messages by `exchange`, and prints the work.
+pub(crate) fn exchange_in_time(
     rt: &HostRuntime,
     terminal: &mut Terminal,
-    line: &mut CardAtLine<'_>,
-    command: &[u8],
-    name: &'static str,
+    card: &mut Card,
+    messages: Messages<'_>,
     timed: bool,
 ) -> io::Result<()> {
     let started = Instant::now(rt)?;
-    let blocks = exchanged(terminal, line, command);
-    told(name, blocks)?.tell(rt, started, timed)
+    let blocks = exchanged(terminal, card, messages);
+    told("longest exchange over a line").tell(rt, started, blocks, timed)
 }
 
 /// Returns how many blocks an exchange takes, or `None` if it isn't answered.
-fn exchanged(terminal: &mut Terminal, line: &mut CardAtLine<'_>, command: &[u8]) -> Option<usize> {
-    match exchange(terminal, line, command, MOST_BLOCKS) {
-        Ok(answer) if answer == line.reply => Some(2 * line.blocks as usize),
+fn exchanged(terminal: &mut Terminal, card: &mut Card, messages: Messages<'_>) -> Option<usize> {
+    let mut line = CardAtLine {
+        card,
+        reply: messages.reply,
+        blocks: 0,
+    };
+    match exchange(terminal, &mut line, messages.command, MOST_BLOCKS) {
+        Ok(answer) if answer == messages.reply => Some(2 * line.blocks as usize),
         _ => None,
     }
 }
 
-/// Exchanges them by `serve`.
-pub(crate) fn serve_each(
+/// Exchanges these messages by `serve`, and prints the work.
+pub(crate) fn serve_in_time(
     rt: &HostRuntime,
-    command: &[u8],
-    reply: &[u8],
-    timed: bool,
-) -> io::Result<()> {
-    for (size, name) in [
-        (254, "longest exchange served, sizes 254"),
-        (32, "longest exchange served, sizes 32"),
-    ] {
-        let (terminal, mut card) = ends(rt.alloc(), size)?;
-        let mut line = TerminalAtLine {
-            terminal,
-            command,
-            block: [0; LONGEST_BLOCK],
-            count: None,
-            blocks: 0,
-        };
-        serve_over(rt, &mut card, &mut line, reply, name, timed)?;
-    }
-    Ok(())
-}
-
-fn serve_over(
-    rt: &HostRuntime,
+    terminal: &mut Terminal,
     card: &mut Card,
-    line: &mut TerminalAtLine<'_>,
-    reply: &[u8],
-    name: &'static str,
+    messages: Messages<'_>,
     timed: bool,
 ) -> io::Result<()> {
     let started = Instant::now(rt)?;
-    let blocks = serves(card, line, reply);
-    told(name, blocks)?.tell(rt, started, timed)
+    let blocks = serves(terminal, card, messages);
+    told("longest exchange served").tell(rt, started, blocks, timed)
 }
 
 /// Returns how many blocks an exchange takes that a card serves, or `None` if it isn't answered.
-fn serves(card: &mut Card, line: &mut TerminalAtLine<'_>, reply: &[u8]) -> Option<usize> {
-    let mut host = Replies(reply);
-    let served = serve(card, line, &mut host, MOST_BLOCKS);
-    if served.is_err() || line.terminal.answer() != Some(reply) {
-        return None;
-    }
-    Some(2 * line.blocks as usize)
+fn serves(terminal: &mut Terminal, card: &mut Card, messages: Messages<'_>) -> Option<usize> {
+    let mut line = TerminalAtLine {
+        terminal,
+        command: messages.command,
+        block: [0; LONGEST_BLOCK],
+        count: 0,
+        blocks: 0,
+    };
+    let mut host = Replies(messages.reply);
+    let is_served = serve(card, &mut line, &mut host, MOST_BLOCKS).is_ok();
+    let is_answered = line.terminal.answer() == Some(messages.reply);
+    (is_served && is_answered).then_some(2 * line.blocks as usize)
 }
 
 /// The line of a terminal with a card at its other end.
 #[derive(Drop)]
-struct CardAtLine<'a> {
-    card: Card,
-    reply: &'a [u8],
+struct CardAtLine<'c, 'r> {
+    card: &'c mut Card,
+    reply: &'r [u8],
     blocks: u32,
 }
 
-impl TerminalLine for CardAtLine<'_> {
+impl TerminalLine for CardAtLine<'_, '_> {
     ghost said = { λ _ _ _. Unit {0} };
 
     fn transceive(&mut self, block: &[u8], _waiting: u8, room: &mut [u8]) -> io::Result<Received> {
         self.blocks = self.blocks.saturating_add(1);
-        match served(&mut self.card, block, self.reply, room) {
+        match served(self.card, block, self.reply, room) {
             Some(count) => Ok(Received::Octets(count)),
             None => Err(ErrorKind::InvalidData.into()),
         }
@@ -126,24 +87,22 @@ impl TerminalLine for CardAtLine<'_> {
 
 /// The line of a card with a terminal at its other end, and the last block that the card sent.
 #[derive(Drop)]
-struct TerminalAtLine<'a> {
-    terminal: Terminal,
-    command: &'a [u8],
+struct TerminalAtLine<'t, 'c> {
+    terminal: &'t mut Terminal,
+    command: &'c [u8],
     block: [u8; LONGEST_BLOCK],
-    count: Option<usize>,
+    /// The length of that block, 0 before the first one.
+    count: usize,
     blocks: u32,
 }
 
-impl CardLine for TerminalAtLine<'_> {
+impl CardLine for TerminalAtLine<'_, '_> {
     ghost said = { λ _ _ _. Unit {0} };
 
     fn receive(&mut self, room: &mut [u8]) -> io::Result<Received> {
-        let put = match self.count {
-            None => self.terminal.transmit_into(self.command, room),
-            Some(count) => match self.block.get(..count) {
-                Some(block) => self.terminal.received_into(block, room),
-                None => return Err(ErrorKind::InvalidData.into()),
-            },
+        let put = match self.count.min(LONGEST_BLOCK) {
+            0 => self.terminal.transmit_into(self.command, room),
+            count => self.terminal.received_into(&self.block[..count], room),
         };
         match put {
             Ok(EncodedTerminalTurn::Send { count, .. }) => Ok(Received::Octets(count)),
@@ -153,11 +112,9 @@ impl CardLine for TerminalAtLine<'_> {
 
     fn send(&mut self, block: &[u8]) -> io::Result<()> {
         self.blocks = self.blocks.saturating_add(1);
-        match self.block.get_mut(..block.len()) {
-            Some(front) => front.copy_from_slice(block),
-            None => return Err(ErrorKind::InvalidData.into()),
-        }
-        self.count = Some(block.len());
+        let count = block.len().min(LONGEST_BLOCK);
+        self.block[..count].copy_from_slice(&block[..count]);
+        self.count = count;
         Ok(())
     }
 }
