@@ -18,7 +18,7 @@ use octet_core::Octets;
 use std::alloc::{AllocError, Global};
 
 /// How each line is answered.
-#[derive(Clone, Copy, Debug)]
+#[derive(Clone, Copy)]
 pub struct Telling {
     /// What the answer says about the octets.
     pub task: Task,

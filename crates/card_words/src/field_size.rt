@@ -7,7 +7,7 @@ use octet_core::is_reserved;
 use std::marker::Model;
 
 /// A size of information fields, 1 to 254. Contracts see it as a number (ISO/IEC 7816-3:2006, clause 11.4.2).
-#[derive(Clone, Copy, Debug, PartialEq, Eq)]
+#[derive(Clone, Copy)]
 pub struct FieldSize {
     octet: u8,
 }

@@ -12,7 +12,7 @@ use octet_core::Octets;
 use std::alloc::Global;
 
 /// How octets are written on standard input.
-#[derive(Clone, Copy, Debug, PartialEq, Eq)]
+#[derive(Clone, Copy)]
 pub enum Form {
     /// Hexadecimal in either case, two digits for each octet, in groups separated by spaces, tabs and line ends. A
     /// group may begin with `0x` or `0X`.
@@ -27,7 +27,7 @@ pub enum Form {
 }
 
 /// Where octets come from.
-#[derive(Debug, PartialEq, Eq, Drop)]
+#[derive(Drop)]
 pub enum OctetSource {
     /// The octets of a word.
     Word(Octets),

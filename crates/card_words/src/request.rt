@@ -12,7 +12,7 @@ use octet_core::{Listed, Octets, Text};
 use tlv_core::Known;
 
 /// The kinds of values that octets are checked or shown as.
-#[derive(Clone, Copy, Debug, PartialEq, Eq)]
+#[derive(Clone, Copy)]
 pub enum Kind {
     /// An answer to reset.
     Atr,
@@ -31,7 +31,7 @@ pub enum Kind {
 }
 
 /// An end of a line, or both ends.
-#[derive(Clone, Copy, Debug, PartialEq, Eq)]
+#[derive(Clone, Copy)]
 pub enum Ends {
     /// The terminal's end.
     Terminal,
@@ -42,7 +42,7 @@ pub enum Ends {
 }
 
 /// What is judged of a trace, and how.
-#[derive(Clone, Copy, Debug, PartialEq, Eq)]
+#[derive(Clone, Copy)]
 pub struct Judging {
     pub ends: Ends,
     /// The frequency of the card's clock in hertz, 1 to 1,000,000,000. With it the judge also checks the times of the
@@ -54,7 +54,7 @@ pub struct Judging {
 }
 
 /// What octets are read as.
-#[derive(Clone, Copy, Debug, PartialEq, Eq)]
+#[derive(Clone, Copy)]
 pub struct Expected {
     pub kind: Kind,
     /// The information size.
@@ -64,7 +64,7 @@ pub struct Expected {
 }
 
 /// How a recorded exchange is drawn.
-#[derive(Clone, Copy, Debug, PartialEq, Eq)]
+#[derive(Clone, Copy)]
 pub enum Drawing {
     /// As lines of text.
     Ladder,
@@ -73,7 +73,7 @@ pub enum Drawing {
 }
 
 /// What to do with the file of a recorded exchange.
-#[derive(Clone, Copy, Debug, PartialEq, Eq)]
+#[derive(Clone, Copy)]
 pub enum FileTask {
     /// Replay it at this end, or at both.
     Replay(Ends, Layout),
@@ -86,7 +86,7 @@ pub enum FileTask {
 }
 
 /// What to do with octets.
-#[derive(Clone, Copy, Debug, PartialEq, Eq)]
+#[derive(Clone, Copy)]
 pub enum Aim {
     /// Check whether they are a value of the kind, and how many octets it takes.
     Check,
@@ -97,7 +97,7 @@ pub enum Aim {
 }
 
 /// What to do with octets, and what they are read as.
-#[derive(Clone, Copy, Debug, PartialEq, Eq)]
+#[derive(Clone, Copy)]
 pub struct Task {
     pub aim: Aim,
     pub layout: Layout,
@@ -108,7 +108,7 @@ pub struct Task {
 pub type Knowns = Listed<Known>;
 
 /// What a command line asks for.
-#[derive(Debug, PartialEq, Eq, Drop)]
+#[derive(Drop)]
 pub enum Asked {
     /// One text, after reading all that it needs of standard input.
     Once(Request),
@@ -117,7 +117,7 @@ pub enum Asked {
 }
 
 /// A request that one text answers.
-#[derive(Debug, PartialEq, Eq, Drop)]
+#[derive(Drop)]
 pub enum Request {
     /// Check or show these octets.
     Tell(Task, OctetSource),

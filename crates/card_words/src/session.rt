@@ -12,7 +12,7 @@ use octet_core::{Listed, Octets, decimal_of};
 use std::alloc::{AllocError, Global};
 
 /// A command, and the reply that the card's host gives to it.
-#[derive(Debug, PartialEq, Eq, Drop)]
+#[derive(Drop)]
 pub struct Pair {
     pub command: Octets,
     pub reply: Octets,
@@ -25,7 +25,7 @@ pub type Pairs = Listed<Pair>;
 pub type BlockNumbers = Listed<u64>;
 
 /// A session of both ends on one line.
-#[derive(Debug, PartialEq, Eq, Drop)]
+#[derive(Drop)]
 pub struct Session {
     /// The card's answer to reset.
     pub atr: Octets,

@@ -15,7 +15,7 @@ use octet_core::{after_blanks, is_blank};
 use std::alloc::{AllocError, Global};
 
 /// What is wrong at the first place where a text isn't a dump.
-#[derive(Clone, Copy, Debug, PartialEq, Eq)]
+#[derive(Clone, Copy)]
 pub enum DumpWrong {
     /// The offset has fewer than four digits.
     Offset,

@@ -9,7 +9,7 @@ use crate::turn::Now;
 use crate::word::Word;
 
 /// What is wrong at the first place where a text isn't a source.
-#[derive(Clone, Copy, Debug, PartialEq, Eq)]
+#[derive(Clone, Copy)]
 pub enum SourceWrong {
     /// This character isn't allowed here.
     Character,

@@ -11,7 +11,7 @@ use std::marker::Model;
 /// The members of a JSON object, in their order, with a comma between two. Contracts see their text.
 ///
 /// Names and strings are written as they are. So they must not have quotation marks, backslashes or control characters.
-#[derive(Debug, Drop)]
+#[derive(Drop)]
 pub struct Members {
     text: String,
 }
