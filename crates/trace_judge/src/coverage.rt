@@ -15,7 +15,7 @@ use octet_core::Named;
 use std::alloc::{AllocError, Global};
 
 /// How often an end kept each rule and broke it, and how often each state came, in the order of their places.
-#[derive(Clone, Copy, Debug)]
+#[derive(Clone, Copy)]
 pub(crate) struct Counts {
     pub(crate) kept: [u64; 22],
     pub(crate) broken: [u64; 22],
@@ -66,7 +66,7 @@ impl Counts {
 }
 
 /// What both ends exercised.
-#[derive(Clone, Copy, Debug)]
+#[derive(Clone, Copy)]
 pub(crate) struct Coverage {
     pub(crate) terminal: Counts,
     pub(crate) card: Counts,

@@ -22,7 +22,7 @@ const AS: &[u8] = b"as";
 const RESET: &[u8] = b"reset";
 
 /// How a block reached the other end.
-#[derive(Debug, Drop)]
+#[derive(Drop)]
 pub(crate) enum Reach {
     /// The trace doesn't say.
     Unsaid,
@@ -46,7 +46,7 @@ impl Reach {
 }
 
 /// What a line says.
-#[derive(Debug, Drop)]
+#[derive(Drop)]
 pub(crate) enum Entry {
     /// Nothing: it is empty, or a remark.
     Nothing,

@@ -9,7 +9,7 @@ use layouts::{Layout, Members};
 use std::alloc::{AllocError, Global};
 
 /// How many deviations each end has, and the card in time, and how many blocks must have been damaged or lost unseen.
-#[derive(Clone, Copy, Debug)]
+#[derive(Clone, Copy)]
 pub(crate) struct Tally {
     pub(crate) terminal: u64,
     pub(crate) card: u64,

@@ -42,14 +42,14 @@ impl Model for Offer {
 }
 
 /// An elementary time unit: F / D cycles of the card's clock.
-#[derive(Clone, Copy, Debug)]
+#[derive(Clone, Copy)]
 pub(crate) struct Etu {
     pub(crate) fi: u16,
     pub(crate) di: u16,
 }
 
 /// A terminal's block, if its moment is known.
-#[derive(Clone, Copy, Debug)]
+#[derive(Clone, Copy)]
 pub(crate) struct Sent {
     /// When it began, in microseconds.
     pub(crate) moment: u64,
@@ -58,7 +58,7 @@ pub(crate) struct Sent {
 }
 
 /// What is known about the times on the line.
-#[derive(Clone, Copy, Debug)]
+#[derive(Clone, Copy)]
 pub(crate) struct Timing {
     /// F and D in force.
     pub(crate) rates: Rates,
@@ -106,7 +106,7 @@ fn sent_by(now: Option<u64>, octets: usize) -> Option<Sent>
 }
 
 /// The interval between a terminal's block and the card's.
-#[derive(Clone, Copy, Debug)]
+#[derive(Clone, Copy)]
 pub(crate) struct Interval {
     /// Microseconds from the beginning of the terminal's block to that of the card's.
     pub(crate) elapsed: u64,
@@ -115,7 +115,7 @@ pub(crate) struct Interval {
 }
 
 /// A card's block that came too late.
-#[derive(Clone, Copy, Debug)]
+#[derive(Clone, Copy)]
 pub(crate) struct Late {
     /// How many microseconds after the beginning of the terminal's block it came.
     pub(crate) elapsed: u64,
