@@ -1,13 +1,14 @@
-//! Hostile use of sessions.
+//! Hostile use of chains and sessions.
 //!
-//! It makes calls and events that are refused, delivers damaged blocks in each state of both ends, and loses or changes
-//! blocks one after another. It also runs random sessions and exchanges over a line that harms bursts, and reads files
-//! of sessions that were changed.
+//! It reads and writes chains over streams that fail. It makes calls and events that are refused, delivers damaged
+//! blocks in each state of both ends, and loses or changes blocks one after another. It also runs random sessions and
+//! exchanges over a line that harms bursts, and reads files of sessions that were changed.
 //!
 //! It writes a line for each list of cases, with how many there were. The first case that goes wrong is printed, and
 //! the program ends with status 1. With the word `few` it tries only some cases of the long lists.
 #![tactic(auto)]
 
+mod chains;
 mod deliveries;
 mod drawn;
 mod ends;
@@ -74,6 +75,7 @@ fn tell_each(rt: &HostRuntime) -> Result<(), Fault> {
 fn tell_of(rt: &HostRuntime, files: &[Vec<u8>], sessions: &[Exchange]) -> Result<(), Fault> {
     let alloc = rt.alloc();
     let share = asked(rt)?;
+    tell(rt, chains::fail_each(alloc))?;
     tell(rt, refusals::refuse_each(alloc, sessions, share))?;
     tell(rt, records::refuse_each(alloc, share))?;
     tell(rt, deliveries::deliver_each(alloc, share))?;

@@ -1,4 +1,4 @@
-//! Readers and writers that fail.
+//! Chains over readers and writers that fail, and a chain without an end.
 
 ghost use Rattle.std.specs.Prelude.{◌≡◌, ◌≢◌, ◌≤◌};
 
@@ -7,10 +7,10 @@ use apdu_core::{
     send_command, send_response,
 };
 use block_core::Number;
-use chain_core::{ReadRefusal, Receiver, read_chain, write_chain};
+use chain_core::{ChainReason, ReadRefusal, Receiver, read_chain, write_chain};
 use octet_core::{After, Counted, FailsOnce, Feeder, Octets, Sink, Source, Stop, Taker};
-use std::alloc::Global;
-use test_support::{Case, Fault, of_hex};
+use std::alloc::{AllocError, Global};
+use test_support::{Case, Fault, of_hex, same};
 
 /// What a chain carries.
 #[derive(Clone, Copy)]
@@ -48,7 +48,7 @@ const ROWS: [(Message, &str, &str); 3] = [
 const SIZE: u8 = 2;
 
 /// Checks that each message is written and read correctly over streams that fail after each number
-/// of octets.
+/// of octets, and that an endless chain is refused.
 pub(crate) fn fail_each(alloc: Global) -> Result<String, Fault> {
     let mut writers = 0u64;
     let mut readers = 0u64;
@@ -57,9 +57,57 @@ pub(crate) fn fail_each(alloc: Global) -> Result<String, Fault> {
         writers = writers.saturating_add(each_writer_fails(alloc, &carried)?);
         readers = readers.saturating_add(each_reader_fails(alloc, &carried)?);
     }
+    told(alloc, writers, readers, endless(alloc)?)
+}
+
+/// Returns the line with these numbers.
+fn told(alloc: Global, writers: u64, readers: u64, read: u64) -> Result<String, Fault> {
     Ok(format!(in alloc;
-        "streams: {writers} writers and {readers} readers failed at the octet that they said"
+        "chains: {writers} writers and {readers} readers failed at the octet that they said, \
+        {read} octets of an endless chain were read"
     )?)
+}
+
+/// Two empty blocks, with the numbers 0 and 1, after each of which more follow.
+const BLOCKS: [u8; 8] = [0x00, 0x20, 0x00, 0x20, 0x00, 0x60, 0x00, 0x60];
+
+/// Where a chain of empty blocks is refused.
+const REFUSED_AT: usize = 524_285;
+
+/// Checks that a chain of empty blocks is refused at its last block, and returns how many octets were read.
+/// One call asks for the first three octets of a block. So one octet after the refused one is read if one call
+/// reads them all.
+fn endless(alloc: Global) -> Result<u64, Fault> {
+    endless_by(alloc, Step::One, 524_286)?;
+    endless_by(alloc, Step::Many, 524_287)
+}
+
+/// Checks that a chain of empty blocks, read in such steps, is refused after `read` octets were read.
+fn endless_by(alloc: Global, step: Step, read: u64) -> Result<u64, Fault> {
+    let (is_refused, given) = is_refused(alloc, step.octets())?;
+    let case = Case {
+        what: "an endless chain",
+        octets: &BLOCKS,
+        place: REFUSED_AT,
+        piece: step.octets(),
+    };
+    case.expect(alloc, is_refused && given == read)?;
+    Ok(given)
+}
+
+/// Reads a chain of empty blocks by at most `step` octets in a call. Returns whether it is refused at its last
+/// block, and how many octets were read.
+fn is_refused(alloc: Global, step: usize) -> Result<(bool, u64), AllocError>
+    requires { 1 ≤ step }
+{
+    let mut receiver = Receiver::new(alloc, 254, Number::Zero, 0)?;
+    let mut reader = Counted::new(Feeder::new(&BLOCKS, step, After::Repeats));
+    let said = read_chain(&mut reader, &mut receiver);
+    let wanted = ReadRefusal::Stop(Stop::At {
+        place: REFUSED_AT,
+        reason: ChainReason::TooManyBlocks,
+    });
+    Ok((same(said, Err(wanted)), reader.into_inner().given()))
 }
 
 /// Returns what a row says.
@@ -352,12 +400,16 @@ fn is_gone_on_with(
     let mut reader = Counted::new(FailsOnce::new(feeder, place, after.after()));
     let mut receiver = Receiver::new(alloc, SIZE, Number::Zero, 64)?;
     let first = read_chain(&mut reader, &mut receiver);
-    let is_said = match after {
-        Failing::End => first == Err(ReadRefusal::Stop(Stop::Short { place })),
-        Failing::Fails | Failing::Interrupted => first == Err(ReadRefusal::Read { taken: place }),
+    let wanted = match after {
+        Failing::End => ReadRefusal::Stop(Stop::Short { place }),
+        Failing::Fails | Failing::Interrupted => ReadRefusal::Read { taken: place },
     };
-    let is_whole = read_chain(&mut reader, &mut receiver) == Ok(());
-    Ok(is_said && is_whole && receiver.message() == Some(carried.octets.as_slice()))
+    let is_whole = read_chain(&mut reader, &mut receiver).is_ok();
+    Ok(
+        same(first, Err(wanted))
+            && is_whole
+            && same(receiver.message(), Some(carried.octets.as_slice())),
+    )
 }
 
 /// Reads by the calls for a message, and returns the result.
