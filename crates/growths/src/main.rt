@@ -1,4 +1,4 @@
-//! Makes every call that allocates once, and compares its result.
+//! Makes every call of the libraries that allocates once, and compares its result.
 //!
 //! It is meant to run with one growth of memory refused, each in turn, as `refuse-growths` does. It ends with status 2
 //! if a call returned that memory was out, and else with 0. It writes a line for each call with a wrong result, and for
@@ -10,7 +10,6 @@ mod chains;
 mod exchanges;
 mod objects;
 mod outcome;
-mod program;
 mod session;
 
 use outcome::Outcome;
@@ -48,12 +47,11 @@ fn of_objects(alloc: Global) -> [(&'static str, Outcome); 5] {
     ]
 }
 
-fn of_sessions(alloc: Global) -> [(&'static str, Outcome); 4] {
+fn of_sessions(alloc: Global) -> [(&'static str, Outcome); 3] {
     [
         ("session", session::longest(alloc)),
         ("recorder", exchanges::recorded(alloc)),
         ("exchanges", exchanges::replayed(alloc)),
-        ("program", program::lines(alloc)),
     ]
 }
 

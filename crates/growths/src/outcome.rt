@@ -22,13 +22,4 @@ impl Outcome {
             Err(AllocError) => Outcome::Memory,
         }
     }
-
-    /// Returns the outcome of this call and one more. At most one of them may be out of memory.
-    pub(crate) fn and(self, next: Outcome) -> Outcome {
-        match (self, next) {
-            (Outcome::Right, next) => next,
-            (Outcome::Memory, Outcome::Right) => Outcome::Memory,
-            _ => Outcome::Wrong,
-        }
-    }
 }
