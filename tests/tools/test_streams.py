@@ -47,20 +47,19 @@ class Streams(unittest.TestCase):
     def setUpClass(cls):
         room = tempfile.TemporaryDirectory()
         cls.addClassCleanup(room.cleanup)
-        cls.room, cls.preloaded = room.name, tool.preloaded(room.name)
+        cls.room, cls.failing = room.name, tool.preloaded(tool.FAILING, room.name)
 
     def over(self, *words):
         """Runs of the program, compiled with these words."""
         subprocess.run(["cc", "-w", *words, "-x", "c", "-", "-o", f"{self.room}/program"], input=PROGRAM.encode(),
                        check=True)
-        return tool.Runs(f"{self.room}/program", self.preloaded, False)
+        return tool.Runs(f"{self.room}/program", self.failing, False)
 
-    def counts(self, runs, call, cases):
+    def counts(self, runs, call=None, cases=()):
         """How many cases pass, and how many fail."""
         runs.each(call, cases)
-        counts = runs.passed, len(runs.wrong)
-        runs.passed, runs.wrong = 0, []
-        return counts
+        wrong = len(runs.wrong())
+        return len(runs.ended) - wrong, wrong
 
     def writers(self, *words):
         """The counts of a writer of each kind that fails at each place."""
@@ -89,10 +88,10 @@ class Streams(unittest.TestCase):
     def test_a_text_and_a_status(self):
         runs = self.over()
         runs.says("copy", b"abc", 0, "abc")
-        self.assertEqual((runs.passed, runs.wrong), (1, []))
+        self.assertEqual(self.counts(runs), (1, 0))
         runs.says("copy", b"abc", 0, "ab")
         runs.says("copy", b"abc", 1, "abc")
-        self.assertEqual((runs.passed, len(runs.wrong)), (1, 2))
+        self.assertEqual(self.counts(runs), (1, 2))
 
     def test_a_program_that_reads_too_much(self):
         limit = tool.LARGEST + 1
