@@ -18,3 +18,4 @@ pub mod Parity
 pub mod Leads
 pub mod Reached
 pub mod OneState
+pub mod Blank

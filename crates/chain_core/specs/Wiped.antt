@@ -1,7 +1,7 @@
 -- Octets in memory that is overwritten before it is freed.
 use Rattle.std.specs.Prelude.{ℕ, List}
 use Rattle.std.specs.Borrow.{Lends, MutBor, Fml, Array, u8}
-use Rattle.std.specs.Vec.{with_items, vec_capacity, vec_len}
+use Rattle.std.specs.Vec.{with_items, vec_len}
 use Rattle.chain_core.specs.declared.wiped.Wiped.{Wiped}
 use Rattle.chain_core.specs.contracts.wiped.Memory.{the_row as memory_row}
 use Rattle.chain_core.specs.contracts.wiped.Wiped.{the_row}
@@ -14,10 +14,6 @@ held_in w = w.memory.octets.items
 -- how many octets are in it
 abbrev pub count_in : Wiped → ℕ
 count_in w = vec_len w.memory.octets
-
--- how many octets its memory has room for
-abbrev pub room_in : Wiped → ℕ
-room_in w = vec_capacity w.memory.octets
 
 -- the same memory with these octets, as many as before
 abbrev pub with_held : Memory → List ℕ → Memory

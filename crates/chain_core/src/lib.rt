@@ -11,6 +11,7 @@
 #![tactic(auto)]
 
 pub mod blocks;
+mod collected;
 pub mod cutting;
 pub mod laws;
 pub mod lent;
@@ -32,5 +33,5 @@ pub use reading::{ReadRefusal, read_chain};
 pub use reason::ChainReason;
 pub use receiver::{LONGEST_MESSAGE, MOST_BLOCKS, Receiver};
 pub use stage::BlockStage;
-pub use wiped::{Wiped, overwrite};
+pub use wiped::{Wiped, append, overwrite, overwrite_front};
 pub use writing::write_chain;

@@ -8,9 +8,9 @@ ghost use Rattle.chain_core.specs.declared.reason.ChainReason.{ChainReason};
 ghost use Rattle.chain_core.specs.Chain.{IsChain, IsReason, longest_message};
 ghost use Rattle.chain_core.specs.Taking.{HasTaken, AreBefore, IsOpen, IsClosed, nothing_taken, refusal_of};
 
+use crate::collected::Collected;
 use crate::lent::LentReceiver;
 use crate::reason::ChainReason;
-use crate::wiped::Wiped;
 use block_core::Number;
 use octet_core::Stop;
 use std::alloc::{AllocError, Global};
@@ -31,19 +31,18 @@ pub const LONGEST_MESSAGE: usize = 131_072;
 pub struct Receiver {
     state: LentReceiver,
     /// The message so far, and after it the octets of the unfinished field.
-    message: Wiped,
+    message: Collected,
 }
 
 impl Model for Receiver {
     ghost use Rattle.chain_core.specs.Taking.{Taking};
     ghost use Rattle.chain_core.specs.Lent.{received_at, IsReceiver};
-    ghost use Rattle.chain_core.specs.Wiped.{held_in, room_in};
 
     ghost Value = { Taking };
 
-    ghost view = { λ r. received_at r.state (held_in r.message) };
+    ghost view = { λ r. received_at r.state r.message.octets };
 
-    ghost invariant = { λ r. IsReceiver r.state (held_in r.message) (room_in r.message) };
+    ghost invariant = { λ r. IsReceiver r.state r.message.octets r.message.room };
 }
 
 impl Receiver {
@@ -56,7 +55,7 @@ impl Receiver {
         requires limit { max ≤ longest_message }
         ensures { IfOk result (λ r. r ≡ nothing_taken ifs number max) }
     {
-        let message = Wiped::with_room(alloc, max)?;
+        let message = Collected::with_room(alloc, max)?;
         let state = LentReceiver::begin(ifs, number, max as u32);
         Ok(Receiver { state, message })
     }

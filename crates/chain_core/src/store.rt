@@ -4,7 +4,7 @@ ghost use Rattle.std.specs.Prelude.{◌≡◌, ℕ, ◌+◌, ◌≤◌, ◌++◌
 ghost use Rattle.std.specs.Borrow.{GName};
 ghost use Rattle.octet_core.specs.Octets.{AreOctets};
 
-use crate::wiped::Wiped;
+use crate::collected::Collected;
 
 /// Storage for the octets of a message as they come: memory that the receiver owns, or a buffer that it borrows.
 pub(crate) trait MessageStore {
@@ -41,20 +41,19 @@ pub(crate) trait MessageStore {
 }
 
 /// Owned memory has the octets of the message and no others.
-impl MessageStore for Wiped {
+impl MessageStore for Collected {
     ghost use Rattle.std.specs.Prelude.{◌≡◌, length};
     ghost use Rattle.std.proofs.Common.{rules};
-    ghost use Rattle.chain_core.specs.Wiped.{held_in, room_in};
 
-    ghost kept = { held_in };
+    ghost kept = { λ message. message.octets };
 
-    ghost room = { room_in };
+    ghost room = { λ message. message.room };
 
-    ghost ends_after = { λ wiped held. length (held_in wiped) ≡ held };
+    ghost ends_after = { λ message held. length message.octets ≡ held };
 
     ghost loan = { λ _. 0 };
 
-    ghost inside = { λ wiped held after. Prim.search rules };
+    ghost inside = { λ message held after. Prim.search rules };
 
     fn put(&mut self, _held: usize, run: &[u8]) {
         self.append(run);

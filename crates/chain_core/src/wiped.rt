@@ -1,13 +1,12 @@
 //! Octets in memory that is overwritten before it is freed.
 
-ghost use Rattle.std.specs.Prelude.{◌≡◌, ◌+◌, ◌≤◌, ◌++◌, [], length, replicate, vec_len, vec_capacity, IfOk};
+ghost use Rattle.std.specs.Prelude.{◌≡◌, ◌+◌, ◌≤◌, ◌++◌, length, take, drop, replicate, vec_len, IfOk};
 ghost use Rattle.std.specs.Borrow.{sem};
-ghost use Rattle.chain_core.specs.Wiped.{held_in, count_in, room_in, LendsHeld, LendsOctets};
+ghost use Rattle.chain_core.specs.Wiped.{held_in, count_in, LendsHeld, LendsOctets};
 
 use std::alloc::{AllocError, Global};
 
-/// The octets of a message, which may carry a PIN. When they are dropped or cleared, each octet is first set
-/// to 0.
+/// The octets of a message, which may carry a PIN. When they are dropped, each octet is first set to 0.
 ///
 /// The memory is allocated once, and the octets never move to other memory, where copies would stay behind.
 /// Copies that a compiler keeps elsewhere are beyond any proof.
@@ -34,17 +33,6 @@ impl Wiped {
         })
     }
 
-    /// Makes an empty list with room for `count` octets. The error is a failed allocation.
-    pub fn with_room(alloc: Global, count: usize) -> Result<Wiped, AllocError>
-        ensures none { IfOk result (λ wiped. held_in wiped ≡ []) }
-        ensures room { IfOk result (λ wiped. room_in wiped ≡ count) }
-    {
-        let octets = Vec::with_capacity(alloc, count)?;
-        Ok(Wiped {
-            memory: Memory { octets },
-        })
-    }
-
     /// Borrows the octets.
     pub fn as_slice(&self) -> &[u8]
         ensures value { result.now ≡ held_in self.now }
@@ -61,24 +49,6 @@ impl Wiped {
     {
         self.memory.as_mut_slice()
     }
-
-    /// Appends octets, for which there must be room.
-    pub fn append(&mut self, octets: &[u8])
-        requires { length (held_in self.old) + length octets.now ≤ room_in self.old }
-        ensures octets { held_in self.new ≡ held_in self.old ++ octets.now }
-        ensures room { room_in self.old ≤ room_in self.new }
-    {
-        self.memory.octets.extend_from_slice(octets).unwrap();
-    }
-
-    /// Sets each octet to 0, and then removes them all.
-    pub fn clear(&mut self)
-        ensures none { held_in self.new ≡ [] }
-        ensures room { room_in self.new ≡ room_in self.old }
-    {
-        overwrite(self.memory.octets.as_mut_slice());
-        forget(&mut self.memory.octets);
-    }
 }
 
 /// Sets each octet to 0.
@@ -87,6 +57,28 @@ pub fn overwrite(octets: &mut [u8])
     ensures count { length octets.new ≡ length octets.old }
 {
     octets.fill(0);
+}
+
+/// Sets the first `count` octets to 0.
+pub fn overwrite_front(octets: &mut [u8], count: usize)
+    requires { count ≤ length octets.old }
+    ensures octets { octets.new ≡ replicate count 0 ++ drop count octets.old }
+    ensures count { length octets.new ≡ length octets.old }
+{
+    overwrite(&mut octets[..count]);
+}
+
+/// Writes octets after the first `count` of a buffer, and returns how many there are then.
+pub fn append(buffer: &mut [u8], count: usize, octets: &[u8]) -> usize
+    requires { count + length octets.now ≤ length buffer.old }
+    ensures count { result ≡ count + length octets.now }
+    ensures message { take result buffer.new ≡ take count buffer.old ++ octets.now }
+    ensures rest { drop result buffer.new ≡ drop result buffer.old }
+    ensures room { length buffer.new ≡ length buffer.old }
+{
+    let end = count + octets.len();
+    buffer[count..end].copy_from_slice(octets);
+    end
 }
 
 /// Memory for octets. It is freed only after each octet in it is 0.
@@ -121,13 +113,4 @@ fn zeroed(memory: Memory) -> Memory
     let mut held = memory;
     overwrite(held.octets.as_mut_slice());
     held
-}
-
-/// Removes octets that were overwritten.
-fn forget(octets: &mut Vec<u8>)
-    requires { octets.old.items ≡ replicate (vec_len octets.old) 0 }
-    ensures none { octets.new.items ≡ [] }
-    ensures room { vec_capacity octets.new ≡ vec_capacity octets.old }
-{
-    octets.clear();
 }

@@ -9,3 +9,4 @@ pub mod Quits
 pub mod Refuted
 pub mod Sessions
 pub mod Told
+pub mod Blank

@@ -1,5 +1,5 @@
 -- The card over caller-owned buffers, seen as its state.
-use Rattle.std.specs.Prelude.{◌≡◌, ◌≤◌, List, [], ℕ, take, Option, Some, None}
+use Rattle.std.specs.Prelude.{◌≡◌, ◌≤◌, ◌-◌, List, [], ℕ, length, take, drop, replicate, Option, Some, None}
 use Rattle.t1_core.specs.declared.turns.Cut.{Cut}
 use Rattle.t1_core.specs.declared.turns.CardAsked.{CardAsked}
 use Rattle.t1_core.specs.declared.turns.CardAsked.TheVariants.{Size, Time}
@@ -103,3 +103,11 @@ pub record IsLentCard (p : LentCard) (room reply_room : ℕ) : Type 0 where
   pub reply_held : p.reply_len ≤ reply_room
   pub most_command : p.most_command ≤ room
   pub most_reply : p.most_reply ≤ reply_room
+
+-- each octet of the buffer after the first `count` is 0
+abbrev pub IsBlankAfter : ℕ → List ℕ → Type 0
+IsBlankAfter count buffer = drop count buffer ≡ replicate (length buffer - count) 0
+
+-- no octet of an earlier command is in the command's buffer
+abbrev pub IsBlank : LentCard → List ℕ → Type 0
+IsBlank p buffer = IsBlankAfter p.command_len buffer

@@ -12,7 +12,6 @@
 //! joins the two ends by a line that loses and damages blocks. `laws` says what holds after whatever happens on it.
 #![tactic(auto)]
 
-mod buffers;
 pub mod card;
 mod class;
 mod cutting;

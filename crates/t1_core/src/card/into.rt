@@ -1,10 +1,10 @@
 //! The calls of the card that write the octets of a block into the caller's buffer.
 
-ghost use Rattle.std.specs.Prelude.{◌≡◌, ◌≤◌, length, IfOk};
+ghost use Rattle.std.specs.Prelude.{◌≡◌, ◌≤◌, length, IfOk, IfErr, Err};
 ghost use Rattle.t1_core.specs.Came.{class_of};
 ghost use Rattle.t1_core.specs.Put.{IsCardPut, FitsCardPut};
 ghost use Rattle.t1_core.specs.Sending.{card_answers};
-ghost use Rattle.t1_core.specs.CardViews.{card_held, IsLentCard};
+ghost use Rattle.t1_core.specs.CardViews.{card_held, IsLentCard, IsBlank};
 ghost use Rattle.t1_core.specs.Card.{takes, replies, more_time, ask_ifs, card_turn, turn_of, state_after};
 
 use crate::card::Card;
@@ -115,6 +115,9 @@ impl LentCard {
             ≡ state_after (card_held self.old command_buffer.old reply_buffer.now)
             (card_turn (card_held self.old command_buffer.old reply_buffer.now)
             (takes (class_of (card_held self.old command_buffer.old reply_buffer.now).ifsc octets.now))) }
+        ensures blank { IsBlank self.old command_buffer.old → IsBlank self.new command_buffer.new }
+        ensures refused { IfErr result
+            (λ _. (self.new ≡ self.old) × (command_buffer.new ≡ command_buffer.old)) }
     {
         let acted = self.takes(command_buffer, reply_buffer, octets);
         self.put(command_buffer, reply_buffer, acted, out)
@@ -138,6 +141,9 @@ impl LentCard {
         ensures state { card_held self.new command_buffer.now reply_buffer.new
             ≡ state_after (card_held self.old command_buffer.now reply_buffer.old)
             (card_turn (card_held self.old command_buffer.now reply_buffer.old) (replies octets.now)) }
+        ensures blank { IsBlank self.old command_buffer.now → IsBlank self.new command_buffer.now }
+        ensures refused { IfErr result
+            (λ _. (self.new ≡ self.old) × (reply_buffer.new ≡ reply_buffer.old)) }
     {
         let acted = self.replies(command_buffer, reply_buffer, octets);
         self.put(command_buffer, reply_buffer, acted, out)
@@ -161,6 +167,8 @@ impl LentCard {
         ensures state { card_held self.new command_buffer.now reply_buffer.now
             ≡ state_after (card_held self.old command_buffer.now reply_buffer.now)
             (card_turn (card_held self.old command_buffer.now reply_buffer.now) (more_time multiple)) }
+        ensures blank { IsBlank self.old command_buffer.now → IsBlank self.new command_buffer.now }
+        ensures refused { IfErr result (λ _. self.new ≡ self.old) }
     {
         let acted = self.asks_time(command_buffer, reply_buffer, multiple);
         self.put(command_buffer, reply_buffer, acted, out)
@@ -184,6 +192,8 @@ impl LentCard {
         ensures state { card_held self.new command_buffer.now reply_buffer.now
             ≡ state_after (card_held self.old command_buffer.now reply_buffer.now)
             (card_turn (card_held self.old command_buffer.now reply_buffer.now) (ask_ifs size)) }
+        ensures blank { IsBlank self.old command_buffer.now → IsBlank self.new command_buffer.now }
+        ensures refused { IfErr result (λ _. self.new ≡ self.old) }
     {
         let acted = self.asks_ifs(command_buffer, reply_buffer, size);
         self.put(command_buffer, reply_buffer, acted, out)
@@ -206,6 +216,7 @@ impl LentCard {
             (card_held self.now command_buffer.now reply_buffer.now) acted)
             out.old out.new result }
         ensures fits { IfOk result FitsCardPut }
+        ensures refused { IfErr result (λ fault. acted ≡ Err fault) }
     {
         match acted {
             Ok(CardAct::Send(sent)) => Ok(EncodedCardTurn::Send(

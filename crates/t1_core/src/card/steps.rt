@@ -1,12 +1,11 @@
 //! What the card does at each call, and the block that it sends, from what it keeps.
 
-ghost use Rattle.std.specs.Prelude.{◌≡◌, ◌≤◌, length};
+ghost use Rattle.std.specs.Prelude.{◌≡◌, ◌≤◌, length, IfErr};
 ghost use Rattle.t1_core.specs.Came.{class_of, info};
-ghost use Rattle.t1_core.specs.CardViews.{card_held, IsLentCard, field_of};
+ghost use Rattle.t1_core.specs.CardViews.{card_held, IsLentCard, IsBlank, field_of};
 ghost use Rattle.t1_core.specs.Sending.{field_saved, card_sends, card_answers};
 ghost use Rattle.t1_core.specs.Card.{takes, replies, more_time, ask_ifs, card_turn, turn_of, state_after};
 
-use crate::buffers::append;
 use crate::class::classify;
 use crate::cutting::field_in;
 use crate::guards::if_host;
@@ -15,6 +14,7 @@ use crate::replying::next_block;
 use crate::sending::{CardAct, Sent};
 use crate::turns::{CardAsked, CardFault, CardWait};
 use block_core::{BlockRef, Pcb};
+use chain_core::append;
 use octet_core::is_reserved;
 
 impl LentCard {
@@ -34,6 +34,9 @@ impl LentCard {
             ≡ state_after (card_held self.old command_buffer.old reply_buffer.now)
             (card_turn (card_held self.old command_buffer.old reply_buffer.now)
             (takes (class_of (card_held self.old command_buffer.old reply_buffer.now).ifsc octets.now))) }
+        ensures blank { IsBlank self.old command_buffer.old → IsBlank self.new command_buffer.new }
+        ensures refused { IfErr result
+            (λ _. (self.new ≡ self.old) × (command_buffer.new ≡ command_buffer.old)) }
     {
         let arrived = classify(octets, self.ifsc);
         match self.wait {
@@ -67,6 +70,9 @@ impl LentCard {
         ensures state { card_held self.new command_buffer.now reply_buffer.new
             ≡ state_after (card_held self.old command_buffer.now reply_buffer.old)
             (card_turn (card_held self.old command_buffer.now reply_buffer.old) (replies octets.now)) }
+        ensures blank { IsBlank self.old command_buffer.now → IsBlank self.new command_buffer.now }
+        ensures refused { IfErr result
+            (λ _. (self.new ≡ self.old) × (reply_buffer.new ≡ reply_buffer.old)) }
     {
         if_host(self.wait)?;
         if octets.len() > self.most_reply {
@@ -93,6 +99,8 @@ impl LentCard {
         ensures state { card_held self.new command_buffer.now reply_buffer.now
             ≡ state_after (card_held self.old command_buffer.now reply_buffer.now)
             (card_turn (card_held self.old command_buffer.now reply_buffer.now) (more_time multiple)) }
+        ensures blank { IsBlank self.old command_buffer.now → IsBlank self.new command_buffer.now }
+        ensures refused { IfErr result (λ _. self.new ≡ self.old) }
     {
         if_host(self.wait)?;
         let request = CardAsked::Time(multiple);
@@ -114,6 +122,8 @@ impl LentCard {
         ensures state { card_held self.new command_buffer.now reply_buffer.now
             ≡ state_after (card_held self.old command_buffer.now reply_buffer.now)
             (card_turn (card_held self.old command_buffer.now reply_buffer.now) (ask_ifs size)) }
+        ensures blank { IsBlank self.old command_buffer.now → IsBlank self.new command_buffer.now }
+        ensures refused { IfErr result (λ _. self.new ≡ self.old) }
     {
         if_host(self.wait)?;
         if is_reserved(size) {

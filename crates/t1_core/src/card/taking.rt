@@ -1,15 +1,14 @@
 //! What the card does with what came, in each state.
 
-ghost use Rattle.std.specs.Prelude.{◌≡◌, ◌≤◌, ◌+◌, ◌++◌, length, []};
+ghost use Rattle.std.specs.Prelude.{◌≡◌, ◌≤◌, ◌+◌, ◌++◌, ℕ, List, length, take, []};
 ghost use Rattle.block_core.specs.declared.pcb.Fault.TheVariants.{Free};
 ghost use Rattle.block_core.specs.declared.pcb.Pcb.TheVariants.{Ready};
 ghost use Rattle.t1_core.specs.Came.{got};
 ghost use Rattle.t1_core.specs.Views.{came_of};
-ghost use Rattle.t1_core.specs.CardViews.{card_held, IsLentCard, field_of, rest_of, taken_of, request_of, IsTaking, IsRequest};
+ghost use Rattle.t1_core.specs.CardViews.{card_held, IsLentCard, field_of, rest_of, taken_of, request_of, IsTaking, IsRequest, IsBlank, IsBlankAfter};
 ghost use Rattle.t1_core.specs.Sending.{card_does};
 ghost use Rattle.t1_core.specs.Card.{command, reply, asking, card_came, in_either, in_reply, joins, sends_saved, resynched, turn_of, state_after};
 
-use crate::buffers::append;
 use crate::class::Arrived;
 use crate::lent::LentCard;
 use crate::replying::{acknowledged, next_block};
@@ -17,6 +16,7 @@ use crate::sending::{CardAct, Sent, Short};
 use crate::terminal::FIRST_IFSD;
 use crate::turns::{CardAsked, CardWait};
 use block_core::{Fault, Number, Pcb, S};
+use chain_core::{append, overwrite_front};
 
 impl LentCard {
     /// Takes what came while the card waits for a block of a command.
@@ -39,6 +39,7 @@ impl LentCard {
             (card_came (card_held self.old command_buffer.old reply_buffer.now)
             (command (taken_of (card_held self.old command_buffer.old reply_buffer.now).waits))
             (came_of arrived.now)) }
+        ensures blank { IsBlank self.old command_buffer.old → IsBlank self.new command_buffer.new }
     {
         match arrived {
             Arrived::Damaged | Arrived::Invalid => self.either_took(
@@ -71,24 +72,25 @@ impl LentCard {
     /// Takes what came while the card sends a reply, before its last I-block.
     pub(super) fn reply_took(
         &mut self,
-        command_buffer: &[u8],
+        command_buffer: &mut [u8],
         reply_buffer: &[u8],
         arrived: &Arrived,
     ) -> CardAct
-        requires fit { IsLentCard self.old (length command_buffer.now) (length reply_buffer.now) }
-        requires waits { (card_held self.old command_buffer.now reply_buffer.now).waits
-            ≡ reply (field_of (card_held self.old command_buffer.now reply_buffer.now).waits)
-            (rest_of (card_held self.old command_buffer.now reply_buffer.now).waits) }
-        ensures fit { IsLentCard self.new (length command_buffer.now) (length reply_buffer.now) }
-        ensures turn { turn_of (card_came (card_held self.old command_buffer.now reply_buffer.now)
-            (reply (field_of (card_held self.old command_buffer.now reply_buffer.now).waits)
-            (rest_of (card_held self.old command_buffer.now reply_buffer.now).waits)) (came_of arrived.now))
-            ≡ Ok (card_does (card_held self.new command_buffer.now reply_buffer.now) result) }
-        ensures state { card_held self.new command_buffer.now reply_buffer.now
-            ≡ state_after (card_held self.old command_buffer.now reply_buffer.now)
-            (card_came (card_held self.old command_buffer.now reply_buffer.now)
-            (reply (field_of (card_held self.old command_buffer.now reply_buffer.now).waits)
-            (rest_of (card_held self.old command_buffer.now reply_buffer.now).waits)) (came_of arrived.now)) }
+        requires fit { IsLentCard self.old (length command_buffer.old) (length reply_buffer.now) }
+        requires waits { (card_held self.old command_buffer.old reply_buffer.now).waits
+            ≡ reply (field_of (card_held self.old command_buffer.old reply_buffer.now).waits)
+            (rest_of (card_held self.old command_buffer.old reply_buffer.now).waits) }
+        ensures fit { IsLentCard self.new (length command_buffer.new) (length reply_buffer.now) }
+        ensures turn { turn_of (card_came (card_held self.old command_buffer.old reply_buffer.now)
+            (reply (field_of (card_held self.old command_buffer.old reply_buffer.now).waits)
+            (rest_of (card_held self.old command_buffer.old reply_buffer.now).waits)) (came_of arrived.now))
+            ≡ Ok (card_does (card_held self.new command_buffer.new reply_buffer.now) result) }
+        ensures state { card_held self.new command_buffer.new reply_buffer.now
+            ≡ state_after (card_held self.old command_buffer.old reply_buffer.now)
+            (card_came (card_held self.old command_buffer.old reply_buffer.now)
+            (reply (field_of (card_held self.old command_buffer.old reply_buffer.now).waits)
+            (rest_of (card_held self.old command_buffer.old reply_buffer.now).waits)) (came_of arrived.now)) }
+        ensures blank { IsBlank self.old command_buffer.old → IsBlank self.new command_buffer.new }
     {
         match arrived {
             Arrived::Damaged | Arrived::Invalid => self.either_took(
@@ -122,6 +124,7 @@ impl LentCard {
             (in_reply (card_held self.old command_buffer.now reply_buffer.now)
             (field_of (card_held self.old command_buffer.now reply_buffer.now).waits)
             (rest_of (card_held self.old command_buffer.now reply_buffer.now).waits) (got (Ready number Free) [])) }
+        ensures blank { (buffer : List ℕ) → IsBlank self.old buffer → IsBlank self.new buffer }
     {
         let CardWait::Reply(cut) = self.wait else {
             unreachable!()
@@ -143,23 +146,24 @@ impl LentCard {
     /// Takes what came while the card waits for the response to a request.
     pub(super) fn asking_took(
         &mut self,
-        command_buffer: &[u8],
+        command_buffer: &mut [u8],
         reply_buffer: &[u8],
         request: CardAsked,
         arrived: &Arrived,
     ) -> CardAct
-        requires fit { IsLentCard self.old (length command_buffer.now) (length reply_buffer.now) }
-        requires waits { (card_held self.old command_buffer.now reply_buffer.now).waits
+        requires fit { IsLentCard self.old (length command_buffer.old) (length reply_buffer.now) }
+        requires waits { (card_held self.old command_buffer.old reply_buffer.now).waits
             ≡ asking (request_of request) }
         requires request { IsRequest request }
-        ensures fit { IsLentCard self.new (length command_buffer.now) (length reply_buffer.now) }
-        ensures turn { turn_of (card_came (card_held self.old command_buffer.now reply_buffer.now)
+        ensures fit { IsLentCard self.new (length command_buffer.new) (length reply_buffer.now) }
+        ensures turn { turn_of (card_came (card_held self.old command_buffer.old reply_buffer.now)
             (asking (request_of request)) (came_of arrived.now))
-            ≡ Ok (card_does (card_held self.new command_buffer.now reply_buffer.now) result) }
-        ensures state { card_held self.new command_buffer.now reply_buffer.now
-            ≡ state_after (card_held self.old command_buffer.now reply_buffer.now)
-            (card_came (card_held self.old command_buffer.now reply_buffer.now) (asking (request_of request))
+            ≡ Ok (card_does (card_held self.new command_buffer.new reply_buffer.now) result) }
+        ensures state { card_held self.new command_buffer.new reply_buffer.now
+            ≡ state_after (card_held self.old command_buffer.old reply_buffer.now)
+            (card_came (card_held self.old command_buffer.old reply_buffer.now) (asking (request_of request))
             (came_of arrived.now)) }
+        ensures blank { IsBlank self.old command_buffer.old → IsBlank self.new command_buffer.new }
     {
         match arrived {
             Arrived::Damaged | Arrived::Invalid => CardAct::Send(Sent::Other(request.block())),
@@ -195,6 +199,7 @@ impl LentCard {
         ensures state { card_held self.new command_buffer.now reply_buffer.now
             ≡ state_after (card_held self.old command_buffer.now reply_buffer.now)
             (in_either (card_held self.old command_buffer.now reply_buffer.now) (came_of arrived.now)) }
+        ensures blank { (buffer : List ℕ) → IsBlank self.old buffer → IsBlank self.new buffer }
     {
         let fault = match arrived {
             Arrived::Damaged => Fault::Redundancy,
@@ -231,12 +236,10 @@ impl LentCard {
             ≡ state_after (card_held self.old command_buffer.old reply_buffer.now)
             (joins (card_held self.old command_buffer.old reply_buffer.now)
             (taken_of (card_held self.old command_buffer.old reply_buffer.now).waits ++ inf.now) more) }
+        ensures blank { IsBlank self.old command_buffer.old → IsBlank self.new command_buffer.new }
     {
-        self.command_len = append(
-            command_buffer,
-            self.taken_len(command_buffer, reply_buffer),
-            inf,
-        );
+        let taken = self.opened(command_buffer, reply_buffer);
+        self.command_len = append(command_buffer, taken, inf);
         self.number = acknowledged(self.saved, self.number);
         self.saved = None;
         self.expected = self.expected.other();
@@ -247,6 +250,24 @@ impl LentCard {
             self.wait = CardWait::Host;
             CardAct::Asked
         }
+    }
+
+    /// Returns how many octets of a command came so far. Before the first block of a command, it overwrites the last
+    /// command.
+    fn opened(&self, command_buffer: &mut [u8], reply_buffer: &[u8]) -> usize
+        requires fit { IsLentCard self.now (length command_buffer.old) (length reply_buffer.now) }
+        ensures taken { result ≡ length (taken_of
+            (card_held self.now command_buffer.old reply_buffer.now).waits) }
+        ensures kept { take result command_buffer.new ≡ take result command_buffer.old }
+        ensures room { length command_buffer.new ≡ length command_buffer.old }
+        ensures blank { IsBlank self.now command_buffer.old
+            → IsBlankAfter result command_buffer.new }
+    {
+        let taken = self.taken_len(command_buffer, reply_buffer);
+        if taken == 0 {
+            overwrite_front(command_buffer, self.command_len);
+        }
+        taken
     }
 
     /// Returns how many octets of a command came so far.
@@ -273,6 +294,7 @@ impl LentCard {
             ≡ state_after (card_held self.old command_buffer.now reply_buffer.now)
             (sends_saved (card_held self.old command_buffer.now reply_buffer.now)
             (card_held self.old command_buffer.now reply_buffer.now).saved is_own) }
+        ensures blank { (buffer : List ℕ) → IsBlank self.old buffer → IsBlank self.new buffer }
     {
         match self.saved {
             Some(_) if is_own => CardAct::Send(Sent::Last),
@@ -281,20 +303,22 @@ impl LentCard {
     }
 
     /// Resets the card for RESYNCH: it is as at the start, with no command.
-    fn resynched(&mut self, command_buffer: &[u8], reply_buffer: &[u8]) -> CardAct
-        requires fit { IsLentCard self.old (length command_buffer.now) (length reply_buffer.now) }
-        ensures fit { IsLentCard self.new (length command_buffer.now) (length reply_buffer.now) }
-        ensures turn { turn_of (resynched (card_held self.old command_buffer.now reply_buffer.now))
-            ≡ Ok (card_does (card_held self.new command_buffer.now reply_buffer.now) result) }
-        ensures state { card_held self.new command_buffer.now reply_buffer.now
-            ≡ state_after (card_held self.old command_buffer.now reply_buffer.now)
-            (resynched (card_held self.old command_buffer.now reply_buffer.now)) }
+    fn resynched(&mut self, command_buffer: &mut [u8], reply_buffer: &[u8]) -> CardAct
+        requires fit { IsLentCard self.old (length command_buffer.old) (length reply_buffer.now) }
+        ensures fit { IsLentCard self.new (length command_buffer.new) (length reply_buffer.now) }
+        ensures turn { turn_of (resynched (card_held self.old command_buffer.old reply_buffer.now))
+            ≡ Ok (card_does (card_held self.new command_buffer.new reply_buffer.now) result) }
+        ensures state { card_held self.new command_buffer.new reply_buffer.now
+            ≡ state_after (card_held self.old command_buffer.old reply_buffer.now)
+            (resynched (card_held self.old command_buffer.old reply_buffer.now)) }
+        ensures blank { IsBlank self.old command_buffer.old → IsBlank self.new command_buffer.new }
     {
         self.number = Number::Zero;
         self.expected = Number::Zero;
         self.saved = None;
         self.ifsc = self.first_ifsc;
         self.ifsd = FIRST_IFSD;
+        overwrite_front(command_buffer, self.command_len);
         self.command_len = 0;
         self.wait = CardWait::Command;
         CardAct::Send(Sent::Other(Short::response(S::Resynch, &[])))

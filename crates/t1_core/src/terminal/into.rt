@@ -1,6 +1,6 @@
 //! The calls of the terminal that write the octets of a block into the caller's buffer.
 
-ghost use Rattle.std.specs.Prelude.{◌≡◌, ◌≤◌, length, IfOk};
+ghost use Rattle.std.specs.Prelude.{◌≡◌, ◌≤◌, length, IfOk, IfErr, Err};
 ghost use Rattle.t1_core.specs.Came.{class_of, quiet};
 ghost use Rattle.t1_core.specs.Put.{IsTerminalPut, FitsTerminalPut};
 ghost use Rattle.t1_core.specs.Sending.{terminal_answers};
@@ -112,6 +112,8 @@ impl LentTerminal {
         ensures state { terminal_held self.new command_buffer.new answer_buffer.now
             ≡ state_after (terminal_held self.old command_buffer.old answer_buffer.now)
             (terminal_turn (terminal_held self.old command_buffer.old answer_buffer.now) (transmit command.now)) }
+        ensures refused { IfErr result
+            (λ _. (self.new ≡ self.old) × (command_buffer.new ≡ command_buffer.old)) }
     {
         let acted = self.transmits(command_buffer, answer_buffer, command);
         self.put(command_buffer, answer_buffer, acted, out)
@@ -137,6 +139,7 @@ impl LentTerminal {
         ensures state { terminal_held self.new command_buffer.now answer_buffer.now
             ≡ state_after (terminal_held self.old command_buffer.now answer_buffer.now)
             (terminal_turn (terminal_held self.old command_buffer.now answer_buffer.now) (ask_ifs size)) }
+        ensures refused { IfErr result (λ _. self.new ≡ self.old) }
     {
         let acted = self.asks_ifs(command_buffer, answer_buffer, size);
         self.put(command_buffer, answer_buffer, acted, out)
@@ -164,6 +167,8 @@ impl LentTerminal {
             ≡ state_after (terminal_held self.old command_buffer.now answer_buffer.old)
             (terminal_turn (terminal_held self.old command_buffer.now answer_buffer.old)
             (takes (class_of (terminal_held self.old command_buffer.now answer_buffer.old).ifsd octets.now))) }
+        ensures refused { IfErr result
+            (λ _. (self.new ≡ self.old) × (answer_buffer.new ≡ answer_buffer.old)) }
     {
         let acted = self.takes(command_buffer, answer_buffer, octets);
         self.put(command_buffer, answer_buffer, acted, out)
@@ -188,6 +193,7 @@ impl LentTerminal {
         ensures state { terminal_held self.new command_buffer.now answer_buffer.now
             ≡ state_after (terminal_held self.old command_buffer.now answer_buffer.now)
             (terminal_turn (terminal_held self.old command_buffer.now answer_buffer.now) (takes quiet)) }
+        ensures refused { IfErr result (λ _. self.new ≡ self.old) }
     {
         let acted = self.hears_nothing(command_buffer, answer_buffer);
         self.put(command_buffer, answer_buffer, acted, out)
@@ -211,6 +217,7 @@ impl LentTerminal {
             (terminal_answers (terminal_held self.now command_buffer.now answer_buffer.now) acted) out.old out.new
             result }
         ensures fits { IfOk result FitsTerminalPut }
+        ensures refused { IfErr result (λ fault. acted ≡ Err fault) }
     {
         match acted {
             Ok(TerminalAct::Send(sent)) => {

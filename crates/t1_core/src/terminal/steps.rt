@@ -1,12 +1,11 @@
 //! What the terminal does at each call, and the block that it sends, from what it keeps.
 
-ghost use Rattle.std.specs.Prelude.{◌≡◌, ◌≤◌, length, drop, false};
+ghost use Rattle.std.specs.Prelude.{◌≡◌, ◌≤◌, length, drop, false, IfErr};
 ghost use Rattle.t1_core.specs.Came.{class_of, quiet, info};
 ghost use Rattle.t1_core.specs.Views.{terminal_held, IsLentTerminal};
 ghost use Rattle.t1_core.specs.Sending.{field_sent, terminal_sends, terminal_does, terminal_answers};
 ghost use Rattle.t1_core.specs.Terminal.{takes, transmit, ask_ifs, terminal_turn, sends_next, turn_of, state_after};
 
-use crate::buffers::append;
 use crate::class::classify;
 use crate::cutting::field_in;
 use crate::guards::if_idle;
@@ -14,6 +13,7 @@ use crate::lent::LentTerminal;
 use crate::sending::{Sent, Short, TerminalAct};
 use crate::turns::{Cut, TerminalFault, TerminalWait};
 use block_core::{BlockRef, Fault, Pcb, S};
+use chain_core::append;
 use octet_core::is_reserved;
 
 impl LentTerminal {
@@ -35,6 +35,8 @@ impl LentTerminal {
         ensures state { terminal_held self.new command_buffer.new answer_buffer.now
             ≡ state_after (terminal_held self.old command_buffer.old answer_buffer.now)
             (terminal_turn (terminal_held self.old command_buffer.old answer_buffer.now) (transmit command.now)) }
+        ensures refused { IfErr result
+            (λ _. (self.new ≡ self.old) × (command_buffer.new ≡ command_buffer.old)) }
     {
         if_idle(self.wait)?;
         if command.len() > self.most_command {
@@ -63,6 +65,7 @@ impl LentTerminal {
         ensures state { terminal_held self.new command_buffer.now answer_buffer.now
             ≡ state_after (terminal_held self.old command_buffer.now answer_buffer.now)
             (terminal_turn (terminal_held self.old command_buffer.now answer_buffer.now) (ask_ifs size)) }
+        ensures refused { IfErr result (λ _. self.new ≡ self.old) }
     {
         if_idle(self.wait)?;
         if is_reserved(size) {
@@ -92,6 +95,8 @@ impl LentTerminal {
             ≡ state_after (terminal_held self.old command_buffer.now answer_buffer.old)
             (terminal_turn (terminal_held self.old command_buffer.now answer_buffer.old)
             (takes (class_of (terminal_held self.old command_buffer.now answer_buffer.old).ifsd octets.now))) }
+        ensures refused { IfErr result
+            (λ _. (self.new ≡ self.old) × (answer_buffer.new ≡ answer_buffer.old)) }
     {
         let arrived = classify(octets, self.ifsd);
         match self.wait {
@@ -141,6 +146,7 @@ impl LentTerminal {
         ensures state { terminal_held self.new command_buffer.now answer_buffer.now
             ≡ state_after (terminal_held self.old command_buffer.now answer_buffer.now)
             (terminal_turn (terminal_held self.old command_buffer.now answer_buffer.now) (takes quiet)) }
+        ensures refused { IfErr result (λ _. self.new ≡ self.old) }
     {
         match self.wait {
             TerminalWait::Idle => Err(TerminalFault::Idle),

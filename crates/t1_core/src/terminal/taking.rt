@@ -6,13 +6,13 @@ ghost use Rattle.t1_core.specs.Views.{terminal_held, IsLentTerminal, came_of, fi
 ghost use Rattle.t1_core.specs.Sending.{terminal_sends, terminal_does};
 ghost use Rattle.t1_core.specs.Terminal.{ack, answer, more, in_exchange, in_ack, in_answer, in_more, in_ifs, joins, fails, turn_of, state_after};
 
-use crate::buffers::append;
 use crate::class::Arrived;
 use crate::lent::LentTerminal;
 use crate::sending::{Sent, Short, TerminalAct};
 use crate::terminal::MOST_REPEATS;
 use crate::turns::{Cut, TerminalWait};
 use block_core::{Fault, Pcb, S};
+use chain_core::append;
 
 impl LentTerminal {
     /// Takes what came while the terminal sends a command, before its last I-block.

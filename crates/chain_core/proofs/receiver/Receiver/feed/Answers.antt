@@ -2,13 +2,12 @@ use Rattle.std.proofs.Common.{subst}
 use Rattle.chain_core.specs.Taking.{Taking}
 use Rattle.chain_core.specs.Receiving.{Fed}
 use Rattle.chain_core.specs.Lent.{received_at}
-use Rattle.chain_core.specs.Wiped.{held_in}
 use Rattle.chain_core.proofs.Feeds.{before-all, fed-answered, fed-taken}
 use Rattle.chain_core.proofs.receiver.Receiver.feed.Goals as goal
 
 -- what the receiver is after the piece
 abbrev after : goal.After-answer → Taking
-after c = received_at c.take-taken.new.self (held_in c.take-taken.new.store)
+after c = received_at c.take-taken.new.self c.take-taken.new.store.octets
 
 -- what it did over the piece
 fed : (c : goal.After-answer) → Fed c.args.self.now (after c) c.args.piece.now c.take-taken.result
@@ -18,7 +17,7 @@ fed c = subst (λ (r : Taking). Fed r (after c) c.args.piece.now c.take-taken.re
 pub invariant_of-self : goal.invariant_of-self
 invariant_of-self c = record {
   stored = c.take-taken.ensures.stored;
-  taken = fed-taken (received_at c.self.inside.state (held_in c.self.inside.message)) (after c) c.args.piece.now
+  taken = fed-taken (received_at c.self.inside.state c.self.inside.message.octets) (after c) c.args.piece.now
       c.take-taken.result c.take-taken.ensures.fed c.self.invariant.taken;
 }
 

@@ -1,14 +1,13 @@
 use Rattle.std.proofs.Common.{◌≡◌, ◌∙◌, ℕ, List, None, arith, ap, subst}
 use Rattle.chain_core.specs.Taking.{Taking, HasTaken}
 use Rattle.chain_core.specs.Receiving.{end_answer}
-use Rattle.chain_core.specs.Wiped.{held_in}
 use Rattle.chain_core.proofs.Feeds.{ended-finished, says}
 use Rattle.chain_core.proofs.receiver.Receiver.finish.Goals as goal
 
 -- what it answers
 answered : (c : goal.After-finish) → c.finish.result ≡ end_answer c.args.self.now
 answered c =
-    c.finish.ensures.answer (held_in c.self.inside.message) (omega (arith, c.self.invariant.stored.after))
+    c.finish.ensures.answer c.self.inside.message.octets (omega (arith, c.self.invariant.stored.after))
     ∙ ap end_answer c.self.view_is
 
 pub finish-requires : goal.finish-requires
