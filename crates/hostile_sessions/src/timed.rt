@@ -29,6 +29,7 @@ const SILENCES: Silences = Silences {
     bwt: 1_000,
     cwt: 100,
     after: 22,
+    refuses_empty: true,
 };
 
 /// How many octets a reply has, more than one block takes: zeros, and at the end a number and the status bytes.

@@ -65,7 +65,7 @@ acts (came (failure fault) ∷ events) most hears c next ending more last (some,
 acts (came arrival ∷ events) most asks c next ending more last never h = absurd never
 acts (came arrival ∷ events) most (says parts) c next ending more last never h = absurd never
 acts (came arrival ∷ events) most (ends how) c next ending more last never h = absurd never
-acts (asked command reply ∷ events) most asks c next ending more last (is, run) h =
+acts (asked command reply ∷ events) most asks c next ending more last (is, short, run) h =
     (is, acts events most _ (state_after c (card_turn c (replies reply))) next ending more last run h)
 acts (asked command reply ∷ events) most hears c next ending more last never h = absurd never
 acts (asked command reply ∷ events) most (says parts) c next ending more last never h = absurd never

@@ -1,5 +1,5 @@
 -- Serving under way: what has happened so far, and what is left of it.
-use Rattle.std.proofs.Common.{◌≡◌, ◌≤◌, ℕ, ◌-◌, List, [], ◌∷◌, ◌++◌, take, Bool, true, false, Result, Ok, Err, append_assoc, refl, ap, subst}
+use Rattle.std.proofs.Common.{◌≡◌, ◌≤◌, ℕ, ◌-◌, List, [], ◌∷◌, ◌++◌, take, Bool, true, false, if◌then◌else◌, Result, Ok, Err, append_assoc, refl, ap, subst}
 use Rattle.std.proofs.lemmas.List.{append-nil}
 use Rattle.std.specs.declared.io.Error.{Error}
 use Rattle.block_core.specs.Block.{Parts}
@@ -11,7 +11,7 @@ use Rattle.t1_core.specs.declared.turns.CardFault.{CardFault}
 use Rattle.line_core.specs.declared.serving.ServeFault.{ServeFault}
 use Rattle.line_core.specs.declared.serving.ServeFault.TheVariants.{Line, Refused}
 use Rattle.line_core.specs.Line.{Arrival, block, nothing, failure}
-use Rattle.line_core.specs.Service.{Event, came, asked, sent, unsent, on_line, at_host, Happens, Ending, over, line_failed, used_up, refused, ending_of, Doing, hears, says, doing_of, doing_after, left_after, Serves, IsAnswer, IsReply, IsRound}
+use Rattle.line_core.specs.Service.{Event, came, asked, sent, unsent, on_line, at_host, is_short, IsReplyTo, Happens, Ending, over, line_failed, used_up, refused, ending_of, Doing, hears, says, doing_of, doing_after, left_after, Serves, IsAnswer, IsReply, IsRound}
 use Rattle.line_core.proofs.Replying.{IsGiven}
 
 -- events and more of them have on the line those of the first and then those of the others
@@ -22,11 +22,17 @@ on_line-append (asked command reply ∷ a) b = on_line-append a b
 on_line-append (sent octets ∷ a) b = ap (λ l. sent octets ∷ l) (on_line-append a b)
 on_line-append (unsent octets fault ∷ a) b = ap (λ l. unsent octets fault ∷ l) (on_line-append a b)
 
+host-first : (is_short : Bool) (event : Event) (all a b : List Event) → all ≡ a ++ b
+    → (if is_short then all else (event ∷ all)) ≡ (if is_short then a else (event ∷ a)) ++ b
+host-first true event all a b same = same
+host-first false event all a b same = ap (λ l. event ∷ l) same
+
 -- and the same at the host
 pub at_host-append : (a b : List Event) → at_host (a ++ b) ≡ at_host a ++ at_host b
 at_host-append [] b = refl
 at_host-append (came arrival ∷ a) b = at_host-append a b
-at_host-append (asked command reply ∷ a) b = ap (λ l. asked command reply ∷ l) (at_host-append a b)
+at_host-append (asked command reply ∷ a) b =
+    host-first (is_short command) (asked command reply) (at_host (a ++ b)) (at_host a) (at_host b) (at_host-append a b)
 at_host-append (sent octets ∷ a) b = at_host-append a b
 at_host-append (unsent octets fault ∷ a) b = at_host-append a b
 
@@ -196,13 +202,14 @@ refused-on step c c' inner most is e = rw is (refl, e)
 -- what the host's reply comes to
 abbrev pub Replied : {B : Type 0} → (B → List Event → Type 0) → (B → List Event → Type 0) → CardState → List ℕ
     → Result ℕ CardFault → CardState → Type 0
-Replied h h' c out result c' = (reply : List ℕ) × Happens h h' (asked c.command reply ∷ [])
-    × IsReply (turn_of (card_turn c (replies reply))) out result × (c' ≡ state_after c (card_turn c (replies reply)))
+Replied h h' c out result c' = (reply : List ℕ) × IsReplyTo c.command reply
+    × Happens h h' (at_host (asked c.command reply ∷ [])) × IsReply (turn_of (card_turn c (replies reply))) out result
+    × (c' ≡ state_after c (card_turn c (replies reply)))
 
 replied-here : {B : Type 0} (h h' : B → List Event → Type 0) (turn : Result CardTurn CardFault) (c c' : CardState)
     (out : List ℕ) (count : ℕ) → turn ≡ Ok Asked → Replied h h' c out (Ok count) c'
     → Answers h h' (doing_of turn) c out (Ok count) c'
-replied-here h h' turn c c' out count is (reply, served, (parts, sends, spells), e) = (
+replied-here h h' turn c c' out count is (reply, short, served, (parts, sends, spells), e) = (
   asked c.command reply ∷ [],
   refl,
   served,
@@ -210,7 +217,7 @@ replied-here h h' turn c c' out count is (reply, served, (parts, sends, spells),
     parts,
     spells,
     λ most more ending left run.
-        rw is (refl, sent-on (card_turn c (replies reply)) c c' parts most more ending left sends e run),
+        rw is (refl, short, sent-on (card_turn c (replies reply)) c c' parts most more ending left sends e run),
   ),
 )
 
@@ -225,11 +232,11 @@ answers-replied h h' turn c here c' out count is e replied =
 refused-here : {B : Type 0} (h h' : B → List Event → Type 0) (turn : Result CardTurn CardFault) (c c' : CardState)
     (out : List ℕ) (inner : CardFault) → turn ≡ Ok Asked → Replied h h' c out (Err inner) c'
     → Answers h h' (doing_of turn) c out (Err (Refused inner)) c'
-refused-here h h' turn c c' out inner is (reply, served, refuses-it, e) = (
+refused-here h h' turn c c' out inner is (reply, short, served, refuses-it, e) = (
   asked c.command reply ∷ [],
   refl,
   served,
-  λ most. rw is (refl, refused-on (card_turn c (replies reply)) c c' inner most refuses-it e),
+  λ most. rw is (refl, short, refused-on (card_turn c (replies reply)) c c' inner most refuses-it e),
 )
 
 -- the card asks its host, and refuses the reply

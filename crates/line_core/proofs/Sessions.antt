@@ -8,7 +8,7 @@ use Rattle.t1_core.specs.Card as card
 use Rattle.t1_core.specs.Link.{answered}
 use Rattle.line_core.specs.Line.{block, nothing}
 use Rattle.line_core.specs.Exchange.{done, left_after}
-use Rattle.line_core.specs.Service.{Event, came, asked, sent, used_up}
+use Rattle.line_core.specs.Service.{Event, came, asked, sent, used_up, IsReplyTo}
 use Rattle.line_core.specs.Service as at_card
 use Rattle.line_core.specs.Joined.{Trip, Call, TwoEnds, exchanges_of, events_of, services_of, faults_of}
 
@@ -35,6 +35,9 @@ ready_other = 0x00 ∷ 0x82 ∷ 0x00 ∷ 0x82 ∷ []
 
 reply-octets : AreOctets reply
 reply-octets = octets_by reply refl
+
+not-short : IsReplyTo select reply
+not-short is = cc
 
 -- The command's block is lost; asked for it, it comes and the host replies; the reply comes as no octets, and is sent
 -- again.
@@ -95,7 +98,7 @@ session = record {
     last,
     (
       omega arith,
-      (refl, (omega arith, (refl, (refl, (omega arith, (refl, (refl, refl, refl))))))),
+      (refl, (omega arith, (refl, not-short, (refl, (omega arith, (refl, (refl, refl, refl))))))),
     ),
     refl,
   );

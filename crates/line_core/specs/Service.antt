@@ -1,5 +1,5 @@
 -- A card that serves what comes over a line, by its table, what came and what its host replies.
-use Rattle.std.specs.Prelude.{◌≡◌, ◌≤◌, ℕ, ◌-◌, List, [], ◌∷◌, ◌++◌, take, Bool, true, false, Result, Ok, Err}
+use Rattle.std.specs.Prelude.{◌≡◌, ◌≤◌, ℕ, ◌-◌, List, [], ◌∷◌, ◌++◌, length, take, nat_lt, if◌then◌else◌, Bool, true, false, Result, Ok, Err}
 use Rattle.std.specs.declared.io.Error.{Error}
 use Rattle.block_core.specs.Block.{Parts, spelling}
 use Rattle.t1_core.specs.Came.{class_of}
@@ -11,15 +11,31 @@ use Rattle.line_core.specs.declared.serving.ServeFault.{ServeFault}
 use Rattle.line_core.specs.declared.serving.ServeFault.TheVariants.{Line, UsedUp, Refused}
 use Rattle.line_core.specs.Line.{Arrival, block, nothing, failure}
 
--- What happens at the card: something came, or the line said that no more comes; the host was passed a command, and
--- this is its reply; a block was sent, or the line failed to send it, with this error.
+-- What happens at the card: something came, or the line said that no more comes; a command is complete, and this is the
+-- host's reply, or the reply for the host; a block was sent, or the line failed to send it, with this error.
 pub data Event : Type 0 where
   came : (arrival : Arrival) → Event
   asked : (command reply : List ℕ) → Event
   sent : (octets : List ℕ) → Event
   unsent : (octets : List ℕ) (fault : Error) → Event
 
--- the events on the line; `at_host` has the others
+-- Fewer octets than a command has: CLA, INS, P1 and P2 (ISO/IEC 7816-4, clause 5.1).
+abbrev pub is_short : List ℕ → Bool
+is_short command = nat_lt (length command) 4
+
+-- SW 6700, wrong length (ISO/IEC 7816-4, clause 5.1.3)
+abbrev pub wrong_length : List ℕ
+wrong_length = 0x67 ∷ 0x00 ∷ []
+
+-- the reply to a message: 6700 for its host if the message is too short for a command (own), else that of the host
+abbrev pub reply_by : Bool → List ℕ → List ℕ
+reply_by true reply = wrong_length
+reply_by false reply = reply
+
+abbrev pub IsReplyTo : List ℕ → List ℕ → Type 0
+IsReplyTo command reply = is_short command ≡ true → reply ≡ wrong_length
+
+-- the events on the line
 abbrev pub on_line : List Event → List Event
 on_line [] = []
 on_line (asked command reply ∷ events) = on_line events
@@ -27,9 +43,11 @@ on_line (came arrival ∷ events) = came arrival ∷ on_line events
 on_line (sent octets ∷ events) = sent octets ∷ on_line events
 on_line (unsent octets fault ∷ events) = unsent octets fault ∷ on_line events
 
+-- the events at the host: it isn't asked about a message that is too short for a command
 abbrev pub at_host : List Event → List Event
 at_host [] = []
-at_host (asked command reply ∷ events) = asked command reply ∷ at_host events
+at_host (asked command reply ∷ events) =
+    if is_short command then at_host events else (asked command reply ∷ at_host events)
 at_host (came arrival ∷ events) = at_host events
 at_host (sent octets ∷ events) = at_host events
 at_host (unsent octets fault ∷ events) = at_host events
@@ -86,7 +104,7 @@ Serves most hears c (came arrival ∷ events) ending left =
     (1 ≤ most) × Serves (most - 1) (doing_after c arrival) (left_after c arrival) events ending left
 Serves most hears c [] ending left = (most ≡ 0) × (ending ≡ used_up) × (left ≡ c)
 Serves most asks c (asked command reply ∷ events) ending left =
-    (command ≡ c.command) × Serves most (doing_of (turn_of (card_turn c (replies reply))))
+    (command ≡ c.command) × IsReplyTo command reply × Serves most (doing_of (turn_of (card_turn c (replies reply))))
     (state_after c (card_turn c (replies reply))) events ending left
 Serves most (says parts) c (sent octets ∷ events) ending left =
     (octets ≡ spelling parts) × Serves most hears c events ending left

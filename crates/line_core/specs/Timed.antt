@@ -1,12 +1,12 @@
 -- A line over a device with a clock: what its device heard and said, and the talk, or the event of a card, that follows
 -- from it. The clauses are those of ISO/IEC 7816-3:2006. What this project adds is marked (own).
-use Rattle.std.specs.Prelude.{◌≡◌, ◌<◌, ◌⊎◌, ℕ, ◌-◌, ◌*◌, ◌/◌, List, [], ◌∷◌, ◌++◌, length, take, min, max, true, if◌then◌else◌, Result, Ok, Err}
+use Rattle.std.specs.Prelude.{◌≡◌, ◌<◌, ◌⊎◌, ℕ, ◌-◌, ◌*◌, ◌/◌, List, [], ◌∷◌, ◌++◌, length, take, min, max, Bool, true, ◌&&◌, if◌then◌else◌, Result, Ok, Err}
 use Rattle.std.specs.IoError.{error_kind}
 use Rattle.std.specs.declared.io.Error.{Error}
 use Rattle.std.specs.declared.io.ErrorKind.TheVariants.{TimedOut}
 use Rattle.line_core.specs.declared.timed.Silences.{Silences}
 use Rattle.line_core.specs.declared.timed.TimedLine.{TimedLine}
-use Rattle.line_core.specs.Bursts.{handed, is_whole, wait_of}
+use Rattle.line_core.specs.Bursts.{handed, is_whole, is_empty_info, wait_of}
 use Rattle.line_core.specs.Line.{Arrival, block, nothing, failure, Talk}
 use Rattle.line_core.specs.Service.{Event, came as arrives, asked, sent, unsent}
 
@@ -102,11 +102,20 @@ abbrev pub heard_by : Result (Unit {0}) Error → List ℕ → Result (List ℕ)
 heard_by (Ok done) burst = Ok burst
 heard_by (Err fault) burst = Err fault
 
--- what came to the end: the first octets of the burst, as one block
-abbrev pub arrival_from : Result (List ℕ) Error → Arrival
-arrival_from (Ok []) = nothing
-arrival_from (Ok (octet ∷ octets)) = block (take handed (octet ∷ octets))
-arrival_from (Err fault) = failure fault
+-- a block with a wrong check octet
+abbrev pub damaged_block : List ℕ
+damaged_block = 0x00 ∷ 0x00 ∷ 0x00 ∷ 0x01 ∷ []
+
+-- The octets that an end gets for a burst: its first ones. If the line refuses empty blocks, an I-block without
+-- information is damaged (own).
+abbrev pub handed_of : Bool → List ℕ → List ℕ
+handed_of refuses_empty burst = if refuses_empty && is_empty_info burst then damaged_block else take handed burst
+
+-- what came to the end, as one block
+abbrev pub arrival_from : Bool → Result (List ℕ) Error → Arrival
+arrival_from refuses_empty (Ok []) = nothing
+arrival_from refuses_empty (Ok (octet ∷ octets)) = block (handed_of refuses_empty (octet ∷ octets))
+arrival_from refuses_empty (Err fault) = failure fault
 
 -- How long the line still has to be silent before the end sends. After a burst that isn't a whole block, it has to be
 -- silent so long that a late rest of the burst isn't taken for a block (own).
@@ -119,7 +128,7 @@ pub record Hears (silences : Silences) (first drain : ℕ) (sounds : List Sound)
     Type 0 where
   pub heard : Result (List ℕ) Error
   pub listens : Listens first silences.cwt silences.after most_noise [] sounds heard
-  pub arrived : arrival ≡ arrival_from heard
+  pub arrived : arrival ≡ arrival_from silences.refuses_empty heard
   pub left : owed ≡ owed_after drain heard
 
 -- ---- a talk of a terminal, and an event of a card

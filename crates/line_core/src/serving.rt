@@ -5,7 +5,7 @@ ghost use Rattle.t1_core.specs.Came.{class_of};
 ghost use Rattle.t1_core.specs.Card.{takes, replies, host as owes, card_turn, turn_of, state_after};
 ghost use Rattle.line_core.specs.declared.serving.ServeFault.TheVariants.{Refused};
 ghost use Rattle.line_core.specs.Line.{FitsRoom, arrival_of};
-ghost use Rattle.line_core.specs.Service.{Event, came, asked, sending, on_line, at_host, Happens, hears, Serves, IsRound, IsAnswer, IsReply, ending_of, doing_of};
+ghost use Rattle.line_core.specs.Service.{Event, came, asked, sending, on_line, at_host, is_short, reply_by, IsReplyTo, Happens, hears, Serves, IsRound, IsAnswer, IsReply, ending_of, doing_of};
 
 use crate::exchanging::LONGEST_ARRIVAL;
 use crate::line::Received;
@@ -14,6 +14,12 @@ use std::error::Error;
 use std::fmt::{self, Display, Formatter, Write};
 use std::io;
 use t1_core::{Card, CardFault, EncodedCardTurn};
+
+/// No command of ISO/IEC 7816-4 has fewer octets: CLA, INS, P1 and P2 (clause 5.1).
+const SHORTEST_COMMAND: usize = 4;
+
+/// The reply to a message that is too short for a command: SW 6700, wrong length (ISO/IEC 7816-4, clause 5.1.3).
+const WRONG_LENGTH: &[u8] = &[0x67, 0x00];
 
 /// The line of a card, as a card or a simulator of one has it.
 ///
@@ -96,8 +102,10 @@ impl From<CardFault> for ServeFault {
 /// Serves what comes over the line to a card, until the line says that no more comes (ISO/IEC 7816-3, clause 11.6).
 ///
 /// The call passes what comes to the card, sends the blocks that the card's table requires, and nothing else. When the
-/// table says that a command is complete, the host acts on it once, and the call passes its reply to the card. At most
-/// `most_blocks` blocks are waited for. After `UsedUp` each of them is answered, and a further call continues.
+/// table says that a command is complete, the host acts on it once, and the call passes its reply to the card. A message
+/// of fewer than four octets is no command: the call replies 6700 to it for the host. A host that takes such messages
+/// drives a [`Card`] itself. At most `most_blocks` blocks are waited for. After `UsedUp` each of them is answered, and a
+/// further call continues.
 ///
 /// The error is `Line` if the line fails while it waits or sends. A block that wasn't sent is sent again if the
 /// terminal asks for it. The error is `Refused(TooLong)` for a reply of more than 65,538 octets. Then the card waits
@@ -174,19 +182,39 @@ fn answer_block<H: Host>(
 }
 
 /// Makes the host act on the command, and puts the first block of its reply at the front of the buffer. Returns how
-/// many octets it has.
+/// many octets it has. To a message that is too short for a command, the reply is 6700.
 fn reply_to<H: Host>(card: &mut Card, host: &mut H, out: &mut [u8]) -> Result<usize, CardFault>
     requires out { 258 ≤ length out.old }
     requires waits { card.old.waits ≡ owes }
     ensures fits { IfOk result (λ count. count ≤ 258) }
-    ensures reply { (reply : List ℕ)
-        × Happens (H.served host.old) (H.served host.new) (asked card.old.command reply ∷ [])
+    ensures reply { (reply : List ℕ) × IsReplyTo card.old.command reply
+        × Happens (H.served host.old) (H.served host.new) (at_host (asked card.old.command reply ∷ []))
         × IsReply (turn_of (card_turn card.old (replies reply))) out.new result
         × (card.new ≡ state_after card.old (card_turn card.old (replies reply))) }
 {
-    host.act(card.command().unwrap_or(&[]));
-    match card.reply_into(host.reply(), out)? {
+    let is_short = ask(host, card.command().unwrap_or(&[]));
+    match card.reply_into(reply_by(host, is_short), out)? {
         EncodedCardTurn::Send(count) => Ok(count),
         EncodedCardTurn::Asked => unreachable!(),
     }
+}
+
+/// Makes the host act on a command, unless the message is too short for one. Returns whether it is.
+fn ask<H: Host>(host: &mut H, command: &[u8]) -> bool
+    ensures short { result ≡ is_short command.now }
+    ensures asked { Happens (H.served host.old) (H.served host.new)
+        (at_host (asked command.now (reply_by (is_short command.now) (H.reply host.new)) ∷ [])) }
+{
+    if command.len() < SHORTEST_COMMAND {
+        return true;
+    }
+    host.act(command);
+    false
+}
+
+/// Returns the reply: 6700 to a message that is too short for a command, else that of the host.
+fn reply_by<H: Host>(host: &H, is_short: bool) -> &[u8]
+    ensures { result.now ≡ reply_by is_short (H.reply host.now) }
+{
+    if is_short { WRONG_LENGTH } else { host.reply() }
 }

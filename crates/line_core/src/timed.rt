@@ -4,7 +4,7 @@ ghost use Rattle.std.specs.Prelude.{◌≡◌, ◌≤◌, ◌<◌, ◌*◌, ◌+
 ghost use Rattle.line_core.specs.Bursts.{HasHeard, is_whole};
 ghost use Rattle.line_core.specs.Line.{Adds, FitsRoom, arrival_of, arrived};
 ghost use Rattle.line_core.specs.Service.{Happens, came, sending};
-ghost use Rattle.line_core.specs.Timed.{Sound, Sounds, sound_of, saying, most_noise, Settles, Listens, Hears, IsTalk, IsEvent, HasHeardOf, Says, arrival_from, heard_by, owed_then, owed_after, device_of, silences_of, owed_of};
+ghost use Rattle.line_core.specs.Timed.{Sound, Sounds, sound_of, saying, most_noise, Settles, Listens, Hears, IsTalk, IsEvent, HasHeardOf, Says, arrival_from, handed_of, heard_by, owed_then, owed_after, device_of, silences_of, owed_of};
 
 use crate::exchanging::LONGEST_ARRIVAL;
 use crate::framing::Framer;
@@ -38,7 +38,8 @@ pub trait TimedDevice {
             (sound_of microseconds result room.new ∷ []) };
 }
 
-/// The silences of a line, in microseconds (ISO/IEC 7816-3, clause 11.4.3).
+/// How a line divides what comes into blocks: its silences, in microseconds (ISO/IEC 7816-3, clause 11.4.3), and whether
+/// it refuses empty blocks.
 #[derive(Clone, Copy, Debug, PartialEq, Eq)]
 pub struct Silences {
     /// BWT: the wait for the first octet of a card's answer.
@@ -49,7 +50,13 @@ pub struct Silences {
     /// no silence is waited for. That is right if one call of the device returns exactly one whole burst, as for a line
     /// of packets.
     pub after: u64,
+    /// Whether a burst that is an I-block without information counts as damaged. Zeros that a line adds can make such a
+    /// block, and it would end a message early. Commands and responses are never empty, so few stacks send one.
+    pub refuses_empty: bool,
 }
+
+/// A block with a wrong check octet. An end gets it in place of a burst that is refused, and so takes it for damaged.
+const DAMAGED: &[u8] = &[0x00, 0x00, 0x00, 0x01];
 
 /// A line over a device with a time limit: a `TerminalLine` for a terminal, and a `CardLine` for a card.
 ///
@@ -135,7 +142,7 @@ impl<D: TimedDevice> TimedLine<D> {
         match hear(&mut self.device, &mut self.framer, first, self.silences) {
             Ok(()) => {
                 self.owed = still_owed(&self.framer, drain);
-                Ok(hand_over(&self.framer, room))
+                Ok(hand_over(&self.framer, self.silences.refuses_empty, room))
             }
             Err(fault) => {
                 self.owed = drain;
@@ -237,16 +244,31 @@ fn still_owed(framer: &Framer, drain: u64) -> u64
 }
 
 /// Puts the octets of a burst that are passed to an end at the front of the buffer.
-fn hand_over(framer: &Framer, room: &mut [u8]) -> Received
+fn hand_over(framer: &Framer, refuses_empty: bool, room: &mut [u8]) -> Received
     requires { 259 ≤ length room.old }
     ensures fits { FitsRoom result room.new }
     ensures arrived { (burst : List ℕ) → HasHeard framer.now burst
-        → arrived result room.new ≡ arrival_from (Ok burst) }
+        → arrived result room.new ≡ arrival_from refuses_empty (Ok burst) }
 {
-    let burst = framer.burst();
-    room[..burst.len()].copy_from_slice(burst);
-    match burst.len() {
-        0 => Received::Nothing,
-        count => Received::Octets(count),
+    let octets = handed_of(framer, refuses_empty);
+    let count = octets.len();
+    room[..count].copy_from_slice(octets);
+    if count == 0 {
+        Received::Nothing
+    } else {
+        Received::Octets(count)
+    }
+}
+
+/// Returns the octets that an end gets for a burst.
+fn handed_of(framer: &Framer, refuses_empty: bool) -> &[u8]
+    ensures most { length result.now ≤ 259 }
+    ensures octets { (burst : List ℕ) → HasHeard framer.now burst
+        → result.now ≡ handed_of refuses_empty burst }
+{
+    if refuses_empty && framer.is_empty_info() {
+        DAMAGED
+    } else {
+        framer.burst()
     }
 }

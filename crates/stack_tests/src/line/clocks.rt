@@ -65,6 +65,7 @@ fn line_over<'a>(heard: &'a [Heard<'a>], after: u64) -> TimedLine<Script<'a>> {
         bwt: BWT,
         cwt: CWT,
         after,
+        refuses_empty: true,
     };
     TimedLine::new(device, silences)
 }
@@ -85,7 +86,7 @@ type Row = (
     &'static [u64],
 );
 
-static ROWS: [Row; 6] = [
+static ROWS: [Row; 7] = [
     // A whole block ends after BGT.
     (
         BGT,
@@ -101,6 +102,14 @@ static ROWS: [Row; 6] = [
         &[Silence, Octets(&DONE_BLOCK), Octets(&REST)],
         Some(&HARMED),
         &[BGT, BWT, BGT, CWT],
+    ),
+    // An I-block without information is refused: its check octet comes as a wrong one.
+    (
+        BGT,
+        1,
+        &[Silence, Octets(&[0x00, 0x40, 0x00, 0x40])],
+        Some(&[0x00, 0x00, 0x00, 0x01]),
+        &[BGT, BWT, BGT],
     ),
     // The card was granted three times BWT, and nothing came.
     (BGT, 3, &[], None, &[BGT, 3 * BWT]),
