@@ -10,3 +10,5 @@ pub mod States
 pub mod Stakes
 -- how code classes octets
 pub mod Classes
+-- what is printed
+pub mod Shown

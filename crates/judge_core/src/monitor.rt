@@ -14,6 +14,7 @@ use crate::rule::Rule;
 use crate::sending::carried;
 use arrayvec::ArrayVec;
 use block_core::{BlockRef, LONGEST_INF, Pcb, Side};
+use std::fmt::{self, Debug, Formatter, Write};
 use t1_core::FIRST_IFSD;
 
 /// An end of the line that the monitor watches.
@@ -39,7 +40,7 @@ pub struct Monitor {
 }
 
 /// What a trace says about how a block reached the other end.
-#[derive(Clone, Copy, Debug)]
+#[derive(Clone, Copy)]
 pub enum Arrival<'a> {
     /// It says nothing.
     Unsaid,
@@ -47,6 +48,25 @@ pub enum Arrival<'a> {
     Lost,
     /// These octets reached the other end.
     Came(&'a [u8]),
+}
+
+/// Shows how many octets arrived. It shows none of them, since they may carry a PIN.
+impl Debug for Arrival<'_> {
+    ghost use Rattle.std.specs.Prelude.{Some};
+    ghost use Rattle.judge_core.specs.Shown.{arrival_text};
+
+    ghost debug_output = { λ arrival. Some (arrival_text arrival) };
+
+    fn fmt<W: Write>(&self, f: &mut Formatter<W>) -> fmt::Result {
+        match self {
+            Arrival::Unsaid => f.write_str("Unsaid"),
+            Arrival::Lost => f.write_str("Lost"),
+            Arrival::Came(octets) => {
+                let count = octets.len();
+                write!(f, "Came({count} octets)")
+            }
+        }
+    }
 }
 
 /// Whether a card sent no block before the terminal's next one, or before the terminal's waiting time ended.
