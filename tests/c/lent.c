@@ -181,36 +181,83 @@ static void refused(void)
     CHECK(scard_lent_terminal_transmit(&terminal, NULL, 0, NULL, 0, NULL, 0, block, sizeof block).kind == SCARD_SEND);
 }
 
-/* Sets each octet of a state to each value. The call is safe, and if it is refused nothing changes. */
+/* Returns how many octets of the card's command buffer aren't 0 from a place on. */
+static int left_from(size_t place)
+{
+    int left = 0;
+    while (place < sizeof commands[1]) {
+        left += commands[1][place++] != 0;
+    }
+    return left;
+}
+
+/* The octets of a command are overwritten before a shorter one is joined, and when the card is resynchronized. */
+static void overwritten(void)
+{
+    begins(16);
+    CHECK(to_card("00000D0020008008241234FFFFFFFFFF58", 16).kind == SCARD_DONE && left_from(5) > 0);
+    CHECK(sends(reply("9000", 16), "000002900092"));
+    CHECK(to_card("00400500A4040000E5", 16).kind == SCARD_DONE && asked("00A4040000", 16));
+    CHECK(left_from(5) == 0);
+    CHECK(sends(reply("9000", 16), "0040029000D2"));
+    CHECK(sends(to_card("00C000C0", 16), "00E000E0") && left_from(0) == 0);
+}
+
+static int refusals, unchanged; /* how many calls were refused, and how many of them left the state as it was */
+
+static void counts(struct scard_turn turn, const void *before, const void *state, size_t size)
+{
+    if (turn.kind >= SCARD_REFUSED_DEAD) {
+        refusals++;
+        unchanged += memcmp(before, state, size) == 0;
+    }
+}
+
+/* Makes calls of both ends that may be refused. The longest message doesn't fit a buffer of 16 octets. */
+static void makes_calls(void)
+{
+    static const char long_message[] = "0001020304050607080910111213141516";
+    struct scard_lent_terminal before;
+    struct scard_lent_card card_before;
+    memcpy(&before, &terminal, sizeof before);
+    memcpy(&card_before, &card, sizeof card_before);
+    counts(transmit(long_message, 16), &before, &terminal, sizeof before);
+    counts(reply(long_message, 16), &card_before, &card, sizeof card_before);
+    counts(quiet(16), &before, &terminal, sizeof before);
+    counts(to_card("00000500A4040000A5", 16), &card_before, &card, sizeof card_before);
+}
+
+/* Makes calls that answer nothing where the octets are no end. */
+static void are_ends(void)
+{
+    if (quiet(16).kind == SCARD_NO_END) {
+        CHECK(transmit("00", 16).kind == SCARD_NO_END && to_terminal("00800080", 16).kind == SCARD_NO_END);
+        CHECK(!answered("", 16));
+    }
+    if (to_card("00000500A4040000A5", 16).kind == SCARD_NO_END) {
+        CHECK(reply("9000", 16).kind == SCARD_NO_END && !asked("", 16));
+    }
+}
+
+/* Sets each octet of a state to each value. The calls are safe, and if one is refused nothing changes. */
 static void spoilt(void)
 {
-    struct scard_lent_terminal before = terminal, changed;
-    struct scard_lent_card card_before = card, card_changed;
+    struct scard_lent_terminal before = terminal;
+    struct scard_lent_card card_before = card;
+    uint8_t *octet;
     size_t place;
-    int value, left = 0;
+    int round;
+    refusals = unchanged = 0;
     for (place = 0; place < sizeof before + sizeof card_before; place++) {
-        for (value = 0; value < 256; value++) {
+        for (round = 0; round < 512; round++) {
             terminal = before;
             card = card_before;
-            if (place < sizeof before) {
-                ((uint8_t *)&terminal)[place] = (uint8_t)value;
-            } else {
-                ((uint8_t *)&card)[place - sizeof before] = (uint8_t)value;
-            }
-            memcpy(&changed, &terminal, sizeof terminal);
-            memcpy(&card_changed, &card, sizeof card);
-            if (quiet(16).kind == SCARD_NO_END) {
-                left += memcmp(&changed, &terminal, sizeof terminal) == 0;
-                CHECK(transmit("00", 16).kind == SCARD_NO_END && to_terminal("00800080", 16).kind == SCARD_NO_END);
-                CHECK(!answered("", 16));
-            }
-            if (to_card("00000500A4040000A5", 16).kind == SCARD_NO_END) {
-                left += memcmp(&card_changed, &card, sizeof card) == 0;
-                CHECK(reply("9000", 16).kind == SCARD_NO_END && !asked("", 16));
-            }
+            octet = place < sizeof before ? (uint8_t *)&terminal + place : (uint8_t *)&card + (place - sizeof before);
+            *octet = (uint8_t)round;
+            round < 256 ? makes_calls() : are_ends();
         }
     }
-    CHECK(left > 10000);
+    CHECK(refusals > 60000 && unchanged == refusals);
     terminal = before;
     card = card_before;
 }
@@ -223,6 +270,7 @@ int main(void)
     asked_in_vain();
     too_long();
     refused();
+    overwritten();
     begins(16);
     spoilt();
     CHECK(transmit("00A4040000", 16).kind == SCARD_SEND);

@@ -1,14 +1,16 @@
 -- What C is told of a turn whose octets were put into the buffer is what it is told of the turn.
-use Rattle.std.proofs.Common.{◌≡◌, ℕ, ◌++◌, List, drop, sym, ap, subst, ◌∙◌}
+use Rattle.std.proofs.Common.{◌≡◌, ℕ, ◌<◌, ◌++◌, List, drop, sym, ap, subst, ◌∙◌, arith}
 use Rattle.std.specs.Prelude.{Result, Ok, Err}
 use Rattle.t1_core.specs.declared.turns.TerminalTurn.{TerminalTurn}
 use Rattle.t1_core.specs.declared.turns.TerminalTurn.TheVariants.{Send, Answered, IfsSet, GivenUp, Dead}
 use Rattle.t1_core.specs.declared.turns.EncodedTerminalTurn.{EncodedTerminalTurn}
+use Rattle.t1_core.specs.declared.turns.EncodedTerminalTurn.TheVariants as put
 use Rattle.t1_core.specs.declared.turns.TerminalFault.{TerminalFault}
 use Rattle.t1_core.specs.declared.turns.TerminalFault.TheVariants as fault
 use Rattle.t1_core.specs.declared.turns.CardTurn.{CardTurn}
 use Rattle.t1_core.specs.declared.turns.CardTurn.TheVariants as card_turns
 use Rattle.t1_core.specs.declared.turns.EncodedCardTurn.{EncodedCardTurn}
+use Rattle.t1_core.specs.declared.turns.EncodedCardTurn.TheVariants as card_put
 use Rattle.t1_core.specs.declared.turns.CardFault.{CardFault}
 use Rattle.t1_core.specs.declared.turns.CardFault.TheVariants as card_fault
 use Rattle.t1_core.specs.Put.{IsTerminalPut, IsCardPut}
@@ -63,3 +65,31 @@ pub card_told : (given : Result CardTurn CardFault) (old new : List ℕ) (answer
     (turn : CTurn) → IsCardPut given old new answer → turn ≡ told_card answer → IsCardTurn given old new turn
 card_told given old new answer turn put is =
     subst (λ (t : CTurn). IsCardTurn given old new t) (sym is) (card-told given old new answer put)
+
+-- C is told no refusal of a turn that is taken
+pub terminal-taken : (turn : EncodedTerminalTurn) → (told_terminal (Ok turn)).kind < 16
+terminal-taken (put.Send count waiting) = omega arith
+terminal-taken put.Answered = omega arith
+terminal-taken put.IfsSet = omega arith
+terminal-taken put.GivenUp = omega arith
+terminal-taken put.Dead = omega arith
+
+pub card-taken : (turn : EncodedCardTurn) → (told_card (Ok turn)).kind < 16
+card-taken (card_put.Send count) = omega arith
+card-taken card_put.Asked = omega arith
+
+-- a call that is refused leaves the buffer for a block
+pub terminal-leaves : (given : Result TerminalTurn TerminalFault) (old new : List ℕ) (fault : TerminalFault)
+    → IsTerminalPut given old new (Err fault) → new ≡ old
+terminal-leaves (Ok (Send block)) old new fault (count, is, put) = cc
+terminal-leaves (Ok Answered) old new fault (is, same) = same
+terminal-leaves (Ok IfsSet) old new fault (is, same) = same
+terminal-leaves (Ok GivenUp) old new fault (is, same) = same
+terminal-leaves (Ok Dead) old new fault (is, same) = same
+terminal-leaves (Err other) old new fault (is, same) = same
+
+pub card-leaves : (given : Result CardTurn CardFault) (old new : List ℕ) (fault : CardFault)
+    → IsCardPut given old new (Err fault) → new ≡ old
+card-leaves (Ok (card_turns.Send block)) old new fault (count, is, put) = cc
+card-leaves (Ok card_turns.Asked) old new fault (is, same) = same
+card-leaves (Err other) old new fault (is, same) = same

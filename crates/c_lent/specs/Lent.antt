@@ -3,6 +3,7 @@ use Rattle.std.specs.Prelude.{◌≡◌, ◌≤◌, ◌<◌, ℕ, List, length, 
 use Rattle.t1_core.specs.Terminal.{TerminalState, TerminalInput, terminal_turn, turn_of, state_after}
 use Rattle.t1_core.specs.Card as card
 use Rattle.t1_core.specs.Card.{CardState, CardInput}
+use Rattle.t1_core.specs.CardViews.{IsBlankAfter}
 use Rattle.c_lent.specs.Verdict.{ok_at, wrong_argument}
 use Rattle.c_lent.specs.Turns.{no_end, no_room, IsTerminalTurn, IsCardTurn}
 use Rattle.c_lent.specs.Kept.{IsTerminal, IsCard}
@@ -33,6 +34,7 @@ pub record TurnsTerminal (t : TerminalState) (input : TerminalInput) (new : Lent
   pub turn_is : IsTerminalTurn (turn_of (terminal_turn t input)) out out_after turn
 
 -- A call of a terminal, by the size of the buffer for a block, and by whether the state and its buffers are a terminal.
+-- A call that is refused, with a turn from 16 on, changes nothing.
 pub record TerminalCalled (input : TerminalState → TerminalInput) (old new : Lent CTerminal) (out out_after : List ℕ)
     (turn : CTurn) : Type 0 where
   pub room : length out < 258 → IsLeft no_room old new out out_after turn
@@ -40,6 +42,7 @@ pub record TerminalCalled (input : TerminalState → TerminalInput) (old new : L
       → IsLeft no_end old new out out_after turn
   pub called : 258 ≤ length out → (t : TerminalState) → IsTerminal old.state old.command old.answer t
       → TurnsTerminal t (input t) new out out_after turn
+  pub refused : 16 ≤ turn.kind → (new ≡ old) × (out_after ≡ out)
 
 -- a call of a card: its turn and the card after it, as `card_turn` gives them
 pub record TurnsCard (c : CardState) (input : CardInput) (new : Lent CCard) (out out_after : List ℕ) (turn : CTurn) :
@@ -47,7 +50,12 @@ pub record TurnsCard (c : CardState) (input : CardInput) (new : Lent CCard) (out
   pub state : IsCard new.state new.command new.answer (card.state_after c (card.card_turn c input))
   pub turn_is : IsCardTurn (card.turn_of (card.card_turn c input)) out out_after turn
 
--- A call of a card, by the size of the buffer for a block, and by whether the state and its buffers are a card.
+-- each octet of the command's buffer after the command is 0
+abbrev pub IsBlank : Lent CCard → Type 0
+IsBlank l = IsBlankAfter l.state.command_len l.command
+
+-- A call of a card, by the size of the buffer for a block, and by whether the state and its buffers are a card. A call
+-- that is refused, with a turn from 16 on, changes nothing. No octet of an earlier command stays after a command.
 pub record CardCalled (input : CardState → CardInput) (old new : Lent CCard) (out out_after : List ℕ) (turn : CTurn) :
     Type 0 where
   pub room : length out < 258 → IsLeft no_room old new out out_after turn
@@ -55,6 +63,8 @@ pub record CardCalled (input : CardState → CardInput) (old new : Lent CCard) (
       → IsLeft no_end old new out out_after turn
   pub called : 258 ≤ length out → (c : CardState) → IsCard old.state old.command old.answer c
       → TurnsCard c (input c) new out out_after turn
+  pub refused : 16 ≤ turn.kind → (new ≡ old) × (out_after ≡ out)
+  pub blank : IsBlank old → IsBlank new
 
 -- the message, if there is one, is at the front of a buffer
 abbrev pub IsAtFront : Option (List ℕ) → List ℕ → Verdict → Type 0

@@ -1,11 +1,11 @@
 //! The calls of both ends of a session, as C makes them.
 
-ghost use Rattle.std.specs.Prelude.{◌≡◌, ◌≤◌, length};
+ghost use Rattle.std.specs.Prelude.{◌≡◌, ◌≤◌, length, IfErr};
 ghost use Rattle.t1_core.specs.Terminal.{terminal_turn, turn_of, state_after};
 ghost use Rattle.t1_core.specs.Card.{card_turn, turn_of as card_turn_of, state_after as card_after};
 ghost use Rattle.t1_core.specs.Put.{IsTerminalPut, IsCardPut};
 ghost use Rattle.t1_core.specs.Views.{terminal_held, IsLentTerminal};
-ghost use Rattle.t1_core.specs.CardViews.{card_held, IsLentCard};
+ghost use Rattle.t1_core.specs.CardViews.{card_held, IsLentCard, IsBlank};
 ghost use Rattle.c_lent.specs.Calls.{terminal_input, card_input};
 
 use t1_core::{
@@ -57,6 +57,8 @@ impl<'a> TerminalCall<'a> {
             state_after (terminal_held end.old command.old answer.old)
             (terminal_turn (terminal_held end.old command.old answer.old)
             (terminal_input self.entry (terminal_held end.old command.old answer.old))) }
+        ensures refused { IfErr result
+            (λ _. (end.new ≡ end.old) × (command.new ≡ command.old) × (answer.new ≡ answer.old)) }
     {
         match self {
             TerminalCall::Transmit(octets) => end.transmit_into(command, answer, octets, out),
@@ -85,6 +87,9 @@ impl<'a> CardCall<'a> {
             card_after (card_held end.old command.old reply.old)
             (card_turn (card_held end.old command.old reply.old)
             (card_input self.entry (card_held end.old command.old reply.old))) }
+        ensures refused { IfErr result
+            (λ _. (end.new ≡ end.old) × (command.new ≡ command.old) × (reply.new ≡ reply.old)) }
+        ensures blank { IsBlank end.old command.old → IsBlank end.new command.new }
     {
         match self {
             CardCall::Received(octets) => end.received_into(command, reply, octets, out),

@@ -236,6 +236,7 @@ impl CCard {
         ensures unused { (result.wait, result.size, result.place) ≡ card_wait_told end.now.wait }
         ensures unsaved { end.now.saved ≡ None → (result.saved_place ≡ 0)
             × (result.saved_size ≡ 0) }
+        ensures command { result.command_len ≡ end.now.command_len }
     {
         let (wait, size, place) = card_waiting(end.wait);
         let (has_saved, saved_place, saved_size) = saving(end.saved);
@@ -260,7 +261,8 @@ impl CCard {
 
     /// Returns the card that the fields spell, if any.
     fn spelled(&self) -> Option<LentCard>
-        ensures { result ≡ card_of self.now }
+        ensures card { result ≡ card_of self.now }
+        ensures command { IfSome result (λ end. end.command_len ≡ self.now.command_len) }
     {
         let number = number_of(self.number)?;
         let expected = number_of(self.expected)?;
@@ -287,6 +289,7 @@ impl CCard {
             (card_of self.now ≡ Some end) × IsLentCard end command reply) }
         ensures none { IfNone result ((end : LentCard) → card_of self.now ≡ Some end →
             IsLentCard end command reply → ⊥) }
+        ensures command { IfSome result (λ end. end.command_len ≡ self.now.command_len) }
     {
         let end = self.spelled()?;
         if end.fits(command, reply) {

@@ -122,9 +122,13 @@ fn terminal_turn(
     let Some(mut end) = state.fitting(command.len(), answer.len()) else {
         return CTurn::of(NO_END);
     };
-    let put = call.lend(&mut end, command, answer, out);
-    *state = CTerminal::of(&end);
-    CTurn::of_terminal(put)
+    match call.lend(&mut end, command, answer, out) {
+        Ok(put) => {
+            *state = CTerminal::of(&end);
+            CTurn::of_terminal(Ok(put))
+        }
+        Err(fault) => CTurn::of_terminal(Err(fault)),
+    }
 }
 
 /// Returns how many octets at the front of the answer's buffer are the answer. It is there from the turn that completes
@@ -244,9 +248,13 @@ fn card_turn(
     let Some(mut end) = state.fitting(command.len(), reply.len()) else {
         return CTurn::of(NO_END);
     };
-    let put = call.lend(&mut end, command, reply, out);
-    *state = CCard::of(&end);
-    CTurn::of_card(put)
+    match call.lend(&mut end, command, reply, out) {
+        Ok(put) => {
+            *state = CCard::of(&end);
+            CTurn::of_card(Ok(put))
+        }
+        Err(fault) => CTurn::of_card(Err(fault)),
+    }
 }
 
 /// Returns how many octets at the front of the command's buffer are the command. It is there while the host owes the

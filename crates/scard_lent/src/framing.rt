@@ -1,6 +1,6 @@
 //! Collects octets and silences into bursts (ISO/IEC 7816-3, clause 11.4.3). The caller keeps the framer.
 
-ghost use Rattle.std.specs.Prelude.{◌≡◌, ◌++◌, [], ℕ, List, take};
+ghost use Rattle.std.specs.Prelude.{◌≡◌, ◌++◌, [], ℕ, List, min, take};
 ghost use Rattle.line_core.specs.Bursts.{HasHeard, handed, is_whole, wait_of};
 
 use line_core::Framer;
@@ -48,7 +48,8 @@ pub extern "C" fn scard_lent_framer_wait(
 /// Returns how many octets at the front of the kept ones an end takes: the burst, or its first 259 octets.
 #[unsafe(no_mangle)]
 pub extern "C" fn scard_lent_framer_burst(framer: &Framer) -> usize
-    ensures { (burst : List ℕ) → HasHeard framer.now burst
+    ensures is { result ≡ min framer.now.count handed }
+    ensures kept { (burst : List ℕ) → HasHeard framer.now burst
         → take result framer.now.octets ≡ take handed burst }
 {
     framer.kept()
