@@ -242,6 +242,7 @@ behaves differently, and where first. With --json, the answer is a JSON object t
 Exit status:
   0  the file of the exchange
   1  refused: NAME: no session of T=1 can begin from the answer to reset
+  1  refused at line N: NAME: record can't follow the trace, for PPS, other node addresses or a missing quiet
   2  a fault, such as fault: words, fault: hex or fault: line 3: Word
 
 Examples:
