@@ -14,7 +14,7 @@ use octet_core::{Named, Octets, Stop};
 use std::alloc::{AllocError, Global};
 
 /// A text to write, and the status with which the program then ends.
-#[derive(Debug, Drop)]
+#[derive(Drop)]
 pub struct Answer {
     /// The text's octets in UTF-8.
     pub text: Octets,

@@ -19,7 +19,7 @@ pub type Outcome<T, R> = Result<T, Refused<R>>;
 pub type Verdict<R> = Result<usize, Stop<R>>;
 
 /// What the program prints about octets, and the verdict that it comes from.
-#[derive(Debug, Drop)]
+#[derive(Drop)]
 pub struct Judged<R> {
     pub answer: Answer,
     pub verdict: Verdict<R>,
@@ -151,32 +151,4 @@ fn refusal_note<C: Codec>(
     } else {
         Ok(String::new(alloc))
     }
-}
-
-/// Returns the answer with how many octets the value takes.
-pub(crate) fn check<C: Codec>(
-    alloc: Global,
-    layout: Layout,
-    octets: &[u8],
-    expected: Expected,
-) -> Result<Answer, AllocError>
-    ensures { IfOk result (λ answer. ChecksBy layout expected.kind (C.codec expected) octets.now
-        answer.text answer.status) }
-{
-    let judged = check_with_verdict::<C>(alloc, layout, octets, expected)?;
-    Ok(judged.answer)
-}
-
-/// Returns the answer with the value itself.
-pub(crate) fn show<C: Codec>(
-    alloc: Global,
-    layout: Layout,
-    octets: &[u8],
-    expected: Expected,
-) -> Result<Answer, AllocError>
-    ensures { IfOk result (λ answer. ShowsBy false layout expected.kind (C.codec expected)
-        octets.now answer.text answer.status) }
-{
-    let judged = show_with_verdict::<C>(alloc, layout, false, octets, expected)?;
-    Ok(judged.answer)
 }

@@ -72,16 +72,7 @@ impl Showable for FlatForest<'_> {
     }
 }
 
-/// Returns the shortest encoding of the octets' objects.
-pub fn tidy(alloc: Global, octets: &[u8]) -> Result<Answer, AllocError>
-    ensures { IfOk result (λ answer.
-        Tells forest_codec (λ v n. tidied_text v) octets.now answer.text answer.status) }
-{
-    let judged = tidy_with_verdict(alloc, octets)?;
-    Ok(judged.answer)
-}
-
-/// Returns what `tidy` prints about octets, and the verdict on them.
+/// Returns the shortest encoding of the octets' objects, and the verdict on the octets.
 pub fn tidy_with_verdict(alloc: Global, octets: &[u8]) -> Result<Judged<TlvReason>, AllocError>
     ensures told { IfOk result (λ judged.
         Tells forest_codec (λ v n. tidied_text v) octets.now judged.answer.text judged.answer.status) }

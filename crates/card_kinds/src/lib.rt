@@ -1,11 +1,11 @@
 //! What the program `scard` prints about octets, by their kind.
 //!
-//! `check` returns how many octets the value takes, and `show` returns the value line by line. Both return the same
-//! text for octets that are refused. Each kind has a module with its `Codec`: where its values end, its grammar, its
-//! reasons and their names, and the lines of a value. `blocks`, `tidy` and `fill` return what `build` prints.
+//! `check_with_verdict` returns how many octets the value takes, and `show_with_verdict` returns the value line by line.
+//! Both return the same text for octets that are refused, and the verdict that the text comes from. Each kind has a module with its `Codec`: where its values end, its grammar, its
+//! reasons and their names, and the lines of a value. `blocks`, `tidy_with_verdict` and `fill_with_verdict` return what
+//! `build` prints.
 //!
-//! An `Answer` is a text and the program's status. Functions whose names end in `_with_verdict` also return the verdict
-//! that the answer was made from. `specs/` defines the texts, in a file for each kind. `specs/Verdicts.antt` joins them
+//! An `Answer` is a text and the program's status. `specs/` defines the texts, in a file for each kind. `specs/Verdicts.antt` joins them
 //! to the verdict of the grammar.
 #![tactic(auto)]
 
@@ -19,7 +19,6 @@ pub mod codec;
 mod command;
 pub mod forest;
 pub mod json;
-pub mod kinds;
 pub mod laws;
 pub mod list;
 mod response;
@@ -30,9 +29,8 @@ mod text;
 pub use answer::Answer;
 pub use chain::blocks;
 pub use codec::{Codec, Judged, Outcome, Verdict, check_with_verdict, show_with_verdict};
-pub use forest::{tidy, tidy_with_verdict};
+pub use forest::tidy_with_verdict;
 pub use json::{kind_name, notes_member, object_head};
-pub use kinds::{check, show};
-pub use list::{fill, fill_with_verdict};
+pub use list::fill_with_verdict;
 pub use shown::Shown;
 pub use status::Status;

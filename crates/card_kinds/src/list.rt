@@ -67,20 +67,8 @@ impl Showable for Dol {
     }
 }
 
-/// Returns the octets that a list requests from known values. A fault of the known values counts only if the octets are
-/// a list.
-pub fn fill(
-    alloc: Global,
-    octets: &[u8],
-    known: &Result<Knowns, Fault>,
-) -> Result<Answer, AllocError>
-    ensures { IfOk result (λ answer. IsFilled octets.now known.now answer.text answer.status) }
-{
-    let judged = fill_with_verdict(alloc, octets, known)?;
-    Ok(judged.answer)
-}
-
-/// Returns what `fill` prints about the octets of a list, and the verdict on them.
+/// Returns the octets that a list requests from known values, and the verdict on the octets of the list. A fault of the
+/// known values counts only if the octets are a list.
 pub fn fill_with_verdict(
     alloc: Global,
     octets: &[u8],

@@ -14,7 +14,7 @@ use std::alloc::{AllocError, Global};
 const ROOM: usize = 512;
 
 /// The text of a value.
-#[derive(Debug, Drop)]
+#[derive(Drop)]
 pub struct Shown {
     /// The value's lines, or its JSON object in one line, with notes if it is noted.
     pub text: String,
