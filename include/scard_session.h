@@ -6,7 +6,8 @@
  *
  * This header is C and isn't proved, since a proved crate can't call functions of C. Two things are proved: what each
  * end does with a block, and which octets are a block (scard_lent_framer_is_whole). This header has no rule about LEN
- * or the check octet.
+ * or the check octet. An end gets some whole blocks as damaged ones, with another check octet: those of
+ * `refuses_empty`, and some that SCARD_MOST_ECHOES describes.
  *
  * Begin a session at a reset of its card: a new terminal and a new card, never one without the other. If a card goes on
  * under a new terminal, it takes the first command for a repeat of the one before. It sends the old answer again, as if
@@ -36,18 +37,26 @@ enum scard_line_said {
 /* A waiting time without a limit. */
 #define SCARD_LINE_FOREVER UINT64_MAX
 
+/* After this many interrupts in a row, a line whose waiting time has a limit has failed. */
+#define SCARD_MOST_INTERRUPTS 1000000
+
 /* The line to the other end: three functions of the driver. The session passes `context`, which is the driver's own, to
  * each function.
  *
- * `send` sends all the octets. It returns 0, or SCARD_LINE_FAILED.
+ * `send` sends all the octets. It returns 0 once the last bit is on the line, or SCARD_LINE_FAILED. A buffered driver
+ * that returns earlier adds the rest of that time to the waits of `receive`.
  *
  * `receive` waits for octets, and returns as soon as there are any. It writes at most `room` of them to `octets`, and
  * returns their number. On a timeout, if no octet came within `microseconds`, it returns 0. It may wait longer than
  * that, but never shorter. The time counts from the last octet that was sent or received. If the line failed, it
  * returns SCARD_LINE_FAILED. If the call was interrupted, it returns SCARD_LINE_INTERRUPTED, and the session calls it
- * again with the same time. If interrupts are frequent, `receive` should wait for the rest of its time by itself.
+ * again with the same time. Once that time is over by `now`, the session calls it a last time with 0. So with `now`
+ * interrupts make no wait longer. Without `now` each of them may begin the wait again, and then `receive` should wait
+ * for the rest of its time by itself.
  *
- * `now` returns the time in microseconds, from a clock that never goes back. It may be null.
+ * `now` returns the time in microseconds, from a clock that never goes back. If it goes back all the same, it counts as
+ * a clock that stood still. `now` may be null. Without it the session can promise less about the time of an exchange
+ * (`most_microseconds`), and about a line with an echo that the setup doesn't declare (docs/WIRING.md).
  */
 struct scard_line {
     void *context;
@@ -88,6 +97,19 @@ struct scard_clock {
  * If an octet of a block comes later than `silence` after the one before it, the session may cut the block there. The
  * octets before the cut may then pass for a block, but only if LEN is wrong. A `silence` of CWT rules this out for ends
  * that keep to CWT, but then the session waits that long after every block.
+ *
+ * `most_microseconds` limits the time of an exchange. With `now`, the exchange ends once that time is over and the call
+ * of the line that is in progress has returned. Without `now`, the session counts what is certain: each wait in which
+ * no octet came, and 12 etu for each octet that was sent or received (clause 11.2), unless `silence` is
+ * SCARD_SILENCE_NONE. So no exchange ends before its time, and octets without end don't make it longer. But a wait in
+ * which octets came doesn't count. If a card answers late each time, or asks for more time again and again, only
+ * `most_blocks` ends the exchange, and each block may take up to 255 times BWT.
+ *
+ * `refuses_empty` is for a line whose other end never sends an I-block without information. No command and no response
+ * is empty, so such a block is of use only in a chain. The standard permits it there (clause 11.6.2), and few ends send
+ * it. But 00000000 is such a block: if the first octets of a block are lost, and the others are 0, it can be what is
+ * left, and then it ends a chain early. If `refuses_empty` is true, the session makes such a block a damaged one, and
+ * the end asks for it again. If the other end does send it, the exchange is given up.
  */
 struct scard_setup {
     struct scard_line line;
@@ -102,6 +124,9 @@ struct scard_setup {
                                    SCARD_LINE_FOREVER: no limit */
     uint32_t most_blocks;       /* how many blocks a terminal sends at most in one exchange; 0: SCARD_MOST_BLOCKS */
     bool echo;                  /* true if the line returns what is sent on it, as a UART on one wire does */
+    bool refuses_empty;         /* true if an I-block without information counts as a damaged block */
+    bool host_takes_short;      /* a card: true if the host also gets messages of fewer than four octets. No command is
+                                   so short (ISO/IEC 7816-4), so otherwise the session replies 6700 for the host */
 };
 
 /* Kinds of turns besides those of scard.h.
@@ -110,10 +135,31 @@ struct scard_setup {
  * - USED_UP: one exchange has used up its blocks or its time. The exchange isn't over either. Continue with a call that
  *   begins the session, such as scard_session_resync. Until then the session refuses every other call, _BUSY.
  * - NO_STATUS: the card answered with `count` octets, none or one. A response has at least two. The session goes on.
+ * - ECHO: the line returns what is sent on it, and `echo` of the setup doesn't say so. No octet of the exchange is
+ *   known to come from the other end. The exchange isn't over, as after FAILED. Set `echo`, reset the card, and begin
+ *   again.
  */
 #define SCARD_SESSION_FAILED 64
 #define SCARD_SESSION_USED_UP 65
 #define SCARD_SESSION_NO_STATUS 66
+#define SCARD_SESSION_ECHO 67
+
+/* Returns the name of a kind of turn: of those above, such as "SESSION_FAILED", or of scard_turn_name. */
+static inline const char *scard_session_turn_name(int kind)
+{
+    switch (kind) {
+    case SCARD_SESSION_FAILED:
+        return "SESSION_FAILED";
+    case SCARD_SESSION_USED_UP:
+        return "SESSION_USED_UP";
+    case SCARD_SESSION_NO_STATUS:
+        return "SESSION_NO_STATUS";
+    case SCARD_SESSION_ECHO:
+        return "SESSION_ECHO";
+    default:
+        return scard_turn_name(kind);
+    }
+}
 
 /* Returns a turn without octets. */
 static inline struct scard_turn scard_session_turn(uint8_t kind)
@@ -139,15 +185,33 @@ static inline bool scard_clock_runs(const struct scard_clock *clock)
     return clock->fi != 0 && clock->di != 0 && clock->di <= 64 && clock->hertz >= 1000;
 }
 
+/* Returns the time of the line's clock, or 0 if it has none. */
+static inline uint64_t scard_line_now(const struct scard_line *line)
+{
+    return line->now != NULL ? line->now(line->context) : 0;
+}
+
+/* Returns how long ago the line's clock said `began`, or 0 if there is no clock or if it went back. */
+static inline uint64_t scard_line_since(const struct scard_line *line, uint64_t began)
+{
+    uint64_t gone = scard_line_now(line) - began;
+    return line->now == NULL || gone > UINT64_MAX / 2 ? 0 : gone;
+}
+
 /* Calls `receive` of the line, and calls it again after each interrupt. Returns the number of octets that came, 0 on a
- * timeout, or SCARD_LINE_FAILED.
+ * timeout, or SCARD_LINE_FAILED. Once the time is over by the line's clock, a last call takes what is there already.
  */
 static inline int scard_line_take(const struct scard_line *line, uint8_t *octets, size_t room, uint64_t microseconds)
 {
-    int got;
-    do {
-        got = line->receive(line->context, octets, room, microseconds);
-    } while (got == SCARD_LINE_INTERRUPTED);
+    const uint64_t began = scard_line_now(line);
+    uint32_t interrupts = 0;
+    int got = line->receive(line->context, octets, room, microseconds);
+    while (got == SCARD_LINE_INTERRUPTED && interrupts < SCARD_MOST_INTERRUPTS) {
+        bool is_over = line->now != NULL && scard_line_since(line, began) >= microseconds;
+        got = line->receive(line->context, octets, room, is_over ? 0 : microseconds);
+        got = is_over && got == SCARD_LINE_INTERRUPTED ? 0 : got;
+        interrupts += microseconds != SCARD_LINE_FOREVER;
+    }
     return got < 0 || (size_t)got > room ? SCARD_LINE_FAILED : got;
 }
 
@@ -158,20 +222,34 @@ static inline int scard_line_take(const struct scard_line *line, uint8_t *octets
 
 /* The results of the calls on a wire, besides SCARD_LINE_FAILED. */
 enum scard_wire_said {
-    SCARD_WIRE_USED_UP = -3,  /* the time of the exchange is used up */
-    SCARD_WIRE_COLLISION = -4 /* the echo differs from what was sent, or is incomplete */
+    SCARD_WIRE_USED_UP = -3,   /* the time of the exchange is used up */
+    SCARD_WIRE_COLLISION = -4, /* the echo differs from what was sent, or is incomplete */
+    SCARD_WIRE_ECHO = -5       /* the line has an echo, and the setup doesn't say so */
+};
+
+/* When a burst began. */
+enum scard_wire_time {
+    SCARD_WIRE_UNKNOWN = 0,
+    SCARD_WIRE_EARLY = 1,  /* before the other end may have sent it */
+    SCARD_WIRE_IN_TIME = 2 /* later */
 };
 
 /* The state of the line of an end. The fields belong to the session. Times are in microseconds. */
 struct scard_wire {
     const void *self; /* the session that this struct is in, once begun; a copy of the session isn't valid */
     uint32_t mark;    /* which end the session is: SCARD_WIRE_TERMINAL or SCARD_WIRE_CARD */
+    uint32_t octet;   /* the time of a character, 12 etu */
     uint64_t bgt;     /* the pause between a received block and the next one sent */
     uint64_t after;   /* the silence that ends a whole block, or SCARD_SILENCE_NONE */
     uint64_t owed;    /* the silence to wait for before the end sends again, counted from the last octet */
     uint64_t most;    /* the current exchange: its time limit, its start, and the time that is known to be over */
     uint64_t began;
     uint64_t spent;
+    uint64_t sent;    /* by the line's clock: when `send` returned */
+    uint64_t late;    /* how much longer it took than the octets take */
+    bool is_quick;    /* it took less than half of that time */
+    uint8_t began_at; /* enum scard_wire_time: when the current burst began */
+    uint8_t echoes;   /* how many bursts in a row began with the block that was just sent */
     struct scard_lent_framer framer; /* the current burst, or the last one */
 };
 
@@ -189,33 +267,39 @@ static inline void scard_wire_start(struct scard_wire *wire, const struct scard_
 {
     wire->most = most;
     wire->spent = 0;
-    wire->began = line->now != NULL && most != SCARD_LINE_FOREVER ? line->now(line->context) : 0;
+    wire->echoes = 0;
+    wire->began = scard_line_now(line);
 }
 
-/* Returns what is left of that time. Without a clock, the session adds up the waits that ended in a timeout, and the
- * full length of each wait that the card extended.
- */
+/* Adds to what is known to be over, if the line has no clock: the time that octets take on it. */
+static inline void scard_wire_spend(struct scard_wire *wire, size_t count)
+{
+    wire->spent += wire->after == SCARD_SILENCE_NONE ? 0 : (uint64_t)count * wire->octet;
+}
+
+/* Returns what is left of that time. */
 static inline uint64_t scard_wire_left(const struct scard_wire *wire, const struct scard_line *line)
 {
     uint64_t gone;
     if (wire->most == SCARD_LINE_FOREVER) {
         return SCARD_LINE_FOREVER;
     }
-    gone = line->now != NULL ? line->now(line->context) - wire->began : wire->spent;
+    gone = line->now != NULL ? scard_line_since(line, wire->began) : wire->spent;
     return gone < wire->most ? wire->most - gone : 0;
 }
 
-/* Receives octets as scard_line_take does, but waits no longer than what is left of the time. */
+/* Receives octets as scard_line_take does, but waits no longer than what is left of the time. Once nothing is left, it
+ * takes no further octets.
+ */
 static inline int scard_wire_take(struct scard_wire *wire, const struct scard_line *line,
                                   uint8_t octets[SCARD_BURST_ROOM], uint64_t microseconds)
 {
     uint64_t left = scard_wire_left(wire, line);
     uint64_t asked = microseconds < left ? microseconds : left;
     int got = scard_line_take(line, octets, SCARD_BURST_ROOM, asked);
-    if (got == 0) {
-        wire->spent += asked;
-    }
-    return got == 0 && asked < microseconds ? SCARD_WIRE_USED_UP : got;
+    wire->spent += got == 0 ? asked : 0;
+    scard_wire_spend(wire, got > 0 ? (size_t)got : 0);
+    return asked < microseconds && (got == 0 || (got > 0 && left == 0)) ? SCARD_WIRE_USED_UP : got;
 }
 
 /* Discards octets until the line is silent for `silence`, and returns 0. A line that is never silent has failed. */
@@ -258,10 +342,10 @@ static inline int scard_wire_hear(struct scard_wire *wire, const struct scard_li
     uint8_t heard[SCARD_BURST_ROOM];
     size_t came = 0;
     while (came < count) {
-        int got = scard_line_take(line, heard, sizeof heard, microseconds);
+        int got = scard_wire_take(wire, line, heard, microseconds);
         size_t own = got > 0 && (size_t)got < count - came ? (size_t)got : count - came;
         if (got < 0 || (got == 0 && came == 0)) { /* no octet at all: the line has no echo */
-            return SCARD_LINE_FAILED;
+            return got < 0 ? got : SCARD_LINE_FAILED;
         }
         if (got == 0 || memcmp(heard, sent + came, own) != 0) {
             return SCARD_WIRE_COLLISION;
@@ -272,25 +356,94 @@ static inline int scard_wire_hear(struct scard_wire *wire, const struct scard_li
     return 0;
 }
 
+/* Returns the time after a block was sent within which no octet of the other end can be there: 20 etu. An end begins to
+ * send at the earliest 22 etu after the beginning of the last character (BGT, clause 11.4.3), so 10 etu after its end.
+ * An octet is there 10 etu after it began.
+ */
+static inline uint64_t scard_wire_guard(const struct scard_wire *wire)
+{
+    return (uint64_t)wire->octet * 5 / 3;
+}
+
 /* Waits for the silence that is owed, sends a block, and begins a new burst. */
 static inline int scard_wire_send(struct scard_wire *wire, const struct scard_setup *setup, uint64_t cwt,
                                   const uint8_t *octets, size_t count)
 {
     const struct scard_line *line = &setup->line;
+    const uint64_t takes = (uint64_t)count * wire->octet;
+    uint64_t began;
     int said = scard_wire_settle(wire, line);
     if (said != 0) {
         return said;
     }
     scard_lent_framer_begin(&wire->framer);
+    began = scard_line_now(line);
     if (line->send(line->context, octets, count) != 0) {
         return SCARD_LINE_FAILED;
     }
-    if (!setup->echo) {
-        return 0;
+    scard_wire_spend(wire, setup->echo ? 0 : count); /* an echo takes the same time */
+    wire->sent = scard_line_now(line);
+    wire->is_quick = wire->sent - began < takes / 2;
+    wire->late = wire->sent - began > takes ? wire->sent - began - takes : 0;
+    return setup->echo ? scard_wire_hear(wire, line, octets, count, cwt + takes) : 0;
+}
+
+/* The number of echoes in a row that end an exchange.
+ *
+ * A line may return what is sent on it, and the setup doesn't say so. An end could then take its own block for one of
+ * the other end. So the session compares each burst with the block that it has just sent. If the burst begins with that
+ * block, it is an echo in these cases:
+ *
+ * - Its first octet came less than 20 etu after the block was sent, by the line's clock. The other end can't have sent
+ *   it. Both ends may rightly send the same R-block one after the other, so an R-block also needs a `send` that took
+ *   about as long as its octets take: the clock then isn't too coarse to tell.
+ * - It is an S-block. No end answers with the S-block that it got.
+ * - It is the fifth echo in a row. No end repeats a block as often.
+ *
+ * If the time of an I-block says nothing, the end gets it as a damaged block, and asks for it again by an R-block. A
+ * card that rightly answers with the octets of the command sends them again. A line with an echo returns the R-block.
+ * The time says nothing without a clock, on a line that delivers whole bursts, and if `send` returned so late that the
+ * octets may be an echo, or may not.
+ */
+#define SCARD_MOST_ECHOES 5
+
+/* Notes when the first octets of a burst came. */
+static inline void scard_wire_note(struct scard_wire *wire, const struct scard_line *line)
+{
+    const uint64_t gone = scard_line_since(line, wire->sent), guard = scard_wire_guard(wire);
+    wire->began_at = SCARD_WIRE_UNKNOWN;
+    if (line->now != NULL && wire->after != SCARD_SILENCE_NONE && (gone >= guard || wire->late < guard - gone)) {
+        wire->began_at = gone >= guard ? SCARD_WIRE_IN_TIME : SCARD_WIRE_EARLY;
     }
-    /* a character takes 12 etu (clause 11.2) */
-    cwt += scard_clock_time(&setup->clock, (uint64_t)count * 12 * setup->clock.fi);
-    return scard_wire_hear(wire, line, octets, count, cwt);
+}
+
+/* Gives a burst that is a whole block a wrong check octet. The end has to wait after it as after each broken burst. */
+static inline void scard_wire_damage(struct scard_wire *wire, uint64_t broken)
+{
+    wire->framer.octets[scard_lent_framer_burst(&wire->framer) - 1] ^= 0xFF;
+    wire->owed = broken;
+}
+
+/* Looks at a burst of `burst` octets that came after a block of `count` octets was sent. Returns `burst` or
+ * SCARD_WIRE_ECHO. A block that the end may not take is damaged.
+ */
+static inline int scard_wire_judge(struct scard_wire *wire, const struct scard_setup *setup, int burst,
+                                   const uint8_t *sent, size_t count, uint64_t broken)
+{
+    const uint8_t *octets = wire->framer.octets;
+    bool is_i_block = octets[1] < 0x80, is_s_block = octets[1] >= 0xC0; /* by the PCB, clause 11.3.2.2 */
+    bool is_early = wire->began_at == SCARD_WIRE_EARLY && (is_i_block || !wire->is_quick);
+    bool is_echo = !setup->echo && count > 0 && (size_t)burst >= count && memcmp(octets, sent, count) == 0
+        && !(is_i_block && wire->began_at == SCARD_WIRE_IN_TIME);
+    wire->echoes = (uint8_t)(is_echo ? wire->echoes + 1 : 0);
+    if (is_echo && (is_early || is_s_block || wire->echoes == SCARD_MOST_ECHOES)) {
+        wire->echoes = 0;
+        return SCARD_WIRE_ECHO;
+    }
+    if (is_i_block && (is_echo || (setup->refuses_empty && burst == 4)) && scard_lent_framer_is_whole(&wire->framer)) {
+        scard_wire_damage(wire, broken);
+    }
+    return burst;
 }
 
 /* Receives the rest of a burst. Returns how many of its octets to pass to an end. On a timeout, if no octet came within
@@ -307,6 +460,9 @@ static inline int scard_wire_burst(struct scard_wire *wire, const struct scard_l
     int got = 1;
     while (got > 0 && framer->count < SCARD_BURST_MOST && !(is_whole && wire->after == SCARD_SILENCE_NONE)) {
         got = scard_wire_take(wire, line, octets, scard_lent_framer_wait(framer, first, cwt, wire->after));
+        if (got > 0 && framer->count == 0) {
+            scard_wire_note(wire, line);
+        }
         if (got > 0) {
             scard_lent_framer_feed(framer, octets, (size_t)got);
             is_whole = scard_lent_framer_is_whole(framer);
@@ -343,6 +499,7 @@ static inline void scard_wire_begin(struct scard_wire *wire, const struct scard_
     wire->bgt = setup->silence == SCARD_SILENCE_NONE ? 0 : scard_clock_time(clock, (uint64_t)22 * clock->fi);
     wire->after = setup->silence == 0 ? wire->bgt : setup->silence;
     wire->owed = wire->bgt;
+    wire->octet = (uint32_t)scard_clock_time(clock, (uint64_t)12 * clock->fi);
     wire->most = SCARD_LINE_FOREVER;
     *cwt = scard_clock_time(clock, (uint64_t)scard_t1_cwt(&setup->t1) * clock->fi);
     *bwt = scard_clock_time(clock, scard_t1_bwt(&setup->t1, clock->fi, clock->di));
@@ -406,9 +563,16 @@ static inline int scard_session_talk(struct scard_session *session, const uint8_
     }
     if (said == 0) {
         said = scard_wire_burst(wire, line, first, session->cwt, first);
-        wire->spent += said > 0 && times > 1 ? first : 0;
     }
-    return said;
+    return said > 0 ? scard_wire_judge(wire, &session->setup, said, octets, count, first) : said;
+}
+
+/* Returns the turn of a terminal whose wire says this, below 0. */
+static inline struct scard_turn scard_session_over(int said)
+{
+    return scard_session_turn(said == SCARD_WIRE_USED_UP ? SCARD_SESSION_USED_UP
+                              : said == SCARD_WIRE_ECHO  ? SCARD_SESSION_ECHO
+                                                         : SCARD_SESSION_FAILED);
 }
 
 /* Returns the terminal's turn after a burst of `count` octets, or after a timeout if `count` is 0. */
@@ -442,15 +606,12 @@ static inline struct scard_turn scard_session_run(struct scard_session *session,
             return scard_session_turn(SCARD_SESSION_USED_UP);
         }
         session->blocks++;
-        said = scard_session_talk(session, out, turn.count, turn.wait);
+        said = scard_session_talk(session, out, (size_t)turn.count, turn.wait);
         if (said >= 0) {
             turn = scard_session_came(session, (size_t)said, out);
         }
     }
-    if (said < 0) {
-        turn = scard_session_turn(said == SCARD_WIRE_USED_UP ? SCARD_SESSION_USED_UP : SCARD_SESSION_FAILED);
-    }
-    return turn;
+    return said < 0 ? scard_session_over(said) : turn;
 }
 
 /* Sends a command, and waits for its answer. The command may not overlap the buffers of the session. The results:
@@ -460,7 +621,7 @@ static inline struct scard_turn scard_session_run(struct scard_session *session,
  * - SCARD_SESSION_NO_STATUS: the answer has one octet or none.
  * - SCARD_GIVEN_UP: there is no answer, and it isn't known whether the card acted on the command. The field sizes are
  *   again those of the start.
- * - SCARD_DEAD, SCARD_SESSION_FAILED, SCARD_SESSION_USED_UP: the session is over.
+ * - SCARD_DEAD, SCARD_SESSION_FAILED, SCARD_SESSION_USED_UP, SCARD_SESSION_ECHO: the session is over.
  * - The call was refused, and sent nothing: _DEAD, _BUSY (the line failed before, or a limit was reached), _TOO_LONG,
  *   SCARD_NO_END (the session was never begun, or is a copy).
  */
@@ -512,7 +673,7 @@ static inline struct scard_turn scard_session_ask_ifs(struct scard_session *sess
  * - SCARD_GIVEN_UP: the card answered, so it is as at its start, and the session has begun. It isn't known whether the
  *   card's host acted on a command that was in progress.
  * - SCARD_DEAD: the card didn't answer.
- * - SCARD_SESSION_FAILED: the line failed.
+ * - SCARD_SESSION_FAILED: the line failed. SCARD_SESSION_ECHO: it has an echo.
  * - SCARD_NO_END: scard_session_begin would return ARGUMENT.
  *
  * Unless the card answered, there is no session, and later calls are refused.
@@ -532,13 +693,13 @@ static inline struct scard_turn scard_session_resync(struct scard_session *sessi
     session->wire.mark = 0;
     got = scard_wire_drain(&session->wire, &setup->line, session->bwt);
     for (asked = 0; asked < 3 && got >= 0; asked++) {
-        got = scard_session_talk(session, out, asks.place, 1);
-        if (got > 0 && (size_t)got == answer.place && memcmp(session->wire.framer.octets, wanted, answer.place) == 0) {
+        got = scard_session_talk(session, out, (size_t)asks.place, 1);
+        if (got == (int)answer.place && memcmp(session->wire.framer.octets, wanted, (size_t)got) == 0) {
             session->wire.mark = SCARD_WIRE_TERMINAL;
             return scard_session_turn(SCARD_GIVEN_UP);
         }
     }
-    return got < 0 ? scard_session_turn(SCARD_SESSION_FAILED) : scard_session_turn(SCARD_DEAD);
+    return got < 0 ? scard_session_over(got) : scard_session_turn(SCARD_DEAD);
 }
 
 /* ---- the card ---- */
@@ -557,7 +718,9 @@ struct scard_host_turn {
     size_t count;
 };
 
-/* The host: the card's application. The session calls `serve` with a command, and copies the octets of a reply.
+/* The host: the card's application. The session calls `serve` with a command, and copies the octets of a reply. The
+ * octets of the buffer after the command are 0: the card overwrites an earlier command. If a message has fewer than
+ * four octets, the session replies 6700 for the host, unless the setup says `host_takes_short`.
  * `granted` is the number of the host's requests about this command that the terminal granted. If it is 0, the command
  * is new, so act on it now. Otherwise it is the same command, so continue with it. If the terminal gives a command up
  * while a request of the host is pending, the session doesn't call `serve` for that command again.
@@ -602,7 +765,19 @@ static inline struct scard_verdict scard_card_session_begin(struct scard_card_se
     return verdict;
 }
 
-/* Calls the host with the command that it has to reply to, and returns the card's turn. */
+/* Returns what the host says to a command of `count` octets. */
+static inline struct scard_host_turn scard_card_session_asks(struct scard_card_session *session, size_t count)
+{
+    static const uint8_t wrong_length[2] = {0x67, 0x00}; /* ISO/IEC 7816-4, clause 5.1.3 */
+    const struct scard_setup *setup = &session->setup;
+    struct scard_host_turn refused = {SCARD_HOST_REPLY, 0, wrong_length, sizeof wrong_length};
+    if (count < 4 && !setup->host_takes_short) {
+        return refused;
+    }
+    return session->host.serve(session->host.context, setup->command, count, session->granted++);
+}
+
+/* Asks the host about the command that it has to reply to, and returns the card's turn. */
 static inline struct scard_turn scard_card_session_host(struct scard_card_session *session,
                                                         uint8_t out[SCARD_BLOCK_ROOM])
 {
@@ -612,7 +787,7 @@ static inline struct scard_turn scard_card_session_host(struct scard_card_sessio
     if (command.status != SCARD_OK) {
         return scard_session_turn(SCARD_NO_END);
     }
-    host = session->host.serve(session->host.context, setup->command, command.place, session->granted++);
+    host = scard_card_session_asks(session, (size_t)command.place);
     switch (host.kind) {
     case SCARD_HOST_REPLY:
         session->granted = 0;
@@ -663,8 +838,11 @@ static inline uint64_t scard_card_session_pause(const struct scard_card_session 
 /* Serves the terminal: answers its blocks without a time limit. The results:
  *
  * - SCARD_SESSION_FAILED: the line failed or ended. If the line works again, call this again to go on.
+ * - SCARD_SESSION_ECHO: the line returns what the card sends.
  * - SCARD_DONE: the host stopped serving.
  * - SCARD_REFUSED_TOO_LONG, _RESERVED: what the host returned is invalid.
+ * - SCARD_REFUSED_ORDER: the call before ended with SCARD_DONE, or with what the host returned. The card still owes a
+ *   reply, so begin it again.
  * - SCARD_NO_END: the session was never begun, or is a copy.
  *
  * A card has to answer within BWT. So after a broken burst it discards all octets until the line is silent for three
@@ -676,7 +854,7 @@ static inline struct scard_turn scard_card_session_serve(struct scard_card_sessi
 {
     struct scard_wire *wire = &session->wire;
     const struct scard_line *line = &session->setup.line;
-    uint8_t out[SCARD_BLOCK_ROOM];
+    uint8_t out[SCARD_BLOCK_ROOM]; /* the block that was sent last, of turn.count octets */
     struct scard_turn turn = scard_session_turn(SCARD_SEND);
     if (!scard_wire_is(wire, session, SCARD_WIRE_CARD)) {
         return scard_session_turn(SCARD_NO_END);
@@ -688,11 +866,13 @@ static inline struct scard_turn scard_card_session_serve(struct scard_card_sessi
     while (turn.kind == SCARD_SEND) {
         uint64_t broken = scard_card_session_pause(session);
         int said = scard_wire_burst(wire, line, SCARD_LINE_FOREVER, session->cwt, broken);
+        said = said > 0 ? scard_wire_judge(wire, &session->setup, said, out, (size_t)turn.count, broken) : said;
         if (said <= 0) {
-            return scard_session_turn(SCARD_SESSION_FAILED);
+            return scard_session_over(said);
         }
         turn = scard_card_session_came(session, (size_t)said, out);
-        said = turn.kind == SCARD_SEND ? scard_wire_send(wire, &session->setup, session->cwt, out, turn.count) : 0;
+        said = turn.kind != SCARD_SEND
+            ? 0 : scard_wire_send(wire, &session->setup, session->cwt, out, (size_t)turn.count);
         if (said == SCARD_WIRE_COLLISION) { /* the terminal asks for the block again */
             said = scard_wire_drain(wire, line, broken);
             scard_lent_framer_begin(&wire->framer);

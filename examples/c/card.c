@@ -33,7 +33,8 @@ int card_serve(const struct scard_line *line, uint64_t silence)
 {
     /* T=1 with IFSC 32, BWI 4 and CWI 5. */
     static const uint8_t atr[] = {0x3B, 0x80, 0x81, 0x31, 0x20, 0x45, 0x55};
-    struct scard_setup setup = {.line = *line, .t1 = {32, 4, 5}, .clock = {372, 1, 3571200}, .silence = silence};
+    struct scard_setup setup = {.line = *line, .t1 = {32, 4, 5}, .clock = {372, 1, 3571200}, .silence = silence,
+                                .refuses_empty = true}; /* the terminal of this folder sends no empty I-block */
     struct card *card = calloc(1, sizeof *card);
     struct scard_host host = {card, echo};
     int result = -1;

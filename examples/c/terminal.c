@@ -28,7 +28,8 @@ int terminal_begin(struct terminal *terminal, const struct scard_line *line, uin
     struct scard_setup setup = {.line = *line,
                                 .command = terminal->command, .command_room = sizeof terminal->command,
                                 .answer = terminal->answer, .answer_room = sizeof terminal->answer,
-                                .clock = {372, 1, 3571200}, .silence = silence};
+                                .clock = {372, 1, 3571200}, .silence = silence,
+                                .refuses_empty = true}; /* the card of this folder sends no empty I-block */
     struct scard_atr atr;
     if (take_atr(line, &atr) != 0 || scard_atr_t1_params(&atr, &setup.t1) != SCARD_T1_USABLE) {
         return -1;

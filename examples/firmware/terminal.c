@@ -23,7 +23,9 @@ static size_t make_command(uint32_t number)
     return count;
 }
 
-/* Makes one exchange. Returns 1 if it is right, 0 if it was given up, and -1 if it is wrong. */
+/* Makes one exchange. Returns 1 if it is right, 0 if it was given up, and -1 if it is wrong. A line that returns what
+ * is sent on it is the wrong line: RESYNCH doesn't help there.
+ */
 static int exchange(uint32_t number)
 {
     size_t count = make_command(number), answers = trial_answer(command, count, wanted);
@@ -35,10 +37,10 @@ static int exchange(uint32_t number)
         return -1;
     }
     /* the terminal can't reset a dead card here, so it sends RESYNCH until the card answers */
-    while (turn.kind != SCARD_GIVEN_UP) {
+    while (turn.kind != SCARD_GIVEN_UP && turn.kind != SCARD_SESSION_ECHO) {
         turn = scard_session_resync(&session, &setup);
     }
-    return 0;
+    return turn.kind == SCARD_GIVEN_UP ? 0 : -1;
 }
 
 int main(void)

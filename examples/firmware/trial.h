@@ -34,6 +34,7 @@ static inline struct scard_setup trial_setup(struct board_line *line)
     setup.clock.fi = 372;
     setup.clock.di = 1;
     setup.clock.hertz = 5000000;
+    setup.refuses_empty = true; /* neither image sends an empty I-block */
     return setup;
 }
 

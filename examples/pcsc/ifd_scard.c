@@ -81,7 +81,7 @@ static RESPONSECODE no_answer(const struct reader *reader)
 /* Records a turn that isn't an answer, and returns the error that the client gets. */
 static RESPONSECODE failed(struct reader *reader, struct scard_turn turn)
 {
-    Log2(PCSC_LOG_ERROR, "no answer: turn %d", turn.kind);
+    Log2(PCSC_LOG_ERROR, "no answer: %s", scard_session_turn_name(turn.kind));
     reader->is_over = turn.kind != SCARD_GIVEN_UP;
     if (turn.kind == SCARD_GIVEN_UP) {
         reader->is_size_set = false; /* RESYNCH reset it */

@@ -53,6 +53,9 @@ static bool read_word(struct plan *plan, char *word)
     } else if (strcmp(word, "clock") == 0) {
         plan->waits = strcmp(value, "real") == 0;
         return plan->waits;
+    } else if (strcmp(word, "empty") == 0) {
+        plan->refuses_empty = strcmp(value, "damaged") == 0;
+        return plan->refuses_empty;
     } else if (strcmp(word, "record") == 0 && strlen(value) < sizeof plan->record) {
         strcpy(plan->record, value);
         return true;
@@ -120,11 +123,20 @@ static void change(struct plan *plan, uint8_t *octet)
     *octet = (uint8_t)(*octet ^ (1 + throw_die(plan) % 255));
 }
 
+/* Returns true if the octets are an I-block without information. */
+static bool is_empty(const uint8_t *octets, size_t count)
+{
+    return count == 4 && octets[1] < 0x80;
+}
+
 size_t plan_next(struct plan *plan, uint8_t *octets, size_t count)
 {
     enum fault fault;
     plan->blocks++;
     fault = fault_of(plan);
+    if (fault == FAULT_NONE && plan->refuses_empty && is_empty(octets, count)) {
+        fault = FAULT_DAMAGED;
+    }
     plan->faults[fault]++;
     switch (fault) {
     case FAULT_LOST:

@@ -26,7 +26,8 @@ bool simulated_reset(struct simulated *card)
 {
     struct scard_setup setup = {.line = card->line, .command = card->command, .command_room = LONGEST_COMMAND,
                                 .answer = card->reply, .answer_room = LONGEST_REPLY, .clock = {372, 1, 3571200},
-                                .silence = SCARD_SILENCE_NONE}; /* each message is a whole burst */
+                                .silence = SCARD_SILENCE_NONE,  /* each message is a whole burst */
+                                .host_takes_short = true};      /* so that `tell` has each message */
     struct scard_host acts = {card, host};
     struct scard_atr atr;
     card->atr_count = application(NULL, 0, card->made);

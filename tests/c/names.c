@@ -1,5 +1,6 @@
 /* The version of the library and its header, and the names of statuses, turns and reasons. */
 #include "check.h"
+#include "scard_session.h"
 
 #define SPELLED(name) #name
 #define AS_TEXT(name) SPELLED(name)
@@ -55,6 +56,28 @@ static void turns(void)
         named += !is(scard_turn_name(number), "");
     }
     CHECK(named == 13);
+}
+
+#define SESSION_TURN(name) CHECK(is(scard_session_turn_name(SCARD_##name), #name))
+
+/* The kinds of a session have names too, and no two kinds have the same name. */
+static void session_turns(void)
+{
+    int number, other, named = 0;
+    SESSION_TURN(SESSION_FAILED);
+    SESSION_TURN(SESSION_USED_UP);
+    SESSION_TURN(SESSION_NO_STATUS);
+    SESSION_TURN(SESSION_ECHO);
+    for (number = -300; number < 600; number++) {
+        const char *name = scard_session_turn_name(number);
+        const bool is_session = number >= SCARD_SESSION_FAILED && number <= SCARD_SESSION_ECHO;
+        named += !is(name, "");
+        CHECK(is_session ? strncmp(name, "SESSION_", 8) == 0 : is(name, scard_turn_name(number)));
+        for (other = -300; other < number && !is(name, ""); other++) {
+            CHECK(!is(name, scard_session_turn_name(other)));
+        }
+    }
+    CHECK(named == 17);
 }
 
 static void reasons(void)
@@ -118,6 +141,7 @@ int main(void)
     versions();
     statuses();
     turns();
+    session_turns();
     reasons();
     texts();
     return verdict_of_checks("names");

@@ -38,11 +38,12 @@ struct rough_end {
     bool by_octets; /* its driver wakes at each octet; if false, once the octets pause */
 };
 
-/* The faults of a block on the line. A block with one of the first three is never accepted as a block. */
+/* The faults of a block on the line. A block with one of the first four is never accepted as a block. */
 enum rough_kind {
-    ROUGH_CHANGED, ROUGH_CUT, ROUGH_ADDED, ROUGH_CHANGED_TWO, ROUGH_FRONT_LOST, ROUGH_LOST, ROUGH_INSERTED,
-    ROUGH_DOUBLED, ROUGH_SWAPPED, ROUGH_PAUSED_CWT, ROUGH_PAUSED_BWT, ROUGH_NOISE_BEFORE, ROUGH_NOISE_APART,
-    ROUGH_NOISE_AFTER, ROUGH_BLOCK_TWICE, ROUGH_BLOCK_LATE, ROUGH_ALL, ROUGH_KINDS = ROUGH_ALL
+    ROUGH_CHANGED, ROUGH_CUT, ROUGH_ADDED, ROUGH_ZEROS_AFTER, ROUGH_FRONT_LOST, ROUGH_FRONT_ZEROS, ROUGH_LOST,
+    ROUGH_INSERTED, ROUGH_ZEROS, ROUGH_DOUBLED, ROUGH_REPEATED, ROUGH_PAUSED_CWT, ROUGH_RETURNED, ROUGH_CHANGED_TWO,
+    ROUGH_SWAPPED, ROUGH_RETURNED_UNSEEN, ROUGH_PAUSED_BWT, ROUGH_NOISE_BEFORE, ROUGH_NOISE_APART, ROUGH_NOISE_AFTER,
+    ROUGH_BLOCK_TWICE, ROUGH_BLOCK_LATE, ROUGH_ALL, ROUGH_KINDS = ROUGH_ALL
 };
 
 /* A block that was sent. */
@@ -212,6 +213,33 @@ static inline void train_insert(struct train *train, size_t place, size_t count)
     }
 }
 
+/* Appends zeros to a train, and makes these octets zeros. */
+static inline void train_add_zeros(struct train *train, size_t count)
+{
+    for (; count > 0; count--) {
+        train->octets[train->count].octet = 0;
+        train->octets[train->count].at = train->octets[train->count - 1].at + ROUGH_OCTET;
+        train->count++;
+    }
+}
+
+static inline void train_zero(struct train *train, size_t place, size_t count)
+{
+    for (; count > 0; count--) {
+        train->octets[place++].octet = 0;
+    }
+}
+
+/* Repeats octets of a train at a place. */
+static inline void train_repeat(struct train *train, size_t place, size_t count)
+{
+    size_t at;
+    train_insert(train, place, count);
+    for (at = 0; at < count; at++) {
+        train->octets[place + at].octet = train->octets[place + count + at].octet;
+    }
+}
+
 /* Appends the octets of a whole block, or noise, to a train, this long after its end. */
 static inline void train_add(struct train *train, uint64_t gap)
 {
@@ -282,30 +310,58 @@ static inline void train_move(struct train *train, int kind, size_t place)
     }
 }
 
-/* Applies a fault that removes or inserts octets. */
+/* Returns a number of octets below `count`: one to three, or any. */
+static inline size_t rough_part(size_t count)
+{
+    size_t most = rough_throw(2) == 0 ? 3 : count - 1;
+    return 1 + rough_throw((uint32_t)(most < count ? most : count - 1));
+}
+
+/* Applies a fault that removes octets. */
+static inline void train_lose(struct train *train, int kind, size_t place)
+{
+    const size_t rest = train->count - place, some = rough_part(train->count);
+    switch (kind) {
+    case ROUGH_CUT:
+        train->count = place;
+        break;
+    case ROUGH_LOST: /* neither the first octet nor the last one */
+        place = 1 + place % (train->count - 2);
+        train_drop(train, place, rough_part(train->count - place));
+        break;
+    default: /* the front: all octets up to a place near the end, or any */
+        train_drop(train, 0, rough_throw(2) == 0 && rest < train->count ? train->count - rest : some);
+        if (kind == ROUGH_FRONT_ZEROS) {
+            train_add_zeros(train, 1 + rough_throw(8));
+        }
+        break;
+    }
+}
+
+/* Applies a fault that inserts octets. */
 static inline void train_fill(struct train *train, int kind, size_t place)
 {
     const uint64_t cwt = rough.terminal.cwt, bwt = rough.terminal.bwt;
     const size_t some = 1 + rough_throw(3);
     switch (kind) {
-    case ROUGH_CUT:
-        train->count = place;
-        break;
     case ROUGH_ADDED:
         train_add(train, 0);
         break;
-    case ROUGH_FRONT_LOST:
-        train_drop(train, 0, some);
-        break;
-    case ROUGH_LOST:
-        train_drop(train, place, some < train->count - place ? some : train->count - place);
+    case ROUGH_ZEROS_AFTER:
+        train_add_zeros(train, 1 + rough_throw(300));
         break;
     case ROUGH_INSERTED:
         train_insert(train, place, some);
         break;
+    case ROUGH_ZEROS:
+        train_insert(train, place, some);
+        train_zero(train, place, some);
+        break;
     case ROUGH_DOUBLED:
-        train_insert(train, place, 1);
-        train->octets[place].octet = train->octets[place + 1].octet;
+        train_repeat(train, place, 1);
+        break;
+    case ROUGH_REPEATED:
+        train_repeat(train, place, 1 + rough_throw((uint32_t)(train->count - place)));
         break;
     case ROUGH_NOISE_BEFORE:
         train_insert(train, 0, some * 2);
@@ -335,6 +391,15 @@ static inline void train_meet(struct train *train, int kind)
     case ROUGH_PAUSED_BWT:
     case ROUGH_BLOCK_LATE:
         train_move(train, kind, place);
+        break;
+    case ROUGH_CUT:
+    case ROUGH_FRONT_LOST:
+    case ROUGH_FRONT_ZEROS:
+    case ROUGH_LOST:
+        train_lose(train, kind, place);
+        break;
+    case ROUGH_RETURNED: /* the other end gets the block as it is */
+    case ROUGH_RETURNED_UNSEEN:
         break;
     default:
         train_fill(train, kind, place);
@@ -375,15 +440,22 @@ static inline void road_take_up(struct road *road, const struct train *train)
     }
 }
 
-/* Sends a block of an end: it takes its time, and arrives at the other end with or without a fault. With an echo it
- * also comes back to the sender. If octets of it are changed or lost, the echo has the fault in one of two cases. Only
- * the other end gets noise after the block. At the sender that noise would be a separate burst, as noise on a line
- * without an echo is.
+/* Returns true if blocks with the fault come back to their sender. */
+static inline bool rough_returns(void)
+{
+    return rough.kind == ROUGH_RETURNED || rough.kind == ROUGH_RETURNED_UNSEEN;
+}
+
+/* Sends a block of an end: it takes its time, and arrives at the other end with or without a fault. With an echo, and
+ * with a fault that returns it, it also comes back to the sender. If octets of it are changed or lost, the echo has the
+ * fault in one of two cases. Only the other end gets noise after the block. At the sender that noise would be a
+ * separate burst, as noise on a line without an echo is.
  */
 static inline int rough_send(int from, const uint8_t *octets, size_t count)
 {
     struct rough_end *end = &rough.ends[from];
     struct train train, heard;
+    bool returns = rough.setups[from].echo;
     train_of(&train, octets, count);
     train_of(&heard, octets, count);
     if (rough.blocks < sizeof rough.sent / sizeof *rough.sent) {
@@ -396,13 +468,14 @@ static inline int rough_send(int from, const uint8_t *octets, size_t count)
     }
     if (rough_throw(1000) < rough.rate) {
         train_meet(&train, rough.kind);
+        returns = returns || rough_returns();
         heard = rough_throw(2) == 0 && train.count <= count ? train : heard;
         if (rough.traces) {
             rough_trace("  as", &train);
         }
     }
     road_take_up(&rough.ends[1 - from].in, &train);
-    if (rough.setups[from].echo) {
+    if (returns) {
         road_take_up(&end->in, &heard);
     }
     end->last = rough.now + count * ROUGH_OCTET;

@@ -1,6 +1,9 @@
-/* Sessions over a line that is as bad as a real one: the results of exchanges, by the kind of fault. The first three
- * kinds are one changed octet of a block, a cut at its end, and octets added at its end. With these no answer is wrong,
- * and the card acts on no command that wasn't sent and on no command twice. For the other kinds the counts are printed.
+/* Sessions over a line that is as bad as a real one: the results of exchanges, by the kind of fault, as the ends take
+ * empty I-blocks and as they refuse them. The first four kinds are one changed octet of a block, a cut at its end, and
+ * octets or zeros added at its end. With these no answer is wrong, and the card acts on no command that wasn't sent and
+ * on no command twice. If the ends refuse empty I-blocks, the same holds of all kinds up to an echo that the setup
+ * doesn't declare. But if octets are lost at the front, the rest of a block can be a block, by its octets. Some of a
+ * million exchanges meet that. For the other kinds the counts are printed.
  *
  * session_faults [EXCHANGES [RATE [KIND [SEED]]]] makes EXCHANGES exchanges of each kind, or only of KIND, with a fault
  * in RATE of 1,000 blocks. With TRACE in the environment it prints each block of the sessions that go wrong.
@@ -10,10 +13,12 @@
 
 enum { DATA_RANDOM, DATA_ZEROS, DATA_BLOCKS, DATA_KINDS, KEPT = 8 };
 
-static const char *const names[] = {"one octet changed", "end cut", "octets added", "two octets changed", "front lost",
-                                    "octets lost", "octets inserted", "octet doubled", "octets swapped",
-                                    "pause of 1 to 5 CWT", "pause of 1 to 3 BWT", "noise before", "noise apart before",
-                                    "noise after", "block twice", "block late", "all of them"};
+static const char *const names[] = {"one octet changed", "end cut", "octets added", "zeros added", "front lost",
+                                    "front lost, zeros", "octets lost", "octets inserted", "zeros inserted",
+                                    "octet doubled", "octets repeated", "pause of 1 to 5 CWT", "echo, undeclared",
+                                    "two octets changed", "octets swapped", "echo, no clock",
+                                    "pause of 1 to 3 BWT", "noise before", "noise apart before", "noise after",
+                                    "block twice", "block late", "all of them"};
 
 struct counts {
     unsigned long exchanges, right, given_up, over, no_status, wrong, unsent, twice, harmed;
@@ -31,6 +36,7 @@ static unsigned number;
 static uint8_t reply[ROUGH_MESSAGE];
 static size_t reply_count;
 static int data, asks;
+static bool refuses; /* both ends refuse empty I-blocks */
 
 /* ---- messages ---- */
 
@@ -74,9 +80,11 @@ static size_t some_length(void)
 /* Makes the next command and its reply. The number of the command is in P1 and P2, and in the status bytes. */
 static void make_exchange(void)
 {
+    static const uint8_t instructions[] = {0xA4, 0xB0, 0x20, 0xCB, 0xDA, 0x88};
     struct kept *now = &kept[++number % KEPT];
     size_t length = some_length();
     memset(now->octets, 0, 5);
+    now->octets[1] = instructions[rough_throw(sizeof instructions)];
     now->octets[2] = (uint8_t)(number >> 8);
     now->octets[3] = (uint8_t)number;
     now->count = 4 + length;
@@ -129,6 +137,12 @@ static const struct scard_host host = {NULL, act};
 
 /* ---- exchanges ---- */
 
+/* Three of four sessions have a clock, and all whose echo has to be seen. */
+static bool has_clock(void)
+{
+    return rough.kind == ROUGH_RETURNED || (rough.kind != ROUGH_RETURNED_UNSEEN && rough_throw(4) > 0);
+}
+
 static void begins(void)
 {
     static const uint8_t times[][2] = {{0, 5}, {1, 3}, {4, 5}, {0, 0}, {2, 9}};
@@ -136,6 +150,7 @@ static void begins(void)
     const uint8_t *time = times[rough_throw(5)];
     struct scard_t1 t1;
     uint64_t silence = 0;
+    int end;
     t1.ifsc = sizes[rough_throw(4)];
     t1.bwi = time[0];
     t1.cwi = time[1];
@@ -145,7 +160,11 @@ static void begins(void)
     }
     rough.setups[0].silence = silence;
     rough.setups[1] = rough_setup(1, t1, silence);
-    rough.setups[0].echo = rough.setups[1].echo = rough_throw(4) == 0;
+    rough.setups[0].echo = rough.setups[1].echo = rough_throw(4) == 0 && !rough_returns();
+    rough.setups[0].refuses_empty = rough.setups[1].refuses_empty = refuses;
+    for (end = 0; end < 2; end++) {
+        rough.setups[end].line.now = has_clock() ? rough_now : NULL;
+    }
     rough.ends[0].by_octets = rough_throw(32) == 0;
     rough.ends[1].by_octets = rough_throw(32) == 0;
     data = (int)rough_throw(DATA_KINDS);
@@ -204,10 +223,11 @@ static void session(uint64_t die, bool traces)
 
 static void row(int kind, unsigned rate)
 {
-    printf("%-20s %3u of 1,000: %lu exchanges, %lu blocks met it, %lu right, %lu given up, %lu over, %lu no status,"
-           " %lu wrong, %lu not sent, %lu twice\n",
-           names[kind], rate, counts.exchanges, counts.harmed, counts.right, counts.given_up, counts.over,
-           counts.no_status, counts.wrong, counts.unsent, counts.twice);
+    printf("%-20s %3u of 1,000, empty %s: %lu exchanges, %lu blocks met it, %lu right, %lu given up, %lu over,"
+           " %lu no status, %lu wrong, %lu not sent, %lu twice\n",
+           names[kind], rate, refuses ? "refused" : "taken", counts.exchanges, counts.harmed, counts.right,
+           counts.given_up, counts.over, counts.no_status, counts.wrong, counts.unsent, counts.twice);
+    fflush(stdout);
 }
 
 /* Runs sessions in which blocks have this kind of fault, until they have made this many exchanges. */
@@ -231,11 +251,11 @@ static void of_kind(int kind, unsigned rate, unsigned long most, uint64_t seed)
     }
     counts.harmed = rough.harmed;
     row(kind, rate);
-    if (kind <= ROUGH_ADDED || rate == 0) {
-        CHECK(bad() == 0 && counts.no_status == 0);
+    if (kind <= (refuses ? ROUGH_RETURNED : ROUGH_ZEROS_AFTER) || rate == 0) {
+        CHECK(bad() <= (kind == ROUGH_FRONT_LOST ? counts.exchanges / 250000 : 0) && counts.no_status == 0);
     }
     CHECK(rate > 0 || counts.right == counts.exchanges);
-    CHECK(counts.right > counts.exchanges / 2);
+    CHECK(counts.right > counts.exchanges / 2 || rough_returns());
     CHECK(counts.right + counts.given_up + counts.over + counts.no_status + counts.wrong == counts.exchanges);
 }
 
@@ -249,9 +269,10 @@ int main(int count, char **words)
     int kind;
     size_t at;
     for (kind = 0; kind <= ROUGH_KINDS; kind++) {
-        for (at = 0; at < 3; at++) {
-            if ((only < 0 || only == kind) && (rate == 0 || rate == rates[at])) {
-                of_kind(kind, rates[at], most, seed);
+        for (at = 0; at < 6; at++) {
+            refuses = at % 2 == 1;
+            if ((only < 0 || only == kind) && (rate == 0 || rate == rates[at / 2])) {
+                of_kind(kind, rates[at / 2], most, seed);
             }
         }
     }

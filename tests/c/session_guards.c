@@ -181,8 +181,8 @@ static void blocks_are_used_up(void)
 /* BWT is 1,601,146 microseconds, and the card asks for ten times that. */
 static void time_is_used_up(void)
 {
-    feints(more_time, 0, 0, false); /* each longer wait counts at full length */
-    used_up(1 + 3600000000u / 16011460 + 1);
+    feints(more_time, 0, 20000000, false); /* without a clock, a wait in which octets came doesn't count */
+    used_up(SCARD_MOST_BLOCKS);
     feints(more_time, 0, 20000000, true); /* with a clock, only the time that passed counts */
     used_up(20000);
     feints(silent, 0, 2000000, false); /* the second wait is as long as the time left, and no `quiet` follows it */
