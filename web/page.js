@@ -61,9 +61,16 @@ function marked(answer) {
   return block("The octets around that place", first, made("mark", there), last);
 }
 
+// Shows the first wrong place of a text that isn't hexadecimal.
+function misplaced(wrong) {
+  const [where, ...line] = placeLines(wrong);
+  return [made("p", where), block("The text around that place", line.join("\n"))];
+}
+
 // Returns what the page shows of a value below its verdict.
 function shown(answer) {
   const found = [];
+  if (answer.wrong) found.push(...misplaced(answer.wrong));
   if (answer.sentence) found.push(made("p", answer.sentence));
   if (answer.is === "refused") found.push(marked(answer));
   if (answer.is === "ok" && answer.lines) found.push(block("The value", answer.lines.join("\n")));

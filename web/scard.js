@@ -27,7 +27,6 @@ const CLASSES = ["", "normal", "warning", "execution", "checking", "proprietary"
 const NO_T1 = ["", "NoT1", "ReservedIfsc", "Crc"];
 
 const TOO_LARGE = `a text has at most ${LONGEST_TEXT} characters`;
-const FORM = "an octet is two hexadecimal digits, and blanks separate groups of octets";
 
 // What is expected in place of a refused octet, by the kind and the module's name of the reason.
 const SENTENCES = {
@@ -72,8 +71,6 @@ const SENTENCES = {
 };
 
 const PAIRS = Array.from({ length: 256 }, (_, octet) => octet.toString(16).toUpperCase().padStart(2, "0"));
-// The value of each hexadecimal digit, by its character code.
-const DIGITS = Uint8Array.from({ length: 128 }, (_, code) => parseInt(String.fromCharCode(code), 16) || 0);
 
 // Encodes octets as upper-case hexadecimal.
 function hexOf(octets) {
@@ -104,21 +101,6 @@ function plain(line) {
 function annotated(line, note) {
   const words = note ? note() : "";
   return words ? `${line}  # ${words}` : line;
-}
-
-// Decodes the octets of a text in the form of the program's `--stdin hex`. An octet has two digits. Blanks separate
-// groups, each with or without 0x before it. `none` alone gives no octets. Returns null for any other text.
-function octetsOf(text) {
-  const words = text.split(/[ \t\n\r]+/).filter((word) => word !== "");
-  if (words.length === 1 && words[0] === "none") return new Uint8Array(0);
-  const groups = words.map((word) => word.replace(/^0[xX](?=.)/, ""));
-  if (groups.some((group) => group.length % 2 || !/^[0-9A-Fa-f]*$/.test(group))) return null;
-  const digits = groups.join("");
-  const octets = new Uint8Array(digits.length / 2);
-  for (let i = 0; i < octets.length; i++) {
-    octets[i] = DIGITS[digits.charCodeAt(2 * i)] * 16 + DIGITS[digits.charCodeAt(2 * i + 1)];
-  }
-  return octets;
 }
 
 // The memory of the module: a place for each struct, and room for octets after them.
@@ -250,7 +232,7 @@ class Scard {
   *answering(kind, text, ...more) {
     if (text.length > LONGEST_TEXT) return { is: "fault", check: "fault: TooLarge", sentence: TOO_LARGE };
     const octets = octetsOf(text);
-    if (!octets) return { is: "fault", check: "fault: hex", sentence: FORM };
+    if (!octets) return { is: "fault", check: "fault: hex", wrong: wrongIn(text), sentence: FORM };
     return { octets, ...(yield* this.telling(kind, octets, ...more)) };
   }
 
@@ -273,7 +255,7 @@ class Scard {
   // after each line.
   *judge(atr, text) {
     const octets = octetsOf(atr);
-    if (!octets) return { is: "fault", check: "fault: hex", notes: [FORM] };
+    if (!octets) return { is: "fault", check: "fault: hex", notes: [...placeLines(wrongIn(atr)), FORM] };
     if (text.length > LONGEST_TEXT) return { is: "fault", check: "fault: TooLarge", notes: [TOO_LARGE] };
     const { refused, ifsc } = this.params(octets);
     if (refused) return { is: "refused", check: `refused: ${refused}`, notes: atrWhy(this, octets, refused) };
@@ -292,7 +274,10 @@ class Scard {
   *answers(kind, text, ...more) {
     const lines = text.split("\n");
     if (lines.at(-1) === "") lines.pop();
-    for (const line of lines) yield finished(this.answering(kind, line, ...more));
+    for (const line of lines) {
+      const { wrong, ...answer } = finished(this.answering(kind, line, ...more));
+      yield { ...answer, ...(wrong && { wrong: { ...wrong, line: 0 } }) };
+    }
   }
 
   atr(octets) {

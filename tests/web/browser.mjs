@@ -6,7 +6,8 @@
 // compared, character by character, with the program's answer in the vectors. Then each example is chosen. The page may
 // load and send nothing, and the browser may complain of nothing. In Chromium texts are typed too: a forest of 1 MiB
 // has to be shown in a second, and no text of 64 KiB may delay other input for 50 milliseconds. With PICTURES, pictures
-// of each example go into that folder, light, dark and narrow. The last line is 'N passed, M failed'.
+// of each example go into that folder, light, dark and narrow. A browser in which the test stops early is a failure,
+// with its name. The last line is 'N passed, M failed'.
 import { execFileSync } from "node:child_process";
 import { join } from "node:path";
 import { Checks } from "./checks.mjs";
@@ -20,7 +21,9 @@ import { SAID, TEXTS } from "./shown.mjs";
 const CHROMIUM = ["chromium", "chromium-browser", "google-chrome"];
 const FIREFOX = ["firefox-esr", "firefox"];
 const BATCH = 500;
-const TRIES = 3;
+const TRIES = 10;
+// The milliseconds that the test in one browser may take.
+const LONGEST = 600000;
 // The milliseconds until a text has to be shown, and for which a text of at most so many characters may delay other
 // input.
 const [SOON, KEPT, SHORT] = [1000, 50, 65536];
@@ -39,10 +42,10 @@ function found(names) {
   });
 }
 
-// Compares what the page says of each line of vectors/ that it answers.
+// Compares what the page says of each line of vectors/ that it answers, by the module that it runs in this browser.
 async function compare(page) {
-  await page.value(`WebAssembly.instantiate(octets, {}).then(({ instance }) => {
-    const own = { scard: new Scard(instance), aroundLines, finished };
+  await page.value(`instance().then((found) => {
+    const own = { scard: new Scard(found), aroundLines, placeLines, finished };
     globalThis.answeredHere = (requests) => requests.map((request) => (${answered})(own, request));
   })`);
   const kinds = await page.value("KINDS");
@@ -139,21 +142,40 @@ async function left(page, files) {
   await page.close();
 }
 
-const [chromium, firefox] = [found(CHROMIUM), found(FIREFOX)];
-if (chromium) {
-  const page = await Chromium.open(chromium, file);
+async function inChromium(page) {
+  await page.open(file);
   await used(page);
   await measure(page);
   if (pictures) await draw(page);
   await left(page, 1);
-} else {
-  console.log("browser: there is no chromium here");
 }
-if (firefox && globalThis.WebSocket) {
-  const page = await Firefox.open(firefox, file);
+
+async function inFirefox(page) {
+  await page.open(file);
   await used(page);
   await left(page, 0);
-} else {
-  console.log(`browser: ${firefox ? "this node has no WebSocket, so firefox is left out" : "there is no firefox here"}`);
 }
+
+// Runs the test in one browser. If it stops early or takes too long, that is a failure with its name.
+async function tested(name, page, test) {
+  let late;
+  const never = new Promise((_, no) => {
+    late = setTimeout(() => no(new Error(`it isn't over after ${LONGEST / 1000} seconds`)), LONGEST);
+  });
+  try {
+    await Promise.race([test(page), never]);
+  } catch (fault) {
+    checks.stopped(name, fault);
+    await page.kill();
+  }
+  clearTimeout(late);
+}
+
+const leftOut = (name, why) => console.log(`browser: the page in ${name}: left out: ${why}`);
+const [chromium, firefox] = [found(CHROMIUM), found(FIREFOX)];
+if (!chromium) leftOut("Chromium", `there is no command ${CHROMIUM[0]}`);
+else await tested("Chromium", new Chromium(chromium), inChromium);
+if (!firefox) leftOut("Firefox", `there is no command ${FIREFOX[0]}`);
+else if (!globalThis.WebSocket) leftOut("Firefox", "this node has no WebSocket");
+else await tested("Firefox", new Firefox(firefox), inFirefox);
 checks.end(chromium || (firefox && globalThis.WebSocket) ? 1 : 0);

@@ -12,6 +12,12 @@ export class Checks {
     }
   }
 
+  // Counts a test that stopped early as a failure.
+  stopped(what, fault) {
+    this.failed++;
+    console.log(`${this.name}: ${what}: the test stopped early: ${fault.message}`);
+  }
+
   // Prints the last line. It is a failure too if fewer than `least` checks passed.
   end(least = 1) {
     console.log(`${this.passed} passed, ${this.failed} failed`);

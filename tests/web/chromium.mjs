@@ -10,17 +10,7 @@ const WORDS = ["--headless=new", "--remote-debugging-pipe", "--no-first-run", "-
   "--disable-background-networking", "--disable-dev-shm-usage"];
 
 export class Page extends Remote {
-  // Opens a file in a new browser. Only root runs Chromium without its sandbox.
-  static async open(chromium, file) {
-    const page = new Page(chromium);
-    const { targetId } = await page.call("Target.createTarget", { url: "about:blank" });
-    const { sessionId } = await page.call("Target.attachToTarget", { targetId, flatten: true });
-    page.session = sessionId;
-    for (const domain of ["Page", "Runtime", "Log", "Network"]) await page.call(`${domain}.enable`);
-    await page.load(pathToFileURL(file).href);
-    return page;
-  }
-
+  // Starts a browser. Only root runs Chromium without its sandbox.
   constructor(chromium) {
     super();
     this.profile = mkdtempSync(join(tmpdir(), "scard-chromium-"));
@@ -31,6 +21,15 @@ export class Page extends Remote {
     this.browser.on("error", (fault) => this.end(fault));
     this.browser.on("exit", () => this.end(new Error("the browser ended")));
     this.browser.stdio[4].setEncoding("utf8").on("data", (text) => this.read(text));
+  }
+
+  // Opens a file in it.
+  async open(file) {
+    const { targetId } = await this.call("Target.createTarget", { url: "about:blank" });
+    const { sessionId } = await this.call("Target.attachToTarget", { targetId, flatten: true });
+    this.session = sessionId;
+    for (const domain of ["Page", "Runtime", "Log", "Network"]) await this.call(`${domain}.enable`);
+    await this.load(pathToFileURL(file).href);
   }
 
   // Messages end with a zero character.

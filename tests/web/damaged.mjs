@@ -5,7 +5,8 @@
 // PAGE is the file that web/make made, and PROGRAM is the program scard. A fixed sequence damages octets of vectors/,
 // 10,000 times in all. What the page shows of each, with notes, is compared with what `show KIND --stdin lines --notes`
 // of the program prints, except the notes on refusals. In the same way 200 texts of exchanges are compared with what
-// `replay --explain` prints for both ends, and 400 traces with what `judge --explain` prints. The last line is
+// `replay --explain` prints for both ends, and 400 traces with what `judge --explain` prints. What the page shows of
+// 200 texts that aren't hexadecimal is compared with what `check --stdin hex --explain` prints. The last line is
 // 'N passed, M failed'.
 import { spawnSync } from "node:child_process";
 import { readFileSync, readdirSync } from "node:fs";
@@ -16,13 +17,16 @@ import { withoutRefusalNotes } from "./requests.mjs";
 const COUNT = 10000;
 const EXCHANGES = 200;
 const TRACES = 400;
+const TEXTS = 200;
+const GROUPS = ["3B", "80 80\n", "0x01", " 0x", "0", "31\r\n", ":", ", ", "é", "none", "\t20 45 55", "g",
+  "00".repeat(30)];
 const ATR = "3B808131204555";
 const LONGEST = 2048;
 const SHOWN = 10;
 
 const examples = new URL("../../examples/", import.meta.url);
 const [page, program] = process.argv.slice(2);
-const { scard, KINDS, finished } = await loaded(page);
+const { scard, KINDS, finished, placeLines } = await loaded(page);
 
 // Returns a number from 0 to one below `bound`, from a sequence that is the same at each run (Marsaglia's xorshift).
 let state = 0x9e3779b9;
@@ -107,6 +111,17 @@ function compareJudge(text) {
   checks.equal(`judge ${JSON.stringify(text)}`, have, printed(["judge", ATR, "--explain"], text));
 }
 
+// Compares a text made of groups, if it isn't hexadecimal. Returns whether it isn't.
+function compareText(text) {
+  const { is, check, wrong, sentence } = finished(scard.answering("atr", text, 254, 0, false));
+  if (is !== "fault") return 0;
+  const have = [check, ...placeLines(wrong), `standard input: ${sentence}`].map((line) => `${line}\n`).join("");
+  const said = printed(["check", "atr", "--stdin", "hex", "--explain"], Buffer.from(text))
+    .replace(/--stdin (source|dump) reads.*\n/, "");
+  checks.equal(`check ${JSON.stringify(text)}`, have, said);
+  return 1;
+}
+
 for (const [kind, octets] of bases()) {
   const length = Math.ceil(COUNT / KINDS.length);
   const found = Array.from({ length }, () => spoiledOctets(octets[any(octets.length)]));
@@ -117,4 +132,7 @@ const texts = names.map((name) => readFileSync(new URL(name, examples), "latin1"
 for (let times = 0; times < EXCHANGES; times++) compareReplay(spoiledText(texts[any(texts.length)]));
 const traces = [...cases()].filter(({ words }) => words.join(" ") === `judge ${ATR}`).map(({ input }) => input);
 for (let times = 0; times < TRACES; times++) compareJudge(spoiledTrace(traces));
+for (let wrong = 0; wrong < TEXTS;) {
+  wrong += compareText(Array.from({ length: 1 + any(9) }, () => GROUPS[any(GROUPS.length)]).join(""));
+}
 checks.end(COUNT);

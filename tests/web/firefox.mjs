@@ -10,26 +10,25 @@ const HERE = /WebDriver BiDi listening on (ws:\S+)/;
 const EVENTS = ["log.entryAdded", "network.beforeRequestSent"];
 
 export class Page extends Remote {
-  // Opens a file in a new browser.
-  static async open(firefox, file) {
-    const page = new Page(firefox);
-    await page.connected();
-    const { capabilities } = await page.call("session.new", { capabilities: {} });
-    page.capabilities = capabilities;
-    const { contexts } = await page.call("browsingContext.getTree", {});
-    page.context = contexts[0].context;
-    await page.call("session.subscribe", { events: EVENTS });
-    const url = pathToFileURL(file).href;
-    await page.call("browsingContext.navigate", { context: page.context, url, wait: "complete" });
-    return page;
-  }
-
+  // Starts a browser.
   constructor(firefox) {
     super();
     this.profile = mkdtempSync(join(tmpdir(), "scard-firefox-"));
     const words = ["--headless", "--no-remote", "--remote-debugging-port=0", "--profile", this.profile];
     this.browser = spawn(firefox, words, { stdio: ["ignore", "ignore", "pipe"] });
     this.ended = new Promise((yes) => this.browser.on("exit", yes));
+  }
+
+  // Opens a file in it.
+  async open(file) {
+    await this.connected();
+    const { capabilities } = await this.call("session.new", { capabilities: {} });
+    this.capabilities = capabilities;
+    const { contexts } = await this.call("browsingContext.getTree", {});
+    this.context = contexts[0].context;
+    await this.call("session.subscribe", { events: EVENTS });
+    const url = pathToFileURL(file).href;
+    await this.call("browsingContext.navigate", { context: this.context, url, wait: "complete" });
   }
 
   // Waits until the browser has printed the address of its tools, and connects to them.

@@ -69,6 +69,36 @@ for (const [at, dataset] of examples.entries()) {
   await said(`the address of example ${at + 1}`, SAID[at]);
 }
 checks.equal("what a file asks for", [parts["octets-part"].hidden, parts["ifs-part"].hidden].join(), "true,true");
+// Texts that aren't hexadecimal: what is wrong, where, the line and the mark.
+const FORM = "an octet is two hexadecimal digits, and blanks separate groups of octets";
+for (const [text, where, line, mark] of [
+  ["3b:80:80", "line 1, column 3: ':' isn't a hexadecimal digit", "3b:80:80", "  ^"],
+  ["3b 80\n80,80", "line 2, column 3: ',' isn't a hexadecimal digit", "80,80", "  ^"],
+  ["3b8 00", "line 1, column 1: this group has an odd number of digits", "3b8 00", "^"],
+  ["zz", "line 1, column 1: 'z' isn't a hexadecimal digit", "zz", "^"],
+  ["00 0x", "line 1, column 4: digits must follow this 0x", "00 0x", "   ^"],
+  ["00 \u00e9\ud83d\ude00", "line 1, column 4: the octet C3 isn't a hexadecimal digit", "00 ??????", "   ^"],
+  ["\ud83d", "line 1, column 1: the octet EF isn't a hexadecimal digit", "???", "^"],
+  [`${"00 ".repeat(20)}g${" 00".repeat(20)}`, "line 1, column 61: 'g' isn't a hexadecimal digit",
+    `${"00 ".repeat(20).slice(20)}g${" 00".repeat(20).slice(0, 19)}`, `${" ".repeat(40)}^`],
+]) {
+  parts.status.textContent = "";
+  type("atr", text);
+  await said(`the text ${text}`, "fault: hex");
+  checks.equal(`where the text ${text} is wrong`, parts.out.text, [where, line, mark, FORM].join("\n"));
+}
+parts.status.textContent = "";
+type("atr", "3B00\n3B:00");
+parts.each.checked = true;
+await said("lines, one of them wrong", "1 of 2 lines are accepted");
+const shows = (text) => parts.out.text.includes(text);
+checks.equal("where the line is wrong", shows("\ncolumn 3: ':' isn't a hexadecimal digit\n3B:00\n  ^\n"), true);
+parts.atr.value = "3B 0";
+type("trace", "t 00400500A4040000E5");
+await said("an answer to reset that isn't hexadecimal", "fault: hex");
+const odd = "line 1, column 4: this group has an odd number of digits\n3B 0\n   ^\n";
+checks.equal("where it is wrong", shows(odd), true);
+parts.atr.value = "";
 type("exchange", "scard-exchange 1\natr 3B00\n\n");
 await said("a wrong line", "fault: line 3: Word");
 parts.atr.value = "3B 80 81 31 20 45 55";

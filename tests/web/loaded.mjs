@@ -16,7 +16,7 @@ export async function loaded(file, id = "module") {
   const page = readFileSync(file, "utf8");
   const text = page.match(/<script>([\s\S]*)<\/script>/)[1].split("// The page: what is given in its form")[0];
   const world = vm.createContext({});
-  vm.runInContext(`${text}\nglobalThis.given = { Scard, KINDS, aroundLines, finished };`, world);
+  vm.runInContext(`${text}\nglobalThis.given = { Scard, KINDS, aroundLines, placeLines, finished };`, world);
   const { Scard, ...names } = world.given;
   const compiled = await WebAssembly.compile(Buffer.from(page.match(`id="${id}">([^<]*)<`)[1], "base64"));
   return { scard: new Scard(await WebAssembly.instantiate(compiled, {})), compiled, ...names };

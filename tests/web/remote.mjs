@@ -1,5 +1,7 @@
 // Shared by the pages in both browsers: numbered calls of the browser's tools, their answers, and the events between
 // them.
+import { rmSync } from "node:fs";
+
 export class Remote {
   constructor() {
     [this.number, this.asked, this.seen] = [0, new Map(), []];
@@ -15,6 +17,13 @@ export class Remote {
     this.asked.delete(id);
     if (error) no(new Error(message));
     else yes(result);
+  }
+
+  // Ends a browser whose test stopped early. Its own processes end soon after it.
+  async kill() {
+    this.browser.kill("SIGKILL");
+    await wait(1000);
+    rmSync(this.profile, { recursive: true, force: true, maxRetries: 20 });
   }
 
   // Handles the end of the browser, or its failure to start.

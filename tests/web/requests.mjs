@@ -34,16 +34,23 @@ function ofOctets(found, input, kinds) {
   const isRight = isForm && found.words.length === (found.form ? 1 : 2);
   if (!isRight || !kinds.includes(found.kind)) return null;
   if (!(found.ifs >= 1 && found.ifs <= 254 && found.first <= 1)) return null;
-  if (found.form) found.text = input;
+  if (found.form) return fromInput(found, input);
   // A word of the command line is one group without 0x, or `none`. The page has no form for other texts.
-  else if (found.text === "none") found.text = "";
+  if (found.text === "none") found.text = "";
   else if (!/^[0-9A-Fa-f]*$/.test(found.text)) return null;
   return found;
 }
 
+// The page has characters, where the program has their octets in UTF-8. An explanation of other octets is left out.
+function fromInput(found, input) {
+  const text = Buffer.from(input, "latin1").toString();
+  const isWhole = Buffer.from(text).toString("latin1") === input;
+  return isWhole || !found.explain ? { ...found, text: isWhole ? text : input } : null;
+}
+
 // Returns the page's answer, in the form of the program's. It calls only its arguments, so that a browser can run it
 // too.
-export function answered({ scard, aroundLines, finished }, request) {
+export function answered({ scard, aroundLines, placeLines, finished }, request) {
   const { subcommand, kind, text, atr, ifs, first, form, explain, notes, end } = request;
   const ofLine = ({ check, lines }) => (subcommand === "check" ? [check] : [...(lines ?? [check]), ""]);
   const ended = (lines) => lines.map((line) => `${line}\n`).join("");
@@ -64,7 +71,9 @@ export function answered({ scard, aroundLines, finished }, request) {
   const lines = subcommand === "show" && told.lines ? told.lines : [told.check];
   if (explain && told.is === "ok" && told.left) lines.push(`octets after the value: ${told.left}`);
   if (explain && told.is === "refused") lines.push(told.sentence, ...aroundLines(told));
-  return told.is === "fault" && explain ? null : ended(lines);
+  if (explain && told.is === "fault" && form !== "hex") return null;
+  if (explain && told.wrong) lines.push(...placeLines(told.wrong), `standard input: ${told.sentence}`);
+  return ended(lines);
 }
 
 // Returns the program's answers without the notes on refusals, which the page doesn't have.
@@ -77,5 +86,6 @@ export function wanted({ said }, { subcommand, end }) {
   if (subcommand === "judge") return said;
   if (end) return said.replace(/; in the trace it .*/g, "");
   return withoutRefusalNotes(said).replace(" (--ifs)", "").replace("from --number", "from the first number given")
-    .replace(/octets so far: .*\n/, "").replace(/standard input: (this text is also a dump|od wrote two octets).*\n/, "");
+    .replace(/octets so far: .*\n/, "").replace(/--stdin (source|dump) reads this text\n/, "")
+    .replace(/standard input: (this text (is also a dump|begins with a byte)|od wrote two octets).*\n/, "");
 }
