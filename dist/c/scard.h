@@ -23,6 +23,9 @@
 #ifndef SCARD_H
 #define SCARD_H
 
+/* scard.c has no calls on handles. */
+#define SCARD_NO_HANDLES
+
 /* The version of this header. scard_version() returns the version of the linked library. If this header belongs to that
  * library, the two numbers are equal.
  */
@@ -591,6 +594,9 @@ struct scard_verdict scard_dol_fill(const uint8_t *list, size_t count, const str
 
 /* A handle. It holds a terminal, a card or a reader, or is empty. Initialize it with SCARD_HANDLE_EMPTY. scard_close
  * frees what it holds. Never copy a handle, and change it only by these calls.
+ *
+ * All calls on handles, and no others, need functions for memory. A library without memory lacks them, such as
+ * dist/c/scard.c. If SCARD_NO_HANDLES is defined, as in the header beside that file, this header doesn't declare them.
  */
 struct scard_handle {
     void *at;
@@ -630,6 +636,8 @@ struct scard_turn {
                      waits for its terminal without limit, or since the turn sends nothing */
     scard_size count; /* SCARD_SEND: the number of octets to send. SCARD_NO_ROOM: the room needed. Otherwise 0 */
 };
+
+#ifndef SCARD_NO_HANDLES
 
 /* Open a terminal or a card in a handle. `ifsc`, `bwi` and `cwi` are the T=1 parameters of the card: `ifsc` is 1 to 254
  * octets, `bwi` and `cwi` are 0 to 15. An end measures no time, so the calls only check the range of the two indexes.
@@ -703,6 +711,8 @@ struct scard_turn scard_card_ask_ifs(struct scard_handle *handle, uint8_t size, 
  */
 SCARD_MUST_USE
 struct scard_verdict scard_message(struct scard_handle *handle, uint8_t *out, size_t room);
+
+#endif /* SCARD_NO_HANDLES */
 
 /* ---- both ends without an allocator ---- */
 
@@ -830,6 +840,8 @@ struct scard_verdict scard_lent_card_command(const struct scard_lent_card *state
 
 /* ---- readers of octets that arrive in pieces ---- */
 
+#ifndef SCARD_NO_HANDLES
+
 /* Open a reader in a handle, for one answer to reset, one block, one chain or one forest.
  *
  * - scard_block_reader_open: an I-block has at most `ifs` octets, 1 to 254.
@@ -877,6 +889,8 @@ struct scard_verdict scard_atr_reader_value(struct scard_handle *handle, struct 
 SCARD_MUST_USE
 struct scard_verdict scard_block_reader_value(struct scard_handle *handle, struct scard_block *out,
                                               uint8_t *octets, size_t room);
+
+#endif /* SCARD_NO_HANDLES */
 
 /* ---- a check of a forest in pieces, without an allocator ---- */
 

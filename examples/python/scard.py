@@ -1,17 +1,19 @@
-"""scard from Python: answers to reset, commands, forests, and a terminal, over the shared library with ctypes.
+"""scard from Python: answers to reset, commands, forests, and a terminal, over a shared library with ctypes.
 
     python3 scard.py atr 3B858131FE458073800140BC      (or: command 00A4040000, tlv 6F048402A000)
 
-The library is libscard.so.1, or the file that SCARD_LIBRARY names.
+The library is libscard.so.1, or the file that SCARD_LIBRARY names. The example makes only calls that take no memory, so
+that file may also be dist/c/scard.c as a shared library: cc -shared -fPIC -O2 -Idist/c dist/c/scard.c -o scard.so
 """
 import ctypes
 import os
 import sys
-from ctypes import POINTER, byref, c_bool, c_char_p, c_size_t, c_uint8, c_uint16, c_uint32, c_uint64, c_void_p
+from ctypes import POINTER, byref, c_char_p, c_size_t, c_uint8, c_uint16, c_uint32, c_uint64, c_void_p
 
 OK, SHORT, AT, SEND, DONE = 0, 1, 2, 0, 1  # three statuses and two kinds of turns
 ATR, COMMAND, TLV = 1, 4, 6  # the codecs, for the names of reasons
-BLOCK_ROOM, LONGEST_ANSWER, LONGEST_FOREST, VERSION = 258, 65544, 1048576, 1000000
+BLOCK_ROOM, LONGEST_COMMAND, LONGEST_ANSWER = 258, 65544, 65538
+LONGEST_FOREST, VERSION = 1048576, 1000000
 
 
 def struct(name, **fields):
@@ -22,7 +24,9 @@ def struct(name, **fields):
 Verdict = struct("Verdict", status=c_uint8, reason=c_uint8, place=c_size_t)
 Text = struct("Text", text=c_char_p, size=c_size_t)
 Turn = struct("Turn", kind=c_uint8, wait=c_uint8, count=c_size_t)
-Handle = struct("Handle", at=c_void_p, is_full=c_bool)
+NUMBERS = ("number", "expected", "failures", "ifsc", "ifsd", "first_ifsc", "wait", "size", "is_answered")
+SIZES = ("place", "most_command", "most_answer", "command_len", "answer_len")
+State = struct("State", **dict.fromkeys(NUMBERS, c_uint8), **dict.fromkeys(SIZES, c_uint64))
 T1 = struct("T1", ifsc=c_uint8, bwi=c_uint8, cwi=c_uint8)
 Interface = struct("Interface", has_ta=c_uint8, ta=c_uint8, has_tb=c_uint8, tb=c_uint8, has_tc=c_uint8, tc=c_uint8)
 Indicated = struct("Indicated", protocol=c_uint8, bytes=Interface)
@@ -33,7 +37,8 @@ Command = struct("Command", cla=c_uint8, ins=c_uint8, p1=c_uint8, p2=c_uint8, sh
 Tag = struct("Tag", octets=c_uint8 * 3, count=c_uint8)
 Part = struct("Part", depth=c_uint8, is_constructed=c_uint8, len_octets=c_uint8, tag=Tag, place=c_size_t, len=c_size_t)
 
-OCTETS, ROOM, END = (c_char_p, c_size_t), (c_void_p, c_size_t), POINTER(Handle)
+OCTETS, ROOM = (c_char_p, c_size_t), (c_void_p, c_size_t)
+END = (POINTER(State), *ROOM, *ROOM)
 CALLS = {
     "version": (c_uint32,),
     "reason_text": (None, c_uint8, c_uint8, POINTER(Text)),
@@ -43,12 +48,11 @@ CALLS = {
     "t1_bwt": (c_uint64, POINTER(T1), c_uint16, c_uint16),
     "command_decode": (Verdict, *OCTETS, POINTER(Command)),
     "tlv_parts": (Verdict, *OCTETS, c_size_t, POINTER(Part), c_size_t),
-    "terminal_open": (Verdict, END, c_uint8, c_uint8, c_uint8),
-    "terminal_transmit": (Turn, END, *OCTETS, *ROOM),
-    "terminal_received": (Turn, END, *OCTETS, *ROOM),
-    "terminal_quiet": (Turn, END, *ROOM),
-    "message": (Verdict, END, *ROOM),
-    "close": (None, END),
+    "lent_terminal_begin": (Verdict, *END, c_uint8, c_uint8, c_uint8),
+    "lent_terminal_transmit": (Turn, *END, *OCTETS, *ROOM),
+    "lent_terminal_received": (Turn, *END, *OCTETS, *ROOM),
+    "lent_terminal_quiet": (Turn, *END, *ROOM),
+    "lent_terminal_answer": (Verdict, *END),
 }
 lib = ctypes.CDLL(os.environ.get("SCARD_LIBRARY", "libscard.so.1"))
 for call, (result, *arguments) in CALLS.items():
@@ -113,29 +117,32 @@ class Terminal:
     block waiting times."""
 
     def __init__(self, line, ifsc=32, bwi=4, cwi=13):
-        self.line, self.handle, self.block = line, Handle(), ctypes.create_string_buffer(BLOCK_ROOM)
-        checked(lib.scard_terminal_open(byref(self.handle), ifsc, bwi, cwi))
+        self.line, self.block, self.parameters = line, ctypes.create_string_buffer(BLOCK_ROOM), (ifsc, bwi, cwi)
+        self.answer = ctypes.create_string_buffer(LONGEST_ANSWER)
+        self.end = (State(), ctypes.create_string_buffer(LONGEST_COMMAND), LONGEST_COMMAND, self.answer, LONGEST_ANSWER)
+        self._begin()
+
+    def _begin(self):
+        checked(lib.scard_lent_terminal_begin(*self.end, *self.parameters))
 
     def _turn(self, call, *octets):
-        return call(byref(self.handle), *octets, self.block, BLOCK_ROOM)
+        return call(*self.end, *octets, self.block, BLOCK_ROOM)
 
     def exchange(self, octets):
         """Sends a command, and returns its answer. Raises Refused if there is no answer."""
-        turn = self._turn(lib.scard_terminal_transmit, octets, len(octets))
+        turn = self._turn(lib.scard_lent_terminal_transmit, octets, len(octets))
         while turn.kind == SEND:
             self.line.send(self.block.raw[:turn.count])
             came = self.line.receive(turn.wait)
-            turn = (self._turn(lib.scard_terminal_received, came, len(came)) if came
-                    else self._turn(lib.scard_terminal_quiet))
+            turn = (self._turn(lib.scard_lent_terminal_received, came, len(came)) if came
+                    else self._turn(lib.scard_lent_terminal_quiet))
         if turn.kind != DONE:
             raise Refused(name_of(lib.scard_turn_text, turn.kind))
-        answer = ctypes.create_string_buffer(LONGEST_ANSWER)
-        count = checked(lib.scard_message(byref(self.handle), answer, LONGEST_ANSWER))
-        return answer.raw[:count]
+        return self.answer.raw[:checked(lib.scard_lent_terminal_answer(*self.end))]
 
     def close(self):
-        """Frees the terminal. The library overwrites its buffers first."""
-        lib.scard_close(byref(self.handle))
+        """Overwrites the last command and the last answer: the library begins a session with empty buffers."""
+        self._begin()
 
 
 def main(words):

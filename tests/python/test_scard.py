@@ -9,11 +9,16 @@ sys.dont_write_bytecode = True
 sys.path.insert(0, str(pathlib.Path(__file__).resolve().parents[2] / "examples/python"))
 import scard  # noqa: E402
 
+NUMBERS = ("number", "expected", "has_saved", "saved_size", "ifsc", "ifsd", "first_ifsc", "wait", "size")
+SIZES = ("saved_place", "place", "most_command", "most_reply", "command_len", "reply_len")
+State = scard.struct("State", **dict.fromkeys(NUMBERS, ctypes.c_uint8), **dict.fromkeys(SIZES, ctypes.c_uint64))
+END = (ctypes.POINTER(State), *scard.ROOM, *scard.ROOM)
 CARD_CALLS = {
-    "card_open": (scard.Verdict, scard.END, *[ctypes.c_uint8] * 3),
-    "card_received": (scard.Turn, scard.END, *scard.OCTETS, *scard.ROOM),
-    "card_reply": (scard.Turn, scard.END, *scard.OCTETS, *scard.ROOM),
-    "card_more_time": (scard.Turn, scard.END, ctypes.c_uint8, *scard.ROOM),
+    "lent_card_begin": (scard.Verdict, *END, *[ctypes.c_uint8] * 3),
+    "lent_card_received": (scard.Turn, *END, *scard.OCTETS, *scard.ROOM),
+    "lent_card_reply": (scard.Turn, *END, *scard.OCTETS, *scard.ROOM),
+    "lent_card_more_time": (scard.Turn, *END, ctypes.c_uint8, *scard.ROOM),
+    "lent_card_command": (scard.Verdict, *END),
 }
 for name, (result, *arguments) in CARD_CALLS.items():
     getattr(scard.lib, f"scard_{name}").restype, getattr(scard.lib, f"scard_{name}").argtypes = result, arguments
@@ -25,13 +30,16 @@ class CardLine:
     asks for three times the waiting time before each reply."""
 
     def __init__(self, lost=(), damaged=(), asks=False):
-        self.handle, self.block, self.asks = scard.Handle(), ctypes.create_string_buffer(258), asks
-        scard.checked(scard.lib.scard_card_open(ctypes.byref(self.handle), 32, 4, 13))
+        self.block, self.asks = ctypes.create_string_buffer(258), asks
+        self.command = ctypes.create_string_buffer(scard.LONGEST_COMMAND)
+        reply = ctypes.create_string_buffer(scard.LONGEST_ANSWER)
+        self.end = (State(), self.command, len(self.command), reply, len(reply))
+        scard.checked(scard.lib.scard_lent_card_begin(*self.end, 32, 4, 13))
         self.lost, self.damaged, self.number, self.came, self.waited, self.is_asked = lost, damaged, 0, b"", [], False
 
     def call(self, call, *given):
         """Makes a call of the card."""
-        return call(ctypes.byref(self.handle), *given, self.block, 258)
+        return call(*self.end, *given, self.block, 258)
 
     def passed(self, octets):
         """Returns what arrives of a block that either end sends, or no octets."""
@@ -44,17 +52,16 @@ class CardLine:
         """Lets the host ask for time, or reply."""
         if self.asks and not self.is_asked:
             self.is_asked = True
-            return self.call(scard.lib.scard_card_more_time, 3)
+            return self.call(scard.lib.scard_lent_card_more_time, 3)
         self.is_asked = False
-        reply = ctypes.create_string_buffer(65544)
-        count = scard.checked(scard.lib.scard_message(ctypes.byref(self.handle), reply, 65544))
-        return self.call(scard.lib.scard_card_reply, reply.raw[:count] + b"\x90\x00", count + 2)
+        count = scard.checked(scard.lib.scard_lent_card_command(*self.end))
+        return self.call(scard.lib.scard_lent_card_reply, self.command.raw[:count] + b"\x90\x00", count + 2)
 
     def send(self, octets):
         """Takes a block of the terminal."""
         octets, self.came = self.passed(octets), b""
         if octets:
-            turn = self.call(scard.lib.scard_card_received, octets, len(octets))
+            turn = self.call(scard.lib.scard_lent_card_received, octets, len(octets))
             turn = self.host() if turn.kind == scard.DONE else turn
             if turn.kind == scard.SEND:
                 self.came = self.passed(self.block.raw[:turn.count])
@@ -103,6 +110,20 @@ class Exchanges(unittest.TestCase):
         line = CardLine()
         self.exchanged(line, bytes.fromhex("00A4040000"), bytes(300), bytes.fromhex("00B0000000"))
         self.assertEqual(set(line.waited), {1})
+
+    def test_the_longest_answer(self):
+        """The reply is the command and two octets more: 65,538 octets are an answer, and no more."""
+        self.exchanged(CardLine(), bytes(scard.LONGEST_ANSWER - 2))
+        terminal = scard.Terminal(CardLine())
+        with self.assertRaisesRegex(scard.Refused, "REFUSED_TOO_LONG"):
+            terminal.exchange(bytes(scard.LONGEST_COMMAND + 1))
+
+    def test_what_is_closed_is_overwritten(self):
+        terminal = scard.Terminal(CardLine())
+        terminal.exchange(bytes.fromhex("0020000004") + b"1234")
+        self.assertIn(b"1234", terminal.end[1].raw)
+        terminal.close()
+        self.assertFalse(any(terminal.end[1].raw + terminal.end[3].raw))
 
     def test_each_block_lost_or_damaged(self):
         for number in range(1, 9):

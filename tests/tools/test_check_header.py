@@ -96,6 +96,31 @@ class Differences(unittest.TestCase):
         self.assertEqual(self.differ(sources=more), ["scard_more: the header has no prototype"])
 
 
+class Guards(unittest.TestCase):
+    """The calls that need memory, and no others, are between the guards."""
+
+    BEGIN, END = "#ifndef SCARD_NO_HANDLES\n", "#endif /* SCARD_NO_HANDLES */\n"
+    OPEN, NUMBER = "uint8_t scard_open(void);\n", "uint8_t scard_number(void);\n"
+
+    def differ(self, text):
+        return tool.guards_differ(text, {"scard_open"})
+
+    def test_guards(self):
+        self.assertEqual(self.differ(self.NUMBER + self.BEGIN + self.OPEN + self.END), [])
+        self.assertEqual(self.differ(self.BEGIN + self.OPEN + self.END + self.NUMBER), [])
+
+    def test_each_call_on_the_wrong_side_is_told(self):
+        found = self.differ(self.OPEN + self.BEGIN + self.NUMBER + self.END)
+        self.assertEqual([it.split(":")[0] for it in found], ["scard_open", "scard_number"])
+
+    def test_the_header(self):
+        self.assertEqual(tool.guards_differ((TOP / "include/scard.h").read_text(), self.owned()), [])
+        self.assertEqual(len(self.owned()), 20)
+
+    def owned(self):
+        return set(tool.exports_of(tool.text_of("scard_owned")))
+
+
 def swapped(row):
     """Copies of a row, each with another two neighbours swapped."""
     return [[*row[:at], row[at + 1], row[at], *row[at + 2 :]] for at in range(len(row) - 1)]

@@ -11,7 +11,7 @@ from copies import TOP, OverCopies, printed, script
 
 tool = script("gate/version")
 NOW = (TOP / "VERSION").read_text().strip()
-FILES = ["VERSION", tool.CHANGES, *tool.PLACES]
+FILES = ["VERSION", tool.CHANGES, tool.SYMBOLS, *tool.PLACES]
 
 
 class Versions(OverCopies):
@@ -66,7 +66,25 @@ class Versions(OverCopies):
         self.assertIn(" == 12000345);", self.text("tests/c/names.c"))
         self.assertEqual(tool.HEADING.findall(self.text(tool.CHANGES))[:2], ["12.0.345", NOW])
 
+    def test_each_call_has_the_version_in_which_it_came(self):
+        line = "scard_version 1.0.0\n"
+        for new, words in (("", "scard_version isn't there"), ("scard_version 99.0.0\n", "came in 99.0.0"), (2 * line, "twice"),
+                           ("scard_version 1.0\n", "came in 1.0,"), (line + "scard_versions 1.0.0\n", "is no call")):
+            self.change(tool.SYMBOLS, line, new)
+            status, text = self.said()
+            self.assertEqual(status, 1)
+            self.assertIn(words, text)
+            self.restore(tool.SYMBOLS)
+
+    def test_the_next_version_is_written_for_its_calls(self):
+        self.change(tool.SYMBOLS, "scard_version 1.0.0\n", "scard_version next\n")
+        self.assertEqual(self.said()[0], 0)
+        self.assertEqual(self.said("12.0.345")[0], 0)
+        self.assertIn("scard_version 12.0.345\n", self.text(tool.SYMBOLS))
+        self.assertIn("scard_lrc 1.0.0\n", self.text(tool.SYMBOLS))
+
     def test_the_same_version_changes_no_file(self):
+        (self.top / tool.SYMBOLS).write_text(self.text(tool.SYMBOLS).replace(" next\n", f" {NOW}\n"))
         before = self.texts()
         self.assertEqual(self.said(NOW)[0], 0)
         self.assertEqual(self.texts(), before)

@@ -75,6 +75,7 @@ def parts(header):
     """Each part of a header: its title, what the title names in the standard, and its items."""
     text = (TOP / "include" / header).read_text()
     text = re.sub(r"\n#ifdef __cplusplus\n\}\n#endif\n\n#endif\n$", "\n", text)
+    text = re.sub(r"^#(ifndef SCARD_NO_HANDLES|endif /\* SCARD_NO_HANDLES \*/)\n\n", "", text, flags=re.M)
     heads = list(PART.finditer(text))
     ends = [*(it.start() for it in heads[1:]), len(text)]
     for head, end in zip(heads, ends):
