@@ -28,8 +28,8 @@ class Dist(unittest.TestCase):
         for name in ("tools/release/dist", "tools/common/stack.py", "tools/common/words.py"):
             shutil.copy(TOP / name, self.top / name)
         shutil.copytree(TOP / "tools/release/translator", self.top / "tools/release/translator")
-        for name in ("scard.h", "scard_session.h"):
-            (self.top / "include" / name).write_text("/* no call */\n")
+        for name, guard in (("scard.h", "SCARD_H"), ("scard_session.h", "SCARD_SESSION_H")):
+            (self.top / "include" / name).write_text(f"/* no call */\n#define {guard}\n")
         (self.top / "crates.txt").write_text("scard_lent staticlib:\n")
         (self.top / "module").write_bytes(MODULE)
         (self.top / "dist/README.md").write_text("the old one\n")
@@ -77,6 +77,8 @@ class Dist(unittest.TestCase):
         self.assertEqual((done.returncode, done.stderr), (0, ""))
         self.assertEqual(self.left(), (["README.md", "SHA256SUMS", "scard.c", "scard.h", "scard.html", "scard_session.h"], []))
         self.assertIn("a toolchain", (self.top / "dist/README.md").read_text())
+        for name, times in (("scard.h", 1), ("scard_session.h", 0)):
+            self.assertEqual((self.top / "dist/c" / name).read_text().count("#define SCARD_NO_HANDLES\n"), times)
 
     def test_no_toolchain(self):
         (self.bin / "rt").unlink()

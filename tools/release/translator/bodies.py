@@ -9,32 +9,53 @@ import dataclasses
 
 from loops import ALL, Sum, exclusive_or
 from near import Near
-from wasm import (BLOCK, BR, BR_IF, BR_TABLE, CALL, DROP, ELSE, END, GLOBAL_GET, GLOBAL_SET, I32, I32_CONST, I64,
-                  I64_CONST, IF, LOCAL_GET, LOCAL_SET, LOCAL_TEE, LOOP, MEMORY_COPY, MEMORY_FILL, NO_RESULT, NOP,
+from wasm import (BLOCK, BR, BR_IF, BR_TABLE, CALL, CODES, DROP, ELSE, END, GLOBAL_GET, GLOBAL_SET, I32, I32_CONST, I64,
+                  I64_CONST, IF, LOCAL_GET, LOCAL_SET, LOCAL_TEE, LOOP, MEMORY_COPY, MEMORY_FILL, NAMES, NO_RESULT, NOP,
                   RETURN, SELECT, UNREACHABLE, Unfit)
 
 TYPES = {I32: "u32", I64: "u64"}
+KINDS = {"i32": I32, "i64": I64}
 BITS = {I32: 32, I64: 64}
 LONGEST = 90
 # a condition that is never true
 NEVER = "0u"
 
-# the comparisons, by their distance from the first of a type: the operator in C, and whether numbers are signed
-COMPARED = [("==", 0), ("!=", 0), ("<", 1), ("<", 0), (">", 1), (">", 0), ("<=", 1), ("<=", 0), (">=", 1), (">=", 0)]
+# the comparisons, by their names without a type: the operator in C, and whether numbers are signed
+COMPARED = {"eq": ("==", 0), "ne": ("!=", 0), "lt_s": ("<", 1), "lt_u": ("<", 0), "gt_s": (">", 1), "gt_u": (">", 0),
+            "le_s": ("<=", 1), "le_u": ("<=", 0), "ge_s": (">=", 1), "ge_u": (">=", 0)}
 OPPOSITE = {"==": "!=", "!=": "==", "<": ">=", ">": "<=", "<=": ">", ">=": "<"}
-# the operations on two numbers, by their distance from `add` of a type
-MADE = ["{a} + {b}", "{a} - {b}", "{a} * {b}", None, "quotient{n}({a}, {b})", None, "rest{n}({a}, {b})", "{a} & {b}",
-        "{a} | {b}", "{a} ^ {b}", "{a} << {c}", "signed_right{n}({a}, {b})", "{a} >> {c}", "left{n}({a}, {b})",
-        "right{n}({a}, {b})"]
+# the operations on two numbers
+MADE = {"add": "{a} + {b}", "sub": "{a} - {b}", "mul": "{a} * {b}", "div_u": "quotient{n}({a}, {b})",
+        "rem_u": "rest{n}({a}, {b})", "and": "{a} & {b}", "or": "{a} | {b}", "xor": "{a} ^ {b}", "shl": "{a} << {c}",
+        "shr_s": "signed_right{n}({a}, {b})", "shr_u": "{a} >> {c}", "rotl": "left{n}({a}, {b})",
+        "rotr": "right{n}({a}, {b})"}
 # the operations that make a sum
-ADDED = {MADE[0]: 1, MADE[1]: -1}
-COUNTED = ["leading{n}({a})", "trailing{n}({a})", "ones{n}({a})"]
+ADDED = {"add": 1, "sub": -1}
+COUNTED = {"clz": "leading{n}({a})", "ctz": "trailing{n}({a})", "popcnt": "ones{n}({a})"}
 # loads and stores: the type, how many bits are moved, and the bits of a number that is sign-extended
-LOADED = {0x28: (I32, 32, 0), 0x29: (I64, 64, 0), 0x2C: (I32, 8, 8), 0x2D: (I32, 8, 0), 0x2E: (I32, 16, 16),
-          0x2F: (I32, 16, 0), 0x30: (I64, 8, 8), 0x31: (I64, 8, 0), 0x32: (I64, 16, 16), 0x33: (I64, 16, 0),
-          0x34: (I64, 32, 32), 0x35: (I64, 32, 0)}
-STORED = {0x36: 32, 0x37: 64, 0x3A: 8, 0x3B: 16, 0x3C: 8, 0x3D: 16, 0x3E: 32}
-SPREAD = {0xC0: (I32, 8), 0xC1: (I32, 16), 0xC2: (I64, 8), 0xC3: (I64, 16), 0xC4: (I64, 32)}
+LOADED = {CODES[name]: row for name, row in {
+    "i32.load": (I32, 32, 0), "i64.load": (I64, 64, 0), "i32.load8_s": (I32, 8, 8), "i32.load8_u": (I32, 8, 0),
+    "i32.load16_s": (I32, 16, 16), "i32.load16_u": (I32, 16, 0), "i64.load8_s": (I64, 8, 8), "i64.load8_u": (I64, 8, 0),
+    "i64.load16_s": (I64, 16, 16), "i64.load16_u": (I64, 16, 0), "i64.load32_s": (I64, 32, 32),
+    "i64.load32_u": (I64, 32, 0)}.items()}
+STORED = {CODES[name]: bits for name, bits in {
+    "i32.store": 32, "i64.store": 64, "i32.store8": 8, "i32.store16": 16, "i64.store8": 8, "i64.store16": 16,
+    "i64.store32": 32}.items()}
+SPREAD = {"i32.extend8_s": (I32, 8), "i32.extend16_s": (I32, 16), "i64.extend8_s": (I64, 8), "i64.extend16_s": (I64, 16),
+          "i64.extend32_s": (I64, 32)}
+
+
+@dataclasses.dataclass(frozen=True)
+class Passes:
+    """The parts of the translation that make the result smaller or faster. Each may be left out: the result does the
+    same without it, and the tests compare both."""
+
+    own_frames: bool = True  # gives the place of a frame a variable of its own
+    frames: bool = True      # reaches the octets of a frame without a check of each access
+    room: bool = True        # knows that a frame has room
+    together: bool = True    # holds several accesses to their window at once
+    folded: bool = True      # makes an exclusive-or of octets many at a time
+    parted: bool = True      # lends a call only those constants that it can reach
 
 
 @dataclasses.dataclass
@@ -88,7 +109,7 @@ def frames_of(function):
     """The variables that are set to a frame, which is the place of the stack less a number; and these numbers."""
     found, body = {}, function.body
     for at, (code, said) in enumerate(body[:-3]):
-        if (code, said) == (GLOBAL_GET, 0) and body[at + 1][0] == I64_CONST and body[at + 2][0] == 0x7D:
+        if (code, said) == (GLOBAL_GET, 0) and body[at + 1][0] == I64_CONST and body[at + 2][0] == CODES["i64.sub"]:
             to, name = body[at + 3]
             if to in (LOCAL_SET, LOCAL_TEE):
                 found[name] = body[at + 1][1]
@@ -143,17 +164,18 @@ def looks_at_stack(body, at):
     """Whether the place of the stack is only compared with a number, as in a check for room. It may also be kept in a
     variable, from which it is set again."""
     after = at + 2 if body[at + 1][0] == LOCAL_TEE else at + 1
-    return body[at] == (GLOBAL_GET, 0) and body[after][0] == I64_CONST and 0x51 <= body[after + 1][0] <= 0x5A
+    compares = NAMES.get(body[after + 1][0], "").removeprefix("i64.") in COMPARED
+    return body[at] == (GLOBAL_GET, 0) and body[after][0] == I64_CONST and compares
 
 
 class Writer:
     """Writes one function."""
 
-    def __init__(self, module, place, names, plan=None):
-        self.module, self.function, self.names = module, module.functions[place], names
+    def __init__(self, module, place, names, plan=None, passes=Passes()):
+        self.module, self.function, self.names, self.passes = module, module.functions[place], names, passes
         self.place, self.near, self.at = place, Near(plan), 0
         self.types = [*self.function.takes, *self.function.variables]
-        self.frames = kept(self.function)
+        self.frames = kept(self.function) if passes.frames else {}
         self.lines, self.stack, self.blocks, self.used = [], [], [], set()
         self.labels, self.dead = 0, 0
         self.spans = []
@@ -270,7 +292,7 @@ class Writer:
     def folded(self, block):
         """Writes the result of a loop that makes an exclusive-or of octets, for octets in one piece. Returns whether it
         is such a loop. If so, the loop itself follows unchanged, in braces."""
-        loop = exclusive_or(self.function.body, self.at)
+        loop = exclusive_or(self.function.body, self.at) if self.passes.folded else None
         if not loop:
             return False
         count, name = f"n{block.label}", f"q{block.label}"
@@ -517,24 +539,24 @@ class Writer:
 
     def count(self, code):
         """Writes an instruction that makes a number from one or two."""
-        for first, kind in ((0x45, I32), (0x50, I64)):
-            if code == first:
-                value = self.pop()
-                return self.truth(*reversed(self.holds(value)), value)
-            if first < code <= first + 10:
-                return self.compare(kind, *COMPARED[code - first - 1])
-        for first, kind in ((0x67, I32), (0x79, I64)):
-            if first <= code < first + 3:
-                value = self.pop()
-                text = COUNTED[code - first].format(n=BITS[kind], a=value.text)
-                return self.push(value_of(text if kind == I32 else f"(u64){text}", kind, value))
-            if first + 3 <= code < first + 18 and MADE[code - first - 3]:
-                return self.make(kind, MADE[code - first - 3])
-        return self.change(code)
+        kind, _, name = NAMES.get(code, "").partition(".")
+        if name == "eqz":
+            value = self.pop()
+            self.truth(*reversed(self.holds(value)), value)
+        elif name in COMPARED:
+            self.compare(KINDS[kind], *COMPARED[name])
+        elif name in COUNTED:
+            value = self.pop()
+            text = COUNTED[name].format(n=BITS[KINDS[kind]], a=value.text)
+            self.push(value_of(text if kind == "i32" else f"(u64){text}", KINDS[kind], value))
+        elif name in MADE:
+            self.make(KINDS[kind], name)
+        else:
+            self.change(code)
 
     def compare(self, kind, order, is_signed):
         b, a = self.pop(), self.pop()
-        if (order, is_signed) == ("<", 1) and self.is_stack(a) and b.text == constant(16, I64):
+        if self.passes.room and (order, is_signed) == ("<", 1) and self.is_stack(a) and b.text == constant(16, I64):
             return self.push(Value(NEVER, I32))
         if is_signed:
             sign = constant(1 << BITS[kind] - 1, kind)
@@ -551,30 +573,33 @@ class Writer:
     def truth(self, so, not_so, *parts):
         self.push(value_of(f"(u32)({so})", I32, *parts, holds=(so, not_so)))
 
-    def make(self, kind, form):
+    def make(self, kind, name):
         b, a = self.pop(), self.pop()
-        bits = BITS[kind]
+        bits, form = BITS[kind], MADE[name]
         calls = form[0] != "{"
         is_number = b.is_plain and not b.names and not b.reads
         by = f"{int(b.text.rstrip('ul'), 0) % bits}" if is_number else f"({b.part()} & {bits - 1})"
         text = form.format(n=bits, c=by, a=a.text if calls else a.part(), b=b.text if calls else b.part())
-        total = a.sum.plus(b.sum, ADDED[form]) if kind == I64 and form in ADDED and a.sum and b.sum else None
+        total = a.sum.plus(b.sum, ADDED[name]) if kind == I64 and name in ADDED and a.sum and b.sum else None
         self.push(value_of(text, kind, a, b, sum=total))
 
     def change(self, code):
         """Writes an instruction that changes a number's type, or extends its sign."""
-        value = self.pop()
-        if code == 0xA7:
+        name = NAMES.get(code, f"{code:#x}")
+        if name == "i32.wrap_i64":
+            value = self.pop()
             self.push(value_of(f"(u32){value.part()}", I32, value))
-        elif code == 0xAC:
+        elif name == "i64.extend_i32_s":
+            value = self.pop()
             self.push(value_of(f"spread64({value.text}, 32)", I64, value))
-        elif code == 0xAD:
+        elif name == "i64.extend_i32_u":
+            value = self.pop()
             self.push(value_of(f"(u64){value.part()}", I64, value))
-        elif code in SPREAD:
-            kind, bits = SPREAD[code]
+        elif name in SPREAD:
+            value, (kind, bits) = self.pop(), SPREAD[name]
             self.push(value_of(f"spread{BITS[kind]}({value.text}, {bits})", kind, value))
         else:
-            raise Unfit(f"it has the instruction {code:#x}")
+            raise Unfit(f"it has the instruction {name}")
 
     def choose(self, _):
         condition, b, a = self.pop(), self.pop(), self.pop()

@@ -4,7 +4,8 @@ the caller's octets and structs to the module's function as windows (machine.h).
 import re
 import textwrap
 
-from bodies import TYPES, Writer, frames_of, looks_at_stack, own_frame
+from bodies import TYPES, Passes, Writer, frames_of, looks_at_stack, own_frame
+from constants import Constants, rows
 from header import COUNT, NUMBERS
 from wasm import CALL, GLOBAL_GET, I32, I64, Unfit
 
@@ -73,11 +74,6 @@ def octets_of(struct):
     return lowest, highest
 
 
-def rows(numbers):
-    """Numbers as the rows of an array."""
-    return "\n".join(textwrap.wrap(", ".join(map(str, numbers)), 114, initial_indent="    ", subsequent_indent="    "))
-
-
 def layout(struct):
     """Has the compiler refuse a machine on which a field lies elsewhere."""
     name = struct.name.removeprefix("scard_")
@@ -137,16 +133,16 @@ INLINE struct shaped shape_of_{name}(u32 leads_to)
 class Calls:
     """Writes the calls of a header over a module."""
 
-    def __init__(self, module, structs, calls):
-        self.module, self.structs = module, structs
+    def __init__(self, module, structs, calls, passes=Passes()):
+        self.module, self.structs, self.passes = module, structs, passes
         self.calls = [it for it in calls if it.name in module.exports]
         self.absent = [it.name for it in calls if it.name not in module.exports]
         if len(self.calls) != len(module.exports):
             raise Unfit(f"the header lacks {', '.join(set(module.exports) - {it.name for it in self.calls})}")
         self.names = self.named()
-        for function in module.functions:
+        for function in module.functions if passes.own_frames else []:
             own_frame(function)
-        self.depths = Depths(module)
+        self.depths, self.constants, self.parts = Depths(module), Constants(module, passes.parted), set()
         self.shaped = self.reached({module.exports[it.name] for it in self.calls if self.is_shaped(it)})
 
     def named(self):
@@ -173,11 +169,11 @@ class Calls:
     def writer(self, place):
         """The writer of a function. If no octets that it reaches lie elsewhere on every machine, it holds accesses to
         their windows together."""
-        first = Writer(self.module, place, self.names)
-        if place in self.shaped:
+        first = Writer(self.module, place, self.names, passes=self.passes)
+        if place in self.shaped or not self.passes.together:
             return first
         first.write()
-        return Writer(self.module, place, self.names, first.near.planned())
+        return Writer(self.module, place, self.names, first.near.planned(), self.passes)
 
     def head(self, place):
         """The head of a function of the module."""
@@ -265,7 +261,10 @@ class Calls:
         own += [["struct shaped *shaped = NULL;", "SHAPED_HERE", "struct shaped shaped[WINDOWS];"][shaped]]
         own += [f"u8 image[{image[0].octets}];"] if image else []
         own += [f"struct {gives.name} result;"] if gives else []
-        lines = ["begin(&m, stack, sizeof stack, shaped);", *lines]
+        part = self.constants.of(self.reached({function}))
+        self.parts.add(part)
+        constants = [f"lend(&m, 0, {part}, sizeof {part});"] if part else []
+        lines = ["begin(&m, stack, sizeof stack, shaped);", *constants, *lines]
         if gives:
             lines.append(f"m.g0 -= {room};")
             given.insert(0, "m.g0")

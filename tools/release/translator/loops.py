@@ -8,12 +8,16 @@ and a number. Only sums that change by the same number in each turn count.
 
 import dataclasses
 
-from wasm import (BLOCK, BR_IF, DROP, END, I64_CONST, I32_CONST, IF, LOCAL_GET, LOCAL_SET, LOCAL_TEE, LOOP, SELECT)
+from wasm import (BLOCK, BR_IF, CODES, DROP, END, I64_CONST, I32_CONST, IF, LOADS, LOCAL_GET, LOCAL_SET, LOCAL_TEE, LOOP,
+                  SELECT, STORES)
 
 ALL = 1 << 64
-ADD, SUB, EQZ32, EQZ64, EQ, NE, XOR, OCTET = 0x7C, 0x7D, 0x45, 0x50, 0x51, 0x52, 0x73, 0x2D
-TWO = {*range(0x46, 0x50), *range(0x51, 0x5B), *range(0x6A, 0x79), *range(0x7C, 0x8B)}
-ONE = {EQZ32, EQZ64, 0x67, 0x68, 0x69, 0x79, 0x7A, 0x7B, 0xA7, 0xAC, 0xAD, *range(0xC0, 0xC5)}
+ADD, SUB, EQZ32, EQZ64, EQ, NE, XOR, OCTET = (CODES[it] for it in (
+    "i64.add", "i64.sub", "i32.eqz", "i64.eqz", "i64.eq", "i64.ne", "i32.xor", "i32.load8_u"))
+# the instructions that make a number from one, and those that make it from two
+ONE = {code for name, code in CODES.items() if name.endswith(("eqz", "clz", "ctz", "popcnt")) or "extend" in name
+       or "wrap" in name}
+TWO = {*CODES.values()} - ONE - {*LOADS} - {*STORES}
 
 
 class Other(Exception):

@@ -1,8 +1,9 @@
 /* ---- the machine: written by hand ----
  *
  * The functions of the module see one memory. Here an address has the number of a window in its upper bits, and a place
- * in the window in its lower bits. Window 0 is the constants, 1 the stack of the call, and the windows after them are
- * what the caller's pointers point to, each with its length. So a call uses the caller's buffers where they are.
+ * in the window in its lower bits. Window 0 is the constants that the call can reach, 1 the stack of the call, and the
+ * windows after them are what the caller's pointers point to, each with its length. So a call uses the caller's buffers
+ * where they are.
  * Whatever the functions do, no access leaves the window of its address: one that would calls scard_trap.
  */
 #include <stdlib.h>
@@ -43,10 +44,12 @@ static void scard_trap(void)
 #if defined(__GNUC__)
 #define SELDOM(so) __builtin_expect(!!(so), 0)
 #define APART __attribute__((noinline, cold, unused)) static
+#define CALLED __attribute__((noinline, unused)) static
 #define INLINE __attribute__((unused)) static inline
 #else
 #define SELDOM(so) (so)
 #define APART static
+#define CALLED static
 #define INLINE static inline
 #endif
 
@@ -149,7 +152,7 @@ ACCESS void put64(u8 *at, u64 number)
 
 /* ---- windows ---- */
 
-#if UINTPTR_MAX > 0xFFFFFFFFu
+#if UINTPTR_MAX > 0xFFFFFFFFu && !defined(SCARD_NARROW)
 #define IS_WIDE 1
 #define SHIFT 61
 #else
@@ -476,7 +479,7 @@ INLINE u32 exclusive_or(const u8 *at, u64 count)
     return (u32)a & 0xFFu;
 }
 
-INLINE void copy(const struct call *m, u64 to, u64 from, u64 n)
+CALLED void copy(const struct call *m, u64 to, u64 from, u64 n)
 {
     u8 *there, *here;
     u64 turn;
@@ -495,7 +498,7 @@ INLINE void copy(const struct call *m, u64 to, u64 from, u64 n)
     }
 }
 
-INLINE void fill(const struct call *m, u64 to, u32 octet, u64 n)
+CALLED void fill(const struct call *m, u64 to, u32 octet, u64 n)
 {
     u8 *there = n ? piece(m, to, n) : NULL;
     u64 place;
@@ -650,6 +653,7 @@ INLINE void lend_shaped(struct call *m, u32 window, const void *at, u64 count, s
 {
     shape.at = (u8 *)(uintptr_t)at;
     shape.count = at ? count : 0u;
+    m->from[window] = 0;
     m->shaped[window] = shape;
 }
 
@@ -674,7 +678,6 @@ INLINE void begin(struct call *m, u8 *stack, u32 size, struct shaped *shaped)
         memset(shaped, 0, WINDOWS * sizeof *shaped);
     }
     m->shaped = shaped;
-    lend(m, 0, constants, sizeof constants);
     lend(m, 1, stack, size);
     m->g0 = ADDRESS(1) + size;
     m->g1 = 0;

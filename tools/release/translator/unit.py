@@ -6,7 +6,8 @@ import textwrap
 
 import header
 import wasm
-from calls import Calls, layout, rows, shape
+from bodies import Passes
+from calls import Calls, layout, shape
 
 HEAD = """/* scard: the calls of scard.h that take no memory, for any machine.
  *
@@ -20,7 +21,8 @@ HEAD = """/* scard: the calls of scard.h that take no memory, for any machine.
  * It is C99 and C++17. It writes no variable outside its calls, takes no memory, and no function calls itself. It wants
  * memcpy, memmove, memset and, unless SCARD_OWN_TRAP is defined, abort. Words that may be defined: SCARD_OWN_TRAP;
  * SCARD_BY_OCTETS and SCARD_PLAIN, which leave out what is faster on some machines; SCARD_SHAPED, which reaches structs
- * as where the highest octet is first, for tests; and HIGHEST_FIRST, 1 or 0, where the compiler doesn't tell the order.
+ * as where the highest octet is first, and SCARD_NARROW, which counts addresses as on 32 bits, for tests; and
+ * HIGHEST_FIRST, 1 or 0, where the compiler doesn't tell the order.
  */
 """
 
@@ -28,18 +30,11 @@ ABSENT = "/* These calls of scard.h aren't in this file, since they take memory:
 HERE = pathlib.Path(__file__).resolve().parent
 
 
-def constants(module):
-    """The module's constants in C. Their first address is FIRST."""
-    octets = module.constants or b"\0"
-    text = f"#define FIRST {module.first}u\n\nstatic const unsigned char constants[{len(octets)}] = {{\n{rows(octets)}\n}};\n"
-    return "/* ---- the constants of the module ---- */\n\n" + text
-
-
-def text(octets, head):
+def text(octets, head, passes=Passes()):
     """The file of C for a module and a header."""
     module = wasm.read(octets)
     structs, said = header.read(head)
-    made = Calls(module, structs, said)
+    made = Calls(module, structs, said, passes)
     functions = [made.function(it) for it in range(len(module.functions))]
     calls = [made.call(it) for it in made.calls]
     heads = [made.head(it) + ";" for it in range(len(module.functions))]
@@ -52,4 +47,4 @@ def text(octets, head):
                       "/* ---- the calls of scard.h: written from the header ---- */\n",
                       *([ABSENT.format(absent)] if absent else []), *(layout(it) for it in used), *shapes, *calls])
     machine = (HERE / "machine.h").read_text()
-    return "\n".join([HEAD, '#include "scard.h"\n', constants(module), machine, body])
+    return "\n".join([HEAD, '#include "scard.h"\n', made.constants.text(made.parts), machine, body])

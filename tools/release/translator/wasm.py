@@ -11,6 +11,24 @@ LOCAL_GET, LOCAL_SET, LOCAL_TEE, GLOBAL_GET, GLOBAL_SET = range(0x20, 0x25)
 I32_CONST, I64_CONST, MORE = 0x41, 0x42, 0xFC
 MEMORY_COPY, MEMORY_FILL = 0xFC0A, 0xFC0B
 LOADS, STORES = range(0x28, 0x36), range(0x36, 0x3F)
+
+# the instructions on numbers and memory, in the order of their codes: the first code, and the names
+LISTED = [
+    (0x28, "i32.load i64.load f32.load f64.load i32.load8_s i32.load8_u i32.load16_s i32.load16_u i64.load8_s i64.load8_u "
+           "i64.load16_s i64.load16_u i64.load32_s i64.load32_u i32.store i64.store f32.store f64.store i32.store8 "
+           "i32.store16 i64.store8 i64.store16 i64.store32"),
+    (0x45, "i32.eqz i32.eq i32.ne i32.lt_s i32.lt_u i32.gt_s i32.gt_u i32.le_s i32.le_u i32.ge_s i32.ge_u"),
+    (0x50, "i64.eqz i64.eq i64.ne i64.lt_s i64.lt_u i64.gt_s i64.gt_u i64.le_s i64.le_u i64.ge_s i64.ge_u"),
+    (0x67, "i32.clz i32.ctz i32.popcnt i32.add i32.sub i32.mul i32.div_s i32.div_u i32.rem_s i32.rem_u i32.and i32.or "
+           "i32.xor i32.shl i32.shr_s i32.shr_u i32.rotl i32.rotr"),
+    (0x79, "i64.clz i64.ctz i64.popcnt i64.add i64.sub i64.mul i64.div_s i64.div_u i64.rem_s i64.rem_u i64.and i64.or "
+           "i64.xor i64.shl i64.shr_s i64.shr_u i64.rotl i64.rotr"),
+    (0xA7, "i32.wrap_i64"),
+    (0xAC, "i64.extend_i32_s i64.extend_i32_u"),
+    (0xC0, "i32.extend8_s i32.extend16_s i64.extend8_s i64.extend16_s i64.extend32_s"),
+]
+NAMES = {first + at: name for first, names in LISTED for at, name in enumerate(names.split())}
+CODES = {name: code for code, name in NAMES.items()}
 ONE_NUMBER = {BR, BR_IF, CALL, LOCAL_GET, LOCAL_SET, LOCAL_TEE, GLOBAL_GET, GLOBAL_SET}
 NO_RESULT = 0x40
 
