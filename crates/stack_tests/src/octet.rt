@@ -123,3 +123,14 @@ fn debug_shows_no_octet(rt: HostRuntime) {
     assert!(rt; octets_hide(rt.alloc()));
     assert!(rt; text_hides(rt.alloc()));
 }
+
+/// The devices for tests show how many octets they have, and none of them.
+#[test]
+fn devices_show_no_octet(rt: HostRuntime) {
+    let feeder = Feeder::new(&[0x31, 0x32], 1, After::End);
+    let seen = "Feeder { octets: 2, step: 1, after: End, place: 0, given: 0 }";
+    assert!(rt; debugs(rt.alloc(), &feeder, seen));
+    let taker = Taker::new(4, 1, After::Fails);
+    let seen = "Taker { kept_octets: 0, room: 4, step: 1, after: Fails }";
+    assert!(rt; debugs(rt.alloc(), &taker, seen));
+}
