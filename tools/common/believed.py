@@ -3,7 +3,8 @@
 import re
 import textwrap
 
-from stack import TOP, folder_of
+from sources import Crate, clauses_of
+from stack import TOP, crates, folder_of, is_program
 
 PAGE = TOP / "docs/BELIEVE.md"
 MARK = "-- to be believed"
@@ -23,8 +24,19 @@ ISO/IEC 7816-4. To read a file:
     less crates/block_core/specs/Block.antt
 
 Some crates separate the definitions to believe from those of what the code keeps between calls. For these crates, only
-the files to believe are listed here. *(own)* in a file marks a choice of this project.
+the files to believe are listed below their names. The [last part](#what-the-code-keeps-between-calls) lists each other
+file that a contract of a public function cites. *(own)* in a file marks a choice of this project.
 """
+KEPT = """\
+## What the code keeps between calls
+
+Contracts of public functions cite these files too. They say what a reader, an end or another value holds between calls,
+what a call writes into a buffer, and how calls fail. To read such a contract, read them.
+
+| Crate | File | Lines | What it says |
+|---|---|---|---|
+"""
+WORD = re.compile(r"[\w'-]+")
 
 
 def files_of(name):
@@ -36,6 +48,11 @@ def files_of(name):
         end = next((place for place, line in enumerate(rest) if line.startswith("--")), len(rest))
         listed = rest[:end]
     return [line.split()[-1] for line in listed if "mod " in line]
+
+
+def file_of(name, file):
+    """The path of a file of definitions. Some names are of definitions that the toolchain writes."""
+    return folder_of(name) / f"specs/{file.replace('.', '/')}.antt"
 
 
 def sentence_of(text):
@@ -50,23 +67,62 @@ def sentence_of(text):
     return (found.group(0) if found else whole).rstrip(":. ").replace("|", "\\|")
 
 
+def lines_of(text):
+    """The number of a file's lines without remarks."""
+    return sum(bool(line.strip()) and not line.lstrip().startswith("--") for line in text.splitlines())
+
+
 def row_of(name, file):
     """The row of a file."""
-    text = (folder_of(name) / f"specs/{file}.antt").read_text()
-    code = [line for line in text.splitlines() if line.strip() and not line.lstrip().startswith("--")]
+    text = file_of(name, file).read_text()
     remarks = " ".join(line for line in text.splitlines() if line.lstrip().startswith("--"))
     clauses = sorted(set(CLAUSE.findall(remarks.replace(EMV, "EMV"))), key=lambda it: list(map(int, it.split("."))))
     clauses += [standard for standard in ("EMV", "7816-4") if standard in remarks]
     shown = ", ".join(clauses[:8]) + (" .." if len(clauses) > 8 else "")
     said = re.sub(r" \((?:ISO/IEC|EMV)[^)]*\)", "", sentence_of(text))
-    return f"| `{file}` | {len(code)} | {shown} | {textwrap.shorten(said, 130, placeholder=' ..')} |"
+    return f"| `{file}` | {lines_of(text)} | {shown} | {textwrap.shorten(said, 130, placeholder=' ..')} |"
+
+
+def functions(items):
+    """The functions among items and in them."""
+    for item in items:
+        if item.kind == "fn":
+            yield item
+        yield from functions(item.inner)
+
+
+def is_public(crate, item):
+    """Whether a caller sees an item, or the type that it is an impl of."""
+    types = {it.name for it in crate.items if it.kind in ("struct", "enum") and crate.is_shown(it)}
+    return crate.is_shown(item) if item.kind != "impl" else item.name in types
+
+
+def cited_by(name):
+    """The files of definitions that the contracts of a crate's public functions cite, each with its crate."""
+    crate = Crate(name)
+    for item in (it for it in crate.items if is_public(crate, it)):
+        for function in (it for it in functions([item]) if (it.shown or it.of) and clauses_of(it)):
+            words = set(WORD.findall("\n".join(function.code)))
+            yield from ((place, file) for named, place, file in crate.cited[function.file] if named in words)
+
+
+def kept_of(names):
+    """The files that public contracts cite and that no list of a crate has, in the order of the crates."""
+    listed = {(name, file) for name in names for file in files_of(name)}
+    cited = {it for name in crates() if not is_program(name) for it in cited_by(name) if file_of(*it).exists()}
+    return [it for name in names for it in sorted(cited - listed) if it[0] == name]
+
+
+def kept_row(name, file):
+    """The row of such a file."""
+    text = file_of(name, file).read_text()
+    return f"| {name} | `{file}` | {lines_of(text)} | {textwrap.shorten(sentence_of(text), 130, placeholder=' ..')} |"
 
 
 def page_of(names):
     """The text of the page."""
-    lines = [HEAD]
+    lines, names = [HEAD], [it for it in names if (folder_of(it) / "specs/Lib.antt").exists()]
     for name in names:
-        if (folder_of(name) / "specs/Lib.antt").exists():
-            rows = [row_of(name, file) for file in files_of(name)]
-            lines += [f"## {name}\n", "| File | Lines | Clauses | What it says |", "|---|---|---|---|", *rows, ""]
-    return "\n".join(lines)
+        rows = [row_of(name, file) for file in files_of(name)]
+        lines += [f"## {name}\n", "| File | Lines | Clauses | What it says |", "|---|---|---|---|", *rows, ""]
+    return "\n".join([*lines, KEPT + "\n".join(kept_row(*it) for it in kept_of(names)), ""])
