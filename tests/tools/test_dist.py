@@ -27,14 +27,16 @@ class Dist(unittest.TestCase):
             folder.mkdir(parents=True)
         for name in ("tools/release/dist", "tools/common/stack.py", "tools/common/words.py"):
             shutil.copy(TOP / name, self.top / name)
-        shutil.copytree(TOP / "tools/release/translator", self.top / "tools/release/translator")
+        for name in ("translator", "everywhere"):
+            shutil.copytree(TOP / "tools/release" / name, self.top / "tools/release" / name)
         for name, guard in (("scard.h", "SCARD_H"), ("scard_session.h", "SCARD_SESSION_H")):
             (self.top / "include" / name).write_text(f"/* no call */\n#define {guard}\n")
-        (self.top / "crates.txt").write_text("scard_lent staticlib:\n")
+        (self.top / "crates.txt").write_text("scard_lent staticlib:\nscard:\n")
         (self.top / "module").write_bytes(MODULE)
         (self.top / "dist/README.md").write_text("the old one\n")
         (kit / "KIT-ID").write_text("a toolchain\n")
-        self.script(self.top / "tools/release/wasm", 'cat "${0%/*}/../../module" >"$1"')
+        for name in ("wasm", "program"):
+            self.script(self.top / "tools/release" / name, 'cat "${0%/*}/../../module" >"$1"')
         self.script(self.top / "web/make", 'cat "$2" >"$1"')
         self.script(kit / "bin/rt", "exit 9")
         self.script(self.bin / "wasm-opt", "echo wasm-opt version 0")
@@ -75,7 +77,8 @@ class Dist(unittest.TestCase):
     def test_dist_is_made(self):
         done = self.made()
         self.assertEqual((done.returncode, done.stderr), (0, ""))
-        self.assertEqual(self.left(), (["README.md", "SHA256SUMS", "scard.c", "scard.h", "scard.html", "scard_session.h"], []))
+        files = "README.md SHA256SUMS scard.c scard.h scard.html scard.mjs scard.sources scard.wasm scard_session.h"
+        self.assertEqual(self.left(), (files.split(), []))
         self.assertIn("a toolchain", (self.top / "dist/README.md").read_text())
         for name, times in (("scard.h", 1), ("scard_session.h", 0)):
             self.assertEqual((self.top / "dist/c" / name).read_text().count("#define SCARD_NO_HANDLES\n"), times)
@@ -98,7 +101,8 @@ class Dist(unittest.TestCase):
         self.refused("include/scard.h")
 
     def test_a_step_that_fails(self):
-        for file, words in (("tools/release/wasm", "wasm failed: no"), ("web/make", "make failed: no")):
+        for file, words in (("tools/release/wasm", "wasm failed: no"), ("web/make", "make failed: no"),
+                            ("tools/release/program", "program failed: no")):
             text = (self.top / file).read_text()
             self.script(self.top / file, "echo no >&2; exit 1")
             self.commit()

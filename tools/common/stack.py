@@ -12,9 +12,18 @@ KIT = pathlib.Path(RT).resolve().parent.parent if RT else None
 
 
 def crates():
-    """The rows of crates.txt: by each crate's name whether it is a library for C, and what it depends on."""
+    """The rows of crates.txt: by each crate's name whether it is a static library, and what it depends on."""
     rows = [it.split("#")[0].partition(":") for it in (TOP / "crates.txt").read_text().splitlines()]
     return {head.split()[0]: ("staticlib" in head, uses.split()) for head, _, uses in rows if head.strip()}
+
+
+# the program
+PROGRAM = "scard"
+
+
+def archives(listed):
+    """The crates whose archives are the library for C."""
+    return [it for it, (is_static, _) in listed.items() if is_static]
 
 
 def folder_of(name):
@@ -85,3 +94,13 @@ def sum_of(name, listed, known):
             total.update(sum_of(it, listed, known).encode() if it in listed else it.encode())
         known[name] = total.hexdigest()
     return known[name]
+
+
+def sum_without_toolchain(name, listed):
+    """A checksum of the files and rows of a crate and of those below it, which needs no toolchain."""
+    total = hashlib.sha256()
+    for it in sorted([*below(name, listed), name]):
+        total.update(repr((it, listed[it])).encode())
+        for file in files_of(it):
+            total.update(repr((file.relative_to(TOP).as_posix(), file.read_bytes())).encode())
+    return total.hexdigest()

@@ -279,7 +279,7 @@ class Writer:
         self.labels += 1
         block = Block(code, self.labels, len(self.stack), [] if gives == NO_RESULT else [gives])
         if code == LOOP:
-            for name in set_in_loop(self.function.body, self.at):
+            for name in self.changed_here():
                 self.near.changed(name)
             block.is_folded = self.folded(block)
             self.say(f"again{block.label}:;")
@@ -288,6 +288,10 @@ class Writer:
             block.known.append(self.near.known)
         if condition:
             self.say(f"if ({self.holds(condition)[0]}) {{")
+
+    def changed_here(self):
+        """The variables that the loop here sets."""
+        return set_in_loop(self.function.body, self.at)
 
     def folded(self, block):
         """Writes the result of a loop that makes an exclusive-or of octets, for octets in one piece. Returns whether it
