@@ -694,7 +694,7 @@ static inline struct scard_turn scard_session_resync(struct scard_session *sessi
     got = scard_wire_drain(&session->wire, &setup->line, session->bwt);
     for (asked = 0; asked < 3 && got >= 0; asked++) {
         got = scard_session_talk(session, out, (size_t)asks.place, 1);
-        if (got == (int)answer.place && memcmp(session->wire.framer.octets, wanted, (size_t)got) == 0) {
+        if (got == (int)answer.place && memcmp(session->wire.framer.octets, wanted, sizeof wanted) == 0) {
             session->wire.mark = SCARD_WIRE_TERMINAL;
             return scard_session_turn(SCARD_GIVEN_UP);
         }
