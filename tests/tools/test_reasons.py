@@ -93,7 +93,6 @@ class Reasons(OverCopies):
             ("crates/explainer/specs/Sentences.antt", "tlv_sentence tlv.TooDeep", "tlv_sentence tlv.Deep"),
             ("docs/PROTOCOL.md", "| 2 | `OverIfs` |", "| 2 | `BadIfs` |"),
             ("docs/PROTOCOL.md", "`Trailing`", "`Late`"),
-            ("web/scard.js", "TagZero:", "TagNil:"),
         ]
         for file, old, new in changes:
             self.change(file, old, new)

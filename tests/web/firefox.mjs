@@ -27,7 +27,11 @@ export class Page extends Remote {
     const { contexts } = await this.call("browsingContext.getTree", {});
     this.context = contexts[0].context;
     await this.call("session.subscribe", { events: EVENTS });
-    const url = pathToFileURL(file).href;
+    await this.load(pathToFileURL(file).href);
+  }
+
+  // Loads an address, and waits until it is loaded.
+  async load(url) {
     await this.call("browsingContext.navigate", { context: this.context, url, wait: "complete" });
   }
 

@@ -1,129 +1,165 @@
 // Tests the page's form in a document of a few lines, without a browser.
 //
-// usage: node [--experimental-wasm-memory64] tests/web/form.mjs PAGE
+// usage: node tests/web/form.mjs PAGE
 //
-// PAGE is the file that web/make made. Its whole script runs, each example is chosen, octets and a file are typed, and
-// the address is written and read again. The look of the page isn't tested. The last line is 'N passed, M failed'.
-import { readFileSync } from "node:fs";
-import vm from "node:vm";
+// PAGE is the file that web/make made. Its whole script runs, with its worker. Each example is chosen, values put in,
+// files are dropped, the address is written and read again, a call is stopped, and a module ends with an error. Then
+// each line of vectors/ goes through the form, and status and text have to be the line's. The look of the page isn't
+// tested. The last line is 'N passed, M failed'.
+import { cases, through, TRAPS, withModule } from "./cases.mjs";
 import { Checks } from "./checks.mjs";
-import { SAID } from "./shown.mjs";
+import { File, opened, read } from "./paper.mjs";
+import { SAID, SHOWN_LINES, TEXTS } from "./shown.mjs";
 
-const page = readFileSync(process.argv[2], "utf8");
-const unescaped = (text) => text.replaceAll("&#10;", "\n");
+const text = read(process.argv[2]);
+const NAMES = "SUBCOMMANDS, asked, fill, later, lineOf, program, quoted, split, valuesOf";
+const { own, find, examples, location, handlers } = opened(text, NAMES);
+const checks = new Checks("form", 20);
 
-// The part of an element that the script uses.
-class Element {
-  constructor() {
-    Object.assign(this, { inside: [], handlers: {}, hidden: false, textContent: "", value: "", checked: false });
-  }
-  append(...parts) { this.inside.push(...parts); }
-  replaceChildren(...parts) { this.inside = parts; }
-  setAttribute() {}
-  addEventListener(name, handler) { this.handlers[name] = handler; }
-  querySelector() { return { dataset: examples[0] }; }
-  get valueAsNumber() { return Number(this.value); }
-  get text() { return this.textContent + this.inside.map((it) => it.text ?? it).join("\n"); }
-}
-
-const buttons = [...page.matchAll(/<button type="button"\s+(data-[^>]*)>/g)];
-const examples = buttons.map(([, given]) => Object.fromEntries([...given.matchAll(/data-(\w+)="([^"]*)"/g)]
-  .map(([, name, value]) => [name, unescaped(value)])));
-const parts = Object.fromEntries([...page.matchAll(/ id="([^"]+)"/g)].map(([, id]) => [id, new Element()]));
-for (const id of ["module", "lowered"]) parts[id].textContent = page.match(`id="${id}">([^<]*)<`)[1];
-const [location, handlers] = [{ hash: "" }, {}];
-const world = vm.createContext({ performance, setTimeout, clearTimeout, WebAssembly, atob, URLSearchParams, location,
-  history: { replaceState: (_, __, address) => { location.hash = address; } },
-  document: { getElementById: (id) => parts[id], createElement: () => new Element() },
-  addEventListener: (name, handler) => { handlers[name] = handler; } });
-
-const checks = new Checks("form");
-
-// Waits until the line of the verdict is this one, for two seconds at most.
-async function said(what, want) {
-  for (let times = 0; times < 200 && parts.status.textContent !== want; times++) {
+// Waits until the line of the status begins with this, for ten seconds at most.
+async function said(what, want, where = find) {
+  for (let times = 0; times < 1000 && !where("status").textContent.startsWith(want); times++) {
     await new Promise((go) => { setTimeout(go, 10); });
   }
-  checks.equal(what, parts.status.textContent, want);
+  checks.equal(what, where("status").textContent.slice(0, want.length), want);
 }
 
-function type(kind, text) {
-  parts.kind.value = kind;
-  parts.text.value = text;
-  parts.each.checked = false;
-  parts.form.handlers.input();
+// Does something, waits for its answer, and compares the status and the beginning of the text.
+async function gives(what, act, [status, begins]) {
+  find("status").textContent = "";
+  await act();
+  await said(what, `Exit status ${status}`);
+  checks.equal(`${what}: its text`, find("out").textContent.replace("Its text", "").slice(0, begins.length), begins);
 }
 
-vm.runInContext(page.match(/<script>([\s\S]*)<\/script>/)[1], world);
-await said("the first example", SAID[0]);
-checks.equal("the examples", examples.length, SAID.length);
-for (const [at, dataset] of examples.entries()) {
-  parts.examples.handlers.click({ target: { closest: () => ({ dataset }) } });
-  await said(`example ${at + 1}`, SAID[at]);
-  parts.share.handlers.click();
-  const address = location.hash;
-  type("atr", "none");
-  await said("no octets", "short at 0");
-  location.hash = address;
-  handlers.hashchange();
-  await said(`the address of example ${at + 1}`, SAID[at]);
+function put(values, page = own) {
+  page.fill(values);
+  page.later();
 }
-checks.equal("what a file asks for", [parts["octets-part"].hidden, parts["ifs-part"].hidden].join(), "true,true");
-// Texts that aren't hexadecimal: what is wrong, where, the line and the mark.
-const FORM = "an octet is two hexadecimal digits, and blanks separate groups of octets";
-for (const [text, where, line, mark] of [
-  ["3b:80:80", "line 1, column 3: ':' isn't a hexadecimal digit", "3b:80:80", "  ^"],
-  ["3b 80\n80,80", "line 2, column 3: ',' isn't a hexadecimal digit", "80,80", "  ^"],
-  ["3b8 00", "line 1, column 1: this group has an odd number of digits", "3b8 00", "^"],
-  ["zz", "line 1, column 1: 'z' isn't a hexadecimal digit", "zz", "^"],
-  ["00 0x", "line 1, column 4: digits must follow this 0x", "00 0x", "   ^"],
-  ["00 \u00e9\ud83d\ude00", "line 1, column 4: the octet C3 isn't a hexadecimal digit", "00 ??????", "   ^"],
-  ["\ud83d", "line 1, column 1: the octet EF isn't a hexadecimal digit", "???", "^"],
-  [`${"00 ".repeat(20)}g${" 00".repeat(20)}`, "line 1, column 61: 'g' isn't a hexadecimal digit",
-    `${"00 ".repeat(20).slice(20)}g${" 00".repeat(20).slice(0, 19)}`, `${" ".repeat(40)}^`],
-]) {
-  parts.status.textContent = "";
-  type("atr", text);
-  await said(`the text ${text}`, "fault: hex");
-  checks.equal(`where the text ${text} is wrong`, parts.out.text, [where, line, mark, FORM].join("\n"));
+
+function choose(at) {
+  find("examples").handlers.click({ target: { closest: () => ({ dataset: examples[at] }) } });
 }
-parts.status.textContent = "";
-type("atr", "3B00\n3B:00");
-parts.each.checked = true;
-await said("lines, one of them wrong", "1 of 2 lines are accepted");
-const shows = (text) => parts.out.text.includes(text);
-checks.equal("where the line is wrong", shows("\ncolumn 3: ':' isn't a hexadecimal digit\n3B:00\n  ^\n"), true);
-parts.atr.value = "3B 0";
-type("trace", "t 00400500A4040000E5");
-await said("an answer to reset that isn't hexadecimal", "fault: hex");
-const odd = "line 1, column 4: this group has an odd number of digits\n3B 0\n   ^\n";
-checks.equal("where it is wrong", shows(odd), true);
-parts.atr.value = "";
-type("exchange", "scard-exchange 1\natr 3B00\n\n");
-await said("a wrong line", "fault: line 3: Word");
-parts.atr.value = "3B 80 81 31 20 45 55";
-type("trace", "# a remark\nt 00400500A4040000E5\nc 00820082");
-await said("a trace", "2 blocks, 1 deviation: terminal 1, card 0, unseen 0");
-checks.equal("what a trace asks for", [parts["octets-part"].hidden, parts["atr-part"].hidden].join(), "true,false");
-checks.equal("what is said in a trace", parts.out.text.includes("t 00400500A4040000E5\n     block 1 terminal: "), true);
-type("trace", "t 00 as");
-await said("a wrong line of a trace", "fault: line 1: Word");
-parts.atr.value = "";
-type("trace", "t 00000500A4040000A5");
-await said("no answer to reset", "refused: BadAtr");
-type("tlv", "5000".repeat(16384));
-await said("16,384 objects", "ok 32768 octets");
-checks.equal("what a forest shows", parts.out.text.endsWith("\n(and 11384 more lines)"), true);
-parts.ifs.value = "0";
-type("block", "00000500A4040000A5");
-await said("a size of 0", "The information size is 1 to 254.");
-checks.equal("which module runs", parts.which.textContent, "");
-// The first example again, with a browser that refuses the first module.
-if (parts.lowered.textContent) {
-  parts.module.textContent = "";
-  location.hash = "";
-  vm.runInContext(`(() => {${page.match(/<script>([\s\S]*)<\/script>/)[1]}})()`, world);
-  await said("the first example of the second module", SAID[0]);
-  checks.equal("which module runs then", parts.which.textContent.startsWith("This browser has no 64-bit memory"), true);
+
+async function vectors() {
+  const counts = {};
+  const page = { ...own, fileOf: (octets) => new File(octets), run: (...call) => own.program.run(...call) };
+  for (const one of cases()) {
+    const [by, status, told] = await through(page, one);
+    counts[by] = (counts[by] ?? 0) + 1;
+    checks.equal(`${one.at}: ${one.words.join(" ")}`, `${status} ${told}`, `${one.status} ${one.said}`);
+  }
+  checks.equal("lines that the form can't say", counts.neither ?? 0, 0);
+  checks.equal("whether many go by the fields", counts.fields > 4000, true);
+  console.log(`form: vectors: ${counts.fields} by the fields, ${counts.line} by the line of words`);
 }
-checks.end();
+
+// Chooses each example, and opens the address that the page writes for it.
+async function chosen() {
+  checks.equal("the examples", examples.length, SAID.length);
+  for (const [at, want] of SAID.entries()) {
+    await gives(`example ${at + 1}`, () => choose(at), want);
+    find("share").handlers.click();
+    const [address, line] = [location.hash, find("command").textContent];
+    await gives("no octets", () => put({ do: "check", kind: "atr", text: "none" }), [1, "short at 0\n"]);
+    location.hash = address;
+    await gives(`the address of example ${at + 1}`, () => handlers.hashchange(), want);
+    checks.equal(`the line of the address of example ${at + 1}`, find("command").textContent, line);
+  }
+}
+
+// Words from fields and from a line, and the line for a shell.
+function words() {
+  for (const [values, want] of [
+    [{ do: "show", kind: "atr", ifs: "3", first: "1" }, "show atr --stdin hex"],
+    [{ do: "show", kind: "block", ifs: "3", first: "1", notes: "1" }, "show block --stdin hex --ifs 3 --notes"],
+    [{ do: "check", kind: "atr", notes: "1", svg: "1" }, "check atr --stdin hex"],
+    [{ do: "check", kind: "chain", form: "dump", first: "1", notes: "1" }, "check chain --stdin dump --number 1"],
+    [{ do: "chain", message: "" }, "build chain 254 0 ''"],
+    [{ do: "tidy", tidied: "octets", json: "1" }, "build tidy --stdin octets --json"],
+    [{ do: "fill", list: "9F0206", values: "n:9F02:1 o:9A:00" }, "build fill 9F0206 n:9F02:1 o:9A:00"],
+    [{ do: "judge", atr: "3B 00", end: "card", clock: "9", rules: "1" }, "judge '3B 00' --end card --clock 9 --rules"],
+    [{ do: "draw", svg: "1", explain: "1" }, "draw --svg --explain"],
+    [{ do: "simulate", atr: "3B00", lose: "2" }, "simulate 3B00 --stdin lines --lose 2"],
+    [{ do: "words", line: "help  show" }, "help show"],
+    [{ do: "nothing", line: "-V" }, "-V"],
+  ]) {
+    own.fill(values);
+    checks.equal(`the words ${want}`, own.lineOf({ words: own.asked().words, text: "" }), `scard ${want}`.trim());
+  }
+  for (const [line, want] of [["", []], [" a\tb\n", ["a", "b"]], ["'a b'c", ["a bc"]], ["''", [""]],
+    ['"a\\"b\\c"', ['a"b\\c']], ["a\\ b", ["a b"]], ["it's", ["it's"]]]) {
+    checks.equal(`the words of ${line}`, JSON.stringify(own.split(line)), JSON.stringify(want));
+  }
+  for (const word of ["", "it's", 'a "b" \\ $c', "\u00e9\t\n"]) {
+    checks.equal(`the word ${word}`, JSON.stringify(own.split(own.quoted(word))), JSON.stringify([word]));
+  }
+  const shell = (it) => own.lineOf({ words: ["apdus"], text: "", ...it });
+  checks.equal("a text in a shell", shell({ text: "a 'b'\n" }), "printf %s 'a '\\''b'\\''\n' | scard apdus");
+  checks.equal("a long text in a shell", shell({ text: "0".repeat(5000) }), "scard apdus <input.txt");
+  checks.equal("a file in a shell", shell({ file: { name: "my file" } }), "scard apdus <'my file'");
+}
+
+// Addresses of earlier pages.
+function addresses() {
+  const line = (address) => {
+    own.fill(own.valuesOf(address));
+    return own.lineOf({ ...own.asked(), text: "" });
+  };
+  checks.equal("no address", own.valuesOf(""), null);
+  for (const [address, want] of [
+    ["kind=atr&text=3B", "show atr --stdin hex --notes --explain"],
+    ["kind=chain&text=00&ifs=2&first=1&notes=0", "show chain --stdin hex --ifs 2 --number 1 --explain"],
+    ["kind=command&text=00&each=1", "show command --stdin lines --notes --explain"],
+    ["kind=exchange&text=scard", "replay --end both --explain"],
+    ["kind=trace&text=t&atr=3B00", "judge 3B00 --explain"],
+  ]) checks.equal(`the address ${address}`, line(address), `scard ${want}`);
+}
+
+// Files that are dropped and chosen, what is shown of a long text, and what is hidden.
+async function files() {
+  own.fill({ do: "show", kind: "response", form: "octets" });
+  const drop = (file) => handlers.drop({ preventDefault() {}, dataTransfer: { files: [file] } });
+  const dropped = new File(Uint8Array.of(0x6a, 0x82), "r.bin");
+  await gives("a file that is dropped", () => drop(dropped), [0, "part none\nstatus 6A82 checking\n"]);
+  checks.equal("its line", find("command").textContent, "scard show response --stdin octets <r.bin");
+  checks.equal("whether its text waits", find("text").disabled, true);
+  await gives("the text and not the file", () => find("no-file").handlers.click(), [1, "short at 0\n"]);
+  find("file").files = [new File(new Uint8Array([0x90, 0]), "s.bin")];
+  await gives("a file that is chosen", () => find("file").handlers.change(), [0, "part none\nstatus 9000 normal\n"]);
+  await gives("16,384 objects", () => put(TEXTS[0][1]), [0, "objects 16384\n50 00 none"]);
+  const shown = find("out").every().find((it) => it.tag === "pre").textContent;
+  checks.equal("its lines", shown.split("\n").length, SHOWN_LINES);
+  checks.equal("what says that there are more", find("out").textContent.includes("The file has all of it."), true);
+  own.fill({ do: "chain" });
+  const hidden = ["input-part", "field-message-part", "field-kind-part", "flag-json-part", "flag-svg-part"];
+  checks.equal("what a chain asks for", hidden.map((it) => find(it).hidden).join(), "true,false,true,false,true");
+  await gives("help", () => find("help").handlers.click(), [0, "Build octets: "]);
+}
+
+// A call that is stopped, and a module that ends with an error.
+async function ends() {
+  const stopped = own.program.run(["-V"], new File(new Uint8Array()));
+  own.program.stop();
+  checks.equal("a call that is stopped", await stopped, null);
+  await gives("the call after it", () => choose(0), SAID[0]);
+  const { own: other, find: where } = opened(withModule(text, Buffer.from(TRAPS, "base64")), NAMES);
+  await said("another module", "Exit status 1", where);
+  for (let times = 0; times < 2; times++) {
+    put({ do: "words", line: "" }, other);
+    await said("an error of the module", "The module ended with an error: unreachable", where);
+    put({ do: "words", line: "help" }, other);
+    await said("the call after an error", "Exit status 1", where);
+  }
+  const { find: broken } = opened(withModule(text, Buffer.from("none")), NAMES);
+  await said("a module that isn't one", "The module ended with an error: ", broken);
+}
+
+await gives("the first example", () => {}, SAID[0]);
+words();
+addresses();
+await chosen();
+await files();
+await ends();
+await vectors();
+checks.end(12000);

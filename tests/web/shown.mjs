@@ -1,12 +1,14 @@
 // The answers to the page's examples, and long texts, for the tests with a browser and without.
 
-// The line of the verdict of each example, in their order.
-export const SAID = ["ok 5 octets", "refused at 8: BadLrc", "ok 17 octets", "ok 13 octets", "ok 2 octets",
-  "refused at 3: Overrun", "ok 8 octets", "2 of 3 lines are accepted", "terminal: ok 13 lines; card: ok 13 lines",
-  "4 blocks, 1 deviation: terminal 1, card 0, unseen 0"];
+// The exit status of each example, and how its text begins, in their order.
+export const SAID = [[0, "convention direct\nTD1 80  # offers T=0\n"], [1, "refused at 8: BadLrc  # "],
+  [0, "objects 5\n6F 10 constructed  # "], [1, "case 1\nheader 00A40400  # "], [0, '{"version":1,"kind":"response",'],
+  [0, "00200200A486\n006002040066\n0000010001\n"], [0, "scard-exchange 1\natr 3B808131204555\n"],
+  [0, "terminal: ok 13 lines\ncard: ok 13 lines\n"], [0, "<svg xmlns="],
+  [1, "block 3 terminal: sequence number, due "]];
 
-// The most lines of a value that the page shows.
-export const SHOWN_LINES = 5000;
+// The most lines of a text that the page shows.
+export const SHOWN_LINES = 2000;
 
 const [KIB_64, MIB] = [65536, 1048576];
 
@@ -17,18 +19,19 @@ const session = "command 00A4040000\nt 00000500A4040000A5\nasked 00A4040000\nrep
   + "command 00A4040000\nt 00400500A4040000E5\nasked 00A4040000\nreply 9000\nc 0040029000D2\nanswer 9000\n";
 const header = "scard-exchange 1\natr 3B808131204555\n";
 
-const kib = (what, kind, text, each) => [`64 KiB of text, ${what}`, { kind, text, each }];
-const mib = (what, text) => [`1 MiB, ${what}`, { kind: "tlv", text }];
+const kib = (what, values) => [`64 KiB of text, ${what}`, { do: "show", notes: "1", ...values }];
+const mib = (what, text) => [`1 MiB, ${what}`, { do: "show", notes: "1", kind: "tlv", text }];
 
+// Long texts: the values of the form.
 export const TEXTS = [
-  kib("empty objects", "tlv", filled("5000", KIB_64)),
-  kib("one object", "tlv", `5A827FFC${"41".repeat(32764)}`),
-  kib("empty blocks of a chain", "chain", `${filled("0020002000600060", KIB_64 - 8)}00000000`),
-  kib("a command", "command", `00D6000000${"7FF8"}${"41".repeat(0x7FF8)}`),
-  kib("a list", "dol", filled("9F0206", KIB_64)),
-  kib("lines of responses", "response", filled("9000\n", KIB_64), true),
-  kib("lines of answers to reset", "atr", filled("3B808131204555\n", KIB_64), true),
-  kib("an exchange", "exchange", header + filled(session, KIB_64)),
+  kib("empty objects", { kind: "tlv", text: filled("5000", KIB_64) }),
+  kib("one object", { kind: "tlv", text: `5A827FFC${"41".repeat(32764)}` }),
+  kib("empty blocks of a chain", { kind: "chain", text: `${filled("0020002000600060", KIB_64 - 8)}00000000` }),
+  kib("a command", { kind: "command", text: `00D6000000${"7FF8"}${"41".repeat(0x7FF8)}` }),
+  kib("a list", { kind: "dol", text: filled("9F0206", KIB_64) }),
+  kib("lines of responses", { kind: "response", form: "lines", text: filled("9000\n", KIB_64) }),
+  kib("lines of answers to reset", { kind: "atr", form: "lines", text: filled("3B808131204555\n", KIB_64) }),
+  kib("an exchange", { do: "replay", text: header + filled(session, KIB_64) }),
   mib("empty objects", filled("5000", 2 * MIB)),
   mib("one object", `5A830FFFFB${"41".repeat(MIB - 5)}`),
   mib("objects of three octets", filled("5A0101", 2 * MIB)),

@@ -5,6 +5,7 @@ import hashlib
 import pathlib
 import re
 import shutil
+import subprocess
 
 TOP = pathlib.Path(__file__).resolve().parents[2]
 RT = shutil.which("rt")
@@ -104,3 +105,12 @@ def sum_without_toolchain(name, listed):
         for file in files_of(it):
             total.update(repr((file.relative_to(TOP).as_posix(), file.read_bytes())).encode())
     return total.hexdigest()
+
+
+def module_of_program():
+    """The program's module that is made of the present crates: the one that is built, or else that of dist/."""
+    built, sources = folder_of(PROGRAM) / "out/scard.wasm", TOP / "dist/scard.sources"
+    if KIT and not subprocess.run([TOP / "tools/release/program", "--has"], check=False).returncode:
+        return built
+    is_present = sources.exists() and sources.read_text().strip() == sum_without_toolchain(PROGRAM, crates())
+    return TOP / "dist/scard.wasm" if is_present else None
