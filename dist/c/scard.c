@@ -10,7 +10,8 @@
  * It is C99 and C++17. It writes no variable outside its calls, takes no memory, and no function calls itself. It wants
  * memcpy, memmove, memset and, unless SCARD_OWN_TRAP is defined, abort. Words that may be defined: SCARD_OWN_TRAP;
  * SCARD_BY_OCTETS and SCARD_PLAIN, which leave out what is faster on some machines; SCARD_SHAPED, which reaches structs
- * as where the highest octet is first, for tests; and HIGHEST_FIRST, 1 or 0, where the compiler doesn't tell the order.
+ * as where the highest octet is first, and SCARD_NARROW, which counts addresses as on 32 bits, for tests; and
+ * HIGHEST_FIRST, 1 or 0, where the compiler doesn't tell the order.
  */
 
 #include "scard.h"
@@ -301,11 +302,19 @@ static const unsigned char constants[7952] = {
     0, 0, 0, 80, 2, 0, 0, 0, 0, 0, 0, 5, 0, 0, 0, 0, 0, 0, 0, 32, 0, 0, 0, 0, 0, 0, 0
 };
 
+static const unsigned char first_constants[95] = {
+    48, 49, 50, 51, 52, 53, 54, 55, 56, 57, 65, 66, 67, 68, 69, 70, 82, 69, 83, 89, 78, 67, 72, 32, 116, 111, 111,
+    32, 101, 97, 114, 108, 121, 0, 114, 101, 115, 112, 111, 110, 115, 101, 32, 116, 111, 32, 110, 111, 32, 114,
+    101, 113, 117, 101, 115, 116, 0, 110, 111, 32, 114, 101, 112, 101, 97, 116, 101, 100, 32, 114, 101, 113, 117,
+    101, 115, 116, 0, 110, 111, 32, 97, 99, 107, 110, 111, 119, 108, 101, 100, 103, 109, 101, 110, 116, 0
+};
+
 /* ---- the machine: written by hand ----
  *
  * The functions of the module see one memory. Here an address has the number of a window in its upper bits, and a place
- * in the window in its lower bits. Window 0 is the constants, 1 the stack of the call, and the windows after them are
- * what the caller's pointers point to, each with its length. So a call uses the caller's buffers where they are.
+ * in the window in its lower bits. Window 0 is the constants that the call can reach, 1 the stack of the call, and the
+ * windows after them are what the caller's pointers point to, each with its length. So a call uses the caller's buffers
+ * where they are.
  * Whatever the functions do, no access leaves the window of its address: one that would calls scard_trap.
  */
 #include <stdlib.h>
@@ -346,10 +355,12 @@ static void scard_trap(void)
 #if defined(__GNUC__)
 #define SELDOM(so) __builtin_expect(!!(so), 0)
 #define APART __attribute__((noinline, cold, unused)) static
+#define CALLED __attribute__((noinline, unused)) static
 #define INLINE __attribute__((unused)) static inline
 #else
 #define SELDOM(so) (so)
 #define APART static
+#define CALLED static
 #define INLINE static inline
 #endif
 
@@ -452,7 +463,7 @@ ACCESS void put64(u8 *at, u64 number)
 
 /* ---- windows ---- */
 
-#if UINTPTR_MAX > 0xFFFFFFFFu
+#if UINTPTR_MAX > 0xFFFFFFFFu && !defined(SCARD_NARROW)
 #define IS_WIDE 1
 #define SHIFT 61
 #else
@@ -779,7 +790,7 @@ INLINE u32 exclusive_or(const u8 *at, u64 count)
     return (u32)a & 0xFFu;
 }
 
-INLINE void copy(const struct call *m, u64 to, u64 from, u64 n)
+CALLED void copy(const struct call *m, u64 to, u64 from, u64 n)
 {
     u8 *there, *here;
     u64 turn;
@@ -798,7 +809,7 @@ INLINE void copy(const struct call *m, u64 to, u64 from, u64 n)
     }
 }
 
-INLINE void fill(const struct call *m, u64 to, u32 octet, u64 n)
+CALLED void fill(const struct call *m, u64 to, u32 octet, u64 n)
 {
     u8 *there = n ? piece(m, to, n) : NULL;
     u64 place;
@@ -953,6 +964,7 @@ INLINE void lend_shaped(struct call *m, u32 window, const void *at, u64 count, s
 {
     shape.at = (u8 *)(uintptr_t)at;
     shape.count = at ? count : 0u;
+    m->from[window] = 0;
     m->shaped[window] = shape;
 }
 
@@ -977,7 +989,6 @@ INLINE void begin(struct call *m, u8 *stack, u32 size, struct shaped *shaped)
         memset(shaped, 0, WINDOWS * sizeof *shaped);
     }
     m->shaped = shaped;
-    lend(m, 0, constants, sizeof constants);
     lend(m, 1, stack, size);
     m->g0 = ADDRESS(1) + size;
     m->g1 = 0;
@@ -3786,19 +3797,19 @@ static void c_lent_lent_card_turn(struct call *m, u64 v0, u64 v1, u64 v2, u64 v3
     u64 v19 = 0;
     u64 v20 = 0;
     u64 v21 = 0;
-    u64 v27 = 0;
-    u64 v36 = 0;
+    u64 v22 = 0;
+    u64 v28 = 0;
+    u64 v37 = 0;
     u32 v12 = 0;
     u32 v13 = 0;
     u32 v14 = 0;
     u32 v15 = 0;
     u32 v17 = 0;
-    u32 v22 = 0;
     u32 v23 = 0;
     u32 v24 = 0;
     u32 v25 = 0;
     u32 v26 = 0;
-    u32 v28 = 0;
+    u32 v27 = 0;
     u32 v29 = 0;
     u32 v30 = 0;
     u32 v31 = 0;
@@ -3806,732 +3817,779 @@ static void c_lent_lent_card_turn(struct call *m, u64 v0, u64 v1, u64 v2, u64 v3
     u32 v33 = 0;
     u32 v34 = 0;
     u32 v35 = 0;
+    u32 v36 = 0;
     u32 t0 = 0;
     u32 t1 = 0;
     u32 t2 = 0;
-    u8 *f36 = NULL;
+    u8 *f37 = NULL;
     u8 *p23 = NULL;
-    u8 *p51 = NULL;
-    u8 *p325 = NULL;
-    u8 *p326 = NULL;
-    u8 *p433 = NULL;
-    u8 *p489 = NULL;
-    u8 *p490 = NULL;
-    u8 *p627 = NULL;
-    u8 *p697 = NULL;
-    u8 *p740 = NULL;
-    u8 *p941 = NULL;
-    u8 *p942 = NULL;
-    u8 *p1356 = NULL;
-    u8 *p1475 = NULL;
-    u8 *p1642 = NULL;
-    u8 *p1694 = NULL;
-    u8 *p1695 = NULL;
-    u8 *p1825 = NULL;
-    u8 *p1909 = NULL;
-    v36 = m->g0 - 144ull;
-    f36 = at(m, v36, 144);
-    v9 = v36;
+    u8 *p57 = NULL;
+    u8 *p329 = NULL;
+    u8 *p330 = NULL;
+    u8 *p437 = NULL;
+    u8 *p493 = NULL;
+    u8 *p494 = NULL;
+    u8 *p631 = NULL;
+    u8 *p706 = NULL;
+    u8 *p755 = NULL;
+    u8 *p997 = NULL;
+    u8 *p998 = NULL;
+    u8 *p1344 = NULL;
+    u8 *p1644 = NULL;
+    u8 *p1761 = NULL;
+    u8 *p1813 = NULL;
+    u8 *p1814 = NULL;
+    u8 *p1946 = NULL;
+    u8 *p2044 = NULL;
+    v37 = m->g0 - 144ull;
+    f37 = at(m, v37, 144);
+    v9 = v37;
     m->g0 = v9;
     p23 = held(m, v6, 24);
     v10 = held64(p23, 16, m, v6);
     v11 = held64(p23, 8, m, v6);
     v12 = held8(p23, 1, m, v6);
     v13 = held8(p23, 0, m, v6);
-    memset(f36 + 8, (int)(0u & 255u), 104);
+    memset(f37 + 8, (int)(0u & 255u), 104);
+    put16(f37 + 4, 0u);
+    put32(f37, 0u);
     if (v8 >= 258ull) { goto after11; }
-    p51 = held(m, v0, 16);
-    put_held32(p51, 1, m, v0, 0u);
-    put_held8(p51, 0, m, v0, 33u);
-    put_held32(p51, 4, m, v0, 0u);
-    put_held64(p51, 8, m, v0, 258ull);
+    p57 = held(m, v0, 16);
+    put_held32(p57, 1, m, v0, 0u);
+    put_held8(p57, 0, m, v0, 33u);
+    put_held32(p57, 4, m, v0, 0u);
+    put_held64(p57, 8, m, v0, 258ull);
     goto after1;
 after11:;
-    c_lent_kept_CCard_fitting(m, v36 + 8ull, v1, v3, v5);
-    if (get8(f36 + 8) != 1u) { goto after17; }
-    v14 = get8(f36 + 72);
-    v15 = get8(f36 + 49);
+    c_lent_kept_CCard_fitting(m, v37 + 8ull, v1, v3, v5);
+    if (get8(f37 + 8) != 1u) { goto after17; }
+    v14 = get8(f37 + 72);
+    v15 = get8(f37 + 49);
     v16 = ((u64)v15) & 255ull;
-    v17 = get8(f36 + 40);
-    v18 = get64(f36 + 104);
-    v19 = get64(f36 + 96);
-    v5 = get64(f36 + 88);
-    v20 = get64(f36 + 80);
-    v21 = get64(f36 + 64);
-    v22 = get8(f36 + 58);
-    v23 = get8(f36 + 57);
-    v24 = get8(f36 + 56);
-    v25 = get8(f36 + 50);
-    v26 = get8(f36 + 48);
-    v27 = get64(f36 + 32);
-    v28 = get8(f36 + 24);
-    v29 = get8(f36 + 17);
-    v30 = get8(f36 + 16);
+    v17 = get8(f37 + 40);
+    v18 = get64(f37 + 104);
+    v19 = get64(f37 + 96);
+    v20 = get64(f37 + 88);
+    v21 = get64(f37 + 80);
+    v22 = get64(f37 + 64);
+    v23 = get8(f37 + 58);
+    v24 = get8(f37 + 57);
+    v25 = get8(f37 + 56);
+    v26 = get8(f37 + 50);
+    v27 = get8(f37 + 48);
+    v28 = get64(f37 + 32);
+    v29 = get8(f37 + 24);
+    v30 = get8(f37 + 17);
+    v31 = get8(f37 + 16);
     switch (v13) {
-        case 1: goto after20;
-        case 2: goto after19;
-        case 3: goto after18;
-        default: goto after21;
+        case 1: goto after22;
+        case 2: goto after21;
+        case 3: goto after20;
+        default: goto after23;
     }
-after21:;
-    put64(f36 + 136, 0ull);
-    put64(f36 + 128, 0ull);
-    put64(f36 + 120, 0ull);
-    put64(f36 + 112, 0ull);
-    block_core_block_ref_pcb_in(m, v36 + 112ull, v11, v10);
-    if (get8(f36 + 112)) { goto after22; }
+after23:;
+    put64(f37 + 136, 0ull);
+    put64(f37 + 128, 0ull);
+    put64(f37 + 120, 0ull);
+    put64(f37 + 112, 0ull);
+    block_core_block_ref_pcb_in(m, v37 + 112ull, v11, v10);
+    if (get8(f37 + 112)) { goto after24; }
     v13 = 2u;
     if (v10 < 3ull) { goto after14; }
-    v31 = get8(f36 + 114);
-    v32 = get8(f36 + 115);
+    v32 = get8(f37 + 114);
+    v33 = get8(f37 + 115);
     v12 = load8(m, v11, 2);
-    v33 = 0u;
-    v34 = get8(f36 + 113);
-    switch (v34) {
-        case 1: goto after23;
-        case 2: goto after24;
-        case 3: goto after24;
-        default: goto after25;
-    }
-after25:;
-    v33 = v12 & 255u;
-    if (v33 == 255u) { goto after14; }
-    if ((v26 & 255u) >= v33) { goto after15; }
-    goto after14;
-after24:;
-    v33 = 0x1000100u >> ((v31 << 3) & 31);
-after23:;
-    if ((v12 & 255u) != (v33 & 255u)) { goto after14; }
-    switch (v34 + 0xFFFFFFFFu) {
-        case 1: goto after26;
-        case 2: goto after27;
-        default: goto after15;
+    v34 = 0u;
+    v35 = get8(f37 + 113);
+    switch (v35) {
+        case 1: goto after25;
+        case 2: goto after26;
+        case 3: goto after26;
+        default: goto after27;
     }
 after27:;
-    if (v31 != 1u) { goto after15; }
-    goto after16;
-after26:;
-    if (v31 == 1u) { goto after16; }
-    goto after15;
-after22:;
-    v13 = (get8(f36 + 120) == 1u) ? (((get8(f36 + 136) & 255u) == 4u) ? 1u : 2u) : 2u;
+    v34 = v12 & 255u;
+    if (v34 == 255u) { goto after14; }
+    if ((v27 & 255u) >= v34) { goto after15; }
     goto after14;
-after20:;
-    if (v24 == 2u) { goto after28; }
-    v8 = 0ull;
-    v35 = 0u;
-    v33 = 1u;
-    goto after4;
-after28:;
-    if (v5 >= v10) { goto after29; }
-    v35 = 1u;
-    v8 = 0ull;
-    v13 = 0u;
-    v33 = 1u;
-    v24 = 2u;
-    v12 = 0u;
-    v6 = 0ull;
-    goto after2;
+after26:;
+    v34 = 0x1000100u >> ((v32 << 3) & 31);
+after25:;
+    if ((v12 & 255u) != (v34 & 255u)) { goto after14; }
+    switch (v35 + 0xFFFFFFFFu) {
+        case 1: goto after28;
+        case 2: goto after29;
+        default: goto after15;
+    }
 after29:;
-    if ((v4 - v11) >= v10) { goto after31; }
-    v2 = v10 & 3ull;
+    if (v32 != 1u) { goto after15; }
+    goto after16;
+after28:;
+    if (v32 == 1u) { goto after16; }
+    goto after15;
+after24:;
+    v13 = (get8(f37 + 120) == 1u) ? (((get8(f37 + 136) & 255u) == 4u) ? 1u : 2u) : 2u;
+    goto after14;
+after22:;
+    if (v25 == 2u) { goto after30; }
+    put16(f37 + 116, 0u);
+    put32(f37 + 112, 0u);
+    v13 = 21u;
+    goto after3;
+after30:;
+    if (v20 >= v10) { goto after31; }
+    put16(f37 + 116, 0u);
+    put32(f37 + 112, 0u);
+    v13 = 18u;
+    goto after3;
+after31:;
+    if ((v4 - v11) >= v10) { goto after33; }
+    v3 = v10 & 3ull;
     v8 = 0ull;
-    if (v10 < 4ull) { goto after32; }
-    v27 = v10 & 0xFFFFFFFFFFFFFFFCull;
+    if (v10 < 4ull) { goto after34; }
+    v2 = v10 & 0xFFFFFFFFFFFFFFFCull;
     v8 = 0ull;
-again33:;
+again35:;
     v6 = v4 + v8;
-    v3 = v11 + v8;
-    p325 = held(m, v3, 4);
-    p326 = held(m, v6, 4);
-    put_held8(p326, 0, m, v6, held8(p325, 0, m, v3));
-    put_held8(p326, 1, m, v6, held8(p325, 1, m, v3));
-    put_held8(p326, 2, m, v6, held8(p325, 2, m, v3));
-    put_held8(p326, 3, m, v6, held8(p325, 3, m, v3));
+    v5 = v11 + v8;
+    p329 = held(m, v5, 4);
+    p330 = held(m, v6, 4);
+    put_held8(p330, 0, m, v6, held8(p329, 0, m, v5));
+    put_held8(p330, 1, m, v6, held8(p329, 1, m, v5));
+    put_held8(p330, 2, m, v6, held8(p329, 2, m, v5));
+    put_held8(p330, 3, m, v6, held8(p329, 3, m, v5));
     v8 = v8 + 4ull;
-    if (v27 != v8) { goto again33; }
-    if (v2 == 0) { goto after30; }
-after32:;
+    if (v2 != v8) { goto again35; }
+    if (v3 == 0) { goto after32; }
+after34:;
     v6 = v4 + v8;
     v8 = v11 + v8;
-again34:;
+again36:;
     store8(m, v6, 0, load8(m, v8, 0));
     v6 = v6 + 1ull;
     v8 = v8 + 1ull;
-    v2 = v2 + 0xFFFFFFFFFFFFFFFFull;
-    if (v2 != 0ull) { goto again34; }
-    goto after30;
-after31:;
-    if (v10 == 0) { goto after30; }
+    v3 = v3 + 0xFFFFFFFFFFFFFFFFull;
+    if (v3 != 0ull) { goto again36; }
+    goto after32;
+after33:;
+    if (v10 == 0) { goto after32; }
     copy(m, v4, v11, v10);
-after30:;
-    v2 = (v16 < v10) ? v16 : v10;
-    v28 = (u32)(v10 <= v16);
-    if (v28) { goto after36; }
-    v24 = 32u;
-    if (v2 == 255ull) { goto after10; }
-    goto after35;
-after36:;
-    v24 = 0u;
-    if (v2 == 255ull) { goto after10; }
-after35:;
-    p433 = held(m, v7, 3);
-    put_held8(p433, 0, m, v7, 0u);
-    v13 = (u32)v2;
-    put_held8(p433, 2, m, v7, v13);
-    v12 = v24 | ((v30 & 255u) ? 64u : 0u);
-    put_held8(p433, 1, m, v7, v12);
+after32:;
+    v11 = (v16 < v10) ? v16 : v10;
+    v29 = (u32)(v10 <= v16);
+    if (v29) { goto after38; }
+    v13 = 32u;
+    if (v11 == 255ull) { goto after10; }
+    goto after37;
+after38:;
+    v13 = 0u;
+    if (v11 == 255ull) { goto after10; }
+after37:;
+    p437 = held(m, v7, 3);
+    put_held8(p437, 0, m, v7, 0u);
+    v12 = (u32)v11;
+    put_held8(p437, 2, m, v7, v12);
+    v13 = v13 | ((v31 & 255u) ? 64u : 0u);
+    put_held8(p437, 1, m, v7, v13);
     v6 = v7 + 3ull;
-    if ((v6 - v4) >= v2) { goto after38; }
-    v11 = v2 & 3ull;
+    if ((v6 - v4) >= v11) { goto after40; }
+    v3 = v11 & 3ull;
     v8 = 0ull;
-    if (v2 < 4ull) { goto after39; }
-    v27 = v2 & 252ull;
+    if (v11 < 4ull) { goto after41; }
+    v2 = v11 & 252ull;
     v8 = 0ull;
-again40:;
+again42:;
     v6 = v7 + v8;
-    v3 = v4 + v8;
-    p489 = held(m, v3, 4);
-    p490 = held(m, v6 + 3ull, 4);
-    put_held8(p490, 0, m, v6 + 3ull, held8(p489, 0, m, v3));
-    put_held8(p490, 1, m, v6 + 3ull, held8(p489, 1, m, v3));
-    put_held8(p490, 2, m, v6 + 3ull, held8(p489, 2, m, v3));
-    put_held8(p490, 3, m, v6 + 3ull, held8(p489, 3, m, v3));
+    v5 = v4 + v8;
+    p493 = held(m, v5, 4);
+    p494 = held(m, v6 + 3ull, 4);
+    put_held8(p494, 0, m, v6 + 3ull, held8(p493, 0, m, v5));
+    put_held8(p494, 1, m, v6 + 3ull, held8(p493, 1, m, v5));
+    put_held8(p494, 2, m, v6 + 3ull, held8(p493, 2, m, v5));
+    put_held8(p494, 3, m, v6 + 3ull, held8(p493, 3, m, v5));
     v8 = v8 + 4ull;
-    if (v27 != v8) { goto again40; }
-    if (v11 == 0) { goto after37; }
-after39:;
+    if (v2 != v8) { goto again42; }
+    if (v3 == 0) { goto after39; }
+after41:;
     v6 = v4 + v8;
     v8 = (v8 + v7) + 3ull;
-again41:;
+again43:;
     store8(m, v8, 0, load8(m, v6, 0));
     v8 = v8 + 1ull;
     v6 = v6 + 1ull;
-    v11 = v11 + 0xFFFFFFFFFFFFFFFFull;
-    if (v11 != 0ull) { goto again41; }
-    goto after37;
-after38:;
-    if (v2 == 0) { goto after37; }
-    copy(m, v6, v4, v2);
-after37:;
-    v24 = v28 ? 0u : 3u;
-    v14 = v28 ? 0u : v15;
-    v17 = v28 ? v15 : 0u;
-    t1 = block_core_block_ref_sum_of(m, v4, v2);
-    store8(m, (v7 + v2) + 3ull, 0, (t1 ^ v13) ^ v12);
-    v8 = v2 + 4ull;
-    v23 = 0u;
-    v27 = 0ull;
-    v22 = 0u;
-    v21 = 0ull;
-    v18 = v10;
-    goto after6;
-after19:;
-    if (v24 == 2u) { goto after42; }
-    v8 = 0ull;
-    v33 = 1u;
-    goto after5;
-after42:;
-    v23 = 1u;
-    p627 = held(m, v7, 5);
-    put_held8(p627, 2, m, v7, 1u);
-    put_held16(p627, 0, m, v7, 49920u);
-    put_held8(p627, 3, m, v7, v12);
-    put8(f36 + 117, v12);
-    put8(f36 + 116, 1u);
-    put32(f36 + 112, 0x30202u);
-    v8 = 5ull;
-    t1 = block_core_block_ref_sum_of(m, (v36 + 112ull) + 5ull, 1ull);
-    put_held8(p627, 4, m, v7, t1 ^ 194u);
-    v33 = 0u;
-    v24 = 4u;
-    v22 = v12;
-    goto after5;
-after18:;
+    v3 = v3 + 0xFFFFFFFFFFFFFFFFull;
+    if (v3 != 0ull) { goto again43; }
+    goto after39;
+after40:;
+    if (v11 == 0) { goto after39; }
+    copy(m, v6, v4, v11);
+after39:;
+    v25 = v29 ? 0u : 3u;
+    v14 = v29 ? 0u : v15;
+    v17 = v29 ? v15 : 0u;
+    t1 = block_core_block_ref_sum_of(m, v4, v11);
+    store8(m, (v7 + v11) + 3ull, 0, (t1 ^ v12) ^ v13);
+    v8 = v11 + 4ull;
+    v22 = 0ull;
     v13 = 0u;
-    v35 = 0u;
-    if (v24 != 2u) { goto after44; }
-    v35 = 2u;
-    if (((v12 + 1u) & 255u) > 1u) { goto after43; }
-after44:;
-    v8 = 0ull;
-    v33 = 1u;
-    goto after3;
-after43:;
-    p697 = held(m, v7, 5);
-    put_held8(p697, 2, m, v7, 1u);
-    put_held16(p697, 0, m, v7, 49408u);
-    put_held8(p697, 3, m, v7, v12);
-    put8(f36 + 117, v12);
-    put8(f36 + 116, 1u);
-    put32(f36 + 112, 0x10202u);
-    v8 = 5ull;
-    t1 = block_core_block_ref_sum_of(m, (v36 + 112ull) + 5ull, 1ull);
-    put_held8(p697, 4, m, v7, t1 ^ 192u);
     v23 = 0u;
-    v24 = 4u;
-    v22 = v12;
+    v24 = 0u;
+    v28 = 0ull;
+    goto after6;
+after21:;
+    if (v25 == 2u) { goto after44; }
+    v8 = 0ull;
+    if (1u) { goto after5; }
+    goto after19;
+after44:;
+    v24 = 1u;
+    p631 = held(m, v7, 5);
+    put_held8(p631, 2, m, v7, 1u);
+    put_held16(p631, 0, m, v7, 49920u);
+    put_held8(p631, 3, m, v7, v12);
+    put8(f37 + 117, v12);
+    put8(f37 + 116, 1u);
+    put32(f37 + 112, 0x30202u);
+    v8 = 5ull;
+    t1 = block_core_block_ref_sum_of(m, (v37 + 112ull) + 5ull, 1ull);
+    put_held8(p631, 4, m, v7, t1 ^ 194u);
+    v25 = 4u;
+    v23 = v12;
+    goto after19;
+after20:;
+    if (v25 == 2u) { goto after46; }
+    v13 = 21u;
+    goto after45;
+after46:;
+    if (((v12 + 1u) & 255u) > 1u) { goto after18; }
+    v13 = 19u;
+after45:;
+    if (1u) { goto after4; }
+    v8 = 0ull;
+after19:;
+    v13 = 0u;
+    v10 = v18;
+    goto after6;
+after18:;
+    p706 = held(m, v7, 5);
+    put_held8(p706, 2, m, v7, 1u);
+    put_held16(p706, 0, m, v7, 49408u);
+    put_held8(p706, 3, m, v7, v12);
+    put8(f37 + 117, v12);
+    put8(f37 + 116, 1u);
+    put32(f37 + 112, 0x10202u);
+    v8 = 5ull;
+    t1 = block_core_block_ref_sum_of(m, (v37 + 112ull) + 5ull, 1ull);
+    put_held8(p706, 4, m, v7, t1 ^ 192u);
+    v24 = 0u;
+    v25 = 4u;
+    v13 = 0u;
+    v10 = v18;
+    v23 = v12;
     goto after6;
 after17:;
-    p740 = held(m, v0, 16);
-    put_held64(p740, 1, m, v0, 0ull);
-    put_held8(p740, 0, m, v0, 32u);
-    put_held64(p740, 8, m, v0, 0ull);
+    p755 = held(m, v0, 16);
+    put_held64(p755, 1, m, v0, 0ull);
+    put_held8(p755, 0, m, v0, 32u);
+    put_held64(p755, 8, m, v0, 0ull);
     goto after1;
 after16:;
     if (v10 == 3ull) { goto after14; }
-    v31 = 1u;
+    v32 = 1u;
     v13 = 2u;
     if (((load8(m, v11, 3) + 1u) & 255u) < 2u) { goto after14; }
 after15:;
     v13 = 2u;
-    v3 = ((u64)v12) & 255ull;
-    if (v10 <= (v3 + 3ull)) { goto after14; }
+    v5 = ((u64)v12) & 255ull;
+    if (v10 <= (v5 + 3ull)) { goto after14; }
     v13 = 1u;
-    v8 = v3 + 4ull;
+    v8 = v5 + 4ull;
     t0 = block_core_block_ref_sum_of(m, v11, v8);
     if (t0 & 255u) { goto after14; }
     v13 = 2u;
     v6 = 0ull;
     v12 = 0u;
     if (v8 != v10) { goto after13; }
-    v33 = 0u;
-    v35 = 0u;
+    v34 = 0u;
+    v36 = 0u;
     v8 = 0ull;
     if (load8(m, v11, 0) & 255u) { goto after12; }
     v6 = v11 + 3ull;
     v13 = 0u;
-    v12 = v34;
-    v33 = v31;
-    v35 = v32;
-    v8 = v3;
+    v12 = v35;
+    v34 = v32;
+    v36 = v33;
+    v8 = v5;
     goto after12;
 after14:;
     v6 = 0ull;
     v12 = 0u;
 after13:;
-    v33 = 0u;
-    v35 = 0u;
+    v34 = 0u;
+    v36 = 0u;
     v8 = 0ull;
 after12:;
-    switch (v24) {
+    switch (v25) {
         case 2: goto after63;
-        case 3: goto after65;
-        case 4: goto after64;
-        default: goto after66;
+        case 3: goto after68;
+        case 4: goto after67;
+        default: goto after69;
     }
-after66:;
-    if (v13) { goto after67; }
+after69:;
+    if (v13) { goto after70; }
     switch (v12) {
-        case 1: goto after69;
-        case 2: goto after68;
-        case 3: goto after54;
-        default: goto after70;
+        case 1: goto after72;
+        case 2: goto after71;
+        case 3: goto after55;
+        default: goto after73;
     }
-after70:;
-    if (v24 != 1u) { goto after72; }
-    if (v33 != v29) { goto after52; }
-    if ((v8 + v19) > v20) { goto after52; }
-    v16 = v19;
-    goto after71;
-after72:;
-    if (v33 != v29) { goto after52; }
-    v16 = 0ull;
-    if (v8 > v20) { goto after52; }
-after71:;
-    v19 = v2 + v16;
-    if ((v19 - v6) >= v8) { goto after74; }
-    v11 = v8 & 3ull;
-    v3 = 0ull;
-    if (v8 < 4ull) { goto after75; }
-    v21 = v8 & 252ull;
-    v3 = 0ull;
-again76:;
-    v4 = v19 + v3;
-    v10 = v6 + v3;
-    p941 = held(m, v10, 4);
-    p942 = held(m, v4, 4);
-    put_held8(p942, 0, m, v4, held8(p941, 0, m, v10));
-    put_held8(p942, 1, m, v4, held8(p941, 1, m, v10));
-    put_held8(p942, 2, m, v4, held8(p941, 2, m, v10));
-    put_held8(p942, 3, m, v4, held8(p941, 3, m, v10));
-    v3 = v3 + 4ull;
-    if (v21 != v3) { goto again76; }
-    if (v11 == 0) { goto after73; }
-after75:;
-    v6 = v6 + v3;
-    v3 = v2 + (v16 + v3);
-again77:;
-    store8(m, v3, 0, load8(m, v6, 0));
-    v3 = v3 + 1ull;
-    v6 = v6 + 1ull;
-    v11 = v11 + 0xFFFFFFFFFFFFFFFFull;
-    if (v11 != 0ull) { goto again77; }
-    goto after73;
-after74:;
-    if (v8 == 0) { goto after73; }
-    copy(m, v19, v6, v8);
 after73:;
+    if (v25 != 1u) { goto after77; }
+    if (v34 != v30) { goto after76; }
+    if ((v8 + v19) > v21) { goto after76; }
+    v16 = v19;
+    goto after74;
+after77:;
+    if (v34 != v30) { goto after76; }
+    if (v8 <= v21) { goto after75; }
+after76:;
+    put16(f37 + 112, 258u);
+    put32(f37 + 114, v30 | 512u);
+    v13 = 2u;
+    v12 = v30;
+    goto after53;
+after75:;
+    v16 = 0ull;
+    if (v19 == 0) { goto after74; }
+    v5 = v19 + 0xFFFFFFFFFFFFFFFFull;
+    v13 = (u32)(v5 == 0);
+    if (v13) { goto after78; }
+    if (v13) { goto after78; }
+    fill(m, v2, 0u, v5);
+after78:;
+    store8(m, v2 + v5, 0, 0u);
+after74:;
+    v11 = v2 + v16;
+    if ((v11 - v6) >= v8) { goto after80; }
+    v4 = v8 & 3ull;
+    v5 = 0ull;
+    if (v8 < 4ull) { goto after81; }
+    v19 = v8 & 252ull;
+    v5 = 0ull;
+again82:;
+    v3 = v11 + v5;
+    v10 = v6 + v5;
+    p997 = held(m, v10, 4);
+    p998 = held(m, v3, 4);
+    put_held8(p998, 0, m, v3, held8(p997, 0, m, v10));
+    put_held8(p998, 1, m, v3, held8(p997, 1, m, v10));
+    put_held8(p998, 2, m, v3, held8(p997, 2, m, v10));
+    put_held8(p998, 3, m, v3, held8(p997, 3, m, v10));
+    v5 = v5 + 4ull;
+    if (v19 != v5) { goto again82; }
+    if (v4 == 0) { goto after79; }
+after81:;
+    v6 = v6 + v5;
+    v5 = v2 + (v16 + v5);
+again83:;
+    store8(m, v5, 0, load8(m, v6, 0));
+    v5 = v5 + 1ull;
+    v6 = v6 + 1ull;
+    v4 = v4 + 0xFFFFFFFFFFFFFFFFull;
+    if (v4 != 0ull) { goto again83; }
+    goto after79;
+after80:;
+    if (v8 == 0) { goto after79; }
+    copy(m, v11, v6, v8);
+after79:;
     v13 = 1u;
-    v30 = ((v28 & 255u) == 1u) ? ((u32)((v30 & 255u) == 0)) : v30;
+    v31 = ((v29 & 255u) == 1u) ? ((u32)((v31 & 255u) == 0)) : v31;
     v19 = v16 + v8;
-    v12 = (u32)(v29 == 0);
-    if ((v35 & 1u) == 0) { goto after62; }
-    put16(f36 + 112, 258u);
-    put32(f36 + 114, (u32)(v29 == 0));
-    v21 = 0ull;
-    v24 = 1u;
-    v28 = 0u;
-    v29 = v12;
+    v12 = (u32)(v30 == 0);
+    if ((v36 & 1u) == 0) { goto after62; }
+    put16(f37 + 112, 258u);
+    put32(f37 + 114, (u32)(v30 == 0));
+    v22 = 0ull;
+    v25 = 1u;
+    v29 = 0u;
+    v30 = v12;
+    v24 = 0u;
     v23 = 0u;
-    v22 = 0u;
     v14 = 0u;
     v13 = 0u;
-    goto after51;
-after69:;
-    if ((v28 & 255u) == 1u) { goto after78; }
-    v12 = v29;
     goto after53;
-after78:;
-    v12 = v29;
-    if (v33 != (v30 & 255u)) { goto after53; }
+after72:;
+    if ((v29 & 255u) == 1u) { goto after84; }
+    v12 = v30;
+    goto after54;
+after84:;
+    v12 = v30;
+    if (v34 != (v31 & 255u)) { goto after54; }
     v16 = ((u64)v17) & 255ull;
-    put32(f36 + 114, 0u);
-    put16(f36 + 112, 1u);
-    v6 = v18 - v27;
-    v8 = v27;
-    v3 = v21;
-    goto after46;
+    put32(f37 + 114, 0u);
+    put16(f37 + 112, 1u);
+    v6 = v18 - v28;
+    v8 = v28;
+    v5 = v22;
+    goto after48;
+after71:;
+    switch (v34) {
+        case 0: goto after85;
+        case 1: goto after57;
+        default: goto after55;
+    }
+after85:;
+    if (v19 == 0) { goto after66; }
+    v6 = v19 + 0xFFFFFFFFFFFFFFFFull;
+    v13 = (u32)(v6 == 0);
+    if (v13) { goto after86; }
+    if (v13) { goto after86; }
+    fill(m, v2, 0u, v6);
+after86:;
+    store8(m, v2 + v6, 0, 0u);
+    goto after66;
+after70:;
+    v12 = (v13 << 8) | v30;
+    goto after54;
 after68:;
-    switch (v33) {
-        case 0: goto after57;
-        case 1: goto after56;
-        default: goto after54;
-    }
-after67:;
-    v12 = (v13 << 8) | v29;
-    goto after53;
-after65:;
-    if (v13) { goto after79; }
+    if (v13) { goto after87; }
     switch (v12) {
-        case 1: goto after82;
-        case 2: goto after81;
-        default: goto after80;
+        case 1: goto after90;
+        case 2: goto after89;
+        default: goto after88;
     }
-after82:;
+after90:;
     v8 = ((u64)v14) & 255ull;
-    v13 = v30 & 255u;
-    if (v33 != v13) { goto after61; }
-    put16(f36 + 116, 0u);
-    put32(f36 + 112, 0u);
-    v6 = v18 - v21;
+    v13 = v31 & 255u;
+    if (v34 != v13) { goto after61; }
+    put16(f37 + 116, 0u);
+    put32(f37 + 112, 0u);
+    v6 = v18 - v22;
     v16 = v8;
-    v24 = v28;
-    v3 = v27;
-    v33 = v17;
-    v35 = v23;
-    v31 = v22;
-    v8 = v21;
-    v34 = v14;
+    v25 = v29;
+    v5 = v28;
+    v34 = v17;
+    v36 = v24;
+    v32 = v23;
+    v8 = v22;
+    v35 = v14;
     goto after60;
-after81:;
-    if (v33 == 0) { goto after57; }
-after80:;
-    if (v12 != 2u) { goto after83; }
-    if (v33 != 1u) { goto after83; }
+after89:;
+    if (v34) { goto after88; }
+    if (v19 == 0) { goto after66; }
+    v6 = v19 + 0xFFFFFFFFFFFFFFFFull;
+    v13 = (u32)(v6 == 0);
+    if (v13) { goto after91; }
+    if (v13) { goto after91; }
+    fill(m, v2, 0u, v6);
+after91:;
+    store8(m, v2 + v6, 0, 0u);
+    goto after66;
+after88:;
+    if (v12 != 2u) { goto after92; }
+    if (v34 != 1u) { goto after92; }
     if (v8 == 0) { goto after10; }
-    goto after55;
-after83:;
-    v12 = v29 | 512u;
-    goto after53;
-after79:;
-    v12 = (v13 << 8) | v29;
-    goto after53;
-after64:;
+    goto after56;
+after92:;
+    v12 = v30 | 512u;
+    goto after54;
+after87:;
+    v12 = (v13 << 8) | v30;
+    goto after54;
+after67:;
     if (v13) { goto after59; }
     switch (v12) {
-        case 2: goto after58;
-        case 3: goto after84;
-        default: goto after50;
+        case 2: goto after93;
+        case 3: goto after65;
+        default: goto after64;
     }
-after84:;
-    if (v23 & 255u) { goto after85; }
-    if (v33 != 1u) { goto after50; }
-    if (load8(m, v6, 0) != v22) { goto after50; }
-    v26 = v22;
-    goto after48;
-after85:;
-    if (v33 != 3u) { goto after50; }
-    if (load8(m, v6, 0) == v22) { goto after48; }
-    goto after50;
+after93:;
+    if (v34) { goto after64; }
+    if (v19 == 0) { goto after66; }
+    v6 = v19 + 0xFFFFFFFFFFFFFFFFull;
+    v13 = (u32)(v6 == 0);
+    if (v13) { goto after94; }
+    if (v13) { goto after94; }
+    fill(m, v2, 0u, v6);
+after94:;
+    store8(m, v2 + v6, 0, 0u);
+after66:;
+    v31 = 0u;
+    p1344 = held(m, v7, 3);
+    put_held8(p1344, 2, m, v7, 0u);
+    put_held16(p1344, 0, m, v7, 57344u);
+    put32(f37 + 114, 0u);
+    put16(f37 + 112, 770u);
+    v4 = v7 + 3ull;
+    v3 = 0x10000ull;
+    v13 = 224u;
+    v15 = 32u;
+    v28 = 0ull;
+    v30 = 0u;
+    v29 = 0u;
+    v17 = 0u;
+    v27 = v26;
+    v25 = 0u;
+    v24 = 0u;
+    v23 = 0u;
+    v22 = 0ull;
+    v14 = 0u;
+    v19 = 0ull;
+    v34 = 0u;
+    v11 = 0ull;
+    goto after8;
+after65:;
+    if (v24 & 255u) { goto after95; }
+    if (v34 != 1u) { goto after64; }
+    if (load8(m, v6, 0) != v23) { goto after64; }
+    v27 = v23;
+    goto after49;
+after95:;
+    if (v34 != 3u) { goto after64; }
+    if (load8(m, v6, 0) == v23) { goto after49; }
+after64:;
+    v13 = (v23 << 24) | ((v24 & 255u) ? 0x10003u : 0x10001u);
+    goto after58;
 after63:;
+    if (1u) { goto after5; }
     v8 = 0ull;
     v13 = 0u;
-    v33 = 1u;
-    v24 = 2u;
-    v35 = 0u;
-    goto after3;
+    v25 = 2u;
+    v10 = v18;
+    goto after6;
 after62:;
-    v21 = 0ull;
-    v24 = 2u;
-    v28 = 0u;
-    v29 = v12;
+    v14 = 0u;
+    v8 = 0ull;
+    v25 = 2u;
+    v10 = v18;
+    v22 = 0ull;
     v23 = 0u;
-    goto after47;
-after61:;
     v24 = 0u;
-    put32(f36 + 114, 0u);
-    put8(f36 + 113, 0u);
-    v8 = v21 + v8;
+    v29 = 0u;
+    v30 = v12;
+    goto after6;
+after61:;
+    v25 = 0u;
+    put32(f37 + 114, 0u);
+    put8(f37 + 113, 0u);
+    v8 = v22 + v8;
     v6 = v18 - v8;
     v12 = (u32)(v6 <= v16);
-    put8(f36 + 112, v12);
-    v30 = (u32)(v13 == 0);
-    v3 = 0ull;
-    v33 = 0u;
-    v35 = 0u;
-    v31 = 0u;
-    v34 = v15;
+    put8(f37 + 112, v12);
+    v31 = (u32)(v13 == 0);
+    v5 = 0ull;
+    v34 = 0u;
+    v36 = 0u;
+    v32 = 0u;
+    v35 = v15;
     v17 = v15;
+    v24 = 0u;
     v23 = 0u;
-    v22 = 0u;
     v14 = 0u;
-    if (v12) { goto after46; }
+    if (v12) { goto after48; }
 after60:;
     v11 = (v16 < v6) ? v16 : v6;
     if (v11 == 255ull) { goto after10; }
     v13 = 32u;
     v12 = 3u;
-    v28 = v24;
-    v27 = v3;
-    v17 = v33;
-    v23 = v35;
-    v22 = v31;
-    v21 = v8;
-    v14 = v34;
-    goto after45;
+    v29 = v25;
+    v28 = v5;
+    v17 = v34;
+    v24 = v36;
+    v23 = v32;
+    v22 = v8;
+    v14 = v35;
+    goto after47;
 after59:;
-    v24 = (v22 << 24) | ((v23 & 255u) ? 0x10003u : 0x10001u);
-    goto after49;
+    v13 = (v23 << 24) | ((v24 & 255u) ? 0x10003u : 0x10001u);
 after58:;
-    if (v33) { goto after50; }
+    put16(f37 + 112, 514u);
+    put32(f37 + 114, v13);
+    v12 = v13 & 0xFF0000u;
+    switch ((u32)(((u64)v13) & 255ull)) {
+        case 1: goto after96;
+        case 3: goto after52;
+        default: goto after51;
+    }
+after96:;
+    if (v12 != 0x10000u) { goto after10; }
+    if ((((v13 >> 24) + 0xFFFFFFFFu) & 255u) < 254u) { goto after50; }
+    goto after10;
 after57:;
-    v30 = 0u;
-    p1356 = held(m, v7, 3);
-    put_held8(p1356, 2, m, v7, 0u);
-    put_held16(p1356, 0, m, v7, 57344u);
-    put32(f36 + 114, 0u);
-    put16(f36 + 112, 770u);
-    v2 = v7 + 3ull;
-    v4 = 0x10000ull;
-    v13 = 224u;
-    v15 = 32u;
-    v27 = 0ull;
-    v29 = 0u;
-    v28 = 0u;
-    v17 = 0u;
-    v26 = v25;
-    v24 = 0u;
-    v23 = 0u;
-    v22 = 0u;
-    v21 = 0ull;
-    v14 = 0u;
-    v19 = 0ull;
-    v33 = 0u;
-    v11 = 0ull;
-    goto after8;
-after56:;
     if (v8 == 0) { goto after10; }
-after55:;
+after56:;
     v15 = load8(m, v6, 0);
-    put16(f36 + 112, 770u);
-    put32(f36 + 114, (v15 << 24) | 0x10001u);
+    put16(f37 + 112, 770u);
+    put32(f37 + 114, (v15 << 24) | 0x10001u);
     if (((v15 + 0xFFFFFFFFu) & 255u) >= 254u) { goto after10; }
-    v4 = v36 + 117ull;
+    v3 = v37 + 117ull;
     v13 = 225u;
     v11 = 1ull;
-    v12 = v24;
+    v12 = v25;
     goto after9;
+after55:;
+    v12 = v30 | 512u;
 after54:;
-    v12 = v29 | 512u;
-after53:;
-    put32(f36 + 114, v12);
-    put16(f36 + 112, 258u);
+    put32(f37 + 114, v12);
+    put16(f37 + 112, 258u);
     v13 = v12 >> 8;
-    goto after51;
-after52:;
-    put16(f36 + 112, 258u);
-    put32(f36 + 114, v29 | 512u);
-    v13 = 2u;
-    v12 = v29;
-after51:;
-    v33 = 0u;
-    p1475 = held(m, v7, 3);
-    put_held8(p1475, 2, m, v7, 0u);
-    put_held8(p1475, 0, m, v7, 0u);
+after53:;
+    v34 = 0u;
+    p1644 = held(m, v7, 3);
+    put_held8(p1644, 2, m, v7, 0u);
+    put_held8(p1644, 0, m, v7, 0u);
     v13 = ((v12 & 255u) ? 0xFFFFFF90u : 0xFFFFFF80u) | v13;
-    put_held8(p1475, 1, m, v7, v13);
-    v2 = v7 + 3ull;
+    put_held8(p1644, 1, m, v7, v13);
+    v4 = v7 + 3ull;
     v11 = 0ull;
-    v4 = 0x10000ull;
+    v3 = 0x10000ull;
     goto after8;
+after52:;
+    if (v12 != 0x10000u) { goto after10; }
+    goto after50;
+after51:;
+    if (v12 == 0x10000u) { goto after10; }
 after50:;
-    v24 = (v22 << 24) | ((v23 & 255u) ? 0x10003u : 0x10001u);
-after49:;
-    put16(f36 + 112, 514u);
-    put32(f36 + 114, v24);
-    v13 = v24 & 0xFF0000u;
-    switch ((u32)(((u64)v24) & 255ull)) {
-        case 1: goto after89;
-        case 3: goto after88;
-        default: goto after87;
-    }
-after89:;
-    if (v13 != 0x10000u) { goto after10; }
-    if ((((v24 >> 24) + 0xFFFFFFFFu) & 255u) < 254u) { goto after86; }
-    goto after10;
-after88:;
-    if (v13 != 0x10000u) { goto after10; }
-    goto after86;
-after87:;
-    if (v13 == 0x10000u) { goto after10; }
-after86:;
-    v12 = (u32)(v13 == 0x10000u);
-    v4 = v12 ? (v36 + 117ull) : 0x10000ull;
-    v13 = v24 | 0xFFFFFFC0u;
+    v12 = (u32)(v12 == 0x10000u);
+    v3 = v12 ? (v37 + 117ull) : 0x10000ull;
+    v13 = v13 | 0xFFFFFFC0u;
     v11 = (u64)v12;
     v12 = 4u;
     goto after9;
-after48:;
-    v13 = 1u;
-    v21 = 0ull;
-    v23 = 0u;
-    v24 = 2u;
-after47:;
-    v22 = 0u;
+after49:;
     v14 = 0u;
-    v33 = 0u;
-    v35 = 0u;
+    v13 = 1u;
     v8 = 0ull;
-    goto after3;
-after46:;
+    v25 = 2u;
+    v10 = v18;
+    v22 = 0ull;
+    v23 = 0u;
+    v24 = 0u;
+    goto after6;
+after48:;
     v11 = (v16 < v6) ? v16 : v6;
     if (v11 == 255ull) { goto after10; }
     v13 = 0u;
-    v28 = 1u;
-    v27 = v8;
-    v12 = v24;
-    v21 = v3;
-after45:;
-    v4 = v4 + v8;
-    v13 = v13 | ((v30 & 255u) ? 64u : 0u);
+    v29 = 1u;
+    v28 = v8;
+    v12 = v25;
+    v22 = v5;
+after47:;
+    v3 = v4 + v8;
+    v13 = v13 | ((v31 & 255u) ? 64u : 0u);
     goto after9;
 after10:;
     UNREACHABLE;
 after9:;
-    p1642 = held(m, v7, 3);
-    put_held8(p1642, 1, m, v7, v13);
-    put_held8(p1642, 0, m, v7, 0u);
-    v33 = (u32)v11;
-    put_held8(p1642, 2, m, v7, v33);
-    v2 = v7 + 3ull;
-    if ((v2 - v4) < v11) { goto after90; }
-    v24 = v12;
+    p1761 = held(m, v7, 3);
+    put_held8(p1761, 1, m, v7, v13);
+    put_held8(p1761, 0, m, v7, 0u);
+    v34 = (u32)v11;
+    put_held8(p1761, 2, m, v7, v34);
+    v4 = v7 + 3ull;
+    if ((v4 - v3) < v11) { goto after97; }
+    v25 = v12;
     goto after8;
-after90:;
+after97:;
     v10 = v11 & 3ull;
     v6 = 0ull;
-    if (v11 < 4ull) { goto after92; }
-    v16 = v11 & 0xFFFFFFFFFFFFFFFCull;
+    if (v11 < 4ull) { goto after99; }
+    v2 = v11 & 0xFFFFFFFFFFFFFFFCull;
     v6 = 0ull;
-again93:;
+again100:;
     v8 = v7 + v6;
-    v3 = v4 + v6;
-    p1694 = held(m, v3, 4);
-    p1695 = held(m, v8 + 3ull, 4);
-    put_held8(p1695, 0, m, v8 + 3ull, held8(p1694, 0, m, v3));
-    put_held8(p1695, 1, m, v8 + 3ull, held8(p1694, 1, m, v3));
-    put_held8(p1695, 2, m, v8 + 3ull, held8(p1694, 2, m, v3));
-    put_held8(p1695, 3, m, v8 + 3ull, held8(p1694, 3, m, v3));
+    v5 = v3 + v6;
+    p1813 = held(m, v5, 4);
+    p1814 = held(m, v8 + 3ull, 4);
+    put_held8(p1814, 0, m, v8 + 3ull, held8(p1813, 0, m, v5));
+    put_held8(p1814, 1, m, v8 + 3ull, held8(p1813, 1, m, v5));
+    put_held8(p1814, 2, m, v8 + 3ull, held8(p1813, 2, m, v5));
+    put_held8(p1814, 3, m, v8 + 3ull, held8(p1813, 3, m, v5));
     v6 = v6 + 4ull;
-    if (v16 != v6) { goto again93; }
-    if (v10 == 0) { goto after91; }
-after92:;
-again94:;
-    store8(m, v2 + v6, 0, load8(m, v4 + v6, 0));
+    if (v2 != v6) { goto again100; }
+    if (v10 == 0) { goto after98; }
+after99:;
+again101:;
+    store8(m, v4 + v6, 0, load8(m, v3 + v6, 0));
     v6 = v6 + 1ull;
     v10 = v10 + 0xFFFFFFFFFFFFFFFFull;
-    if (v10 != 0ull) { goto again94; }
-after91:;
-    v24 = v12;
+    if (v10 != 0ull) { goto again101; }
+after98:;
+    v25 = v12;
     goto after7;
 after8:;
     if (v11 == 0) { goto after7; }
-    copy(m, v2, v4, v11);
+    copy(m, v4, v3, v11);
 after7:;
-    t2 = block_core_block_ref_sum_of(m, v4, v11);
-    store8(m, (v7 + v11) + 3ull, 0, (v13 ^ v33) ^ t2);
-    v8 = v11 + 4ull;
-after6:;
-    v33 = 0u;
-after5:;
-    v35 = 0u;
-after4:;
+    t2 = block_core_block_ref_sum_of(m, v3, v11);
+    store8(m, (v7 + v11) + 3ull, 0, (v13 ^ v34) ^ t2);
     v13 = 0u;
-after3:;
+    v8 = v11 + 4ull;
+    v10 = v18;
+after6:;
+    v12 = v25;
     v6 = 0ull;
-    v12 = v24;
-    switch (v24) {
-        case 1: goto after97;
-        case 2: goto after97;
-        case 3: goto after96;
-        case 4: goto after95;
-        default: goto after2;
+    switch (v25) {
+        case 1: goto after106;
+        case 2: goto after106;
+        case 3: goto after105;
+        case 4: goto after104;
+        default: goto after102;
     }
-after97:;
+after106:;
     v12 = 0u;
-    goto after2;
-after96:;
+    goto after103;
+after105:;
     v12 = v14;
-    v6 = v21;
-    goto after2;
-after95:;
-    v24 = (v23 & 255u) ? 5u : 4u;
-    v12 = v22;
-after2:;
-    p1825 = held(m, v1, 64);
-    put_held32(p1825, 9, m, v1, 0u);
-    put_held8(p1825, 8, m, v1, v12);
-    put_held8(p1825, 7, m, v1, v24);
-    put_held8(p1825, 6, m, v1, v25);
-    put_held8(p1825, 5, m, v1, v15);
-    put_held8(p1825, 4, m, v1, v26);
-    put_held8(p1825, 1, m, v1, v29);
-    put_held8(p1825, 0, m, v1, v30);
-    put_held32(p1825, 12, m, v1, 0u);
-    put_held64(p1825, 56, m, v1, v18);
-    put_held64(p1825, 48, m, v1, v19);
-    put_held64(p1825, 40, m, v1, v5);
-    put_held64(p1825, 32, m, v1, v20);
-    put_held64(p1825, 24, m, v1, v6);
-    put_held8(p1825, 2, m, v1, v28 & 1u);
-    v24 = (u32)((v28 & 255u) == 1u);
-    put_held8(p1825, 3, m, v1, v24 ? v17 : 0u);
+    v6 = v22;
+    goto after102;
+after104:;
+    v25 = (v24 & 255u) ? 5u : 4u;
+    v12 = v23;
+after103:;
     v6 = 0ull;
-    put_held64(p1825, 16, m, v1, v24 ? v27 : 0ull);
-    if (v33) { goto after99; }
+after102:;
+    p1946 = held(m, v1, 64);
+    put_held32(p1946, 9, m, v1, 0u);
+    put_held8(p1946, 8, m, v1, v12);
+    put_held8(p1946, 7, m, v1, v25);
+    put_held8(p1946, 6, m, v1, v26);
+    put_held8(p1946, 5, m, v1, v15);
+    put_held8(p1946, 4, m, v1, v27);
+    put_held8(p1946, 1, m, v1, v30);
+    put_held8(p1946, 0, m, v1, v31);
+    put_held32(p1946, 12, m, v1, 0u);
+    put_held64(p1946, 56, m, v1, v10);
+    put_held64(p1946, 48, m, v1, v19);
+    put_held64(p1946, 40, m, v1, v20);
+    put_held64(p1946, 32, m, v1, v21);
+    put_held64(p1946, 24, m, v1, v6);
+    put_held8(p1946, 2, m, v1, v29 & 1u);
+    v12 = (u32)((v29 & 255u) == 1u);
+    put_held8(p1946, 3, m, v1, v12 ? v17 : 0u);
+    put_held64(p1946, 16, m, v1, v12 ? v28 : 0ull);
+    put32(f37, 0u);
+    put16(f37 + 4, 0u);
     v6 = v13 ? 0ull : v8;
-    goto after98;
-after99:;
-    v13 = 0x131215u >> ((v35 << 3) & 31);
-after98:;
-    p1909 = held(m, v0, 16);
-    put_held32(p1909, 1, m, v0, 0u);
-    put_held8(p1909, 0, m, v0, v13);
-    put_held32(p1909, 4, m, v0, 0u);
-    put_held64(p1909, 8, m, v0, v6);
+    goto after2;
+after5:;
+    v13 = 21u;
+after4:;
+    put16(f37 + 116, 0u);
+    put32(f37 + 112, 0u);
+after3:;
+    put16(f37 + 4, get16(f37 + 116));
+    put32(f37, get32(f37 + 112));
+    v6 = 0ull;
+after2:;
+    p2044 = held(m, v0, 16);
+    put_held8(p2044, 1, m, v0, 0u);
+    put_held8(p2044, 0, m, v0, v13);
+    put_held32(p2044, 2, m, v0, get32(f37));
+    put_held16(p2044, 6, m, v0, get16(f37 + 4));
+    put_held64(p2044, 8, m, v0, v6);
 after1:;
-    m->g0 = v36 + 144ull;
+    m->g0 = v37 + 144ull;
 }
 
 static void c_lent_kept_CCard_fitting(struct call *m, u64 v0, u64 v1, u64 v2, u64 v3)
@@ -11264,16 +11322,15 @@ static void c_lent_lent_terminal_turn(struct call *m, u64 v0, u64 v1, u64 v2, u6
     u64 v16 = 0;
     u64 v17 = 0;
     u64 v18 = 0;
-    u64 v20 = 0;
-    u64 v33 = 0;
-    u64 v34 = 0;
+    u64 v19 = 0;
+    u64 v21 = 0;
     u64 v35 = 0;
+    u64 v36 = 0;
     u32 v12 = 0;
     u32 v13 = 0;
     u32 v14 = 0;
     u32 v15 = 0;
-    u32 v19 = 0;
-    u32 v21 = 0;
+    u32 v20 = 0;
     u32 v22 = 0;
     u32 v23 = 0;
     u32 v24 = 0;
@@ -11285,1145 +11342,1193 @@ static void c_lent_lent_terminal_turn(struct call *m, u64 v0, u64 v1, u64 v2, u6
     u32 v30 = 0;
     u32 v31 = 0;
     u32 v32 = 0;
+    u32 v33 = 0;
+    u32 v34 = 0;
     u32 t0 = 0;
     u32 t1 = 0;
     u32 t2 = 0;
-    u8 *f35 = NULL;
-    u8 *p26 = NULL;
-    u8 *p52 = NULL;
-    u8 *p249 = NULL;
-    u8 *p250 = NULL;
-    u8 *p360 = NULL;
-    u8 *p416 = NULL;
-    u8 *p417 = NULL;
-    u8 *p726 = NULL;
-    u8 *p762 = NULL;
-    u8 *p795 = NULL;
-    u8 *p896 = NULL;
-    u8 *p941 = NULL;
-    u8 *p1356 = NULL;
-    u8 *p1357 = NULL;
-    u8 *p1661 = NULL;
-    u8 *p1662 = NULL;
-    u8 *p2076 = NULL;
-    u8 *p2450 = NULL;
-    u8 *p2573 = NULL;
-    u8 *p2619 = NULL;
-    u8 *p2620 = NULL;
-    u8 *p2741 = NULL;
-    u8 *p2789 = NULL;
-    v35 = m->g0 - 112ull;
-    f35 = at(m, v35, 112);
-    v9 = v35;
+    u8 *f36 = NULL;
+    u8 *p25 = NULL;
+    u8 *p59 = NULL;
+    u8 *p202 = NULL;
+    u8 *p203 = NULL;
+    u8 *p313 = NULL;
+    u8 *p369 = NULL;
+    u8 *p370 = NULL;
+    u8 *p697 = NULL;
+    u8 *p733 = NULL;
+    u8 *p766 = NULL;
+    u8 *p903 = NULL;
+    u8 *p957 = NULL;
+    u8 *p1417 = NULL;
+    u8 *p1418 = NULL;
+    u8 *p1722 = NULL;
+    u8 *p1723 = NULL;
+    u8 *p2147 = NULL;
+    u8 *p2534 = NULL;
+    u8 *p2657 = NULL;
+    u8 *p2703 = NULL;
+    u8 *p2704 = NULL;
+    u8 *p2825 = NULL;
+    u8 *p2906 = NULL;
+    v36 = m->g0 - 128ull;
+    f36 = at(m, v36, 128);
+    v9 = v36;
     m->g0 = v9;
-    p26 = held(m, v6, 24);
-    v10 = held64(p26, 16, m, v6);
-    v11 = held64(p26, 8, m, v6);
-    v12 = held8(p26, 1, m, v6);
-    v13 = held8(p26, 0, m, v6);
-    memset(f35, (int)(0u & 255u), 80);
-    if (v8 >= 258ull) { goto after14; }
-    p52 = held(m, v0, 16);
-    put_held32(p52, 1, m, v0, 0u);
-    put_held8(p52, 0, m, v0, 33u);
-    put_held32(p52, 4, m, v0, 0u);
-    put_held64(p52, 8, m, v0, 258ull);
+    p25 = held(m, v6, 24);
+    v10 = held64(p25, 16, m, v6);
+    v11 = held64(p25, 8, m, v6);
+    v12 = held8(p25, 1, m, v6);
+    v13 = held8(p25, 0, m, v6);
+    memset(f36 + 16, (int)(0u & 255u), 80);
+    put16(f36 + 12, 0u);
+    put32(f36 + 8, 0u);
+    if (v8 >= 258ull) { goto after13; }
+    p59 = held(m, v0, 16);
+    put_held32(p59, 1, m, v0, 0u);
+    put_held8(p59, 0, m, v0, 33u);
+    put_held32(p59, 4, m, v0, 0u);
+    put_held64(p59, 8, m, v0, 258ull);
     goto after1;
-after14:;
-    c_lent_kept_CTerminal_fitting(m, v35, v1, v3, v5);
-    if (get8(f35) != 1u) { goto after49; }
-    v14 = get8(f35 + 32);
-    v15 = get8(f35 + 11);
-    v5 = ((u64)v15) & 255ull;
-    v16 = get64(f35 + 72);
-    v3 = get64(f35 + 64);
-    v17 = get64(f35 + 56);
-    v18 = get64(f35 + 48);
-    v19 = get8(f35 + 40);
-    v20 = get64(f35 + 24);
-    v21 = get8(f35 + 17);
-    v22 = get8(f35 + 16);
-    v23 = get8(f35 + 13);
-    v24 = get8(f35 + 12);
-    v25 = get8(f35 + 10);
-    v26 = get8(f35 + 9);
-    v27 = get8(f35 + 8);
+after13:;
+    c_lent_kept_CTerminal_fitting(m, v36 + 16ull, v1, v3, v5);
+    if (get8(f36 + 16) != 1u) { goto after20; }
+    v14 = get8(f36 + 48);
+    v15 = get8(f36 + 27);
+    v6 = ((u64)v15) & 255ull;
+    v16 = get64(f36 + 88);
+    v17 = get64(f36 + 80);
+    v18 = get64(f36 + 72);
+    v19 = get64(f36 + 64);
+    v20 = get8(f36 + 56);
+    v21 = get64(f36 + 40);
+    v22 = get8(f36 + 33);
+    v23 = get8(f36 + 32);
+    v24 = get8(f36 + 29);
+    v25 = get8(f36 + 28);
+    v26 = get8(f36 + 26);
+    v27 = get8(f36 + 25);
+    v28 = get8(f36 + 24);
     switch (v13) {
-        case 1: goto after52;
-        case 2: goto after51;
-        case 3: goto after50;
-        default: goto after53;
+        case 1: goto after24;
+        case 2: goto after23;
+        case 3: goto after22;
+        default: goto after25;
     }
-after53:;
-    v28 = 1u;
-    v8 = 0ull;
-    v13 = 0u;
-    if ((v22 + 0xFFFFFFFFu) >= 5u) { goto after54; }
-    v29 = 1u;
-    v30 = 0u;
-    goto after3;
-after54:;
-    v30 = 0u;
+after25:;
+    if ((v23 + 0xFFFFFFFFu) < 5u) { goto after19; }
     v29 = 0u;
-    v21 = 0u;
-    v6 = 0ull;
-    switch (v22) {
-        case 1: goto after13;
-        case 2: goto after13;
-        case 3: goto after13;
-        case 4: goto after13;
-        case 5: goto after13;
-        case 6: goto after2;
-        default: goto after55;
+    switch (v23) {
+        case 1: goto after12;
+        case 2: goto after12;
+        case 3: goto after12;
+        case 4: goto after12;
+        case 5: goto after12;
+        case 6: goto after3;
+        default: goto after26;
     }
-after55:;
-    if (v18 >= v10) { goto after56; }
+after26:;
+    if (v19 >= v10) { goto after27; }
     v29 = 2u;
-    v13 = 0u;
-    v30 = 0u;
-    v22 = 0u;
-    v21 = 0u;
-    v6 = 0ull;
-    goto after2;
-after56:;
-    if ((v2 - v11) >= v10) { goto after58; }
+    goto after3;
+after27:;
+    if ((v2 - v11) >= v10) { goto after29; }
     v4 = v10 & 3ull;
-    v8 = 0ull;
-    if (v10 < 4ull) { goto after59; }
-    v16 = v10 & 0xFFFFFFFFFFFFFFFCull;
-    v8 = 0ull;
-again60:;
-    v6 = v2 + v8;
-    v3 = v11 + v8;
-    p249 = held(m, v3, 4);
-    p250 = held(m, v6, 4);
-    put_held8(p250, 0, m, v6, held8(p249, 0, m, v3));
-    put_held8(p250, 1, m, v6, held8(p249, 1, m, v3));
-    put_held8(p250, 2, m, v6, held8(p249, 2, m, v3));
-    put_held8(p250, 3, m, v6, held8(p249, 3, m, v3));
-    v8 = v8 + 4ull;
-    if (v16 != v8) { goto again60; }
-    if (v4 == 0) { goto after57; }
-after59:;
-    v6 = v2 + v8;
-    v8 = v11 + v8;
-again61:;
-    store8(m, v6, 0, load8(m, v8, 0));
-    v6 = v6 + 1ull;
+    v5 = 0ull;
+    if (v10 < 4ull) { goto after30; }
+    v21 = v10 & 0xFFFFFFFFFFFFFFFCull;
+    v5 = 0ull;
+again31:;
+    v8 = v2 + v5;
+    v3 = v11 + v5;
+    p202 = held(m, v3, 4);
+    p203 = held(m, v8, 4);
+    put_held8(p203, 0, m, v8, held8(p202, 0, m, v3));
+    put_held8(p203, 1, m, v8, held8(p202, 1, m, v3));
+    put_held8(p203, 2, m, v8, held8(p202, 2, m, v3));
+    put_held8(p203, 3, m, v8, held8(p202, 3, m, v3));
+    v5 = v5 + 4ull;
+    if (v21 != v5) { goto again31; }
+    if (v4 == 0) { goto after28; }
+after30:;
+    v8 = v2 + v5;
+    v5 = v11 + v5;
+again32:;
+    store8(m, v8, 0, load8(m, v5, 0));
     v8 = v8 + 1ull;
+    v5 = v5 + 1ull;
     v4 = v4 + 0xFFFFFFFFFFFFFFFFull;
-    if (v4 != 0ull) { goto again61; }
-    goto after57;
-after58:;
-    if (v10 == 0) { goto after57; }
+    if (v4 != 0ull) { goto again32; }
+    goto after28;
+after29:;
+    if (v10 == 0) { goto after28; }
     copy(m, v2, v11, v10);
-after57:;
-    v11 = (v5 < v10) ? v5 : v10;
-    if (v10 <= v5) { goto after63; }
-    if (v11 == 255ull) { goto after13; }
+after28:;
+    v11 = (v6 < v10) ? v6 : v10;
+    if (v10 <= v6) { goto after34; }
+    if (v11 == 255ull) { goto after12; }
     v13 = 32u;
-    goto after62;
-after63:;
-    if (v11 == 255ull) { goto after13; }
+    goto after33;
+after34:;
+    if (v11 == 255ull) { goto after12; }
     v13 = 0u;
-after62:;
-    v22 = (u32)(v10 > v5);
-    p360 = held(m, v7, 3);
-    put_held8(p360, 0, m, v7, 0u);
-    v12 = (u32)v11;
-    put_held8(p360, 2, m, v7, v12);
-    v13 = v13 | ((v27 & 255u) ? 64u : 0u);
-    put_held8(p360, 1, m, v7, v13);
+after33:;
+    v12 = (u32)(v10 > v6);
+    p313 = held(m, v7, 3);
+    put_held8(p313, 0, m, v7, 0u);
+    v29 = (u32)v11;
+    put_held8(p313, 2, m, v7, v29);
+    v13 = v13 | ((v28 & 255u) ? 64u : 0u);
+    put_held8(p313, 1, m, v7, v13);
     v6 = v7 + 3ull;
-    if ((v6 - v2) >= v11) { goto after65; }
+    if ((v6 - v2) >= v11) { goto after36; }
     v3 = v11 & 3ull;
     v8 = 0ull;
-    if (v11 < 4ull) { goto after66; }
+    if (v11 < 4ull) { goto after37; }
     v4 = v11 & 252ull;
     v8 = 0ull;
-again67:;
+again38:;
     v6 = v7 + v8;
     v5 = v2 + v8;
-    p416 = held(m, v5, 4);
-    p417 = held(m, v6 + 3ull, 4);
-    put_held8(p417, 0, m, v6 + 3ull, held8(p416, 0, m, v5));
-    put_held8(p417, 1, m, v6 + 3ull, held8(p416, 1, m, v5));
-    put_held8(p417, 2, m, v6 + 3ull, held8(p416, 2, m, v5));
-    put_held8(p417, 3, m, v6 + 3ull, held8(p416, 3, m, v5));
+    p369 = held(m, v5, 4);
+    p370 = held(m, v6 + 3ull, 4);
+    put_held8(p370, 0, m, v6 + 3ull, held8(p369, 0, m, v5));
+    put_held8(p370, 1, m, v6 + 3ull, held8(p369, 1, m, v5));
+    put_held8(p370, 2, m, v6 + 3ull, held8(p369, 2, m, v5));
+    put_held8(p370, 3, m, v6 + 3ull, held8(p369, 3, m, v5));
     v8 = v8 + 4ull;
-    if (v4 != v8) { goto again67; }
-    if (v3 == 0) { goto after64; }
-after66:;
+    if (v4 != v8) { goto again38; }
+    if (v3 == 0) { goto after35; }
+after37:;
     v6 = v2 + v8;
     v8 = (v8 + v7) + 3ull;
-again68:;
+again39:;
     store8(m, v8, 0, load8(m, v6, 0));
     v8 = v8 + 1ull;
     v6 = v6 + 1ull;
     v3 = v3 + 0xFFFFFFFFFFFFFFFFull;
-    if (v3 != 0ull) { goto again68; }
-    goto after64;
-after65:;
-    if (v11 == 0) { goto after64; }
+    if (v3 != 0ull) { goto again39; }
+    goto after35;
+after36:;
+    if (v11 == 0) { goto after35; }
     copy(m, v6, v2, v11);
-after64:;
-    v22 = v22 ? 1u : 2u;
+after35:;
+    v23 = v12 ? 1u : 2u;
     t1 = block_core_block_ref_sum_of(m, v2, v11);
-    store8(m, (v7 + v11) + 3ull, 0, (t1 ^ v12) ^ v13);
-    v8 = v11 + 4ull;
-    v30 = 1u;
-    v20 = 0ull;
-    v25 = 0u;
-    v21 = 0u;
-    v14 = v15;
-    v19 = 0u;
-    v3 = v10;
+    store8(m, (v7 + v11) + 3ull, 0, (t1 ^ v29) ^ v13);
+    v6 = v11 + 4ull;
     v16 = 0ull;
-    v28 = 0u;
-    goto after5;
-after52:;
-    put64(f35 + 104, 0ull);
-    put64(f35 + 96, 0ull);
-    put64(f35 + 88, 0ull);
-    put64(f35 + 80, 0ull);
-    block_core_block_ref_pcb_in(m, v35 + 80ull, v11, v10);
-    if (get8(f35 + 80)) { goto after69; }
+    v30 = 1u;
+    v13 = 0u;
+    v17 = v10;
+    v20 = 0u;
+    v21 = 0ull;
+    v22 = 0u;
+    v31 = v15;
+    goto after21;
+after24:;
+    put64(f36 + 120, 0ull);
+    put64(f36 + 112, 0ull);
+    put64(f36 + 104, 0ull);
+    put64(f36 + 96, 0ull);
+    block_core_block_ref_pcb_in(m, v36 + 96ull, v11, v10);
+    if (get8(f36 + 96)) { goto after40; }
     v13 = 2u;
-    if (v10 < 3ull) { goto after46; }
-    v29 = get8(f35 + 82);
-    v31 = get8(f35 + 83);
+    if (v10 < 3ull) { goto after16; }
+    v32 = get8(f36 + 98);
+    v33 = get8(f36 + 99);
     v12 = load8(m, v11, 2);
-    v28 = 0u;
-    v32 = get8(f35 + 81);
-    switch (v32) {
-        case 1: goto after70;
-        case 2: goto after71;
-        case 3: goto after71;
-        default: goto after72;
+    v29 = 0u;
+    v34 = get8(f36 + 97);
+    switch (v34) {
+        case 1: goto after41;
+        case 2: goto after42;
+        case 3: goto after42;
+        default: goto after43;
     }
-after72:;
-    v28 = v12 & 255u;
-    if (v28 == 255u) { goto after46; }
-    if ((v24 & 255u) >= v28) { goto after47; }
-    goto after46;
-after71:;
-    v28 = 0x1000100u >> ((v29 << 3) & 31);
-after70:;
-    if ((v12 & 255u) != (v28 & 255u)) { goto after46; }
-    switch (v32 + 0xFFFFFFFFu) {
-        case 1: goto after73;
-        case 2: goto after74;
-        default: goto after47;
+after43:;
+    v29 = v12 & 255u;
+    if (v29 == 255u) { goto after16; }
+    if ((v25 & 255u) >= v29) { goto after17; }
+    goto after16;
+after42:;
+    v29 = 0x1000100u >> ((v32 << 3) & 31);
+after41:;
+    if ((v12 & 255u) != (v29 & 255u)) { goto after16; }
+    switch (v34 + 0xFFFFFFFFu) {
+        case 1: goto after44;
+        case 2: goto after45;
+        default: goto after17;
     }
-after74:;
-    if (v29 != 1u) { goto after47; }
-    goto after48;
-after73:;
-    if (v29 == 1u) { goto after48; }
-    goto after47;
-after69:;
-    v13 = (get8(f35 + 88) == 1u) ? (((get8(f35 + 104) & 255u) == 4u) ? 1u : 2u) : 2u;
-    goto after46;
-after51:;
+after45:;
+    if (v32 != 1u) { goto after17; }
+    goto after18;
+after44:;
+    if (v32 == 1u) { goto after18; }
+    goto after17;
+after40:;
+    v13 = (get8(f36 + 104) == 1u) ? (((get8(f36 + 120) & 255u) == 4u) ? 1u : 2u) : 2u;
+    goto after16;
+after23:;
     v29 = 4u;
-    switch (v22) {
-        case 1: goto after83;
-        case 2: goto after83;
-        case 3: goto after83;
-        case 4: goto after81;
-        case 5: goto after82;
-        case 6: goto after43;
-        default: goto after42;
+    switch (v23) {
+        case 1: goto after57;
+        case 2: goto after57;
+        case 3: goto after57;
+        case 4: goto after53;
+        case 5: goto after56;
+        case 6: goto after55;
+        default: goto after54;
     }
-after83:;
-    if ((v25 & 255u) < 3u) { goto after77; }
-    put32(f35 + 82, 0u);
-    put16(f35 + 80, 514u);
-    goto after80;
-after82:;
-    if (v21 > 2u) { goto after38; }
-    put32(f35 + 82, 0u);
-    put16(f35 + 80, 514u);
-    v21 = v21 + 1u;
-    goto after79;
-after81:;
-    if ((v25 & 255u) > 2u) { goto after84; }
-    put16(f35 + 80, 514u);
-    put32(f35 + 82, (v21 << 24) | 0x10001u);
-    if (((v21 + 1u) & 255u) <= 1u) { goto after13; }
-    v25 = v25 + 1u;
-    p726 = held(m, v7, 3);
-    put_held8(p726, 2, m, v7, 1u);
-    put_held16(p726, 0, m, v7, 49408u);
+after57:;
+    if ((v26 & 255u) < 3u) { goto after49; }
+    put32(f36 + 98, 0u);
+    put16(f36 + 96, 514u);
+    goto after52;
+after56:;
+    if (v22 > 2u) { goto after46; }
+    put32(f36 + 98, 0u);
+    put16(f36 + 96, 514u);
+    v22 = v22 + 1u;
+    goto after51;
+after55:;
+    v29 = 0u;
+after54:;
+    if (1u) { goto after3; }
+    v6 = 0ull;
+    v13 = 0u;
+    v31 = v15;
+    v30 = 0u;
+    v15 = v14;
+    goto after4;
+after53:;
+    if ((v26 & 255u) > 2u) { goto after58; }
+    put16(f36 + 96, 514u);
+    put32(f36 + 98, (v22 << 24) | 0x10001u);
+    if (((v22 + 1u) & 255u) <= 1u) { goto after12; }
+    v26 = v26 + 1u;
+    p697 = held(m, v7, 3);
+    put_held8(p697, 2, m, v7, 1u);
+    put_held16(p697, 0, m, v7, 49408u);
     v5 = v7 + 3ull;
-    v8 = v35 + 85ull;
-    if (v5 == v8) { goto after78; }
+    v8 = v36 + 101ull;
+    if (v5 == v8) { goto after50; }
     v6 = 1ull;
     v13 = 192u;
-    v22 = 4u;
-    goto after76;
-after84:;
-    put32(f35 + 82, 0u);
-    put16(f35 + 80, 514u);
-after80:;
-    v21 = 1u;
-after79:;
+    v23 = 4u;
+    goto after48;
+after58:;
+    put32(f36 + 98, 0u);
+    put16(f36 + 96, 514u);
+after52:;
+    v22 = 1u;
+after51:;
     v14 = 0u;
-    p762 = held(m, v7, 3);
-    put_held8(p762, 2, m, v7, 0u);
-    put_held16(p762, 0, m, v7, 49152u);
+    p733 = held(m, v7, 3);
+    put_held8(p733, 2, m, v7, 0u);
+    put_held16(p733, 0, m, v7, 49152u);
     v5 = v7 + 3ull;
     v8 = 0x10000ull;
     v13 = 192u;
-    v20 = 0ull;
-    v22 = 5u;
+    v21 = 0ull;
+    v23 = 5u;
     v6 = 0ull;
-    goto after76;
-after78:;
-    store8(m, v5, 0, v21);
+    goto after48;
+after50:;
+    store8(m, v5, 0, v22);
     v6 = 1ull;
     v13 = 192u;
-    v22 = 4u;
-    goto after75;
-after77:;
-    p795 = held(m, v7, 3);
-    put_held8(p795, 2, m, v7, 0u);
-    put_held8(p795, 0, m, v7, 0u);
-    v13 = v26 ? 0xFFFFFF90u : 0xFFFFFF80u;
-    put_held8(p795, 1, m, v7, v13);
-    put32(f35 + 82, v26);
-    put16(f35 + 80, 258u);
+    v23 = 4u;
+    goto after47;
+after49:;
+    p766 = held(m, v7, 3);
+    put_held8(p766, 2, m, v7, 0u);
+    put_held8(p766, 0, m, v7, 0u);
+    v13 = v27 ? 0xFFFFFF90u : 0xFFFFFF80u;
+    put_held8(p766, 1, m, v7, v13);
+    put32(f36 + 98, v27);
+    put16(f36 + 96, 258u);
     v5 = v7 + 3ull;
-    v25 = v25 + 1u;
+    v26 = v26 + 1u;
     v6 = 0ull;
     v8 = 0x10000ull;
-after76:;
-    if (v6 == 0) { goto after75; }
+after48:;
+    if (v6 == 0) { goto after47; }
     copy(m, v5, v8, v6);
-after75:;
+after47:;
     t1 = block_core_block_ref_sum_of(m, v8, v6);
     store8(m, (v7 + v6) + 3ull, 0, t1 ^ v13);
-    v8 = v6 | 4ull;
-    v30 = 1u;
-    v28 = 0u;
-    goto after5;
-after50:;
-    if ((v22 + 0xFFFFFFFFu) < 5u) { goto after88; }
     v29 = 0u;
-    switch (v22) {
-        case 1: goto after13;
-        case 2: goto after13;
-        case 3: goto after13;
-        case 4: goto after13;
-        case 5: goto after13;
-        case 6: goto after86;
-        default: goto after87;
-    }
-after88:;
-    v29 = 1u;
-    goto after86;
-after87:;
+    v6 = v6 | 4ull;
     v30 = 1u;
-    if (((v12 + 1u) & 255u) > 1u) { goto after85; }
-    v29 = 3u;
-after86:;
-    v30 = 0u;
-    v8 = 0ull;
-    v28 = 1u;
-    goto after4;
-after85:;
-    p896 = held(m, v7, 5);
-    put_held8(p896, 2, m, v7, 1u);
-    put_held16(p896, 0, m, v7, 49408u);
-    put_held8(p896, 3, m, v7, v12);
-    put8(f35 + 85, v12);
-    put8(f35 + 84, 1u);
-    put32(f35 + 80, 0x10202u);
-    v8 = 5ull;
-    t1 = block_core_block_ref_sum_of(m, (v35 + 80ull) + 5ull, 1ull);
-    put_held8(p896, 4, m, v7, t1 ^ 192u);
-    v22 = 4u;
-    v28 = 0u;
-    v25 = 0u;
-    v21 = v12;
-    goto after5;
-after49:;
-    p941 = held(m, v0, 16);
-    put_held64(p941, 1, m, v0, 0ull);
-    put_held8(p941, 0, m, v0, 32u);
-    put_held64(p941, 8, m, v0, 0ull);
-    goto after1;
-after48:;
-    if (v10 == 3ull) { goto after46; }
-    v29 = 1u;
-    v13 = 2u;
-    if (((load8(m, v11, 3) + 1u) & 255u) < 2u) { goto after46; }
-after47:;
-    v13 = 2u;
-    v33 = ((u64)v12) & 255ull;
-    if (v10 <= (v33 + 3ull)) { goto after46; }
-    v13 = 1u;
-    v8 = v33 + 4ull;
-    t0 = block_core_block_ref_sum_of(m, v11, v8);
-    if (t0 & 255u) { goto after46; }
-    v13 = 2u;
-    v6 = 0ull;
-    v12 = 0u;
-    if (v8 != v10) { goto after45; }
-    v28 = 0u;
-    v30 = 0u;
-    v8 = 0ull;
-    if (load8(m, v11, 0) & 255u) { goto after44; }
-    v6 = v11 + 3ull;
+    v31 = v15;
     v13 = 0u;
-    v12 = v32;
-    v28 = v29;
-    v30 = v31;
-    v8 = v33;
-    goto after44;
+    v15 = v14;
+    goto after4;
 after46:;
-    v6 = 0ull;
-    v12 = 0u;
-after45:;
-    v28 = 0u;
-    v30 = 0u;
-    v8 = 0ull;
-after44:;
-    v29 = 4u;
-    switch (v22) {
-        case 1: goto after93;
-        case 2: goto after92;
-        case 3: goto after91;
-        case 4: goto after90;
-        case 5: goto after89;
-        case 6: goto after43;
-        default: goto after42;
-    }
-after93:;
-    if (v13) { goto after94; }
-    switch (v12 + 0xFFFFFFFFu) {
-        case 0: goto after97;
-        case 1: goto after96;
-        default: goto after95;
-    }
-after97:;
-    v13 = v27 & 255u;
-    if (v28 != v13) { goto after98; }
-    v29 = 2u;
-    if ((v25 & 255u) <= 2u) { goto after41; }
-    v14 = 0u;
-    v20 = 0ull;
-    v21 = 1u;
-    v22 = 5u;
-    v12 = 0u;
-    v28 = 2u;
-    goto after15;
-after98:;
-    v20 = v20 + (((u64)v14) & 255ull);
-    v28 = (u32)((v3 - v20) <= v5);
-    v22 = v28 ? 2u : 1u;
-    v27 = (u32)(v13 == 0);
-    v25 = 0u;
-    v16 = 0ull;
-    v21 = 0u;
-    v14 = v15;
     v29 = 0u;
-    goto after18;
+    v13 = 4u;
+    v6 = 0ull;
+    v23 = 6u;
+    v31 = v15;
+    v30 = 0u;
+    v15 = 0u;
+    v21 = 0ull;
+    v22 = 0u;
+    goto after4;
+after22:;
+    if ((v23 + 0xFFFFFFFFu) < 5u) { goto after62; }
+    v29 = 0u;
+    switch (v23) {
+        case 1: goto after12;
+        case 2: goto after12;
+        case 3: goto after12;
+        case 4: goto after12;
+        case 5: goto after12;
+        case 6: goto after60;
+        default: goto after61;
+    }
+after62:;
+    v29 = 1u;
+    goto after60;
+after61:;
+    v30 = 1u;
+    if (((v12 + 1u) & 255u) > 1u) { goto after59; }
+    v29 = 3u;
+after60:;
+    if (1u) { goto after3; }
+    v30 = 0u;
+    v6 = 0ull;
+    v13 = 0u;
+    v31 = v15;
+    v15 = v14;
+    goto after4;
+after59:;
+    p903 = held(m, v7, 5);
+    put_held8(p903, 2, m, v7, 1u);
+    put_held16(p903, 0, m, v7, 49408u);
+    put_held8(p903, 3, m, v7, v12);
+    put8(f36 + 101, v12);
+    put8(f36 + 100, 1u);
+    put32(f36 + 96, 0x10202u);
+    v6 = 5ull;
+    t1 = block_core_block_ref_sum_of(m, (v36 + 96ull) + 5ull, 1ull);
+    put_held8(p903, 4, m, v7, t1 ^ 192u);
+    v29 = 0u;
+    v23 = 4u;
+    v31 = v15;
+    v13 = 0u;
+    v15 = v14;
+    v22 = v12;
+after21:;
+    v26 = 0u;
+    goto after4;
+after20:;
+    p957 = held(m, v0, 16);
+    put_held64(p957, 1, m, v0, 0ull);
+    put_held8(p957, 0, m, v0, 32u);
+    put_held64(p957, 8, m, v0, 0ull);
+    goto after1;
+after19:;
+    v29 = 1u;
+    goto after3;
+after18:;
+    if (v10 == 3ull) { goto after16; }
+    v32 = 1u;
+    v13 = 2u;
+    if (((load8(m, v11, 3) + 1u) & 255u) < 2u) { goto after16; }
+after17:;
+    v13 = 2u;
+    v3 = ((u64)v12) & 255ull;
+    if (v10 <= (v3 + 3ull)) { goto after16; }
+    v13 = 1u;
+    v5 = v3 + 4ull;
+    t0 = block_core_block_ref_sum_of(m, v11, v5);
+    if (t0 & 255u) { goto after16; }
+    v13 = 2u;
+    v8 = 0ull;
+    v12 = 0u;
+    if (v5 != v10) { goto after15; }
+    v30 = 0u;
+    v31 = 0u;
+    v5 = 0ull;
+    if (load8(m, v11, 0) & 255u) { goto after14; }
+    v8 = v11 + 3ull;
+    v13 = 0u;
+    v12 = v34;
+    v30 = v32;
+    v31 = v33;
+    v5 = v3;
+    goto after14;
+after16:;
+    v8 = 0ull;
+    v12 = 0u;
+after15:;
+    v30 = 0u;
+    v31 = 0u;
+    v5 = 0ull;
+after14:;
+    v29 = 4u;
+    switch (v23) {
+        case 1: goto after96;
+        case 2: goto after95;
+        case 3: goto after94;
+        case 4: goto after93;
+        case 5: goto after92;
+        case 6: goto after91;
+        default: goto after90;
+    }
 after96:;
-    switch (v28) {
-        case 1: goto after100;
-        case 3: goto after99;
-        default: goto after95;
+    if (v13) { goto after97; }
+    switch (v12 + 0xFFFFFFFFu) {
+        case 0: goto after100;
+        case 1: goto after99;
+        default: goto after98;
     }
 after100:;
-    v30 = 0u;
-    v15 = load8(m, v6, 0);
-    v22 = (u32)(v8 == 0);
-    v13 = v22 ? 0u : v15;
-    v12 = v22 ? 0u : 0x10000u;
-    v29 = 3u;
-    v28 = 2u;
+    v13 = v28 & 255u;
+    if (v30 != v13) { goto after101; }
+    v30 = 2u;
+    if ((v26 & 255u) <= 2u) { goto after89; }
+    v14 = 0u;
+    v21 = 0ull;
     v22 = 1u;
-    v32 = 1u;
-    goto after16;
-after99:;
-    v29 = 3u;
-    v28 = 2u;
-    v22 = 1u;
-    if (v8) { goto after101; }
-    v30 = 0u;
-    v32 = 3u;
-    goto after17;
+    v23 = 5u;
+    v31 = v15;
+    v12 = 0u;
+    v29 = 2u;
+    goto after63;
 after101:;
-    v13 = load8(m, v6, 0);
-    v12 = 0x10000u;
-    v30 = 0u;
-    v32 = 3u;
-    goto after16;
-after95:;
-    v28 = 2u;
-    if ((v25 & 255u) > 2u) { goto after19; }
-    v22 = 1u;
-    v25 = v25 + 1u;
-    v12 = 0u;
-    v30 = 512u;
-    v29 = 1u;
-    v32 = v26;
-    v13 = 0u;
-    goto after16;
-after94:;
-    v28 = 2u;
-    if ((v25 & 255u) > 2u) { goto after19; }
-    v30 = v13 << 8;
-    v22 = 1u;
-    v25 = v25 + 1u;
-    v13 = 0u;
-    v29 = 1u;
-    v32 = v26;
-    v12 = 0u;
-    goto after16;
-after92:;
-    if (v13) { goto after102; }
-    switch (v12) {
-        case 1: goto after106;
-        case 2: goto after104;
-        case 3: goto after103;
-        default: goto after105;
-    }
-after106:;
-    if (v28 != (v27 & 255u)) { goto after107; }
-    v28 = 2u;
-    if ((v25 & 255u) > 2u) { goto after24; }
-    v28 = 1u;
-    v25 = v25 + 1u;
-    v13 = 0u;
-    v22 = 2u;
-    goto after25;
-after107:;
-    v28 = 2u;
-    if ((v25 & 255u) > 2u) { goto after24; }
-    v29 = 1u;
-    v25 = v25 + 1u;
-    v13 = 0u;
-    v22 = 2u;
-    v28 = 2u;
-    goto after26;
-after105:;
-    if (v28 != v26) { goto after109; }
-    if (v8 <= v17) { goto after108; }
-after109:;
-    v28 = 2u;
-    if ((v25 & 255u) > 2u) { goto after24; }
-    goto after28;
-after108:;
-    v13 = v27 & 255u;
-    v33 = v4 + v16;
-    if ((v33 - v6) >= v8) { goto after111; }
-    v20 = v8 & 3ull;
-    v5 = 0ull;
-    if (v8 < 4ull) { goto after112; }
-    v34 = v8 & 252ull;
-    v5 = 0ull;
-again113:;
-    v10 = v33 + v5;
-    v11 = v6 + v5;
-    p1356 = held(m, v11, 4);
-    p1357 = held(m, v10, 4);
-    put_held8(p1357, 0, m, v10, held8(p1356, 0, m, v11));
-    put_held8(p1357, 1, m, v10, held8(p1356, 1, m, v11));
-    put_held8(p1357, 2, m, v10, held8(p1356, 2, m, v11));
-    put_held8(p1357, 3, m, v10, held8(p1356, 3, m, v11));
-    v5 = v5 + 4ull;
-    if (v34 != v5) { goto again113; }
-    if (v20 == 0) { goto after110; }
-after112:;
-    v6 = v6 + v5;
-    v5 = v4 + (v5 + v16);
-again114:;
-    store8(m, v5, 0, load8(m, v6, 0));
-    v5 = v5 + 1ull;
-    v6 = v6 + 1ull;
-    v20 = v20 + 0xFFFFFFFFFFFFFFFFull;
-    if (v20 != 0ull) { goto again114; }
-    goto after110;
-after111:;
-    if (v8 == 0) { goto after110; }
-    copy(m, v33, v6, v8);
-after110:;
-    v27 = (u32)(v13 == 0);
-    v16 = v8 + v16;
-    v29 = 1u;
-    v26 = (u32)(v26 == 0);
-    v20 = 0ull;
-    v25 = 0u;
-    if ((v30 & 1u) == 0) { goto after115; }
-    v28 = 2u;
-    v22 = 3u;
-    v21 = 0u;
-    v14 = 0u;
-    v13 = 0u;
-    goto after26;
-after115:;
-    v19 = 1u;
+    v21 = v21 + (((u64)v14) & 255ull);
+    v29 = (u32)((v17 - v21) <= v6);
+    v23 = v29 ? 2u : 1u;
+    v28 = (u32)(v13 == 0);
+    v26 = 0u;
+    v16 = 0ull;
+    v31 = v15;
     v22 = 0u;
-    v21 = 0u;
-    v14 = 0u;
-    v13 = 1u;
-    v28 = 0u;
-    goto after25;
-after104:;
-    switch (v28) {
-        case 1: goto after117;
-        case 3: goto after116;
-        default: goto after103;
+    v14 = v15;
+    v30 = 0u;
+    goto after66;
+after99:;
+    switch (v30) {
+        case 1: goto after103;
+        case 3: goto after102;
+        default: goto after98;
     }
-after117:;
+after103:;
     v13 = 0u;
-    v15 = load8(m, v6, 0);
-    v22 = (u32)(v8 == 0);
-    v30 = v22 ? 0u : v15;
-    v32 = v22 ? 0u : 0x10000u;
-    v31 = 1u;
-    v29 = 3u;
-    v22 = 2u;
-    v28 = 2u;
-    v12 = 0u;
-    goto after21;
-after116:;
-    v29 = 3u;
-    v22 = 2u;
-    if (v8) { goto after118; }
+    v31 = load8(m, v8, 0);
+    v23 = (u32)(v5 == 0);
+    v12 = v23 ? 0u : v31;
+    v32 = v23 ? 0u : 0x10000u;
+    v30 = 3u;
+    v29 = 2u;
+    v23 = 1u;
+    v15 = 1u;
+    goto after64;
+after102:;
+    v30 = 3u;
+    v29 = 2u;
+    v23 = 1u;
+    if (v5) { goto after104; }
     v13 = 0u;
-    v28 = 2u;
-    v31 = 3u;
-    v12 = 0u;
-    goto after22;
-after118:;
-    v30 = load8(m, v6, 0);
+    v31 = v15;
+    v15 = 3u;
+    goto after65;
+after104:;
+    v12 = load8(m, v8, 0);
     v32 = 0x10000u;
     v13 = 0u;
-    v28 = 2u;
-    v31 = 3u;
+    v31 = v15;
+    v15 = 3u;
+    goto after64;
+after98:;
+    v29 = 2u;
+    if ((v26 & 255u) > 2u) { goto after67; }
+    v23 = 1u;
+    v26 = v26 + 1u;
+    v32 = 0u;
+    v13 = 512u;
+    v31 = v15;
+    v30 = 1u;
+    v15 = v27;
     v12 = 0u;
-    goto after21;
-after103:;
-    v28 = 2u;
-    if ((v25 & 255u) > 2u) { goto after24; }
-    goto after28;
-after102:;
-    v28 = 2u;
-    if ((v25 & 255u) > 2u) { goto after24; }
-    v12 = v13 << 8;
-    v29 = 1u;
-    v25 = v25 + 1u;
-    v13 = 0u;
-    goto after27;
-after91:;
-    if (v13) { goto after119; }
+    goto after64;
+after97:;
+    v29 = 2u;
+    if ((v26 & 255u) > 2u) { goto after67; }
+    v13 = v13 << 8;
+    v23 = 1u;
+    v26 = v26 + 1u;
+    v12 = 0u;
+    v31 = v15;
+    v30 = 1u;
+    v15 = v27;
+    v32 = 0u;
+    goto after64;
+after95:;
+    if (v13) { goto after105; }
     switch (v12) {
-        case 1: goto after123;
-        case 2: goto after121;
-        case 3: goto after120;
-        default: goto after122;
+        case 1: goto after109;
+        case 2: goto after107;
+        case 3: goto after106;
+        default: goto after108;
     }
-after123:;
-    v28 = 2u;
-    if ((v25 & 255u) > 2u) { goto after32; }
+after109:;
+    if (v30 != (v28 & 255u)) { goto after110; }
+    v29 = 2u;
+    if ((v26 & 255u) > 2u) { goto after72; }
     v29 = 1u;
-    v25 = v25 + 1u;
+    v26 = v26 + 1u;
     v13 = 0u;
-    v22 = 3u;
-    goto after33;
-after122:;
-    if (v28 != v26) { goto after124; }
-    v34 = v8 + v16;
-    if (v34 > v17) { goto after124; }
-    v20 = v4 + v16;
-    if ((v20 - v6) >= v8) { goto after126; }
-    v11 = v8 & 3ull;
-    v5 = 0ull;
-    if (v8 < 4ull) { goto after127; }
-    v33 = v8 & 252ull;
-    v5 = 0ull;
-again128:;
-    v8 = v20 + v5;
-    v10 = v6 + v5;
-    p1661 = held(m, v10, 4);
-    p1662 = held(m, v8, 4);
-    put_held8(p1662, 0, m, v8, held8(p1661, 0, m, v10));
-    put_held8(p1662, 1, m, v8, held8(p1661, 1, m, v10));
-    put_held8(p1662, 2, m, v8, held8(p1661, 2, m, v10));
-    put_held8(p1662, 3, m, v8, held8(p1661, 3, m, v10));
-    v5 = v5 + 4ull;
-    if (v33 != v5) { goto again128; }
-    if (v11 == 0) { goto after125; }
-after127:;
-    v6 = v6 + v5;
-    v8 = v4 + (v5 + v16);
-again129:;
+    v23 = 2u;
+    goto after73;
+after110:;
+    v29 = 2u;
+    if ((v26 & 255u) > 2u) { goto after72; }
+    v30 = 1u;
+    v26 = v26 + 1u;
+    v13 = 0u;
+    v23 = 2u;
+    v29 = 2u;
+    goto after74;
+after108:;
+    if (v30 != v27) { goto after112; }
+    if (v5 <= v18) { goto after111; }
+after112:;
+    v29 = 2u;
+    if ((v26 & 255u) > 2u) { goto after72; }
+    goto after76;
+after111:;
+    v13 = v28 & 255u;
+    v21 = v4 + v16;
+    if ((v21 - v8) >= v5) { goto after114; }
+    v11 = v5 & 3ull;
+    v3 = 0ull;
+    if (v5 < 4ull) { goto after115; }
+    v35 = v5 & 252ull;
+    v3 = 0ull;
+again116:;
+    v6 = v21 + v3;
+    v10 = v8 + v3;
+    p1417 = held(m, v10, 4);
+    p1418 = held(m, v6, 4);
+    put_held8(p1418, 0, m, v6, held8(p1417, 0, m, v10));
+    put_held8(p1418, 1, m, v6, held8(p1417, 1, m, v10));
+    put_held8(p1418, 2, m, v6, held8(p1417, 2, m, v10));
+    put_held8(p1418, 3, m, v6, held8(p1417, 3, m, v10));
+    v3 = v3 + 4ull;
+    if (v35 != v3) { goto again116; }
+    if (v11 == 0) { goto after113; }
+after115:;
+    v6 = v8 + v3;
+    v8 = v4 + (v3 + v16);
+again117:;
     store8(m, v8, 0, load8(m, v6, 0));
     v8 = v8 + 1ull;
     v6 = v6 + 1ull;
     v11 = v11 + 0xFFFFFFFFFFFFFFFFull;
-    if (v11 != 0ull) { goto again129; }
-    goto after125;
-after126:;
-    if (v8 == 0) { goto after125; }
-    copy(m, v20, v6, v8);
-after125:;
-    v29 = 1u;
-    v26 = (u32)(v26 == 0);
-    v20 = 0ull;
-    v25 = 0u;
-    if ((v30 & 1u) == 0) { goto after130; }
-    v28 = 2u;
-    v22 = 3u;
-    v21 = 0u;
-    v14 = 0u;
-    v16 = v34;
-    v13 = 0u;
-    goto after33;
-after130:;
-    v13 = 1u;
+    if (v11 != 0ull) { goto again117; }
+    goto after113;
+after114:;
+    if (v5 == 0) { goto after113; }
+    copy(m, v21, v8, v5);
+after113:;
+    v28 = (u32)(v13 == 0);
+    v16 = v5 + v16;
+    v30 = 1u;
+    v27 = (u32)(v27 == 0);
+    v21 = 0ull;
+    v26 = 0u;
+    if ((v31 & 1u) == 0) { goto after118; }
+    v29 = 2u;
+    v23 = 3u;
     v22 = 0u;
-    v21 = 0u;
     v14 = 0u;
-    v19 = 1u;
-    v16 = v34;
-    v28 = 0u;
+    v13 = 0u;
+    goto after74;
+after118:;
+    v20 = 1u;
+    v23 = 0u;
+    v22 = 0u;
+    v14 = 0u;
+    v13 = 1u;
     v29 = 0u;
-    goto after31;
-after124:;
-    v28 = 2u;
-    if ((v25 & 255u) > 2u) { goto after32; }
-    goto after35;
-after121:;
-    switch (v28) {
-        case 1: goto after132;
-        case 3: goto after131;
-        default: goto after120;
+    goto after73;
+after107:;
+    switch (v30) {
+        case 1: goto after120;
+        case 3: goto after119;
+        default: goto after106;
     }
-after132:;
+after120:;
     v13 = 0u;
-    v15 = load8(m, v6, 0);
-    v22 = (u32)(v8 == 0);
-    v30 = v22 ? 0u : v15;
-    v32 = v22 ? 0u : 0x10000u;
-    v31 = 1u;
-    v28 = 2u;
-    v22 = 3u;
-    v29 = 3u;
+    v15 = load8(m, v8, 0);
+    v12 = (u32)(v5 == 0);
+    v31 = v12 ? 0u : v15;
+    v32 = v12 ? 0u : 0x10000u;
+    v34 = 1u;
+    v30 = 3u;
+    v23 = 2u;
+    v29 = 2u;
     v12 = 0u;
-    goto after29;
-after131:;
-    v28 = 2u;
-    v22 = 3u;
-    if (v8) { goto after133; }
+    goto after69;
+after119:;
+    v30 = 3u;
+    v23 = 2u;
+    if (v5) { goto after121; }
     v13 = 0u;
-    v29 = 3u;
-    v31 = 3u;
+    v29 = 2u;
+    v34 = 3u;
     v12 = 0u;
-    goto after30;
-after133:;
-    v30 = load8(m, v6, 0);
+    goto after70;
+after121:;
+    v31 = load8(m, v8, 0);
     v32 = 0x10000u;
     v13 = 0u;
-    v29 = 3u;
-    v31 = 3u;
-    v12 = 0u;
-    goto after29;
-after120:;
-    v28 = 2u;
-    if ((v25 & 255u) > 2u) { goto after32; }
-    goto after35;
-after119:;
-    v28 = 2u;
-    if ((v25 & 255u) > 2u) { goto after32; }
-    v12 = v13 << 8;
-    v29 = 1u;
-    v25 = v25 + 1u;
-    v13 = 0u;
-    goto after34;
-after90:;
-    if (v13) { goto after137; }
-    if (v12 != 3u) { goto after137; }
-    if (v28 != 1u) { goto after137; }
-    if (load8(m, v6, 0) != v21) { goto after137; }
-    v25 = 0u;
-    v13 = 2u;
-    v20 = 0ull;
-    v24 = v21;
-    v22 = 0u;
-    v21 = 0u;
-    v14 = 0u;
-    v29 = 0u;
-    goto after136;
-after137:;
     v29 = 2u;
-    if ((v25 & 255u) <= 2u) { goto after135; }
-    v14 = 0u;
-    v20 = 0ull;
-    v21 = 1u;
-    v22 = 5u;
-    v13 = 0u;
-after136:;
+    v34 = 3u;
     v12 = 0u;
-    v28 = 0u;
-    goto after134;
-after135:;
-    v28 = v21 << 24;
-    v12 = 1u;
-    v25 = v25 + 1u;
+    goto after69;
+after106:;
+    v29 = 2u;
+    if ((v26 & 255u) > 2u) { goto after72; }
+    goto after76;
+after105:;
+    v29 = 2u;
+    if ((v26 & 255u) > 2u) { goto after72; }
+    v12 = v13 << 8;
+    v30 = 1u;
+    v26 = v26 + 1u;
     v13 = 0u;
-    v22 = 4u;
+    goto after75;
+after94:;
+    if (v13) { goto after122; }
+    switch (v12) {
+        case 1: goto after126;
+        case 2: goto after124;
+        case 3: goto after123;
+        default: goto after125;
+    }
+after126:;
+    v29 = 2u;
+    if ((v26 & 255u) > 2u) { goto after80; }
+    v30 = 1u;
+    v26 = v26 + 1u;
+    v13 = 0u;
+    v23 = 3u;
+    goto after81;
+after125:;
+    if (v30 != v27) { goto after127; }
+    v35 = v5 + v16;
+    if (v35 > v18) { goto after127; }
+    v11 = v4 + v16;
+    if ((v11 - v8) >= v5) { goto after129; }
+    v10 = v5 & 3ull;
+    v3 = 0ull;
+    if (v5 < 4ull) { goto after130; }
+    v21 = v5 & 252ull;
+    v3 = 0ull;
+again131:;
+    v6 = v11 + v3;
+    v5 = v8 + v3;
+    p1722 = held(m, v5, 4);
+    p1723 = held(m, v6, 4);
+    put_held8(p1723, 0, m, v6, held8(p1722, 0, m, v5));
+    put_held8(p1723, 1, m, v6, held8(p1722, 1, m, v5));
+    put_held8(p1723, 2, m, v6, held8(p1722, 2, m, v5));
+    put_held8(p1723, 3, m, v6, held8(p1722, 3, m, v5));
+    v3 = v3 + 4ull;
+    if (v21 != v3) { goto again131; }
+    if (v10 == 0) { goto after128; }
+after130:;
+    v6 = v8 + v3;
+    v8 = v4 + (v3 + v16);
+again132:;
+    store8(m, v8, 0, load8(m, v6, 0));
+    v8 = v8 + 1ull;
+    v6 = v6 + 1ull;
+    v10 = v10 + 0xFFFFFFFFFFFFFFFFull;
+    if (v10 != 0ull) { goto again132; }
+    goto after128;
+after129:;
+    if (v5 == 0) { goto after128; }
+    copy(m, v11, v8, v5);
+after128:;
+    v30 = 1u;
+    v27 = (u32)(v27 == 0);
+    v21 = 0ull;
+    v26 = 0u;
+    if ((v31 & 1u) == 0) { goto after133; }
+    v29 = 2u;
+    v23 = 3u;
+    v22 = 0u;
+    v14 = 0u;
+    v16 = v35;
+    v13 = 0u;
+    goto after81;
+after133:;
+    v20 = 1u;
+    v23 = 0u;
+    v22 = 0u;
+    v14 = 0u;
+    v16 = v35;
+    v13 = 1u;
+    v29 = 0u;
+    v30 = 0u;
+    goto after79;
+after127:;
+    v29 = 2u;
+    if ((v26 & 255u) > 2u) { goto after80; }
+    goto after83;
+after124:;
+    switch (v30) {
+        case 1: goto after135;
+        case 3: goto after134;
+        default: goto after123;
+    }
+after135:;
+    v13 = 0u;
+    v15 = load8(m, v8, 0);
+    v12 = (u32)(v5 == 0);
+    v31 = v12 ? 0u : v15;
+    v32 = v12 ? 0u : 0x10000u;
+    v34 = 1u;
+    v29 = 2u;
+    v23 = 3u;
+    v30 = 3u;
+    v12 = 0u;
+    goto after77;
 after134:;
-    v12 = ((v12 << 16) | v28) | v12;
-    v28 = v29;
-    goto after20;
-after89:;
-    if (v13) { goto after40; }
-    if (v12 != 3u) { goto after39; }
-    if (v28) { goto after39; }
+    v29 = 2u;
+    v23 = 3u;
+    if (v5) { goto after136; }
+    v13 = 0u;
+    v30 = 3u;
+    v34 = 3u;
+    v12 = 0u;
+    goto after78;
+after136:;
+    v31 = load8(m, v8, 0);
+    v32 = 0x10000u;
+    v13 = 0u;
+    v30 = 3u;
+    v34 = 3u;
+    v12 = 0u;
+    goto after77;
+after123:;
+    v29 = 2u;
+    if ((v26 & 255u) > 2u) { goto after80; }
+    goto after83;
+after122:;
+    v29 = 2u;
+    if ((v26 & 255u) > 2u) { goto after80; }
+    v12 = v13 << 8;
+    v30 = 1u;
+    v26 = v26 + 1u;
+    v13 = 0u;
+    goto after82;
+after93:;
+    if (v13) { goto after140; }
+    if (v12 != 3u) { goto after140; }
+    if (v30 != 1u) { goto after140; }
+    if (load8(m, v8, 0) != v22) { goto after140; }
+    v26 = 0u;
+    v13 = 2u;
+    v21 = 0ull;
+    v25 = v22;
+    v23 = 0u;
+    v22 = 0u;
+    v14 = 0u;
+    v30 = 0u;
+    goto after139;
+after140:;
+    v30 = 2u;
+    if ((v26 & 255u) <= 2u) { goto after138; }
+    v14 = 0u;
+    v21 = 0ull;
+    v22 = 1u;
+    v23 = 5u;
+    v13 = 0u;
+after139:;
+    v12 = 0u;
+    v29 = 0u;
+    goto after137;
+after138:;
+    v29 = v22 << 24;
+    v12 = 1u;
+    v26 = v26 + 1u;
+    v13 = 0u;
+    v23 = 4u;
+after137:;
+    v12 = ((v12 << 16) | v29) | v12;
+    v29 = v30;
+    goto after68;
+after92:;
+    if (v13) { goto after88; }
+    if (v12 != 3u) { goto after87; }
+    if (v30) { goto after87; }
     v13 = 3u;
-    v20 = 0ull;
-    v24 = 32u;
+    v21 = 0ull;
+    v25 = 32u;
+    v28 = 0u;
     v27 = 0u;
     v26 = 0u;
-    v25 = 0u;
-    v15 = v23;
+    v31 = v24;
+    v23 = 0u;
     v22 = 0u;
-    v21 = 0u;
-    goto after37;
-after43:;
+    goto after85;
+after91:;
     v29 = 0u;
-after42:;
-    v8 = 0ull;
+after90:;
+    v6 = 0ull;
     v13 = 0u;
-    v28 = 1u;
+    v31 = v15;
+    v15 = v14;
     v30 = 0u;
+    if (1u == 0) { goto after4; }
     goto after3;
-after41:;
-    v22 = 1u;
-    v25 = v25 + 1u;
-    v29 = 0u;
+after89:;
+    v23 = 1u;
+    v26 = v26 + 1u;
+    v30 = 0u;
+    v31 = v15;
     v12 = 0u;
-    v28 = 0u;
-    goto after15;
-after40:;
-    if (v21 >= 3u) { goto after38; }
-    goto after36;
-after39:;
-    if (v21 < 3u) { goto after36; }
-after38:;
+    v29 = 0u;
+    goto after63;
+after88:;
+    if (v22 >= 3u) { goto after86; }
+    goto after84;
+after87:;
+    if (v22 < 3u) { goto after84; }
+after86:;
     v13 = 4u;
-    v20 = 0ull;
-    v21 = 0u;
-    v22 = 6u;
-after37:;
-    v14 = 0u;
-    v28 = 0u;
+    v21 = 0ull;
+    v22 = 0u;
+    v23 = 6u;
+    v31 = v15;
+after85:;
+    v15 = 0u;
     v29 = 0u;
-    v8 = 0ull;
+    v6 = 0ull;
     v30 = 0u;
+    if (0u == 0) { goto after4; }
     goto after3;
-after36:;
+after84:;
     v14 = 0u;
-    p2076 = held(m, v7, 3);
-    put_held8(p2076, 2, m, v7, 0u);
-    put_held16(p2076, 0, m, v7, 49152u);
-    put32(f35 + 82, 0u);
-    put16(f35 + 80, 514u);
-    v2 = v7 + 3ull;
+    p2147 = held(m, v7, 3);
+    put_held8(p2147, 2, m, v7, 0u);
+    put_held16(p2147, 0, m, v7, 49152u);
+    put32(f36 + 98, 0u);
+    put16(f36 + 96, 514u);
+    v11 = v7 + 3ull;
     v30 = 1u;
-    v21 = v21 + 1u;
-    v11 = 0x10000ull;
+    v22 = v22 + 1u;
+    v10 = 0x10000ull;
     v13 = 192u;
-    v22 = 5u;
-    v20 = 0ull;
-    v28 = 0u;
+    v23 = 5u;
+    v21 = 0ull;
+    v31 = v15;
+    v29 = 0u;
     v4 = 0ull;
-    goto after7;
-after35:;
-    v29 = 1u;
-    v25 = v25 + 1u;
+    goto after6;
+after83:;
+    v30 = 1u;
+    v26 = v26 + 1u;
     v13 = 0u;
     v12 = 512u;
-after34:;
-    v22 = 3u;
-    v31 = v26;
-    goto after30;
-after33:;
-    v31 = v26;
+after82:;
+    v23 = 3u;
+    v34 = v27;
+    goto after78;
+after81:;
+    v34 = v27;
     v12 = 0u;
-    goto after30;
-after32:;
+    goto after78;
+after80:;
     v14 = 0u;
-    v20 = 0ull;
-    v21 = 1u;
-    v22 = 5u;
+    v21 = 0ull;
+    v22 = 1u;
+    v23 = 5u;
     v13 = 0u;
-    v29 = 2u;
-after31:;
-    v31 = 0u;
+    v30 = 2u;
+after79:;
+    v34 = 0u;
     v12 = 0u;
-after30:;
+after78:;
     v32 = 0u;
-    v30 = 0u;
-after29:;
-    v12 = ((v12 | v31) | v32) | (v30 << 24);
-    goto after20;
-after28:;
-    v29 = 1u;
-    v25 = v25 + 1u;
+    v31 = 0u;
+after77:;
+    v12 = ((v12 | v34) | v32) | (v31 << 24);
+    goto after68;
+after76:;
+    v30 = 1u;
+    v26 = v26 + 1u;
     v13 = 0u;
     v12 = 512u;
-after27:;
-    v22 = 2u;
-    v28 = 2u;
-    v31 = v26;
-    goto after22;
-after26:;
-    v31 = v26;
-    v12 = 0u;
-    goto after22;
-after25:;
-    v29 = 0u;
-    goto after23;
-after24:;
-    v14 = 0u;
-    v20 = 0ull;
-    v21 = 1u;
-    v22 = 5u;
-    v13 = 0u;
+after75:;
+    v23 = 2u;
     v29 = 2u;
-after23:;
-    v31 = 0u;
+    v34 = v27;
+    goto after70;
+after74:;
+    v34 = v27;
     v12 = 0u;
-after22:;
+    goto after70;
+after73:;
+    v30 = 0u;
+    goto after71;
+after72:;
+    v14 = 0u;
+    v21 = 0ull;
+    v22 = 1u;
+    v23 = 5u;
+    v13 = 0u;
+    v30 = 2u;
+after71:;
+    v34 = 0u;
+    v12 = 0u;
+after70:;
     v32 = 0u;
-    v30 = 0u;
-after21:;
-    v12 = ((v12 | v31) | v32) | (v30 << 24);
-after20:;
-    if (v13 == 0) { goto after15; }
-    v8 = 0ull;
-    v28 = 0u;
+    v31 = 0u;
+after69:;
+    v12 = ((v12 | v34) | v32) | (v31 << 24);
+after68:;
+    if (v13) { goto after141; }
+    v31 = v15;
+    goto after63;
+after141:;
+    v6 = 0ull;
     v29 = 0u;
+    v31 = v15;
+    v15 = v14;
     v30 = 0u;
+    if (0u == 0) { goto after4; }
     goto after3;
-after19:;
+after67:;
     v14 = 0u;
-    v20 = 0ull;
-    v21 = 1u;
-    v22 = 5u;
-    v29 = 2u;
-after18:;
+    v21 = 0ull;
+    v22 = 1u;
+    v23 = 5u;
+    v31 = v15;
+    v30 = 2u;
+after66:;
+    v15 = 0u;
+    v13 = 0u;
+after65:;
     v32 = 0u;
-    v30 = 0u;
-after17:;
     v12 = 0u;
-    v13 = 0u;
-after16:;
-    v12 = ((v30 | v32) | v12) | (v13 << 24);
-after15:;
-    put8(f35 + 81, v29);
-    put32(f35 + 82, v12);
-    put8(f35 + 80, v28);
-    switch (v28) {
-        case 1: goto after139;
-        case 2: goto after138;
-        default: goto after140;
-    }
-after140:;
-    v13 = 32u;
-    if ((v22 + 0xFFFFFFFFu) > 1u) { goto after11; }
-    v6 = ((u64)v14) & 255ull;
-    v8 = v3 - v20;
-    v4 = (v6 < v8) ? v6 : v8;
-    if (v4 == 255ull) { goto after13; }
-    goto after12;
-after139:;
-    v13 = 0u;
-    if ((v22 + 0xFFFFFFFFu) > 1u) { goto after11; }
-    v6 = ((u64)v14) & 255ull;
-    v8 = v3 - v20;
-    v4 = (v6 < v8) ? v6 : v8;
-    if (v4 != 255ull) { goto after12; }
-    goto after13;
-after138:;
-    v28 = v12 >> 24;
-    v30 = v12 >> 8;
-    v13 = v12 & 0xFF0000u;
-    v11 = v35 + 85ull;
+after64:;
+    v12 = ((v13 | v15) | v32) | (v12 << 24);
+after63:;
+    put8(f36 + 97, v30);
+    put32(f36 + 98, v12);
+    put8(f36 + 96, v29);
     switch (v29) {
-        case 1: goto after146;
-        case 2: goto after148;
-        case 3: goto after147;
-        default: goto after142;
+        case 1: goto after143;
+        case 2: goto after142;
+        default: goto after144;
     }
-after148:;
+after144:;
+    v13 = 32u;
+    if ((v23 + 0xFFFFFFFFu) > 1u) { goto after10; }
+    v6 = ((u64)v14) & 255ull;
+    v8 = v17 - v21;
+    v4 = (v6 < v8) ? v6 : v8;
+    if (v4 == 255ull) { goto after12; }
+    goto after11;
+after143:;
+    v13 = 0u;
+    if ((v23 + 0xFFFFFFFFu) > 1u) { goto after10; }
+    v6 = ((u64)v14) & 255ull;
+    v8 = v17 - v21;
+    v4 = (v6 < v8) ? v6 : v8;
+    if (v4 != 255ull) { goto after11; }
+    goto after12;
+after142:;
+    v29 = v12 >> 24;
+    v15 = v12 >> 8;
+    v13 = v12 & 0xFF0000u;
+    v10 = v36 + 101ull;
+    switch (v30) {
+        case 1: goto after150;
+        case 2: goto after152;
+        case 3: goto after151;
+        default: goto after146;
+    }
+after152:;
     switch ((u32)(((u64)v12) & 255ull)) {
-        case 1: goto after149;
-        case 3: goto after150;
-        default: goto after151;
+        case 1: goto after153;
+        case 3: goto after154;
+        default: goto after155;
     }
-after151:;
-    if (v13 == 0x10000u) { goto after13; }
-    v11 = 0x10000ull;
+after155:;
+    if (v13 == 0x10000u) { goto after12; }
+    v10 = 0x10000ull;
     v4 = 0ull;
-    goto after141;
-after150:;
-    if (v13 != 0x10000u) { goto after13; }
+    goto after145;
+after154:;
+    if (v13 != 0x10000u) { goto after12; }
     v13 = 195u;
     v30 = 1u;
     v4 = 1ull;
-    goto after8;
-after149:;
-    if (v13 != 0x10000u) { goto after13; }
-    if (((v28 + 0xFFFFFFFFu) & 255u) >= 254u) { goto after13; }
-    v4 = 1ull;
-    goto after141;
-after147:;
-    switch ((u32)(((u64)v12) & 255ull)) {
-        case 1: goto after152;
-        case 3: goto after145;
-        default: goto after144;
-    }
-after152:;
-    if (v13 != 0x10000u) { goto after13; }
-    if (((v28 + 0xFFFFFFFFu) & 255u) >= 254u) { goto after13; }
-    goto after143;
-after146:;
-    if (v13 == 0x10000u) { goto after13; }
-    v28 = 0u;
-    p2450 = held(m, v7, 3);
-    put_held8(p2450, 2, m, v7, 0u);
-    put_held8(p2450, 0, m, v7, 0u);
-    v13 = ((v12 & 255u) ? 0xFFFFFF90u : 0xFFFFFF80u) + v30;
-    put_held8(p2450, 1, m, v7, v13);
-    v2 = v7 + 3ull;
-    v4 = 0ull;
-    v11 = 0x10000ull;
-    v30 = 1u;
     goto after7;
-after145:;
-    if (v13 != 0x10000u) { goto after13; }
-    v30 = (v28 > 1u) ? v28 : 1u;
+after153:;
+    if (v13 != 0x10000u) { goto after12; }
+    if (((v29 + 0xFFFFFFFFu) & 255u) >= 254u) { goto after12; }
+    v4 = 1ull;
+    goto after145;
+after151:;
+    switch ((u32)(((u64)v12) & 255ull)) {
+        case 1: goto after156;
+        case 3: goto after149;
+        default: goto after148;
+    }
+after156:;
+    if (v13 != 0x10000u) { goto after12; }
+    if (((v29 + 0xFFFFFFFFu) & 255u) >= 254u) { goto after12; }
+    goto after147;
+after150:;
+    if (v13 == 0x10000u) { goto after12; }
+    v29 = 0u;
+    p2534 = held(m, v7, 3);
+    put_held8(p2534, 2, m, v7, 0u);
+    put_held8(p2534, 0, m, v7, 0u);
+    v13 = ((v12 & 255u) ? 0xFFFFFF90u : 0xFFFFFF80u) + v15;
+    put_held8(p2534, 1, m, v7, v13);
+    v11 = v7 + 3ull;
+    v4 = 0ull;
+    v10 = 0x10000ull;
+    v30 = 1u;
+    goto after6;
+after149:;
+    if (v13 != 0x10000u) { goto after12; }
+    v30 = (v29 > 1u) ? v29 : 1u;
     v13 = 227u;
     v4 = 1ull;
-    goto after8;
-after144:;
-    if (v13 == 0x10000u) { goto after13; }
-after143:;
-    v28 = (u32)(v13 == 0x10000u);
-    v11 = v28 ? v11 : 0x10000ull;
+    goto after7;
+after148:;
+    if (v13 == 0x10000u) { goto after12; }
+after147:;
+    v15 = (u32)(v13 == 0x10000u);
+    v10 = v15 ? v10 : 0x10000ull;
     v13 = v12 | 0xFFFFFFE0u;
-    v4 = (u64)v28;
+    v4 = (u64)v15;
+    goto after8;
+after146:;
+    v29 = (u32)(v13 == 0x10000u);
+    v10 = v29 ? v10 : 0x10000ull;
+    v13 = (v15 << 5) & 32u;
+    v4 = (u64)v29;
     goto after9;
-after142:;
-    v28 = (u32)(v13 == 0x10000u);
-    v11 = v28 ? v11 : 0x10000ull;
-    v13 = (v30 << 5) & 32u;
-    v4 = (u64)v28;
-    goto after10;
-after141:;
+after145:;
     v13 = v12 | 0xFFFFFFC0u;
-    goto after9;
-after13:;
-    UNREACHABLE;
+    goto after8;
 after12:;
-    v11 = v2 + v20;
-    v12 = v27;
-    goto after10;
+    UNREACHABLE;
 after11:;
-    v4 = 0ull;
-    v11 = 0x10000ull;
-    v12 = v27;
+    v10 = v2 + v21;
+    v12 = v28;
+    goto after9;
 after10:;
-    v13 = ((v12 & 255u) ? 64u : 0u) | v13;
+    v4 = 0ull;
+    v10 = 0x10000ull;
+    v12 = v28;
 after9:;
-    v30 = 1u;
+    v13 = ((v12 & 255u) ? 64u : 0u) | v13;
 after8:;
-    p2573 = held(m, v7, 3);
-    put_held8(p2573, 1, m, v7, v13);
-    put_held8(p2573, 0, m, v7, 0u);
-    v28 = (u32)v4;
-    put_held8(p2573, 2, m, v7, v28);
-    v2 = v7 + 3ull;
-    if ((v2 - v11) >= v4) { goto after7; }
-    v10 = v4 & 3ull;
-    v6 = 0ull;
-    if (v4 < 4ull) { goto after153; }
-    v33 = v4 & 0xFFFFFFFFFFFFFFFCull;
-    v6 = 0ull;
-again154:;
-    v8 = v7 + v6;
-    v5 = v11 + v6;
-    p2619 = held(m, v5, 4);
-    p2620 = held(m, v8 + 3ull, 4);
-    put_held8(p2620, 0, m, v8 + 3ull, held8(p2619, 0, m, v5));
-    put_held8(p2620, 1, m, v8 + 3ull, held8(p2619, 1, m, v5));
-    put_held8(p2620, 2, m, v8 + 3ull, held8(p2619, 2, m, v5));
-    put_held8(p2620, 3, m, v8 + 3ull, held8(p2619, 3, m, v5));
-    v6 = v6 + 4ull;
-    if (v33 != v6) { goto again154; }
-    if (v10 == 0) { goto after6; }
-after153:;
-again155:;
-    store8(m, v2 + v6, 0, load8(m, v11 + v6, 0));
-    v6 = v6 + 1ull;
-    v10 = v10 + 0xFFFFFFFFFFFFFFFFull;
-    if (v10 != 0ull) { goto again155; }
-    goto after6;
+    v30 = 1u;
 after7:;
-    if (v4 == 0) { goto after6; }
-    copy(m, v2, v11, v4);
-after6:;
-    t2 = block_core_block_ref_sum_of(m, v11, v4);
-    store8(m, (v7 + v4) + 3ull, 0, (v13 ^ v28) ^ t2);
-    v8 = v4 + 4ull;
-    v28 = 0u;
-after5:;
-    v29 = 0u;
-after4:;
-    v13 = 0u;
-after3:;
+    p2657 = held(m, v7, 3);
+    put_held8(p2657, 1, m, v7, v13);
+    put_held8(p2657, 0, m, v7, 0u);
+    v29 = (u32)v4;
+    put_held8(p2657, 2, m, v7, v29);
+    v11 = v7 + 3ull;
+    if ((v11 - v10) >= v4) { goto after6; }
+    v3 = v4 & 3ull;
     v6 = 0ull;
-    v12 = 1u << (v22 & 31);
-    if ((v12 & 73u) == 0) { goto after156; }
-    v21 = 0u;
+    if (v4 < 4ull) { goto after157; }
+    v2 = v4 & 0xFFFFFFFFFFFFFFFCull;
+    v6 = 0ull;
+again158:;
+    v8 = v7 + v6;
+    v5 = v10 + v6;
+    p2703 = held(m, v5, 4);
+    p2704 = held(m, v8 + 3ull, 4);
+    put_held8(p2704, 0, m, v8 + 3ull, held8(p2703, 0, m, v5));
+    put_held8(p2704, 1, m, v8 + 3ull, held8(p2703, 1, m, v5));
+    put_held8(p2704, 2, m, v8 + 3ull, held8(p2703, 2, m, v5));
+    put_held8(p2704, 3, m, v8 + 3ull, held8(p2703, 3, m, v5));
+    v6 = v6 + 4ull;
+    if (v2 != v6) { goto again158; }
+    if (v3 == 0) { goto after5; }
+after157:;
+again159:;
+    store8(m, v11 + v6, 0, load8(m, v10 + v6, 0));
+    v6 = v6 + 1ull;
+    v3 = v3 + 0xFFFFFFFFFFFFFFFFull;
+    if (v3 != 0ull) { goto again159; }
+    goto after5;
+after6:;
+    if (v4 == 0) { goto after5; }
+    copy(m, v11, v10, v4);
+after5:;
+    v15 = v14;
+    t2 = block_core_block_ref_sum_of(m, v10, v4);
+    store8(m, (v7 + v4) + 3ull, 0, (v13 ^ v29) ^ t2);
+    v6 = v4 + 4ull;
+    v29 = 0u;
+    v13 = 0u;
+after4:;
+    v12 = 1u << (v23 & 31);
+    if ((v12 & 73u) == 0) { goto after162; }
+    v15 = 0u;
+    goto after161;
+after162:;
+    if (v12 & 6u) { goto after160; }
+    v15 = v22;
+after161:;
+    v21 = 0ull;
+after160:;
+    p2825 = held(m, v1, 56);
+    put_held32(p2825, 9, m, v1, 0u);
+    put_held8(p2825, 8, m, v1, v20);
+    put_held8(p2825, 7, m, v1, v15);
+    put_held8(p2825, 6, m, v1, v23);
+    put_held8(p2825, 5, m, v1, v24);
+    put_held8(p2825, 4, m, v1, v25);
+    put_held8(p2825, 3, m, v1, v31);
+    put_held8(p2825, 2, m, v1, v26);
+    put_held8(p2825, 1, m, v1, v27);
+    put_held8(p2825, 0, m, v1, v28);
+    put_held32(p2825, 12, m, v1, 0u);
+    put_held64(p2825, 48, m, v1, v16);
+    put_held64(p2825, 40, m, v1, v17);
+    put_held64(p2825, 32, m, v1, v18);
+    put_held64(p2825, 24, m, v1, v19);
+    put_held64(p2825, 16, m, v1, v21);
+    put32(f36 + 8, 0u);
+    put16(f36 + 12, 0u);
+    v6 = v13 ? 0ull : v6;
+    v12 = v13 ? 0u : v30;
     goto after2;
-after156:;
-    if ((v12 & 6u) == 0) { goto after2; }
-    v21 = v14;
-    v6 = v20;
+after3:;
+    v12 = 0u;
+    put16(f36 + 12, 0u);
+    put32(f36 + 8, 0u);
+    v13 = v29 | 16u;
+    v6 = 0ull;
 after2:;
-    p2741 = held(m, v1, 56);
-    put_held32(p2741, 9, m, v1, 0u);
-    put_held8(p2741, 8, m, v1, v19);
-    put_held8(p2741, 7, m, v1, v21);
-    put_held8(p2741, 6, m, v1, v22);
-    put_held8(p2741, 5, m, v1, v23);
-    put_held8(p2741, 4, m, v1, v24);
-    put_held8(p2741, 3, m, v1, v15);
-    put_held8(p2741, 2, m, v1, v25);
-    put_held8(p2741, 1, m, v1, v26);
-    put_held8(p2741, 0, m, v1, v27);
-    put_held32(p2741, 12, m, v1, 0u);
-    put_held64(p2741, 48, m, v1, v16);
-    put_held64(p2741, 40, m, v1, v3);
-    put_held64(p2741, 32, m, v1, v17);
-    put_held64(p2741, 24, m, v1, v18);
-    put_held64(p2741, 16, m, v1, v6);
-    p2789 = held(m, v0, 16);
-    put_held32(p2789, 2, m, v0, 0u);
-    put_held16(p2789, 6, m, v0, 0u);
-    v22 = v28 | v13;
-    put_held8(p2789, 1, m, v0, v22 ? 0u : v30);
-    put_held8(p2789, 0, m, v0, v28 ? (v29 | 16u) : v13);
-    put_held64(p2789, 8, m, v0, v22 ? 0ull : v8);
+    p2906 = held(m, v0, 16);
+    put_held8(p2906, 1, m, v0, v12);
+    put_held8(p2906, 0, m, v0, v13);
+    put_held32(p2906, 2, m, v0, get32(f36 + 8));
+    put_held16(p2906, 6, m, v0, get16(f36 + 12));
+    put_held64(p2906, 8, m, v0, v6);
 after1:;
-    m->g0 = v35 + 112ull;
+    m->g0 = v36 + 128ull;
 }
 
 static void tlv_core_part_walk_next_part(struct call *m, u64 v0, u64 v1, u64 v2, u64 v3)
@@ -20759,6 +20864,7 @@ void scard_status_text(uint8_t status, struct scard_text *out)
     struct shaped *shaped = NULL;
     u8 image[16];
     begin(&m, stack, sizeof stack, shaped);
+    lend(&m, 0, constants, sizeof constants);
     lend(&m, 2, image, sizeof image);
     module_scard_status_text(&m, (u32)status, ADDRESS(2));
     out->text = (const char *)constant_at(get64(image));
@@ -20772,6 +20878,7 @@ void scard_turn_text(uint8_t kind, struct scard_text *out)
     struct shaped *shaped = NULL;
     u8 image[16];
     begin(&m, stack, sizeof stack, shaped);
+    lend(&m, 0, constants, sizeof constants);
     lend(&m, 2, image, sizeof image);
     module_scard_turn_text(&m, (u32)kind, ADDRESS(2));
     out->text = (const char *)constant_at(get64(image));
@@ -20785,6 +20892,7 @@ void scard_reason_text(uint8_t codec, uint8_t reason, struct scard_text *out)
     struct shaped *shaped = NULL;
     u8 image[16];
     begin(&m, stack, sizeof stack, shaped);
+    lend(&m, 0, constants, sizeof constants);
     lend(&m, 2, image, sizeof image);
     module_scard_reason_text(&m, (u32)codec, (u32)reason, ADDRESS(2));
     out->text = (const char *)constant_at(get64(image));
@@ -20798,6 +20906,7 @@ void scard_note_of(uint8_t about, uint8_t first, uint8_t second, struct scard_no
     struct shaped *shaped = NULL;
     u8 image[40];
     begin(&m, stack, sizeof stack, shaped);
+    lend(&m, 0, constants, sizeof constants);
     lend(&m, 2, image, sizeof image);
     module_scard_note_of(&m, (u32)about, (u32)first, (u32)second, ADDRESS(2));
     out->before = (const char *)constant_at(get64(image));
@@ -20835,6 +20944,7 @@ struct scard_verdict scard_hex_encode(const uint8_t *octets, size_t count, char 
     struct shaped *shaped = NULL;
     struct scard_verdict result;
     begin(&m, stack, sizeof stack, shaped);
+    lend(&m, 0, first_constants, sizeof first_constants);
     lend(&m, 2, octets, count);
     lend(&m, 3, text, room);
     m.g0 -= 16;
@@ -20950,6 +21060,7 @@ uint64_t scard_t1_bwt(const struct scard_t1 *params, uint16_t fi, uint16_t di)
     u8 stack[16];
     struct shaped *shaped = NULL;
     begin(&m, stack, sizeof stack, shaped);
+    lend(&m, 0, first_constants, sizeof first_constants);
     lend(&m, 2, params, sizeof *params);
     return (uint64_t)module_scard_t1_bwt(&m, ADDRESS(2), (u32)fi, (u32)di);
 }
@@ -20997,6 +21108,7 @@ struct scard_verdict scard_block_r(uint8_t nad, uint8_t nr, uint8_t fault, uint8
     struct shaped *shaped = NULL;
     struct scard_verdict result;
     begin(&m, stack, sizeof stack, shaped);
+    lend(&m, 0, first_constants, sizeof first_constants);
     lend(&m, 2, out, room);
     m.g0 -= 16;
     module_scard_block_r(&m, m.g0, (u32)nad, (u32)nr, (u32)fault, ADDRESS(2), (u64)room);
@@ -21120,6 +21232,7 @@ struct scard_verdict scard_response_decode(const uint8_t *octets, size_t count, 
     SHAPED_HERE
     struct scard_verdict result;
     begin(&m, stack, sizeof stack, shaped);
+    lend(&m, 0, first_constants, sizeof first_constants);
     lend(&m, 2, octets, count);
     LEND(&m, 3, out, 1, shape_of_response(0));
     m.g0 -= 16;
@@ -21138,6 +21251,7 @@ struct scard_verdict scard_command_encode(const struct scard_command *command, c
     SHAPED_HERE
     struct scard_verdict result;
     begin(&m, stack, sizeof stack, shaped);
+    lend(&m, 0, first_constants, sizeof first_constants);
     LEND(&m, 2, command, 1, shape_of_command(0));
     lend(&m, 3, data, count);
     lend(&m, 4, out, room);
@@ -21157,6 +21271,7 @@ struct scard_verdict scard_response_encode(const uint8_t *data, size_t count, ui
     struct shaped *shaped = NULL;
     struct scard_verdict result;
     begin(&m, stack, sizeof stack, shaped);
+    lend(&m, 0, first_constants, sizeof first_constants);
     lend(&m, 2, data, count);
     lend(&m, 3, out, room);
     m.g0 -= 16;
@@ -21183,6 +21298,7 @@ struct scard_verdict scard_tlv_check(const uint8_t *octets, size_t count, size_t
     struct shaped *shaped = NULL;
     struct scard_verdict result;
     begin(&m, stack, sizeof stack, shaped);
+    lend(&m, 0, first_constants, sizeof first_constants);
     lend(&m, 2, octets, count);
     m.g0 -= 16;
     module_scard_tlv_check(&m, m.g0, ADDRESS(2), (u64)count, (u64)max);
@@ -21199,6 +21315,7 @@ struct scard_verdict scard_tlv_tidy(const uint8_t *octets, size_t count, size_t 
     struct shaped *shaped = NULL;
     struct scard_verdict result;
     begin(&m, stack, sizeof stack, shaped);
+    lend(&m, 0, first_constants, sizeof first_constants);
     lend(&m, 2, octets, count);
     lend(&m, 3, out, room);
     m.g0 -= 16;
@@ -21217,6 +21334,7 @@ struct scard_verdict scard_tlv_parts(const uint8_t *octets, size_t count, size_t
     SHAPED_HERE
     struct scard_verdict result;
     begin(&m, stack, sizeof stack, shaped);
+    lend(&m, 0, first_constants, sizeof first_constants);
     lend(&m, 2, octets, count);
     LEND(&m, 3, parts, room, shape_of_part(0));
     m.g0 -= 16;
@@ -21298,6 +21416,7 @@ struct scard_verdict scard_lent_terminal_begin(struct scard_lent_terminal *state
     SHAPED_HERE
     struct scard_verdict result;
     begin(&m, stack, sizeof stack, shaped);
+    lend(&m, 0, first_constants, sizeof first_constants);
     LEND(&m, 2, state, 1, shape_of_lent_terminal(0));
     lend(&m, 3, command, command_room);
     lend(&m, 4, answer, answer_room);
@@ -21318,6 +21437,7 @@ struct scard_verdict scard_lent_card_begin(struct scard_lent_card *state, uint8_
     SHAPED_HERE
     struct scard_verdict result;
     begin(&m, stack, sizeof stack, shaped);
+    lend(&m, 0, first_constants, sizeof first_constants);
     LEND(&m, 2, state, 1, shape_of_lent_card(0));
     lend(&m, 3, command, command_room);
     lend(&m, 4, reply, reply_room);
@@ -21334,10 +21454,11 @@ struct scard_turn scard_lent_terminal_transmit(struct scard_lent_terminal *state
     command_room, uint8_t *answer, size_t answer_room, const uint8_t *octets, size_t count, uint8_t *out, size_t room)
 {
     struct call m;
-    u8 stack[208];
+    u8 stack[224];
     SHAPED_HERE
     struct scard_turn result;
     begin(&m, stack, sizeof stack, shaped);
+    lend(&m, 0, first_constants, sizeof first_constants);
     LEND(&m, 2, state, 1, shape_of_lent_terminal(0));
     lend(&m, 3, command, command_room);
     lend(&m, 4, answer, answer_room);
@@ -21346,9 +21467,9 @@ struct scard_turn scard_lent_terminal_transmit(struct scard_lent_terminal *state
     m.g0 -= 16;
     module_scard_lent_terminal_transmit(&m, m.g0, ADDRESS(2), ADDRESS(3), (u64)command_room, ADDRESS(4),
         (u64)answer_room, ADDRESS(5), (u64)count, ADDRESS(6), (u64)room);
-    result.kind = (uint8_t)get8(stack + 192);
-    result.wait = (uint8_t)get8(stack + 192 + 1);
-    result.count = (scard_size)get64(stack + 192 + 8);
+    result.kind = (uint8_t)get8(stack + 208);
+    result.wait = (uint8_t)get8(stack + 208 + 1);
+    result.count = (scard_size)get64(stack + 208 + 8);
     return result;
 }
 
@@ -21356,10 +21477,11 @@ struct scard_turn scard_lent_terminal_received(struct scard_lent_terminal *state
     command_room, uint8_t *answer, size_t answer_room, const uint8_t *octets, size_t count, uint8_t *out, size_t room)
 {
     struct call m;
-    u8 stack[208];
+    u8 stack[224];
     SHAPED_HERE
     struct scard_turn result;
     begin(&m, stack, sizeof stack, shaped);
+    lend(&m, 0, first_constants, sizeof first_constants);
     LEND(&m, 2, state, 1, shape_of_lent_terminal(0));
     lend(&m, 3, command, command_room);
     lend(&m, 4, answer, answer_room);
@@ -21368,9 +21490,9 @@ struct scard_turn scard_lent_terminal_received(struct scard_lent_terminal *state
     m.g0 -= 16;
     module_scard_lent_terminal_received(&m, m.g0, ADDRESS(2), ADDRESS(3), (u64)command_room, ADDRESS(4),
         (u64)answer_room, ADDRESS(5), (u64)count, ADDRESS(6), (u64)room);
-    result.kind = (uint8_t)get8(stack + 192);
-    result.wait = (uint8_t)get8(stack + 192 + 1);
-    result.count = (scard_size)get64(stack + 192 + 8);
+    result.kind = (uint8_t)get8(stack + 208);
+    result.wait = (uint8_t)get8(stack + 208 + 1);
+    result.count = (scard_size)get64(stack + 208 + 8);
     return result;
 }
 
@@ -21378,10 +21500,11 @@ struct scard_turn scard_lent_terminal_quiet(struct scard_lent_terminal *state, u
     uint8_t *answer, size_t answer_room, uint8_t *out, size_t room)
 {
     struct call m;
-    u8 stack[208];
+    u8 stack[224];
     SHAPED_HERE
     struct scard_turn result;
     begin(&m, stack, sizeof stack, shaped);
+    lend(&m, 0, first_constants, sizeof first_constants);
     LEND(&m, 2, state, 1, shape_of_lent_terminal(0));
     lend(&m, 3, command, command_room);
     lend(&m, 4, answer, answer_room);
@@ -21389,9 +21512,9 @@ struct scard_turn scard_lent_terminal_quiet(struct scard_lent_terminal *state, u
     m.g0 -= 16;
     module_scard_lent_terminal_quiet(&m, m.g0, ADDRESS(2), ADDRESS(3), (u64)command_room, ADDRESS(4),
         (u64)answer_room, ADDRESS(5), (u64)room);
-    result.kind = (uint8_t)get8(stack + 192);
-    result.wait = (uint8_t)get8(stack + 192 + 1);
-    result.count = (scard_size)get64(stack + 192 + 8);
+    result.kind = (uint8_t)get8(stack + 208);
+    result.wait = (uint8_t)get8(stack + 208 + 1);
+    result.count = (scard_size)get64(stack + 208 + 8);
     return result;
 }
 
@@ -21399,10 +21522,11 @@ struct scard_turn scard_lent_terminal_ask_ifs(struct scard_lent_terminal *state,
     command_room, uint8_t *answer, size_t answer_room, uint8_t size, uint8_t *out, size_t room)
 {
     struct call m;
-    u8 stack[208];
+    u8 stack[224];
     SHAPED_HERE
     struct scard_turn result;
     begin(&m, stack, sizeof stack, shaped);
+    lend(&m, 0, first_constants, sizeof first_constants);
     LEND(&m, 2, state, 1, shape_of_lent_terminal(0));
     lend(&m, 3, command, command_room);
     lend(&m, 4, answer, answer_room);
@@ -21410,9 +21534,9 @@ struct scard_turn scard_lent_terminal_ask_ifs(struct scard_lent_terminal *state,
     m.g0 -= 16;
     module_scard_lent_terminal_ask_ifs(&m, m.g0, ADDRESS(2), ADDRESS(3), (u64)command_room, ADDRESS(4),
         (u64)answer_room, (u32)size, ADDRESS(5), (u64)room);
-    result.kind = (uint8_t)get8(stack + 192);
-    result.wait = (uint8_t)get8(stack + 192 + 1);
-    result.count = (scard_size)get64(stack + 192 + 8);
+    result.kind = (uint8_t)get8(stack + 208);
+    result.wait = (uint8_t)get8(stack + 208 + 1);
+    result.count = (scard_size)get64(stack + 208 + 8);
     return result;
 }
 
@@ -21424,6 +21548,7 @@ struct scard_turn scard_lent_card_received(struct scard_lent_card *state, uint8_
     SHAPED_HERE
     struct scard_turn result;
     begin(&m, stack, sizeof stack, shaped);
+    lend(&m, 0, first_constants, sizeof first_constants);
     LEND(&m, 2, state, 1, shape_of_lent_card(0));
     lend(&m, 3, command, command_room);
     lend(&m, 4, reply, reply_room);
@@ -21446,6 +21571,7 @@ struct scard_turn scard_lent_card_reply(struct scard_lent_card *state, uint8_t *
     SHAPED_HERE
     struct scard_turn result;
     begin(&m, stack, sizeof stack, shaped);
+    lend(&m, 0, first_constants, sizeof first_constants);
     LEND(&m, 2, state, 1, shape_of_lent_card(0));
     lend(&m, 3, command, command_room);
     lend(&m, 4, reply, reply_room);
@@ -21468,6 +21594,7 @@ struct scard_turn scard_lent_card_more_time(struct scard_lent_card *state, uint8
     SHAPED_HERE
     struct scard_turn result;
     begin(&m, stack, sizeof stack, shaped);
+    lend(&m, 0, first_constants, sizeof first_constants);
     LEND(&m, 2, state, 1, shape_of_lent_card(0));
     lend(&m, 3, command, command_room);
     lend(&m, 4, reply, reply_room);
@@ -21489,6 +21616,7 @@ struct scard_turn scard_lent_card_ask_ifs(struct scard_lent_card *state, uint8_t
     SHAPED_HERE
     struct scard_turn result;
     begin(&m, stack, sizeof stack, shaped);
+    lend(&m, 0, first_constants, sizeof first_constants);
     LEND(&m, 2, state, 1, shape_of_lent_card(0));
     lend(&m, 3, command, command_room);
     lend(&m, 4, reply, reply_room);
@@ -21564,6 +21692,7 @@ struct scard_verdict scard_lent_check_feed(struct scard_lent_check *state, const
     SHAPED_HERE
     struct scard_verdict result;
     begin(&m, stack, sizeof stack, shaped);
+    lend(&m, 0, first_constants, sizeof first_constants);
     LEND(&m, 2, state, 1, shape_of_lent_check(0));
     lend(&m, 3, octets, count);
     m.g0 -= 16;
@@ -21908,6 +22037,7 @@ void scard_judge_rule_text(uint8_t rule, struct scard_text *out)
     struct shaped *shaped = NULL;
     u8 image[16];
     begin(&m, stack, sizeof stack, shaped);
+    lend(&m, 0, constants, sizeof constants);
     lend(&m, 2, image, sizeof image);
     module_scard_judge_rule_text(&m, (u32)rule, ADDRESS(2));
     out->text = (const char *)constant_at(get64(image));
@@ -21921,6 +22051,7 @@ void scard_judge_clause_text(uint8_t rule, struct scard_text *out)
     struct shaped *shaped = NULL;
     u8 image[16];
     begin(&m, stack, sizeof stack, shaped);
+    lend(&m, 0, constants, sizeof constants);
     lend(&m, 2, image, sizeof image);
     module_scard_judge_clause_text(&m, (u32)rule, ADDRESS(2));
     out->text = (const char *)constant_at(get64(image));
@@ -21933,5 +22064,6 @@ size_t scard_struct_size(uint8_t number)
     u8 stack[16];
     struct shaped *shaped = NULL;
     begin(&m, stack, sizeof stack, shaped);
+    lend(&m, 0, constants, sizeof constants);
     return (size_t)module_scard_struct_size(&m, (u32)number);
 }
