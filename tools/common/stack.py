@@ -109,7 +109,7 @@ def sum_without_toolchain(name, listed):
 
 def module_of_program():
     """The program's module that is made of the present crates: the one that is built, or else that of dist/."""
-    built, sources = folder_of(PROGRAM) / "out/scard.wasm", TOP / "dist/scard.sources"
+    built, sources = folder_of(PROGRAM) / "out/module.wasm", TOP / "dist/scard.sources"
     if KIT and not subprocess.run([TOP / "tools/release/program", "--has"], check=False).returncode:
         return built
     is_present = sources.exists() and sources.read_text().strip() == sum_without_toolchain(PROGRAM, crates())
