@@ -24,7 +24,7 @@ import { SAID, TEXTS } from "./shown.mjs";
 const CHROMIUM = ["chromium", "chromium-browser", "google-chrome"];
 const FIREFOX = ["firefox-esr", "firefox"];
 const BATCH = 500;
-const TRIES = 10;
+const TRIES = 30;
 // The milliseconds that the test in one browser may take.
 const LONGEST = 600000;
 // The milliseconds until a text has to be shown, and for which a text of at most so many characters may delay other
