@@ -193,3 +193,58 @@ taken_of (partial.Whole a) = spelling a
 -- these octets have come
 abbrev pub IsNow : List ℕ → Partial → Type 0
 IsNow octets p = Holds p × (taken_of p ≡ octets)
+
+-- ---- from one stage to the next
+
+-- the state agrees with the octets that have come; all octets of its stage may have come
+abbrev pub Fits : Partial → Type 0
+Fits partial.Start = Unit {0}
+Fits (partial.Opened convention) = Unit {0}
+Fits (partial.Header h) = HeaderHolds h
+Fits (partial.Tail t) = TailHolds t
+Fits (partial.Whole a) = IsAtr a (spelling a)
+
+-- and it isn't an interface byte's stage if all interface bytes have come
+abbrev pub IsPastHeader : Partial → Type 0
+IsPastHeader partial.Start = Unit {0}
+IsPastHeader (partial.Opened convention) = Unit {0}
+IsPastHeader (partial.Header h) = HeaderHolds h × (is_announced h.awaited ≡ true)
+IsPastHeader (partial.Tail t) = TailHolds t
+IsPastHeader (partial.Whole a) = IsAtr a (spelling a)
+
+-- the state of the historical bytes, before any has come
+abbrev pub tail_after : Header → Tail
+tail_after h = record {
+  convention = h.convention;
+  first = h.first;
+  indicated = h.indicated;
+  historical =
+      record { items = [] };
+  historical_len = h.historical_len;
+  tck = h.tck;
+  sum = h.sum;
+}
+
+-- the stage of the historical bytes, after that of the interface bytes
+abbrev pub tail_begun : Partial → Partial
+tail_begun partial.Start = partial.Start
+tail_begun (partial.Opened convention) = partial.Opened convention
+tail_begun (partial.Header h) = partial.Tail (tail_after h)
+tail_begun (partial.Tail t) = partial.Tail t
+tail_begun (partial.Whole a) = partial.Whole a
+
+-- all historical bytes have come, if they are the stage
+abbrev pub HasHistorical : Partial → Type 0
+HasHistorical partial.Start = Unit {0}
+HasHistorical (partial.Opened convention) = Unit {0}
+HasHistorical (partial.Header h) = Unit {0}
+HasHistorical (partial.Tail t) = TailHolds t × (length t.historical.items ≡ t.historical_len)
+HasHistorical (partial.Whole a) = Unit {0}
+
+-- the whole answer, if all historical bytes have come
+abbrev pub completed : Partial → Partial
+completed partial.Start = partial.Start
+completed (partial.Opened convention) = partial.Opened convention
+completed (partial.Header h) = partial.Header h
+completed (partial.Tail t) = partial.Whole (parts_of t)
+completed (partial.Whole a) = partial.Whole a

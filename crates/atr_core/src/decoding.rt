@@ -26,6 +26,39 @@ pub fn decode(octets: &[u8]) -> Result<(Atr, usize), Stop<AtrReason>>
     }
 }
 
+/// Memory for one answer to reset. An answer that is decoded in it stays in it, and the caller gets a reference.
+/// So a caller's stack has one answer, and no copies of it.
+#[derive(Drop)]
+pub struct AtrRoom {
+    partial: Partial,
+}
+
+impl AtrRoom {
+    /// Makes memory with no answer in it.
+    pub fn new() -> Self {
+        AtrRoom {
+            partial: Partial::Start,
+        }
+    }
+
+    /// Decodes the answer to reset at the front of the octets in this memory. The verdict is that of [`decode`].
+    pub fn decode(&mut self, octets: &[u8]) -> Result<(&Atr, usize), Stop<AtrReason>>
+        ensures found { IfOk result
+            (λ found. Accepts self_ended IsAtr octets.now found.0.now found.1) }
+        ensures refused { IfErr result (λ stop. Refuses self_ended IsAtr IsReason octets.now stop) }
+    {
+        self.partial = Partial::Start;
+        let count = match self.partial.take_piece(0, octets) {
+            Ok(count) => count,
+            Err(refusal) => return Err(refusal.stop()),
+        };
+        match &self.partial {
+            Partial::Whole(atr) => Ok((atr, count)),
+            _ => Err(Stop::Short { place: count }),
+        }
+    }
+}
+
 /// Returns how many octets the answer to reset at the front of the octets takes. The verdict is that of
 /// [`decode`], without the answer.
 #[inline(always)]
@@ -48,9 +81,14 @@ fn len_by_octets(octets: &[u8]) -> Result<usize, Stop<AtrReason>>
         × Accepts self_ended IsAtr octets.now atr count) }
     ensures refused { IfErr result (λ stop. Refuses self_ended IsAtr IsReason octets.now stop) }
 {
-    match by_octets(octets) {
-        Ok((_, count)) => Ok(count),
-        Err(stop) => Err(stop),
+    let mut partial = Partial::Start;
+    let count = match partial.take_octets(0, octets) {
+        Ok(count) => count,
+        Err(refusal) => return Err(refusal.stop()),
+    };
+    match partial {
+        Partial::Whole(_) => Ok(count),
+        _ => Err(Stop::Short { place: count }),
     }
 }
 

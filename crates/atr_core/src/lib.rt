@@ -20,7 +20,7 @@ pub mod reason;
 mod whole;
 
 pub use atr::{Atr, Convention, Indicated, Interface};
-pub use decoding::{check, decode};
+pub use decoding::{AtrRoom, check, decode};
 pub use encoding::encode;
 pub use params::{ParamFault, T1Params, t1_params};
 pub use rating::rates;

@@ -2,11 +2,12 @@
 
 ghost use Rattle.std.specs.Prelude.{◌≡◌, ℕ, List, MatchOption, ◌+◌, ◌<◌, ◌≤◌, ◌/◌, ◌%◌, ◌++◌, [], ◌∷◌, true, false, IfOk, IfErr, IfSome, IfNone, IsTrue, MatchBool, length, not, ◌||◌, ◌==◌};
 ghost use Rattle.atr_core.specs.Atr.{AtrParts, IsAtr, IsReason, count_of, ts_of};
-ghost use Rattle.atr_core.specs.Partial.{Announces, AwaitsByte, AwaitsTd, HeaderHolds, Holds, InOrder, IsNow, IsTailStep, Puts, TailAwaits, TailEnds, TailHolds, awaits_byte, first_of, header_taken, is_announced, is_whole, parts_of, tail_taken, taken_of, tds_of};
+ghost use Rattle.atr_core.specs.Partial.{Announces, AwaitsByte, AwaitsTd, Fits, HasHistorical, HeaderHolds, Holds, InOrder, IsNow, IsPastHeader, IsTailStep, Puts, TailAwaits, TailEnds, TailHolds, awaits_byte, completed, first_of, header_taken, is_announced, is_whole, parts_of, tail_after, tail_begun, tail_taken, taken_of, tds_of};
 
 use crate::atr::MOST_OCTETS;
 use crate::{Atr, AtrReason, Convention, Indicated, Interface};
 use arrayvec::ArrayVec;
+use std::mem;
 
 /// The octets of an answer that have come.
 #[derive(Drop)]
@@ -101,20 +102,83 @@ impl Partial {
     {
         match self {
             Partial::Start => *self = Partial::Opened(opened(octet)?),
-            Partial::Opened(convention) => *self = Header::new(*convention, octet).settled(),
+            Partial::Opened(convention) => {
+                *self = Partial::Header(Header::new(*convention, octet));
+                self.settle();
+            }
             Partial::Header(header) => {
                 if header.take(octet)? {
-                    *self = header.end().settled();
+                    self.settle();
                 }
             }
             Partial::Tail(tail) => {
                 if tail.take(octet)? {
-                    *self = Partial::Whole(tail.atr());
+                    self.complete();
                 }
             }
             Partial::Whole(_) => {}
         }
         Ok(())
+    }
+
+    /// Goes on to the stage of the next octet, if all octets of this one have come.
+    fn settle(&mut self)
+        requires { Fits self.old }
+        ensures { IsNow (taken_of self.old) self.new }
+    {
+        self.end_header();
+        self.end_tail();
+    }
+
+    /// Goes on to the historical bytes, if all interface bytes have come.
+    fn end_header(&mut self)
+        requires { Fits self.old }
+        ensures holds { IsPastHeader self.new }
+        ensures taken { taken_of self.new ≡ taken_of self.old }
+    {
+        if let Partial::Header(header) = self {
+            if !header.awaited.is_some() {
+                header.close_section();
+                self.begin_tail();
+            }
+        }
+    }
+
+    /// Goes on from the last interface byte to the historical bytes. This is a separate function so that its copy of
+    /// the TDs is on the stack only while it runs.
+    #[inline(never)]
+    fn begin_tail(&mut self)
+        ensures { self.new ≡ tail_begun self.old }
+    {
+        match mem::replace(self, Partial::Start) {
+            Partial::Header(header) => *self = Partial::Tail(header.tail()),
+            other => *self = other,
+        }
+    }
+
+    /// Goes on to the whole answer, if all historical bytes have come and there is no TCK.
+    fn end_tail(&mut self)
+        requires { IsPastHeader self.old }
+        ensures { IsNow (taken_of self.old) self.new }
+    {
+        if let Partial::Tail(tail) = self {
+            if !tail.awaits() {
+                self.complete();
+            }
+        }
+    }
+
+    /// Goes on from the last octet to the whole answer. This is a separate function for the same reason as
+    /// `begin_tail`.
+    #[inline(never)]
+    fn complete(&mut self)
+        requires { HasHistorical self.old }
+        ensures { self.new ≡ completed self.old }
+    {
+        match mem::replace(self, Partial::Start) {
+            Partial::Tail(tail) => *self = Partial::Whole(tail.atr()),
+            other => *self = other,
+        }
     }
 }
 
@@ -234,19 +298,6 @@ impl Header {
         }
     }
 
-    /// Returns the state after the last octet. If no further interface byte is announced, all of
-    /// them have come.
-    fn settled(self) -> Partial
-        requires { HeaderHolds self }
-        ensures { IsNow (header_taken self) result }
-    {
-        let mut header = self;
-        if header.awaited.is_some() {
-            return Partial::Header(header);
-        }
-        header.end().settled()
-    }
-
     /// Takes an interface byte or a TD. Returns whether it is the last one.
     fn take(&mut self, octet: u8) -> Result<bool, AtrReason>
         requires holds { HeaderHolds self.old }
@@ -319,18 +370,14 @@ impl Header {
         }
     }
 
-    /// Returns the state after the last interface byte.
-    fn end(&mut self) -> Tail
-        requires holds { HeaderHolds self.old }
-        requires none { is_announced self.old.awaited ≡ false }
-        ensures holds { TailHolds result }
-        ensures taken { tail_taken result ≡ header_taken self.old }
+    /// Returns the state of the historical bytes, once the last section is closed.
+    fn tail(self) -> Tail
+        ensures { result ≡ tail_after self }
     {
-        self.close_section();
         Tail {
             convention: self.convention,
             first: self.first,
-            indicated: self.indicated.take(),
+            indicated: self.indicated,
             historical: ArrayVec::new(),
             historical_len: self.historical_len,
             tck: self.tck,
@@ -348,18 +395,6 @@ fn needs_tck_after(protocol: u8, before: bool) -> bool
 }
 
 impl Tail {
-    /// Returns the state after the last octet: a whole answer if nothing more must come.
-    fn settled(self) -> Partial
-        requires { TailHolds self }
-        ensures { IsNow (tail_taken self) result }
-    {
-        let mut tail = self;
-        if tail.awaits() {
-            return Partial::Tail(tail);
-        }
-        Partial::Whole(tail.atr())
-    }
-
     /// Takes a historical byte or TCK. Returns whether it is the last octet.
     fn take(&mut self, octet: u8) -> Result<bool, AtrReason>
         requires holds { TailHolds self.old }
@@ -386,16 +421,11 @@ impl Tail {
     }
 
     /// Returns the answer, once all historical bytes have come.
-    fn atr(&mut self) -> Atr
-        requires holds { TailHolds self.old }
-        requires all { length self.old.historical.items ≡ self.old.historical_len }
-        ensures { result ≡ parts_of self.old }
+    fn atr(self) -> Atr
+        requires holds { TailHolds self }
+        requires all { length self.historical.items ≡ self.historical_len }
+        ensures { result ≡ parts_of self }
     {
-        Atr::of_parts(
-            self.convention,
-            self.first,
-            self.indicated.take(),
-            self.historical.take(),
-        )
+        Atr::of_parts(self.convention, self.first, self.indicated, self.historical)
     }
 }

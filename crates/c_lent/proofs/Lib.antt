@@ -5,4 +5,5 @@ pub mod InPieces
 pub mod Lending
 pub mod Puts
 pub mod Reading
+pub mod Told
 pub mod Turns

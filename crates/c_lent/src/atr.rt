@@ -12,7 +12,7 @@ use crate::output::put;
 use crate::verdict::{ARGUMENT, Numbered, Verdict};
 use arrayvec::ArrayVec;
 use atr_core::{
-    Atr, AtrReason, Convention, Indicated, Interface, ParamFault, check, decode, encode, rates,
+    Atr, AtrReason, AtrRoom, Convention, Indicated, Interface, ParamFault, check, encode, rates,
     t1_params,
 };
 
@@ -95,9 +95,10 @@ pub fn atr_decode(octets: &[u8], out: &mut CAtr) -> Verdict
         Tells atr_reason (Refuses self_ended IsAtr IsReason octets.now) result }
     ensures stays { result.status ≢ 0 → out.new ≡ out.old }
 {
-    match decode(octets) {
+    let mut room = AtrRoom::new();
+    match room.decode(octets) {
         Ok((atr, taken)) => {
-            *out = seen(&atr);
+            tell(atr, out);
             Verdict::ok(taken)
         }
         Err(stop) => Verdict::stopped(stop),
@@ -219,46 +220,50 @@ fn listed(given: &[CIndicated]) -> ArrayVec<Indicated, 31>
     listed
 }
 
-/// Returns an answer to reset as a struct of C.
-pub fn seen(atr: &Atr) -> CAtr
-    ensures atr { atr_of result ≡ atr.now }
-    ensures told { IsTold atr.now result }
-    ensures tck { byte_of result.has_tck result.tck ≡ tck_of atr.now }
-    ensures indicated { result.indicated_count ≤ 31 }
-    ensures historical { result.historical_count ≤ 15 }
+/// Writes an answer to reset to a struct of C. This is a separate function so that its locals are on the stack only
+/// while it runs.
+#[inline(never)]
+pub fn tell(atr: &Atr, out: &mut CAtr)
+    ensures atr { atr_of out.new ≡ atr.now }
+    ensures told { IsTold atr.now out.new }
+    ensures tck { byte_of out.new.has_tck out.new.tck ≡ tck_of atr.now }
+    ensures indicated { out.new.indicated_count ≤ 31 }
+    ensures historical { out.new.historical_count ≤ 15 }
 {
-    let listed = listed_seen(atr.indicated());
+    let indicated = atr.indicated();
     let octets = atr.historical();
     let tck = atr.tck();
-    CAtr {
-        convention: convention_seen(atr.convention()),
-        first: interface_seen(atr.first()),
-        indicated_count: listed.len() as u8,
-        indicated: indicated_array(listed.as_slice()),
-        historical_count: octets.len() as u8,
-        historical: historical_array(octets),
-        has_tck: u8::from(tck.is_some()),
-        tck: tck.unwrap_or(0),
+    out.convention = convention_seen(atr.convention());
+    out.first = interface_seen(atr.first());
+    out.indicated_count = indicated.len() as u8;
+    tell_indicated(indicated, &mut out.indicated);
+    out.historical_count = octets.len() as u8;
+    out.historical = historical_array(octets);
+    out.has_tck = u8::from(tck.is_some());
+    out.tck = tck.unwrap_or(0);
+}
+
+/// Writes the TDs to an array: unused entries come after them.
+fn tell_indicated(indicated: &[Indicated], out: &mut [CIndicated; 31])
+    requires { length indicated.now ≤ 31 }
+    ensures said { map indicated_of (take (length indicated.now) out.new) ≡ indicated.now }
+    ensures told { out.new ≡ map indicated_told indicated.now
+        ++ replicate (31 - length indicated.now) no_indicated }
+{
+    *out = [indicated_seen(Indicated::default()); 31];
+    for (place, x) in indicated.iter().enumerate() {
+        out[place] = indicated_seen(*x);
     }
 }
 
-/// Returns the TDs as an array: unused entries come after them.
-fn indicated_array(listed: &[CIndicated]) -> [CIndicated; 31]
-    requires { length listed.now ≤ 31 }
-    ensures front { take (length listed.now) result ≡ listed.now }
-    ensures all { result ≡ listed.now ++ replicate (31 - length listed.now) no_indicated }
+fn indicated_seen(x: Indicated) -> CIndicated
+    ensures said { indicated_of result ≡ x }
+    ensures told { result ≡ indicated_told x }
 {
-    let none = CIndicated {
-        protocol: 0,
-        bytes: interface_seen(Interface {
-            ta: None,
-            tb: None,
-            tc: None,
-        }),
-    };
-    let mut array = [none; 31];
-    array[..listed.len()].copy_from_slice(listed);
-    array
+    CIndicated {
+        protocol: x.protocol,
+        bytes: interface_seen(x.bytes),
+    }
 }
 
 /// Returns the historical bytes as an array: zeros come after them.
@@ -270,21 +275,6 @@ fn historical_array(octets: &[u8]) -> [u8; 15]
     let mut array = [0; 15];
     array[..octets.len()].copy_from_slice(octets);
     array
-}
-
-fn listed_seen(indicated: &[Indicated]) -> ArrayVec<CIndicated, 31>
-    requires { length indicated.now ≤ 31 }
-    ensures said { map indicated_of result.items ≡ indicated.now }
-    ensures told { result.items ≡ map indicated_told indicated.now }
-{
-    let mut seen = ArrayVec::new();
-    for x in indicated {
-        seen.push(CIndicated {
-            protocol: x.protocol,
-            bytes: interface_seen(x.bytes),
-        });
-    }
-    seen
 }
 
 fn convention_seen(convention: Convention) -> u8

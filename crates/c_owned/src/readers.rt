@@ -149,7 +149,7 @@ fn answer_of(reader: &AtrReader, out: &mut CAtr) -> Verdict
 {
     match reader.value() {
         Some(atr) => {
-            *out = atr::seen(atr);
+            atr::tell(atr, out);
             Verdict::ok(0)
         }
         None => Verdict::argument(),
