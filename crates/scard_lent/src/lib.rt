@@ -1,5 +1,5 @@
 //! The calls of the library for C that need no memory, as a static library. It exports the code of c_lent, line_core's
-//! framer and one call of notes.
+//! framer, session_core's line and one call of notes.
 #![tactic(auto)]
 
 pub mod apdu;
@@ -16,6 +16,7 @@ pub mod lent_check;
 pub mod lent_judge;
 pub mod lent_readers;
 pub mod lent_receiver;
+pub mod line;
 pub mod names;
 pub mod note;
 pub mod octets;

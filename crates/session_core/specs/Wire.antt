@@ -1,0 +1,475 @@
+-- How an end uses its line, step by step: what happened on the line, and what the end does next. The clauses are those
+-- of ISO/IEC 7816-3:2006. Times are in microseconds.
+use Rattle.std.specs.Prelude.{◌≡◌, ℕ, ◌+◌, ◌-◌, ◌*◌, ◌/◌, List, [], ◌∷◌, ◌++◌, length, take, drop, slice_index, min, max, Bool, true, false, ◌&&◌, ◌||◌, ◌==◌, not, nat_eq, nat_lt, nat_le, if◌then◌else◌}
+use Rattle.std.specs.List.{starts_with}
+use Rattle.std.specs.Cmp.Lexicographic.{pointwise}
+use Rattle.line_core.specs.Bursts.{HasHeard, handed, is_whole}
+use Rattle.line_core.specs.Timed.{damaged_block}
+use Rattle.line_core.specs.declared.framing.Framer.{Framer}
+use Rattle.session_core.specs.declared.event.Event.{Event}
+use Rattle.session_core.specs.declared.event.Event.TheVariants.{Sent, Came, Garbled, Silent, Failed as fails}
+use Rattle.session_core.specs.declared.event.Next.{Next}
+use Rattle.session_core.specs.declared.event.Next.TheVariants.{Send, Wait, Heard, Quiet, Failed, UsedUp, Echo, Order}
+use Rattle.session_core.specs.declared.progress.Phase.{Phase}
+use Rattle.session_core.specs.declared.progress.Phase.TheVariants.{Idle, Late, Clearing, Settling, Sending, Echoing, Listening, Missing}
+use Rattle.session_core.specs.declared.progress.Moment.{Moment}
+use Rattle.session_core.specs.declared.progress.Moment.TheVariants.{Unknown, Early, InTime}
+use Rattle.session_core.specs.declared.progress.Rules.{Rules}
+use Rattle.session_core.specs.declared.progress.Progress.{Progress}
+
+-- the greatest time, which stands for no limit and for no silence
+abbrev pub forever : ℕ
+forever = 18446744073709551615
+
+-- a time that isn't longer than the greatest one
+abbrev pub capped : ℕ → ℕ
+capped time = min time forever
+
+-- ---- the limits of an exchange
+
+-- how much of the time of the exchange is over: by the clock, or what is certainly over
+abbrev pub gone : Rules → Progress → ℕ → ℕ
+gone r p now = if r.has_clock then now - p.began else p.spent
+
+-- what is left of it
+abbrev pub left_of : Rules → Progress → ℕ → ℕ
+left_of r p now = if r.most_time == forever then forever else r.most_time - gone r p now
+
+-- the time that so many octets take, unless the line delivers whole bursts
+abbrev pub time_of : Rules → ℕ → ℕ
+time_of r count = if r.after == forever then 0 else capped (count * r.octet)
+
+abbrev pub spends : Progress → ℕ → Progress
+spends p time = record p { spent = capped (p.spent + time) }
+
+-- ---- what an end does on its line, and the burst that came so far
+
+pub record Step : Type 0 where
+  pub progress : Progress
+  pub burst : List ℕ
+  pub next : Next
+
+abbrev pub step_of : Progress → List ℕ → Next → Step
+step_of p burst next = record { progress = p; burst = burst; next = next }
+
+-- it waits for octets, no longer than what is left of the time
+abbrev pub asking : Progress → ℕ → ℕ → ℕ → Progress
+asking p wanted left now =
+    record p { asked = min wanted left; is_cut = nat_lt left wanted; asked_at = now; interrupts = 0 }
+
+abbrev pub waits : Rules → Progress → List ℕ → ℕ → ℕ → Step
+waits r p burst wanted now =
+    step_of (asking p wanted (left_of r p now) now) burst (Wait (min wanted (left_of r p now)))
+
+-- it stops
+abbrev pub stops : Progress → List ℕ → Next → Step
+stops p burst next = step_of (record p { phase = Idle }) burst next
+
+-- How long the line has to be silent after a burst that isn't a whole block, before the end sends. A terminal waits as
+-- long as for the answer. A card answers within BWT: it waits for three quarters of it, and for CWT at least (own).
+abbrev pub broken : Rules → Progress → ℕ
+broken r p = if r.is_card then max (r.bwt / 4 * 3) r.cwt else p.first
+
+-- an end that hasn't used its line yet: the line has to be silent for BGT before the end sends (11.4.3)
+abbrev pub fresh : Rules → Progress
+fresh r = record {
+  phase = Idle;
+  owed = r.bgt;
+  first = forever;
+  asked = 0;
+  is_cut = false;
+  asked_at = 0;
+  interrupts = 0;
+  began = 0;
+  spent = 0;
+  blocks = 0;
+  left = 0;
+  own = 0;
+  late = 0;
+  is_quick = false;
+  began_at = Unknown;
+  is_spoiled = false;
+  is_whole = false;
+  echoes = 0;
+}
+
+-- ---- octets that are dropped
+
+-- after this many octets without a silence, the line doesn't wait for one any more (own)
+abbrev pub most_noise : ℕ
+most_noise = 65536
+
+-- the silence that the end waits for in each phase in which it drops octets
+abbrev pub silence_in : Phase → Rules → Progress → ℕ
+silence_in Settling r p = p.owed
+silence_in Missing r p = broken r p
+silence_in phase r p = if r.is_card then r.bgt else r.bwt
+
+unfoldable pub dropping : Rules → Progress → List ℕ → ℕ → Step
+dropping r p burst now = waits r p burst (silence_in p.phase r p) now
+
+unfoldable pub drops : Rules → Progress → Phase → List ℕ → ℕ → Step
+drops r p phase burst now = dropping r (record p { phase = phase; left = most_noise }) burst now
+
+-- `count` more octets came
+unfoldable pub dropped : Rules → Progress → List ℕ → ℕ → ℕ → Step
+dropped r p burst count now =
+    if nat_le p.left count then stops (record p { left = 0 }) burst Failed
+    else dropping r (record p { left = p.left - count }) burst now
+
+-- the line was silent
+abbrev pub cleared : Rules → Progress → Progress
+cleared r p = if nat_le p.owed (silence_in p.phase r p) then record p { owed = 0 } else p
+
+-- ---- a block is sent
+
+unfoldable pub says : Progress → ℕ → Step
+says p now = step_of
+    (record p { phase = Sending; asked_at = now; is_spoiled = false; is_whole = false; began_at = Unknown }) [] Send
+
+-- once the line is silent (BGT: 11.4.3)
+unfoldable pub settles : Rules → Progress → List ℕ → ℕ → Step
+settles r p burst now = if p.owed == 0 then says p now else drops r p Settling burst now
+
+-- within the limits of the exchange
+-- the greatest number of blocks that is counted
+abbrev pub most_counted : ℕ
+most_counted = 4294967295
+
+abbrev pub is_used_up : Rules → Progress → ℕ → Bool
+is_used_up r p now = not r.is_card && (nat_le r.most_blocks p.blocks || (left_of r p now == 0))
+
+unfoldable pub talks : Rules → Progress → List ℕ → ℕ → Step
+talks r p burst now =
+    if is_used_up r p now then stops p burst UsedUp
+    else settles r (record p { blocks = min (p.blocks + 1) most_counted }) burst now
+
+-- an exchange begins: octets that came late are dropped first
+unfoldable pub begins : Rules → Progress → List ℕ → ℕ → Step
+begins r p burst now =
+    waits r (record p { phase = Late; blocks = 0; spent = 0; echoes = 0; began = now }) burst 0 now
+
+-- or with a silence: octets are dropped until then
+unfoldable pub clears : Rules → Progress → List ℕ → ℕ → Step
+clears r p burst now = drops r (record p { blocks = 0; spent = 0; echoes = 0; began = now }) Clearing burst now
+
+-- ---- the burst that comes after it
+
+-- how long a silence must be to end the burst: before the first octet the wait for it; inside a block CWT, and after a
+-- whole block a shorter time (11.4.3)
+abbrev pub wait_in : Rules → Progress → List ℕ → ℕ
+wait_in r p [] = p.first
+wait_in r p (octet ∷ octets) = if p.is_whole then r.after else r.cwt
+
+-- the burst is over without a silence: no silence ends a whole block, or too many octets came
+abbrev pub is_over : Rules → Progress → List ℕ → Bool
+is_over r p burst = nat_le most_noise (length burst) || (p.is_whole && (r.after == forever))
+
+-- what the end owes after the burst
+abbrev pub owed_after : Rules → Progress → List ℕ → ℕ
+owed_after r p [] = p.owed
+owed_after r p (octet ∷ octets) =
+    if p.is_whole then (if nat_lt r.after r.bgt then r.bgt else 0) else broken r p
+
+-- Less than 20 etu after a block was sent, no octet of the other end can be there. An end begins to send at the
+-- earliest 22 etu after the beginning of the last character (BGT: 11.4.3), so 10 etu after its end, and an octet is
+-- there 10 etu after it began.
+abbrev pub guard : Rules → ℕ
+guard r = capped (r.octet * 5) / 3
+
+-- when a burst began whose first octet came so long after the block was sent
+abbrev pub moment_of : Rules → Progress → ℕ → Moment
+moment_of r p since =
+    if not r.has_clock || (r.after == forever) then Unknown
+    else (if nat_le (guard r) since then InTime
+    else (if nat_lt p.late (guard r - since) then Early else Unknown))
+
+-- the second octet of a burst says what kind it is of (11.3.2.2)
+abbrev pub pcb_of : List ℕ → ℕ
+pcb_of octets = slice_index octets 1
+
+abbrev pub is_info : List ℕ → Bool
+is_info octets = nat_lt (pcb_of octets) 0x80
+
+abbrev pub is_supervisory : List ℕ → Bool
+is_supervisory octets = nat_le 0xC0 (pcb_of octets)
+
+abbrev pub is_in_time : Moment → Bool
+is_in_time InTime = true
+is_in_time moment = false
+
+abbrev pub is_early : Moment → Bool
+is_early Early = true
+is_early moment = false
+
+-- The octets of the burst that are passed to the end begin with the block that was just sent. An I-block that came in
+-- time isn't an echo: a right answer may equal its command.
+abbrev pub is_echo : Rules → Progress → List ℕ → List ℕ → Bool
+is_echo r p octets block =
+    not r.has_echo && (nat_lt 0 (length block) && (starts_with nat_eq octets block
+    && not (is_info octets && is_in_time p.began_at)))
+
+-- so many echoes in a row are no chance
+abbrev pub most_echoes : ℕ
+most_echoes = 5
+
+abbrev pub echoes_after : Bool → Progress → ℕ
+echoes_after true p = min (p.echoes + 1) most_echoes
+echoes_after false p = 0
+
+-- An echo is certain if it came before the other end may have sent it. Both ends may rightly send the same R-block one
+-- after the other, so for an R-block the clock must not be too coarse to tell. No end answers with the S-block that it
+-- got, and none repeats a block so often.
+abbrev pub is_certain : Progress → List ℕ → Bool
+is_certain p octets =
+    (is_early p.began_at && (is_info octets || not p.is_quick)) || (is_supervisory octets || (p.echoes == most_echoes))
+
+-- An I-block that may be an echo counts as a damaged one, and so does one without information if the rules say so.
+abbrev pub is_refused : Rules → Progress → List ℕ → Bool → Bool
+is_refused r p octets echo =
+    p.is_whole && (is_info octets && (echo || (r.refuses_empty && (length octets == 4))))
+
+-- the burst has ended, and the end takes it, unless it is an echo
+unfoldable pub hands : Rules → Progress → List ℕ → List ℕ → Bool → Step
+hands r p burst octets echo =
+    if is_refused r p octets echo then stops (record p { is_spoiled = true; owed = broken r p }) burst Heard
+    else stops p burst Heard
+
+unfoldable pub judges : Rules → Progress → List ℕ → List ℕ → Bool → Step
+judges r p burst octets echo =
+    if echo && is_certain p octets then stops (record p { echoes = 0 }) burst Echo
+    else hands r p burst octets echo
+
+abbrev pub counted : Progress → ℕ → Bool → Progress
+counted p owed echo = record p { owed = owed; echoes = echoes_after echo p }
+
+unfoldable pub judged : Rules → Progress → List ℕ → List ℕ → Step
+judged r p burst block = judges r (counted p (owed_after r p burst) (is_echo r p (take handed burst) block)) burst
+    (take handed burst) (is_echo r p (take handed burst) block)
+
+-- a silence ended the burst
+unfoldable pub ends : Rules → Progress → List ℕ → List ℕ → Step
+ends r p [] block = stops p [] Quiet
+ends r p (octet ∷ octets) block = judged r p (octet ∷ octets) block
+
+-- it waits for more of the burst, unless that is over
+unfoldable pub goes_on : Rules → Progress → List ℕ → ℕ → List ℕ → Step
+goes_on r p burst now block =
+    if is_over r p burst then judged r p burst block else waits r p burst (wait_in r p burst) now
+
+-- these octets came
+abbrev pub begun : Rules → Progress → List ℕ → ℕ → Progress
+begun r p [] now = record p { began_at = moment_of r p (now - p.asked_at) }
+begun r p (octet ∷ octets) now = p
+
+abbrev pub spoiled : Progress → Bool → Progress
+spoiled p is_garbled = record p { is_spoiled = p.is_spoiled || is_garbled }
+
+abbrev pub weighed : Progress → List ℕ → Progress
+weighed p burst = record p { is_whole = not p.is_spoiled && is_whole burst }
+
+unfoldable pub hears : Rules → Progress → List ℕ → List ℕ → Bool → ℕ → List ℕ → Step
+hears r p burst octets is_garbled now block =
+    goes_on r (weighed (spoiled (begun r p burst now) is_garbled) (burst ++ octets)) (burst ++ octets) now block
+
+-- ---- the echo of a block on a line that has one
+
+-- how long the octets of a block take
+abbrev pub takes : Rules → List ℕ → ℕ
+takes r block = capped (length block * r.octet)
+
+-- the wait for each part of it
+abbrev pub echo_wait : Rules → List ℕ → ℕ
+echo_wait r block = capped (r.cwt + takes r block)
+
+-- what is left of it to come
+abbrev pub unheard : Progress → List ℕ → List ℕ
+unheard p block = drop p.own block
+
+-- octets are the next ones of it, as far as both go
+abbrev pub agrees : List ℕ → List ℕ → Bool
+agrees octets rest = pointwise nat_eq (take (length rest) octets) (take (length octets) rest)
+
+-- the other end's block met it
+unfoldable pub misses : Rules → Progress → List ℕ → ℕ → Step
+misses r p burst now = drops r p Missing burst now
+
+-- octets after the echo begin the next burst
+unfoldable pub follows : Rules → Progress → List ℕ → List ℕ → ℕ → List ℕ → Step
+follows r p burst octets now block =
+    goes_on r (weighed (record p { phase = Listening; own = length block }) (burst ++ octets)) (burst ++ octets) now
+    block
+
+unfoldable pub hears_echo : Rules → Progress → List ℕ → List ℕ → List ℕ → ℕ → List ℕ → Step
+hears_echo r p burst octets rest now block =
+    if nat_lt (length octets) (length rest)
+    then waits r (record p { own = min (p.own + length octets) forever }) burst (echo_wait r block) now
+    else follows r p burst (drop (length rest) octets) now block
+
+unfoldable pub echoed : Rules → Progress → List ℕ → List ℕ → ℕ → List ℕ → Step
+echoed r p burst octets now block =
+    if agrees octets (unheard p block) then hears_echo r p burst octets (unheard p block) now block
+    else misses r p burst now
+
+-- how long the sending of the block took; a clock that went back doesn't know
+abbrev pub took : Progress → ℕ → ℕ
+took p now = if nat_lt now p.asked_at then forever else now - p.asked_at
+
+-- the block was sent
+abbrev pub timed : Progress → ℕ → ℕ → Progress
+timed p time needs = record p { is_quick = nat_lt time (needs / 2); late = time - needs; own = 0 }
+
+unfoldable pub sent_in : Rules → Progress → List ℕ → ℕ → List ℕ → Step
+sent_in r p burst now block =
+    if r.has_echo then waits r (record p { phase = Echoing }) burst (echo_wait r block) now
+    else goes_on r (record (spends p (time_of r (length block))) { phase = Listening }) burst now block
+
+unfoldable pub sent : Rules → Progress → List ℕ → ℕ → List ℕ → Step
+sent r p burst now block = sent_in r (timed p (took p now) (takes r block)) burst now block
+
+-- ---- what happened in each phase
+
+-- no more of the echo came: the line has none, or another block met it
+unfoldable pub unechoed : Rules → Progress → List ℕ → ℕ → Step
+unechoed r p burst now = if p.own == 0 then stops p burst Failed else misses r p burst now
+
+-- a card waits for the next block
+unfoldable pub awaits : Rules → Progress → ℕ → Step
+awaits r p now = waits r
+    (record p { phase = Listening; is_spoiled = false; is_whole = false; began_at = Unknown }) [] p.first now
+
+-- A card begins to listen. If the last burst was broken, it drops octets first.
+unfoldable pub serves : Rules → Progress → List ℕ → ℕ → Step
+serves r p burst now = if nat_lt r.bgt p.owed then drops r p Missing burst now else awaits r p now
+
+-- after a block that met another one: a card listens again, and to a terminal nothing came
+unfoldable pub missed : Rules → Progress → List ℕ → ℕ → Step
+missed r p burst now = if r.is_card then awaits r p now else stops p burst Quiet
+
+-- after a failure inside a burst, the end owes what it owes after a broken one
+abbrev pub left_in : Phase → Rules → Progress → List ℕ → Progress
+left_in Listening r p burst = record p { owed = owed_after r p burst }
+left_in phase r p burst = p
+
+-- nothing came within the silence that was asked for
+unfoldable pub silent_in : Phase → Rules → Progress → List ℕ → ℕ → List ℕ → Step
+silent_in Late r p burst now block = talks r p burst now
+silent_in Clearing r p burst now block = talks r (cleared r p) burst now
+silent_in Settling r p burst now block = says (cleared r p) now
+silent_in Echoing r p burst now block = unechoed r p burst now
+silent_in Listening r p burst now block = ends r p burst block
+silent_in Missing r p burst now block = missed r (cleared r p) burst now
+silent_in phase r p burst now block = step_of p burst Order
+
+unfoldable pub met : Rules → Progress → List ℕ → List ℕ → Bool → ℕ → List ℕ → Step
+met r p burst octets is_garbled now block =
+    if is_garbled then misses r p burst now else echoed r p burst octets now block
+
+unfoldable pub came_in : Phase → Rules → Progress → List ℕ → List ℕ → Bool → ℕ → List ℕ → Step
+came_in Late r p burst octets is_garbled now block = drops r p Clearing burst now
+came_in Clearing r p burst octets is_garbled now block = dropped r p burst (length octets) now
+came_in Settling r p burst octets is_garbled now block = dropped r p burst (length octets) now
+came_in Missing r p burst octets is_garbled now block = dropped r p burst (length octets) now
+came_in Echoing r p burst octets is_garbled now block = met r p burst octets is_garbled now block
+came_in Listening r p burst octets is_garbled now block = hears r p burst octets is_garbled now block
+came_in phase r p burst octets is_garbled now block = step_of p burst Order
+
+abbrev pub is_waiting : Phase → Bool
+is_waiting Idle = false
+is_waiting Sending = false
+is_waiting phase = true
+
+abbrev pub is_idle : Phase → Bool
+is_idle Idle = true
+is_idle phase = false
+
+-- the time of the exchange is over
+unfoldable pub used_up : Rules → Progress → List ℕ → Step
+used_up r p burst = stops (left_in p.phase r p burst) burst UsedUp
+
+unfoldable pub silent : Rules → Progress → List ℕ → ℕ → List ℕ → Step
+silent r p burst now block =
+    if p.is_cut then used_up r (spends p p.asked) burst
+    else silent_in p.phase r (spends p p.asked) burst now block
+
+unfoldable pub failed : Rules → Progress → List ℕ → Step
+failed r p burst = stops (left_in p.phase r p burst) burst Failed
+
+-- After so many interrupts in a row the line has failed, if the wait has an end (own). A wait that is over by the clock
+-- ends with a look at what is there already.
+abbrev pub most_interrupts : ℕ
+most_interrupts = 1000000
+
+abbrev pub last_look : ℕ
+last_look = 4294967295
+
+unfoldable pub counts_interrupt : Rules → Progress → List ℕ → Step
+counts_interrupt r p burst =
+    if nat_le most_interrupts p.interrupts then failed r p burst
+    else step_of (record p { interrupts = p.interrupts + 1 }) burst (Wait p.asked)
+
+abbrev pub is_past : Rules → Progress → ℕ → Bool
+is_past r p now = r.has_clock && nat_le p.asked (now - p.asked_at)
+
+unfoldable pub interrupted : Rules → Progress → List ℕ → ℕ → List ℕ → Step
+interrupted r p burst now block =
+    if p.asked == forever then step_of p burst (Wait forever)
+    else (if p.interrupts == last_look then silent r p burst now block
+    else (if is_past r p now then step_of (record p { interrupts = last_look }) burst (Wait 0)
+    else counts_interrupt r p burst))
+
+-- nothing was left of the time when the wait began
+abbrev pub has_none_left : Progress → Bool
+has_none_left p = p.is_cut && (p.asked == 0)
+
+unfoldable pub takes_in : Rules → Progress → List ℕ → List ℕ → Bool → ℕ → List ℕ → Step
+takes_in r p burst octets is_garbled now block =
+    if has_none_left p then used_up r p burst
+    else came_in p.phase r p burst octets is_garbled now block
+
+unfoldable pub came : Rules → Progress → List ℕ → List ℕ → Bool → ℕ → List ℕ → Step
+came r p burst [] is_garbled now block = interrupted r p burst now block
+came r p burst (octet ∷ octets) is_garbled now block =
+    takes_in r (spends p (time_of r (length (octet ∷ octets)))) burst (octet ∷ octets) is_garbled now block
+
+abbrev pub is_sending : Phase → Bool
+is_sending Sending = true
+is_sending phase = false
+
+-- ---- the table
+
+-- The end has done this so far, this burst came so far, and this is its block. Then this happened at this moment. An
+-- event fits only while the end waits, or only while it sends.
+unfoldable pub on_sent : Rules → Progress → List ℕ → ℕ → List ℕ → Step
+on_sent r p burst now block = if is_sending p.phase then sent r p burst now block else step_of p burst Order
+
+unfoldable pub on_came : Rules → Progress → List ℕ → List ℕ → Bool → ℕ → List ℕ → Step
+on_came r p burst octets is_garbled now block =
+    if is_waiting p.phase then came r p burst octets is_garbled now block else step_of p burst Order
+
+unfoldable pub on_silent : Rules → Progress → List ℕ → ℕ → List ℕ → Step
+on_silent r p burst now block = if is_waiting p.phase then silent r p burst now block else step_of p burst Order
+
+unfoldable pub on_failed : Rules → Progress → List ℕ → Step
+on_failed r p burst = if is_idle p.phase then step_of p burst Order else failed r p burst
+
+unfoldable pub step : Rules → Progress → List ℕ → Event → ℕ → List ℕ → Step
+step r p burst Sent now block = on_sent r p burst now block
+step r p burst (Came octets) now block = on_came r p burst octets.now false now block
+step r p burst (Garbled octets) now block = on_came r p burst octets.now true now block
+step r p burst Silent now block = on_silent r p burst now block
+step r p burst fails now block = on_failed r p burst
+
+-- ---- what the end takes as one block
+
+-- a block with a wrong check octet, in place of a burst that the end may not take
+abbrev pub handed_over : Bool → List ℕ → List ℕ
+handed_over is_spoiled burst = if is_spoiled then damaged_block else burst
+
+-- ---- what a call leaves
+
+-- the end and its burst are those of this step
+pub record IsStep (step : Step) (p : Progress) (framer : Framer) (next : Next) : Type 0 where
+  pub progress : p ≡ step.progress
+  pub burst : HasHeard framer step.burst
+  pub next_is : next ≡ step.next

@@ -1,0 +1,294 @@
+//! The burst that comes after a block, and echoes.
+
+ghost use Rattle.std.specs.Prelude.{◌≡◌, ◌&&◌, List, ℕ};
+ghost use Rattle.line_core.specs.Bursts.{HasHeard};
+ghost use Rattle.session_core.specs.Wire.{Step, step_of, IsStep, wait_in, is_over, owed_after, guard, moment_of, pcb_of, is_info, is_supervisory, is_echo, echoes_after, is_certain, is_refused, hands, counted, judges, judged, ends, goes_on, begun, spoiled, weighed, hears, awaits, serves};
+
+use crate::event::Next;
+use crate::progress::{Moment, NO_SILENCE, Phase, Progress, Rules};
+use crate::sending::MOST_NOISE;
+use line_core::Framer;
+
+/// So many echoes in a row are no chance.
+const MOST_ECHOES: u8 = 5;
+
+/// PCBs below are of I-blocks (ISO/IEC 7816-3, clause 11.3.2.2).
+const FIRST_NOT_INFO: u8 = 0x80;
+
+/// PCBs from here on are of S-blocks.
+const FIRST_SUPERVISORY: u8 = 0xC0;
+
+impl Rules {
+    /// Returns the time after a block was sent within which no octet of the other end can be there: 20 elementary time
+    /// units.
+    fn guard(&self) -> u64
+        ensures { result ≡ guard self.now }
+    {
+        self.octet.saturating_mul(5) / 3
+    }
+}
+
+impl Progress {
+    /// Returns how long a silence must be to end the burst.
+    fn wait_in(&self, rules: &Rules, framer: &Framer) -> u64
+        ensures { (burst : List ℕ) → HasHeard framer.now burst
+            → result ≡ wait_in rules.now self.now burst }
+    {
+        if framer.count == 0 {
+            self.first
+        } else if self.is_whole {
+            rules.after
+        } else {
+            rules.cwt
+        }
+    }
+
+    /// Whether the burst is over without a silence.
+    fn is_over(&self, rules: &Rules, framer: &Framer) -> bool
+        ensures { (burst : List ℕ) → HasHeard framer.now burst
+            → result ≡ is_over rules.now self.now burst }
+    {
+        u64::from(MOST_NOISE) <= framer.count || (self.is_whole && rules.after == NO_SILENCE)
+    }
+
+    /// Returns what the end owes after the burst.
+    pub(crate) fn owed_after(&self, rules: &Rules, framer: &Framer) -> u64
+        ensures { (burst : List ℕ) → HasHeard framer.now burst
+            → result ≡ owed_after rules.now self.now burst }
+    {
+        if framer.count == 0 {
+            self.owed
+        } else if !self.is_whole {
+            self.broken(rules)
+        } else if rules.after < rules.bgt {
+            rules.bgt
+        } else {
+            0
+        }
+    }
+
+    /// Returns when a burst began whose first octet came so long after the block was sent.
+    fn moment(&self, rules: &Rules, since: u64) -> Moment
+        ensures { result ≡ moment_of rules.now self.now since }
+    {
+        if !rules.has_clock || rules.after == NO_SILENCE {
+            Moment::Unknown
+        } else if rules.guard() <= since {
+            Moment::InTime
+        } else if self.late < rules.guard() - since {
+            Moment::Early
+        } else {
+            Moment::Unknown
+        }
+    }
+}
+
+impl Progress {
+    /// Whether the octets of a burst that are passed to the end may be an echo of its block.
+    fn is_echo(&self, rules: &Rules, octets: &[u8], block: &[u8]) -> bool
+        ensures { result ≡ is_echo rules.now self.now octets.now block.now }
+    {
+        !rules.has_echo
+            && (!block.is_empty()
+                && (octets.starts_with(block)
+                    && !(is_info(octets) && self.began_at == Moment::InTime)))
+    }
+
+    /// Whether an echo is certain.
+    fn is_certain(&self, octets: &[u8]) -> bool
+        ensures { result ≡ is_certain self.now octets.now }
+    {
+        (self.began_at == Moment::Early && (is_info(octets) || !self.is_quick))
+            || (is_supervisory(octets) || self.echoes == MOST_ECHOES)
+    }
+
+    /// Whether a burst counts as a damaged block.
+    fn is_refused(&self, rules: &Rules, octets: &[u8], is_echo: bool) -> bool
+        ensures { result ≡ is_refused rules.now self.now octets.now is_echo }
+    {
+        self.is_whole
+            && (is_info(octets) && (is_echo || (rules.refuses_empty && octets.len() == 4)))
+    }
+
+    /// Returns how many echoes came in a row after this burst.
+    fn echoes_after(&self, is_echo: bool) -> u8
+        ensures { result ≡ echoes_after is_echo self.now }
+    {
+        if is_echo {
+            self.echoes.saturating_add(1).min(MOST_ECHOES)
+        } else {
+            0
+        }
+    }
+
+    /// Notes what the end owes, and the echoes in a row.
+    fn count(&mut self, owed: u64, is_echo: bool)
+        ensures { self.new ≡ counted self.old owed is_echo }
+    {
+        self.echoes = self.echoes_after(is_echo);
+        self.owed = owed;
+    }
+
+    /// Takes a burst that has ended.
+    #[tactic(auto, using(crate::proofs::Parts::is_step), unfolding(crate::specs::Wire::hands))]
+    fn hand(&mut self, rules: &Rules, octets: &[u8], is_echo: bool) -> Next
+        ensures { (burst : List ℕ) → hands rules.now self.old burst octets.now is_echo
+            ≡ step_of self.new burst result }
+    {
+        if self.is_refused(rules, octets, is_echo) {
+            self.owed = self.broken(rules);
+            self.is_spoiled = true;
+            return self.stop(Next::Heard);
+        }
+        self.stop(Next::Heard)
+    }
+
+    /// Whether a burst is an echo for certain.
+    fn is_known_echo(&self, octets: &[u8], is_echo: bool) -> bool
+        ensures { result ≡ (is_echo && is_certain self.now octets.now) }
+    {
+        is_echo && self.is_certain(octets)
+    }
+
+    /// Takes a burst that has ended, unless it is an echo.
+    #[tactic(auto, using(crate::proofs::Parts::is_step), unfolding(crate::specs::Wire::judges))]
+    fn take(&mut self, rules: &Rules, octets: &[u8], is_echo: bool) -> Next
+        ensures { (burst : List ℕ) → judges rules.now self.old burst octets.now is_echo
+            ≡ step_of self.new burst result }
+    {
+        if self.is_known_echo(octets, is_echo) {
+            self.echoes = 0;
+            return self.stop(Next::Echo);
+        }
+        self.hand(rules, octets, is_echo)
+    }
+
+    /// Judges a burst that has ended.
+    #[tactic(auto, using(crate::proofs::Parts::is_step), unfolding(crate::specs::Wire::judged))]
+    fn judge(&mut self, rules: &Rules, framer: &Framer, block: &[u8]) -> Next
+        ensures { (burst : List ℕ) → HasHeard framer.now burst
+            → judged rules.now self.old burst block.now ≡ step_of self.new burst result }
+    {
+        let octets = framer.burst();
+        let is_echo = self.is_echo(rules, octets, block);
+        let owed = self.owed_after(rules, framer);
+        self.count(owed, is_echo);
+        self.take(rules, octets, is_echo)
+    }
+
+    /// Ends the burst after a silence.
+    #[tactic(auto, using(crate::proofs::Parts::is_step), unfolding(crate::specs::Wire::ends))]
+    pub(crate) fn end(&mut self, rules: &Rules, framer: &Framer, block: &[u8]) -> Next
+        ensures { (burst : List ℕ) → HasHeard framer.now burst
+            → ends rules.now self.old burst block.now ≡ step_of self.new burst result }
+    {
+        if framer.count == 0 {
+            self.stop(Next::Quiet)
+        } else {
+            self.judge(rules, framer, block)
+        }
+    }
+
+    /// Waits for more of the burst, unless that is over.
+    #[tactic(auto, using(crate::proofs::Parts::is_step), unfolding(crate::specs::Wire::goes_on))]
+    pub(crate) fn go_on(&mut self, rules: &Rules, framer: &Framer, now: u64, block: &[u8]) -> Next
+        ensures { (burst : List ℕ) → HasHeard framer.now burst
+            → goes_on rules.now self.old burst now block.now ≡ step_of self.new burst result }
+    {
+        if self.is_over(rules, framer) {
+            self.judge(rules, framer, block)
+        } else {
+            let wanted = self.wait_in(rules, framer);
+            self.wait(rules, wanted, now)
+        }
+    }
+
+    /// Notes when the burst began, if it hasn't begun yet.
+    fn note(&mut self, rules: &Rules, framer: &Framer, now: u64)
+        ensures { (burst : List ℕ) → HasHeard framer.now burst
+            → self.new ≡ begun rules.now self.old burst now }
+    {
+        if framer.count == 0 {
+            self.began_at = self.moment(rules, now.saturating_sub(self.asked_at));
+        }
+    }
+
+    /// Notes whether the burst is a whole block.
+    pub(crate) fn weigh(&mut self, framer: &Framer)
+        ensures { (burst : List ℕ) → HasHeard framer.now burst → self.new ≡ weighed self.old burst }
+    {
+        self.is_whole = !self.is_spoiled && framer.is_whole();
+    }
+
+    /// Takes octets of the burst.
+    #[tactic(auto, using(crate::proofs::Parts::is_step), unfolding(crate::specs::Wire::hears))]
+    pub(crate) fn hear(
+        &mut self,
+        rules: &Rules,
+        framer: &mut Framer,
+        octets: &[u8],
+        is_garbled: bool,
+        now: u64,
+        block: &[u8],
+    ) -> Next
+        ensures { (burst : List ℕ) → HasHeard framer.old burst
+            → IsStep (hears rules.now self.old burst octets.now is_garbled now block.now) self.new
+            framer.new result }
+    {
+        self.note(rules, framer, now);
+        self.is_spoiled = self.is_spoiled || is_garbled;
+        framer.feed(octets);
+        self.weigh(framer);
+        self.go_on(rules, framer, now, block)
+    }
+
+    /// Waits for the next block, as a card does.
+    #[tactic(auto, using(crate::proofs::Parts::is_step), unfolding(crate::specs::Wire::awaits))]
+    pub(crate) fn await_block(&mut self, rules: &Rules, framer: &mut Framer, now: u64) -> Next
+        ensures { IsStep (awaits rules.now self.old now) self.new framer.new result }
+    {
+        framer.restart();
+        self.phase = Phase::Listening;
+        self.is_spoiled = false;
+        self.is_whole = false;
+        self.began_at = Moment::Unknown;
+        self.wait(rules, self.first, now)
+    }
+
+    /// Begins to serve the terminal, or goes on after the line failed, as a card does.
+    #[tactic(auto, using(crate::proofs::Parts::is_step), unfolding(crate::specs::Wire::serves))]
+    pub fn serve(&mut self, rules: &Rules, framer: &mut Framer, now: u64) -> Next
+        ensures { (burst : List ℕ) → HasHeard framer.old burst
+            → IsStep (serves rules.now self.old burst now) self.new framer.new result }
+    {
+        if rules.bgt < self.owed {
+            self.drop_octets(rules, Phase::Missing, now)
+        } else {
+            self.await_block(rules, framer, now)
+        }
+    }
+}
+
+/// Returns the PCB of a burst, its second octet, or 0 if it has none.
+fn pcb_of(octets: &[u8]) -> u8
+    ensures { result ≡ pcb_of octets.now }
+{
+    match octets {
+        [_, pcb, ..] => *pcb,
+        _ => 0,
+    }
+}
+
+/// Whether a burst is an I-block, if it is a whole block.
+fn is_info(octets: &[u8]) -> bool
+    ensures { result ≡ is_info octets.now }
+{
+    pcb_of(octets) < FIRST_NOT_INFO
+}
+
+/// Whether a burst is an S-block, if it is a whole block.
+fn is_supervisory(octets: &[u8]) -> bool
+    ensures { result ≡ is_supervisory octets.now }
+{
+    FIRST_SUPERVISORY <= pcb_of(octets)
+}

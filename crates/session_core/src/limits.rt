@@ -1,0 +1,75 @@
+//! The limits of an exchange, and the waits within them.
+
+ghost use Rattle.std.specs.Prelude.{◌≡◌, List, ℕ};
+ghost use Rattle.session_core.specs.Wire.{gone, left_of, time_of, spends, asking, broken, waits, Step};
+
+use crate::event::Next;
+use crate::progress::{FOREVER, NO_SILENCE, Progress, Rules};
+
+impl Rules {
+    /// Returns how long so many octets take on the line. It is 0 if the line delivers whole bursts.
+    pub(crate) fn time_of(&self, count: usize) -> u64
+        ensures { result ≡ time_of self.now count }
+    {
+        if self.after == NO_SILENCE {
+            0
+        } else {
+            (count as u64).saturating_mul(self.octet)
+        }
+    }
+}
+
+impl Progress {
+    /// Returns how much of the time of the exchange is over.
+    fn gone(&self, rules: &Rules, now: u64) -> u64
+        ensures { result ≡ gone rules.now self.now now }
+    {
+        if rules.has_clock {
+            now.saturating_sub(self.began)
+        } else {
+            self.spent
+        }
+    }
+
+    /// Returns how much of it is left.
+    pub(crate) fn left(&self, rules: &Rules, now: u64) -> u64
+        ensures { result ≡ left_of rules.now self.now now }
+    {
+        if rules.most_time == FOREVER {
+            FOREVER
+        } else {
+            rules.most_time.saturating_sub(self.gone(rules, now))
+        }
+    }
+
+    /// Adds to what is certainly over.
+    pub(crate) fn spend(&mut self, time: u64)
+        ensures { self.new ≡ spends self.old time }
+    {
+        self.spent = self.spent.saturating_add(time);
+    }
+
+    /// Waits for octets, no longer than what is left of the time.
+    pub(crate) fn wait(&mut self, rules: &Rules, wanted: u64, now: u64) -> Next
+        ensures { (burst : List ℕ) → waits rules.now self.old burst wanted now
+            ≡ record { progress = self.new; burst = burst; next = result } }
+    {
+        let left = self.left(rules, now);
+        self.asked = wanted.min(left);
+        self.is_cut = left < wanted;
+        self.asked_at = now;
+        self.interrupts = 0;
+        Next::Wait(self.asked)
+    }
+
+    /// Returns how long the line has to be silent after a burst that isn't a whole block.
+    pub(crate) fn broken(&self, rules: &Rules) -> u64
+        ensures { result ≡ broken rules.now self.now }
+    {
+        if rules.is_card {
+            (rules.bwt / 4 * 3).max(rules.cwt)
+        } else {
+            self.first
+        }
+    }
+}

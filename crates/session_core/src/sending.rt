@@ -1,0 +1,346 @@
+//! Octets that are dropped before a block is sent, and the sending of the block.
+
+ghost use Rattle.std.specs.Prelude.{◌≡◌, List, ℕ, length};
+ghost use Rattle.line_core.specs.Bursts.{HasHeard};
+ghost use Rattle.session_core.specs.Wire.{Step, step_of, IsStep, silence_in, dropping, drops, dropped, cleared, stops, says, settles, talks, begins, clears, misses, takes, echo_wait, took, timed, is_used_up, sent, sent_in, follows, unechoed, met, hears_echo, echoed, agrees, unheard};
+
+use crate::event::Next;
+use crate::progress::{FOREVER, Moment, Phase, Progress, Rules};
+use line_core::Framer;
+
+/// After this many octets without a silence, the line doesn't wait for one any more.
+pub(crate) const MOST_NOISE: u32 = 65_536;
+
+impl Progress {
+    /// Stops.
+    pub(crate) fn stop(&mut self, next: Next) -> Next
+        ensures { (burst : List ℕ) → stops self.old burst next ≡ step_of self.new burst result }
+    {
+        self.phase = Phase::Idle;
+        next
+    }
+
+    /// Returns the silence that the end waits for in a phase in which it drops octets.
+    fn silence(&self, rules: &Rules) -> u64
+        ensures { result ≡ silence_in self.now.phase rules.now self.now }
+    {
+        match self.phase {
+            Phase::Settling => self.owed,
+            Phase::Missing => self.broken(rules),
+            _ if rules.is_card => rules.bgt,
+            _ => rules.bwt,
+        }
+    }
+
+    /// Waits for the silence.
+    #[tactic(auto, using(crate::proofs::Parts::is_step), unfolding(crate::specs::Wire::dropping))]
+    fn wait_silent(&mut self, rules: &Rules, now: u64) -> Next
+        ensures { (burst : List ℕ) → dropping rules.now self.old burst now
+            ≡ step_of self.new burst result }
+    {
+        let silence = self.silence(rules);
+        self.wait(rules, silence, now)
+    }
+
+    /// Begins to drop octets.
+    #[tactic(auto, using(crate::proofs::Parts::is_step), unfolding(crate::specs::Wire::drops))]
+    pub(crate) fn drop_octets(&mut self, rules: &Rules, phase: Phase, now: u64) -> Next
+        ensures { (burst : List ℕ) → drops rules.now self.old phase burst now
+            ≡ step_of self.new burst result }
+    {
+        self.phase = phase;
+        self.left = MOST_NOISE;
+        self.wait_silent(rules, now)
+    }
+
+    /// Drops octets that came.
+    #[tactic(auto, using(crate::proofs::Parts::is_step), unfolding(crate::specs::Wire::dropped))]
+    pub(crate) fn dropped(&mut self, rules: &Rules, count: usize, now: u64) -> Next
+        ensures { (burst : List ℕ) → dropped rules.now self.old burst count now
+            ≡ step_of self.new burst result }
+    {
+        if self.left as usize <= count {
+            self.left = 0;
+            return self.stop(Next::Failed);
+        }
+        self.left -= count as u32;
+        self.wait_silent(rules, now)
+    }
+
+    /// Notes that the line was silent.
+    pub(crate) fn clear(&mut self, rules: &Rules)
+        ensures { self.new ≡ cleared rules.now self.old }
+    {
+        if self.owed <= self.silence(rules) {
+            self.owed = 0;
+        }
+    }
+
+    /// Says that another block met the end's own.
+    #[tactic(auto, using(crate::proofs::Parts::is_step), unfolding(crate::specs::Wire::misses))]
+    pub(crate) fn miss(&mut self, rules: &Rules, now: u64) -> Next
+        ensures { (burst : List ℕ) → misses rules.now self.old burst now
+            ≡ step_of self.new burst result }
+    {
+        self.drop_octets(rules, Phase::Missing, now)
+    }
+
+    /// Begins an exchange: octets that came late are dropped first.
+    #[tactic(auto, using(crate::proofs::Parts::is_step), unfolding(crate::specs::Wire::begins))]
+    pub fn begin(&mut self, rules: &Rules, now: u64) -> Next
+        ensures { (burst : List ℕ) → begins rules.now self.old burst now
+            ≡ step_of self.new burst result }
+    {
+        self.start(now);
+        self.phase = Phase::Late;
+        self.wait(rules, 0, now)
+    }
+
+    /// Begins an exchange with a silence: octets are dropped until then.
+    #[tactic(auto, using(crate::proofs::Parts::is_step), unfolding(crate::specs::Wire::clears))]
+    pub fn begin_silent(&mut self, rules: &Rules, now: u64) -> Next
+        ensures { (burst : List ℕ) → clears rules.now self.old burst now
+            ≡ step_of self.new burst result }
+    {
+        self.start(now);
+        self.drop_octets(rules, Phase::Clearing, now)
+    }
+
+    /// Starts to count the blocks and the time of an exchange.
+    fn start(&mut self, now: u64)
+        ensures { self.new ≡ record self.old { blocks = 0; spent = 0; echoes = 0; began = now } }
+    {
+        self.blocks = 0;
+        self.spent = 0;
+        self.echoes = 0;
+        self.began = now;
+    }
+
+    /// Sends the block.
+    #[tactic(auto, using(crate::proofs::Parts::is_step), unfolding(crate::specs::Wire::says))]
+    pub(crate) fn say(&mut self, framer: &mut Framer, now: u64) -> Next
+        ensures { IsStep (says self.old now) self.new framer.new result }
+    {
+        framer.restart();
+        self.phase = Phase::Sending;
+        self.asked_at = now;
+        self.is_spoiled = false;
+        self.is_whole = false;
+        self.began_at = Moment::Unknown;
+        Next::Send
+    }
+
+    /// Sends the block, once the line is silent.
+    #[tactic(auto, using(crate::proofs::Parts::is_step), unfolding(crate::specs::Wire::settles))]
+    fn settle(&mut self, rules: &Rules, framer: &mut Framer, now: u64) -> Next
+        ensures { (burst : List ℕ) → HasHeard framer.old burst
+            → IsStep (settles rules.now self.old burst now) self.new framer.new result }
+    {
+        if self.owed == 0 {
+            self.say(framer, now)
+        } else {
+            self.drop_octets(rules, Phase::Settling, now)
+        }
+    }
+
+    /// Whether the blocks or the time of the exchange are used up.
+    fn is_used_up(&self, rules: &Rules, now: u64) -> bool
+        ensures { result ≡ is_used_up rules.now self.now now }
+    {
+        !rules.is_card && (rules.most_blocks <= self.blocks || self.left(rules, now) == 0)
+    }
+
+    /// Sends a block, within the limits of the exchange.
+    #[tactic(auto, using(crate::proofs::Parts::is_step), unfolding(crate::specs::Wire::talks))]
+    pub fn talk(&mut self, rules: &Rules, framer: &mut Framer, now: u64) -> Next
+        ensures { (burst : List ℕ) → HasHeard framer.old burst
+            → IsStep (talks rules.now self.old burst now) self.new framer.new result }
+    {
+        if self.is_used_up(rules, now) {
+            return self.stop(Next::UsedUp);
+        }
+        self.blocks = self.blocks.saturating_add(1);
+        self.settle(rules, framer, now)
+    }
+
+    /// Returns how long the sending of a block took. A clock that went back doesn't know.
+    fn took(&self, now: u64) -> u64
+        ensures { result ≡ took self.now now }
+    {
+        if now < self.asked_at {
+            FOREVER
+        } else {
+            now - self.asked_at
+        }
+    }
+
+    /// Notes how long the sending of a block took, and that none of its echo came.
+    fn time(&mut self, took: u64, needs: u64)
+        ensures { self.new ≡ timed self.old took needs }
+    {
+        self.is_quick = took < needs / 2;
+        self.late = took.saturating_sub(needs);
+        self.own = 0;
+    }
+
+    /// Says that the block was sent.
+    #[tactic(auto, using(crate::proofs::Parts::is_step), unfolding(crate::specs::Wire::sent))]
+    pub(crate) fn sent(&mut self, rules: &Rules, framer: &Framer, now: u64, block: &[u8]) -> Next
+        ensures { (burst : List ℕ) → HasHeard framer.now burst
+            → sent rules.now self.old burst now block.now ≡ step_of self.new burst result }
+    {
+        let needs = rules.takes(block);
+        let took = self.took(now);
+        self.time(took, needs);
+        self.sent_in(rules, framer, now, block)
+    }
+
+    /// Reads the echo of the block, or the burst that comes.
+    #[tactic(auto, using(crate::proofs::Parts::is_step), unfolding(crate::specs::Wire::sent_in))]
+    fn sent_in(&mut self, rules: &Rules, framer: &Framer, now: u64, block: &[u8]) -> Next
+        ensures { (burst : List ℕ) → HasHeard framer.now burst
+            → sent_in rules.now self.old burst now block.now ≡ step_of self.new burst result }
+    {
+        if rules.has_echo {
+            let wanted = rules.echo_wait(block);
+            self.phase = Phase::Echoing;
+            return self.wait(rules, wanted, now);
+        }
+        let time = rules.time_of(block.len());
+        self.spend(time);
+        self.phase = Phase::Listening;
+        self.go_on(rules, framer, now, block)
+    }
+
+    /// Takes octets of the echo. Octets after it begin the next burst.
+    #[tactic(auto, using(crate::proofs::Parts::is_step), unfolding(crate::specs::Wire::echoed))]
+    pub(crate) fn echoed(
+        &mut self,
+        rules: &Rules,
+        framer: &mut Framer,
+        octets: &[u8],
+        now: u64,
+        block: &[u8],
+    ) -> Next
+        ensures { (burst : List ℕ) → HasHeard framer.old burst
+            → IsStep (echoed rules.now self.old burst octets.now now block.now) self.new framer.new
+            result }
+    {
+        let rest = self.unheard(block);
+        if agrees(octets, rest) {
+            self.hear_echo(rules, framer, octets, rest, now, block)
+        } else {
+            self.miss(rules, now)
+        }
+    }
+
+    /// Takes octets of the echo, of which `rest` is left to come.
+    #[tactic(auto, using(crate::proofs::Parts::is_step), unfolding(crate::specs::Wire::hears_echo))]
+    fn hear_echo(
+        &mut self,
+        rules: &Rules,
+        framer: &mut Framer,
+        octets: &[u8],
+        rest: &[u8],
+        now: u64,
+        block: &[u8],
+    ) -> Next
+        ensures { (burst : List ℕ) → HasHeard framer.old burst
+            → IsStep (hears_echo rules.now self.old burst octets.now rest.now now block.now) self.new
+            framer.new result }
+    {
+        if octets.len() < rest.len() {
+            let wanted = rules.echo_wait(block);
+            self.own = self.own.saturating_add(octets.len());
+            self.wait(rules, wanted, now)
+        } else {
+            self.follow(rules, framer, &octets[rest.len()..], now, block)
+        }
+    }
+
+    /// Returns what is left to come of the echo.
+    fn unheard<'a>(&self, block: &'a [u8]) -> &'a [u8]
+        ensures { result.now ≡ unheard self.now block.now }
+    {
+        &block[self.own.min(block.len())..]
+    }
+
+    /// Takes octets after the echo, the first ones of the next burst.
+    #[tactic(auto, using(crate::proofs::Parts::is_step), unfolding(crate::specs::Wire::follows))]
+    fn follow(
+        &mut self,
+        rules: &Rules,
+        framer: &mut Framer,
+        octets: &[u8],
+        now: u64,
+        block: &[u8],
+    ) -> Next
+        ensures { (burst : List ℕ) → HasHeard framer.old burst
+            → IsStep (follows rules.now self.old burst octets.now now block.now) self.new framer.new
+            result }
+    {
+        framer.feed(octets);
+        self.phase = Phase::Listening;
+        self.own = block.len();
+        self.weigh(framer);
+        self.go_on(rules, framer, now, block)
+    }
+
+    /// Goes on after a silence in which no more of the echo came.
+    #[tactic(auto, using(crate::proofs::Parts::is_step), unfolding(crate::specs::Wire::unechoed))]
+    pub(crate) fn unechoed(&mut self, rules: &Rules, now: u64) -> Next
+        ensures { (burst : List ℕ) → unechoed rules.now self.old burst now
+            ≡ step_of self.new burst result }
+    {
+        if self.own == 0 {
+            self.stop(Next::Failed)
+        } else {
+            self.miss(rules, now)
+        }
+    }
+
+    /// Takes octets that came in place of the echo, or as it.
+    #[tactic(auto, using(crate::proofs::Parts::is_step), unfolding(crate::specs::Wire::met))]
+    pub(crate) fn meet(
+        &mut self,
+        rules: &Rules,
+        framer: &mut Framer,
+        octets: &[u8],
+        is_garbled: bool,
+        now: u64,
+        block: &[u8],
+    ) -> Next
+        ensures { (burst : List ℕ) → HasHeard framer.old burst
+            → IsStep (met rules.now self.old burst octets.now is_garbled now block.now) self.new
+            framer.new result }
+    {
+        if is_garbled {
+            self.miss(rules, now)
+        } else {
+            self.echoed(rules, framer, octets, now, block)
+        }
+    }
+}
+
+/// Whether octets are the next ones of an echo, as far as both go.
+fn agrees(octets: &[u8], rest: &[u8]) -> bool
+    ensures { result ≡ agrees octets.now rest.now }
+{
+    octets[..rest.len().min(octets.len())] == rest[..octets.len().min(rest.len())]
+}
+
+impl Rules {
+    /// Returns how long the octets of a block take.
+    fn takes(&self, block: &[u8]) -> u64
+        ensures { result ≡ takes self.now block.now }
+    {
+        (block.len() as u64).saturating_mul(self.octet)
+    }
+
+    /// Returns the wait for each part of the echo of a block.
+    fn echo_wait(&self, block: &[u8]) -> u64
+        ensures { result ≡ echo_wait self.now block.now }
+    {
+        self.cwt.saturating_add(self.takes(block))
+    }
+}

@@ -1,0 +1,333 @@
+//! The steps of an end on its line.
+
+ghost use Rattle.std.specs.Prelude.{◌≡◌, ◌∷◌, List, ℕ, length};
+ghost use Rattle.line_core.specs.Bursts.{HasHeard};
+ghost use Rattle.session_core.specs.Wire.{Step, step_of, IsStep, is_waiting, is_idle, is_sending, left_in, used_up, silent_in, came_in, silent, failed, interrupted, came, takes_in, has_none_left, is_past, counts_interrupt, missed, on_sent, on_came, on_silent, on_failed, step, spends, time_of};
+
+use crate::event::{Event, Next};
+use crate::progress::{FOREVER, Phase, Progress, Rules};
+use line_core::Framer;
+
+/// After so many interrupts in a row the line has failed, if the wait has an end.
+const MOST_INTERRUPTS: u32 = 1_000_000;
+
+/// In place of the number of interrupts: the wait is over, and the end looks at what is there already.
+const LAST_LOOK: u32 = u32::MAX;
+
+impl Phase {
+    /// Whether the end waits for octets.
+    fn is_waiting(self) -> bool
+        ensures { result ≡ is_waiting self }
+    {
+        !matches!(self, Phase::Idle | Phase::Sending)
+    }
+
+    /// Whether it sends its block.
+    fn is_sending(self) -> bool
+        ensures { result ≡ is_sending self }
+    {
+        matches!(self, Phase::Sending)
+    }
+
+    /// Whether it does nothing.
+    fn is_idle(self) -> bool
+        ensures { result ≡ is_idle self }
+    {
+        matches!(self, Phase::Idle)
+    }
+}
+
+impl Progress {
+    /// Says what happened on the line, at this moment, and returns what the end does next. `block` is the end's own
+    /// block: the one that it sends, or sent last.
+    ///
+    /// `specs/Wire.antt` says what that is. An event that doesn't fit changes nothing: [`Next::Order`].
+    #[tactic(auto, using(crate::proofs::Parts::is_step), unfolding(crate::specs::Wire::step))]
+    pub fn step(
+        &mut self,
+        rules: &Rules,
+        framer: &mut Framer,
+        event: Event<'_>,
+        now: u64,
+        block: &[u8],
+    ) -> Next
+        ensures { (burst : List ℕ) → HasHeard framer.old burst
+            → IsStep (step rules.now self.old burst event.entry now block.now) self.new framer.new result }
+    {
+        match event {
+            Event::Sent => self.on_sent(rules, framer, now, block),
+            Event::Came(octets) => self.on_came(rules, framer, octets, false, now, block),
+            Event::Garbled(octets) => self.on_came(rules, framer, octets, true, now, block),
+            Event::Silent => self.on_silent(rules, framer, now, block),
+            Event::Failed => self.on_failed(rules, framer),
+        }
+    }
+
+    /// Says that the block was sent.
+    #[tactic(auto, using(crate::proofs::Parts::is_step), unfolding(crate::specs::Wire::on_sent))]
+    pub(crate) fn on_sent(&mut self, rules: &Rules, framer: &Framer, now: u64, block: &[u8]) -> Next
+        ensures { (burst : List ℕ) → HasHeard framer.now burst
+            → on_sent rules.now self.old burst now block.now ≡ step_of self.new burst result }
+    {
+        if self.phase.is_sending() {
+            self.sent(rules, framer, now, block)
+        } else {
+            Next::Order
+        }
+    }
+
+    /// Says that octets came, or that a wait was interrupted.
+    #[tactic(auto, using(crate::proofs::Parts::is_step), unfolding(crate::specs::Wire::on_came))]
+    pub(crate) fn on_came(
+        &mut self,
+        rules: &Rules,
+        framer: &mut Framer,
+        octets: &[u8],
+        is_garbled: bool,
+        now: u64,
+        block: &[u8],
+    ) -> Next
+        ensures { (burst : List ℕ) → HasHeard framer.old burst
+            → IsStep (on_came rules.now self.old burst octets.now is_garbled now block.now) self.new
+            framer.new result }
+    {
+        if self.phase.is_waiting() {
+            self.came(rules, framer, octets, is_garbled, now, block)
+        } else {
+            Next::Order
+        }
+    }
+
+    /// Says that nothing came within the silence that was asked for.
+    #[tactic(auto, using(crate::proofs::Parts::is_step), unfolding(crate::specs::Wire::on_silent))]
+    pub(crate) fn on_silent(
+        &mut self,
+        rules: &Rules,
+        framer: &mut Framer,
+        now: u64,
+        block: &[u8],
+    ) -> Next
+        ensures { (burst : List ℕ) → HasHeard framer.old burst
+            → IsStep (on_silent rules.now self.old burst now block.now) self.new framer.new result }
+    {
+        if self.phase.is_waiting() {
+            self.silent(rules, framer, now, block)
+        } else {
+            Next::Order
+        }
+    }
+
+    /// Says that the line failed.
+    #[tactic(auto, using(crate::proofs::Parts::is_step), unfolding(crate::specs::Wire::on_failed))]
+    pub(crate) fn on_failed(&mut self, rules: &Rules, framer: &Framer) -> Next
+        ensures { (burst : List ℕ) → HasHeard framer.now burst
+            → on_failed rules.now self.old burst ≡ step_of self.new burst result }
+    {
+        if self.phase.is_idle() {
+            Next::Order
+        } else {
+            self.failed(rules, framer)
+        }
+    }
+
+    /// Takes octets that came, or an interrupt.
+    #[tactic(auto, using(crate::proofs::Parts::is_step), unfolding(crate::specs::Wire::came))]
+    fn came(
+        &mut self,
+        rules: &Rules,
+        framer: &mut Framer,
+        octets: &[u8],
+        is_garbled: bool,
+        now: u64,
+        block: &[u8],
+    ) -> Next
+        ensures { (burst : List ℕ) → HasHeard framer.old burst
+            → IsStep (came rules.now self.old burst octets.now is_garbled now block.now) self.new
+            framer.new result }
+    {
+        if octets.is_empty() {
+            return self.interrupted(rules, framer, now, block);
+        }
+        let time = rules.time_of(octets.len());
+        self.spend(time);
+        self.take_in(rules, framer, octets, is_garbled, now, block)
+    }
+
+    /// Takes octets that came, unless they came too late.
+    #[tactic(auto, using(crate::proofs::Parts::is_step), unfolding(crate::specs::Wire::takes_in))]
+    fn take_in(
+        &mut self,
+        rules: &Rules,
+        framer: &mut Framer,
+        octets: &[u8],
+        is_garbled: bool,
+        now: u64,
+        block: &[u8],
+    ) -> Next
+        ensures { (burst : List ℕ) → HasHeard framer.old burst
+            → IsStep (takes_in rules.now self.old burst octets.now is_garbled now block.now) self.new
+            framer.new result }
+    {
+        if self.has_none_left() {
+            self.use_up(rules, framer)
+        } else {
+            self.came_in(rules, framer, octets, is_garbled, now, block)
+        }
+    }
+
+    /// Whether nothing was left of the time when the wait began.
+    fn has_none_left(&self) -> bool
+        ensures { result ≡ has_none_left self.now }
+    {
+        self.is_cut && self.asked == 0
+    }
+
+    /// Takes octets that came in time.
+    #[tactic(auto, using(crate::proofs::Parts::is_step), unfolding(crate::specs::Wire::came_in))]
+    fn came_in(
+        &mut self,
+        rules: &Rules,
+        framer: &mut Framer,
+        octets: &[u8],
+        is_garbled: bool,
+        now: u64,
+        block: &[u8],
+    ) -> Next
+        ensures { (burst : List ℕ) → HasHeard framer.old burst
+            → IsStep (came_in self.old.phase rules.now self.old burst octets.now is_garbled now block.now)
+            self.new framer.new result }
+    {
+        match self.phase {
+            Phase::Late => self.drop_octets(rules, Phase::Clearing, now),
+            Phase::Clearing | Phase::Settling | Phase::Missing => {
+                self.dropped(rules, octets.len(), now)
+            }
+            Phase::Echoing => self.meet(rules, framer, octets, is_garbled, now, block),
+            Phase::Listening => self.hear(rules, framer, octets, is_garbled, now, block),
+            Phase::Idle | Phase::Sending => Next::Order,
+        }
+    }
+
+    /// Says that nothing came within the silence that was asked for.
+    #[tactic(auto, using(crate::proofs::Parts::is_step), unfolding(crate::specs::Wire::silent))]
+    fn silent(&mut self, rules: &Rules, framer: &mut Framer, now: u64, block: &[u8]) -> Next
+        ensures { (burst : List ℕ) → HasHeard framer.old burst
+            → IsStep (silent rules.now self.old burst now block.now) self.new framer.new result }
+    {
+        self.spend(self.asked);
+        if self.is_cut {
+            self.use_up(rules, framer)
+        } else {
+            self.silent_in(rules, framer, now, block)
+        }
+    }
+
+    /// Goes on after a silence.
+    #[tactic(auto, using(crate::proofs::Parts::is_step), unfolding(crate::specs::Wire::silent_in))]
+    fn silent_in(&mut self, rules: &Rules, framer: &mut Framer, now: u64, block: &[u8]) -> Next
+        ensures { (burst : List ℕ) → HasHeard framer.old burst
+            → IsStep (silent_in self.old.phase rules.now self.old burst now block.now) self.new
+            framer.new result }
+    {
+        match self.phase {
+            Phase::Late => self.talk(rules, framer, now),
+            Phase::Clearing => {
+                self.clear(rules);
+                self.talk(rules, framer, now)
+            }
+            Phase::Settling => {
+                self.clear(rules);
+                self.say(framer, now)
+            }
+            Phase::Echoing => self.unechoed(rules, now),
+            Phase::Listening => self.end(rules, framer, block),
+            Phase::Missing => {
+                self.clear(rules);
+                self.missed(rules, framer, now)
+            }
+            Phase::Idle | Phase::Sending => Next::Order,
+        }
+    }
+
+    /// Goes on after a block that met another one.
+    #[tactic(auto, using(crate::proofs::Parts::is_step), unfolding(crate::specs::Wire::missed))]
+    fn missed(&mut self, rules: &Rules, framer: &mut Framer, now: u64) -> Next
+        ensures { (burst : List ℕ) → HasHeard framer.old burst
+            → IsStep (missed rules.now self.old burst now) self.new framer.new result }
+    {
+        if rules.is_card {
+            self.await_block(rules, framer, now)
+        } else {
+            self.stop(Next::Quiet)
+        }
+    }
+
+    /// Takes an interrupt of a wait.
+    #[tactic(auto, using(crate::proofs::Parts::is_step), unfolding(crate::specs::Wire::interrupted))]
+    fn interrupted(&mut self, rules: &Rules, framer: &mut Framer, now: u64, block: &[u8]) -> Next
+        ensures { (burst : List ℕ) → HasHeard framer.old burst
+            → IsStep (interrupted rules.now self.old burst now block.now) self.new framer.new result }
+    {
+        if self.asked == FOREVER {
+            return Next::Wait(FOREVER);
+        }
+        if self.interrupts == LAST_LOOK {
+            return self.silent(rules, framer, now, block);
+        }
+        if self.is_past(rules, now) {
+            self.interrupts = LAST_LOOK;
+            return Next::Wait(0);
+        }
+        self.count_interrupt(rules, framer)
+    }
+
+    /// Whether the wait is over by the clock.
+    fn is_past(&self, rules: &Rules, now: u64) -> bool
+        ensures { result ≡ is_past rules.now self.now now }
+    {
+        rules.has_clock && self.asked <= now.saturating_sub(self.asked_at)
+    }
+
+    /// Counts an interrupt of a wait, which goes on.
+    #[tactic(auto, using(crate::proofs::Parts::is_step), unfolding(crate::specs::Wire::counts_interrupt))]
+    fn count_interrupt(&mut self, rules: &Rules, framer: &Framer) -> Next
+        ensures { (burst : List ℕ) → HasHeard framer.now burst
+            → counts_interrupt rules.now self.old burst ≡ step_of self.new burst result }
+    {
+        if MOST_INTERRUPTS <= self.interrupts {
+            return self.failed(rules, framer);
+        }
+        self.interrupts += 1;
+        Next::Wait(self.asked)
+    }
+
+    /// Notes what the end owes if it stops inside a burst.
+    fn leave(&mut self, rules: &Rules, framer: &Framer)
+        ensures { (burst : List ℕ) → HasHeard framer.now burst
+            → self.new ≡ left_in self.old.phase rules.now self.old burst }
+    {
+        if self.phase == Phase::Listening {
+            self.owed = self.owed_after(rules, framer);
+        }
+    }
+
+    /// Stops because the time of the exchange is over.
+    #[tactic(auto, using(crate::proofs::Parts::is_step), unfolding(crate::specs::Wire::used_up))]
+    fn use_up(&mut self, rules: &Rules, framer: &Framer) -> Next
+        ensures { (burst : List ℕ) → HasHeard framer.now burst
+            → used_up rules.now self.old burst ≡ step_of self.new burst result }
+    {
+        self.leave(rules, framer);
+        self.stop(Next::UsedUp)
+    }
+
+    /// Stops because the line failed.
+    #[tactic(auto, using(crate::proofs::Parts::is_step), unfolding(crate::specs::Wire::failed))]
+    fn failed(&mut self, rules: &Rules, framer: &Framer) -> Next
+        ensures { (burst : List ℕ) → HasHeard framer.now burst
+            → failed rules.now self.old burst ≡ step_of self.new burst result }
+    {
+        self.leave(rules, framer);
+        self.stop(Next::Failed)
+    }
+}
