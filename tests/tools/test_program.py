@@ -4,6 +4,7 @@ instruction does the same in C as in node."""
 
 import pathlib
 import random
+import re
 import shutil
 import struct
 import subprocess
@@ -128,6 +129,12 @@ class Body:
         self.octets += self.operand(I64, 8) + b"\x24\x00"
         self.result(I64, b"\x23\x00")
         self.result(F64, b"\x44" + struct.pack("<d", -0.1))
+        self.jump()
+
+    def jump(self):
+        """A jump that brings a result which is made of what was in its place."""
+        block, jump, end = b"\x02\x7F", b"\x0C\x00", b"\x0B"
+        self.result(I32, block + block + self.operand(I32, 0) + jump + end + b"\x45" + jump + end)
 
 
 def module(extra=(), body=None):
@@ -178,6 +185,9 @@ class Instructions(unittest.TestCase):
             folder = pathlib.Path(folder)
             (folder / "module.wasm").write_bytes(module())
             self.assertEqual(script("release/program-c").main([str(folder / "c"), str(folder / "module.wasm")]), 0)
+            for file in (folder / "c").glob("part-*.c"):
+                # clang warns of a variable that is set to itself
+                self.assertEqual([it[0] for it in re.finditer(r"(?m)^(\w+) = \1;$", file.read_text())], [])
             words = [*operands()]
             runner = [TOP / "tests/program/served.mjs", EVERYWHERE / "scard.mjs"]
             node = served(["node", *runner, folder / "module.wasm"], words)
@@ -247,6 +257,14 @@ class FreshMachine(unittest.TestCase):
         self.assertEqual(self.called(), (7, 1))
         (self.bin / "cc").unlink()
         self.assertEqual(self.called(), (7, 0))
+
+    def test_it_is_compiled_again_if_what_writes_the_c_changed(self):
+        self.assertEqual(self.called(), (7, 1))
+        with open(self.top / "tools/release/everywhere/main.c", "a", encoding="ascii") as file:
+            file.write("/* changed */\n")
+        for lines in (1, 0):
+            done = subprocess.run([self.top / "tools/daily/compiled"], check=True, stderr=subprocess.PIPE, env=self.env())
+            self.assertEqual(done.stderr.count(b"\n"), lines)
 
     def test_without_a_compiler_nothing_runs(self):
         (self.bin / "cc").unlink()

@@ -380,7 +380,7 @@ class Writer:
         if value.text != name:
             self.settle(name)
             value = self.stack[-1]
-            self.say(f"{name} = {value.text};")
+            self.say(f"{name} = {value.text};" if value.text != name else "")
             self.used.add((name, value.type))
             self.stack[-1] = Value(name, value.type, frozenset([name]))
 
