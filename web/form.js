@@ -2,6 +2,8 @@
 "use strict";
 
 const LONGEST_LINE = 4000;
+const { fields: FIELDS, flags: FLAGS, inputs: INPUTS, subcommands: SUBCOMMANDS, names: NAMES, earlier: EARLIER } =
+  JSON.parse(document.getElementById("table").textContent);
 
 // Splits a line into words, as a shell does with quotes and backslashes.
 function split(line) {
@@ -38,8 +40,8 @@ function wordsOfItem(item, values) {
 // The words that the form's values stand for, without the program's name.
 function wordsOf(values) {
   const { words, flags } = SUBCOMMANDS[values.do];
-  const isOn = (flag) => values[flag] === "1";
-  return [...words.flatMap((it) => wordsOfItem(it, values)), ...flags.filter(isOn).map((it) => `--${it}`)];
+  const chosen = flags.filter((it) => values[it] === "1");
+  return [...words.flatMap((it) => wordsOfItem(it, values)), ...chosen.map((it) => `--${it}`)];
 }
 
 // The line that does the same in a shell.
@@ -60,9 +62,8 @@ function valuesOf(address) {
 
 // The address of the form's values: those that its subcommand takes.
 function addressOf(values, text) {
-  const { do: subcommand } = values;
-  const names = fieldsOf(subcommand).filter((it) => belongs(it, values) && values[it] !== "");
-  const flags = SUBCOMMANDS[subcommand].flags.filter((it) => values[it] === "1");
-  const found = [["do", subcommand], ...[...names, ...flags].map((it) => [it, values[it]]), ["text", text]];
+  const names = fieldsOf(values.do).filter((it) => belongs(it, values) && values[it] !== "");
+  const flags = SUBCOMMANDS[values.do].flags.filter((it) => values[it] === "1");
+  const found = [["do", values.do], ...[...names, ...flags].map((it) => [it, values[it]]), ["text", text]];
   return new URLSearchParams(found).toString();
 }

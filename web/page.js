@@ -1,11 +1,8 @@
-// The page: the form from its table, the worker that runs the program, and the answer.
-"use strict";
+// The page: the form, the worker that runs the program, and the answer.
 
-const WAIT = 150;
-const NOTED = 200;
-const SHOWN_OCTETS = 1 << 18;
-const SHOWN_LINES = 2000;
-const PART_LINES = 100;
+// The milliseconds after the last key and until a run is reported; and what is shown of a text.
+const [WAIT, NOTED, SHOWN_OCTETS, SHOWN_LINES, PART_LINES] = [150, 200, 1 << 18, 2000, 100];
+const STOPPED = new Error("stopped");
 
 const part = (id) => document.getElementById(id);
 
@@ -34,9 +31,8 @@ class Program {
 
   take(data) {
     if ("at" in data) return this.call?.far(data.at);
-    const { call } = this;
+    this.call?.ends(data);
     this.call = null;
-    call?.ends(data);
   }
 
   // Runs the program. Returns its status and text, or an error, or nothing if the call was stopped.
@@ -51,46 +47,14 @@ class Program {
   // Stops a call that runs: the worker ends, and another one begins.
   stop() {
     if (!this.call) return;
-    const { ends } = this.call;
+    this.call.ends(null);
     this.worker.terminate();
     this.begin();
-    ends(null);
   }
 }
 
 const saved = [];
-let program = null;
-let file = null;
-let runs = 0;
-let waiting;
-
-// Makes the element for a field, and the elements around it.
-function fieldMade(name) {
-  const { label, note, choices, value = "", isWide } = FIELDS[name];
-  const id = `field-${name}`;
-  const options = Object.entries(choices ?? {}).map(([key, text]) => made("option", { value: key }, text));
-  const wide = isWide ? { class: "wide" } : {};
-  const plain = { id, type: "text", autocomplete: "off", autocapitalize: "off", spellcheck: "false", ...wide };
-  const input = choices ? made("select", { id }, ...options) : made("input", plain);
-  if (!choices) input.value = value;
-  if (note) input.setAttribute("aria-describedby", `${id}-note`);
-  const notes = note ? [made("small", { id: `${id}-note` }, note)] : [];
-  return made("div", { id: `${id}-part`, ...wide }, made("label", { for: id }, label), input, ...notes);
-}
-
-// Makes the switch of a flag.
-function flagMade(name) {
-  const id = `flag-${name}`;
-  return made("p", { id: `${id}-part`, class: "check" }, made("input", { id, type: "checkbox" }), " ",
-    made("label", { for: id }, FLAGS[name]));
-}
-
-function build() {
-  const does = Object.entries(SUBCOMMANDS).map(([name, it]) => made("option", { value: name }, `${name}: ${it.does}`));
-  part("do").append(...does);
-  part("fields").append(...Object.keys(FIELDS).map(fieldMade));
-  part("flags").append(...Object.keys(FLAGS).map(flagMade));
-}
+let [program, file, runs, waiting] = [null, null, 0, 0];
 
 // Shows only those parts of the form that the subcommand and the kind use.
 function adjust() {
@@ -100,7 +64,7 @@ function adjust() {
   for (const name of Object.keys(FIELDS)) part(`field-${name}-part`).hidden = !names.includes(name);
   for (const name of Object.keys(FLAGS)) part(`flag-${name}-part`).hidden = !flags.includes(name);
   part("input-part").hidden = !reads;
-  part("text-note").textContent = reads ?? "";
+  part("text-note").textContent = INPUTS[reads]?.join(" ") ?? "";
   part("text").disabled = file !== null;
   if (!file) part("file").value = "";
   part("file-part").hidden = file === null;
@@ -130,28 +94,19 @@ function fill(values, chosen = null) {
 // Returns the words and the input that the form stands for.
 function asked() {
   const values = given();
-  const reads = Boolean(SUBCOMMANDS[values.do].reads);
-  const text = reads && !file ? part("text").value : "";
-  const [words, chosen] = [wordsOf(values), reads ? file : null];
-  return { words, text, file: chosen, input: chosen ?? text };
-}
-
-// Says in a line how a run is going or how it ended.
-function say(kind, line) {
-  part("status").className = kind;
-  part("status").textContent = line;
+  const { reads } = SUBCOMMANDS[values.do];
+  const [text, chosen] = [reads && !file ? part("text").value : "", reads ? file : null];
+  return { values, words: wordsOf(values), text, file: chosen, input: chosen ?? text };
 }
 
 // Runs the program for what the form contains, and shows its answer.
 async function run() {
   clearTimeout(waiting);
-  const number = ++runs;
-  const now = asked();
+  const [number, now, bar] = [++runs, asked(), part("progress")];
   part("command").textContent = lineOf(now);
   part("shared").textContent = "";
-  const bar = part("progress");
   const late = setTimeout(() => {
-    say("", "The program runs.");
+    Object.assign(part("status"), { className: "", textContent: "The program runs." });
     bar.removeAttribute("value");
     [bar.hidden, part("stop").disabled] = [false, false];
   }, NOTED);
@@ -160,50 +115,62 @@ async function run() {
   clearTimeout(late);
   if (number !== runs) return;
   [bar.hidden, part("stop").disabled] = [true, true];
-  if (!told) show("no", "Stopped.");
-  else if (told.error !== undefined) show("no", `The module ended with an error: ${told.error}`);
-  else await answered(number, told);
+  if (told?.parts) await answered(number, now, told);
+  else show("no", told ? `The module ended with an error: ${told.error}` : "Stopped.");
 }
 
-// Shows an answer: its status and its text, and the picture if it is one.
-async function answered(number, { status, parts }) {
+// Makes the pictures of an answer with further runs of the program. There are none if another run stops these.
+async function pictures(number, now, head) {
+  const kind = SUBCOMMANDS[now.values.do].picture;
+  if (!kind || (now.input.size ?? now.input.length) > MOST_TEXT) return {};
+  const ask = async (words, input) => {
+    const told = number === runs ? await program.run(words, input) : null;
+    if (!told?.parts || number !== runs) throw STOPPED;
+    return { status: told.status, text: await new Blob(told.parts).text() };
+  };
+  return PICTURES[kind](ask, now, head).catch((why) => ({ fault: why === STOPPED || console.error(why) }));
+}
+
+// Shows an answer: its status, its text and its pictures. Lines of the text light up their octets.
+async function answered(number, now, { status, parts }) {
   const text = new Blob(parts);
   const head = await text.slice(0, SHOWN_OCTETS).text();
   if (number !== runs) return;
   saved.splice(0).forEach((it) => URL.revokeObjectURL(it));
+  const { lines, places = [], below = [] } = await pictures(number, now, head);
+  if (number !== runs) return;
+  const isCut = text.size > SHOWN_OCTETS;
+  const all = shown(head, isCut, bare(head.split("\n")[0]) === lines?.[0] ? places : []);
   const isPicture = head.startsWith("<svg");
-  const below = shown(head, text.size > SHOWN_OCTETS);
-  const all = isPicture ? [pictured(text), made("details", {}, made("summary", {}, "Its text"), ...below)] : below;
-  show(status === 0 ? "yes" : "no", `Exit status ${status}`, ...all);
-  if (text.size) part("out").append(link(text, isPicture ? "scard.svg" : "scard.txt"));
+  const folded = isPicture ? made("details", {}, made("summary", {}, "Its text"), ...all.splice(0)) : null;
+  if (isPicture) all.push(pictured(isCut ? text : drawn(head)), folded);
+  const [href, download] = [addressFor(text, "application/octet-stream"), isPicture ? "scard.svg" : "scard.txt"];
+  const link = made("a", { href, download }, `Save this text as ${download} (${text.size} octets)`);
+  if (text.size) all.push(made("p", {}, link));
+  show(status === 0 ? "yes" : "no", `Exit status ${status}`, all, below);
   performance.mark("answered");
 }
 
 // Shows a line, and other elements below it.
-function show(kind, line, ...below) {
-  say(kind, line);
+function show(kind, line, below = [], above = []) {
+  Object.assign(part("status"), { className: kind, textContent: line });
+  part("picture").replaceChildren(...above);
   part("out").replaceChildren(...below);
 }
 
 // Makes an address of a text, which lasts until the next answer.
 function addressFor(text, type) {
-  const address = URL.createObjectURL(new Blob([text], { type }));
-  saved.push(address);
-  return address;
-}
-
-function link(text, name) {
-  return made("p", {}, made("a", { href: addressFor(text, "application/octet-stream"), download: name },
-    `Save this text as ${name} (${text.size} octets)`));
+  saved.unshift(URL.createObjectURL(new Blob([text], { type })));
+  return saved[0];
 }
 
 function pictured(text) {
-  const alt = "The drawing; draw without --svg gives it as text";
+  const alt = "The session as a ladder; draw without --svg gives it as text";
   return made("p", { class: "picture", tabindex: "0" }, made("img", { alt, src: addressFor(text, "image/svg+xml") }));
 }
 
-// Shows the first lines of a text, in parts. The style makes a browser lay out only the parts on the screen.
-function shown(head, isCut) {
+// Shows the first lines of a text, in parts: a browser lays out only those on the screen. Lines may have places.
+function shown(head, isCut, places) {
   const lines = head.split("\n");
   const isLonger = isCut || lines.length > SHOWN_LINES;
   const first = lines.slice(0, SHOWN_LINES);
@@ -212,30 +179,27 @@ function shown(head, isCut) {
     const piece = first.slice(at * PART_LINES, (at + 1) * PART_LINES);
     return made("span", count > 1 ? { class: "part" } : {}, piece.join("\n") + (at + 1 < count ? "\n" : ""));
   });
-  const pre = made("pre", { tabindex: "0", role: "region", "aria-label": "The program's text" }, ...parts);
+  const lit = (line, at) => [at ? "\n" : "", lighting("label", places[at] ?? [], "", { class: "line" }, line)];
+  const inside = places.length ? lines.flatMap(lit) : parts;
+  const pre = made("pre", { tabindex: "0", role: "region", "aria-label": "The program's text" }, ...inside);
   return [pre, ...(isLonger ? [made("p", {}, "This is the beginning of the text. The file has all of it.")] : [])];
-}
-
-// Takes a file as the input.
-function take(chosen) {
-  file = chosen;
-  adjust();
-  run();
 }
 
 // Puts the form into the address. Only a button calls it: octets may be secret, and a browser keeps a history.
 function share() {
-  const { text, file: chosen } = asked();
-  history.replaceState(null, "", `#${addressOf(given(), text)}`);
-  const what = chosen ? "the words, without the file" : "the words and the input";
-  part("shared").textContent = `The address of this page now has ${what}.`;
+  const { values, text, file: chosen } = asked();
+  history.replaceState(null, "", `#${addressOf(values, text)}`);
+  part("shared").textContent = `The address now has the words${chosen ? ", without the file" : " and the input"}.`;
 }
 
-// Puts the values in the address into the form, if there are any.
-function fromAddress() {
-  const values = valuesOf(location.hash.slice(1));
-  if (values) fill(values);
+// Puts values into the form, if there are any, and runs the program.
+function put(values, chosen) {
+  if (values) fill(values, chosen);
+  run();
 }
+
+// Takes a file as the input, or the text again.
+const take = (chosen) => put({ ...given(), text: part("text").value }, chosen);
 
 // Runs the program after the last key, when the input hasn't changed for a while.
 function later() {
@@ -244,45 +208,39 @@ function later() {
   waiting = setTimeout(run, WAIT);
 }
 
-function help() {
-  const [name] = SUBCOMMANDS[part("do").value].words;
-  fill({ do: "words", line: name.startsWith("$") ? "help" : `help ${name}` });
-  run();
+// Lights up the octets of the line that is pointed at or has the focus, or the lines of an octet.
+function light({ target }) {
+  const own = target.closest?.("[data-lit]") ?? document.activeElement?.closest("[data-lit]");
+  const octets = own?.dataset.lit.split(" ") ?? [];
+  for (const it of part("answer").querySelectorAll("[data-lit]")) {
+    const isOther = own?.matches(".octet") !== it.matches(".octet") || it.dataset.lit === own.dataset.lit;
+    it.classList.toggle("lit", isOther && it.dataset.lit.split(" ").some((at) => octets.includes(at)));
+  }
+  part("lit")?.replaceChildren(own?.title ?? "");
 }
 
 function listen() {
   const on = (id, name, call) => part(id).addEventListener(name, call);
   on("asking", "input", later);
-  on("asking", "submit", (event) => {
-    event.preventDefault();
-    run();
-  });
   on("file", "change", () => part("file").files.length && take(part("file").files[0]));
   on("no-file", "click", () => take(null));
   on("stop", "click", () => program.stop());
   on("share", "click", share);
-  on("help", "click", help);
-  on("examples", "click", (event) => {
-    const button = event.target.closest("button");
-    if (!button) return;
-    fill(button.dataset);
-    run();
+  on("help", "click", () => {
+    put({ do: "words", line: `help ${SUBCOMMANDS[part("do").value].words[0].replace(/^\$.*/, "")}` });
   });
+  on("examples", "click", ({ target }) => target.closest("button") && put(target.closest("button").dataset));
+  for (const name of ["pointerover", "pointerleave", "focusin"]) on("answer", name, light);
   document.addEventListener("dragover", (event) => event.preventDefault());
   document.addEventListener("drop", (event) => {
     if (!event.dataTransfer.files.length) return;
     event.preventDefault();
     take(event.dataTransfer.files[0]);
   });
-  addEventListener("hashchange", () => {
-    fromAddress();
-    run();
-  });
+  addEventListener("hashchange", () => put(valuesOf(location.hash.slice(1))));
 }
 
-build();
 listen();
 program = new Program();
 fill(part("examples").querySelector("button").dataset);
-fromAddress();
-run();
+put(valuesOf(location.hash.slice(1)));

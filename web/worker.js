@@ -2,11 +2,8 @@
 // scard.mjs before it.
 "use strict";
 
-const PIECE = 1 << 20;
-const OFTEN = 100;
-
-let loaded = null;
-let answer = null;
+const [PIECE, OFTEN] = [1 << 20, 100];
+let [loaded, answer] = [null, null];
 
 // Returns the octets of a text in base64, which gzip compressed.
 async function unpacked(text) {
@@ -40,10 +37,7 @@ function reading(input) {
 // Runs the program once. After an error the next run begins with a new instance.
 async function ran({ words, input }) {
   const parts = [];
-  const write = (part) => {
-    parts.push(part.slice());
-    return part.length;
-  };
+  const write = (part) => parts.push(part.slice()) && part.length;
   try {
     const octets = await loaded;
     answer ??= program(octets);
@@ -56,10 +50,7 @@ async function ran({ words, input }) {
 }
 
 onmessage = async ({ data }) => {
-  if (data.module) {
-    loaded = unpacked(data.module);
-    return;
-  }
-  const told = await ran(data);
-  postMessage(told, told.parts?.map((it) => it.buffer) ?? []);
+  loaded ??= unpacked(data.module);
+  const told = data.words ? await ran(data) : null;
+  if (told) postMessage(told, told.parts?.map((it) => it.buffer) ?? []);
 };

@@ -3,12 +3,13 @@
 // usage: node tests/web/browser.mjs PAGE [PICTURES]
 //
 // PAGE is the file that web/make made. Each line of vectors/ goes through the page's form, and status and text have to
-// be the line's, character by character. Then each example is chosen, a file is dropped, a long run is stopped, an
-// address is opened, and a module ends with an error. The page may load and send nothing, and the browser may complain
-// of nothing. The first answer has to come in a second. In Chromium texts are typed too: a forest of 1 MiB has to be
-// shown in a second, and no text of 64 KiB may delay other input for 50 milliseconds. With PICTURES, pictures of each
-// example go into that folder, light, dark and narrow. A browser in which the test stops early is a failure, with its
-// name. The last line is 'N passed, M failed'.
+// be the line's, character by character. Then each example is chosen, lines light up their octets by the pointer and by
+// keys, a tree is folded, a file is dropped, a long run is stopped, an address is opened, and a module ends with an
+// error. The page may load and send nothing, and the browser may complain of nothing. The first answer has to come in a
+// second. In Chromium texts are typed too: a forest of 1 MiB has to be shown in a second, and no text of 64 KiB may
+// delay other input for 50 milliseconds. With PICTURES, pictures of each example go into that folder, wide and narrow,
+// light and dark. A browser in which the test stops early is a failure, with its name. The last line is 'N passed, M
+// failed'.
 import { execFileSync } from "node:child_process";
 import { mkdtempSync, readFileSync, rmSync, writeFileSync } from "node:fs";
 import { tmpdir } from "node:os";
@@ -87,6 +88,90 @@ async function pictured(page) {
   await choose(page, SAID.findIndex(([, begins]) => begins.startsWith("<svg")));
   await page.until('document.querySelector("img")?.naturalWidth > 0').catch(() => {});
   checks.equal("the width of the picture", await page.value('document.querySelector("img").naturalWidth'), 860);
+}
+
+const LIT = '[...document.querySelectorAll(".octet.lit")].map((it) => it.textContent).join(" ")';
+
+// Moves the pointer to the middle of an element.
+async function pointed(page, element) {
+  const [x, y] = await page.value(`(() => {
+    const it = ${element};
+    it.scrollIntoView({ block: "center" });
+    const { x, y, width, height } = it.getBoundingClientRect();
+    return [Math.round(x + width / 2), Math.round(y + height / 2)];
+  })()`);
+  await page.point(x, y);
+}
+
+// Waits until these octets are lit up, and compares them.
+async function lights(page, what, octets) {
+  await page.until(`${LIT} === ${JSON.stringify(octets)}`).catch(() => {});
+  checks.equal(`${what}: the octets`, await page.value(LIT), octets);
+}
+
+// A line lights up its octets by the pointer, by the focus and by keys, and an octet its lines.
+async function lit(page) {
+  await choose(page, 0);
+  const line = (at) => `document.querySelectorAll(".line")[${at}]`;
+  checks.equal("the strip", await page.value('document.querySelector(".strip").textContent'), "3B80800101");
+  await pointed(page, line(1));
+  await lights(page, "the pointer", "80");
+  checks.equal("its place", await page.value('part("lit").textContent'), "octet 2");
+  await pointed(page, 'document.querySelector("h1")');
+  await lights(page, "the pointer elsewhere", "");
+  await pointed(page, 'document.querySelectorAll(".octet")[3]');
+  const lines = '[...document.querySelectorAll(".line.lit")].map((it) => it.textContent.slice(0, 6)).join()';
+  await page.until(`${lines} !== ""`).catch(() => {});
+  checks.equal("the line of an octet", await page.value(lines), "TD2 01");
+  checks.equal("what the octet is", await page.value('part("lit").textContent'), "octet 3: TD2 comes next");
+  await pointed(page, 'document.querySelector("h1")');
+  await page.value(`(document.querySelector("#out pre").focus(), 0)`);
+  await page.press("Tab");
+  await lights(page, "the focus", "3B");
+  await page.press("ArrowDown");
+  await lights(page, "an arrow key", "80");
+  checks.equal("the place of the focus", await page.value('part("lit").textContent'), "octet 2");
+  await choose(page, 1);
+  checks.equal("the wrong octet", await page.value('document.querySelector(".stop").textContent'), "A4");
+  await page.value('(document.querySelectorAll(".octet input")[7].focus(), 0)');
+  await page.press("ArrowDown");
+  await lights(page, "an arrow key in the strip", "A4");
+}
+
+// The tree of data objects folds by a key, and its lines light up their octets.
+async function folded(page) {
+  await choose(page, 2);
+  const object = (at) => `document.querySelectorAll(".tree [data-lit]")[${at}]`;
+  await page.value(`(${object(2)}.focus(), 0)`);
+  await lights(page, "the focus in the tree", "A5 05 BF 0C 02 50 00");
+  const isSeen = () => page.value(`${object(4)}.getClientRects().length > 0 && ${object(4)}.checkVisibility()`);
+  checks.equal("whether an object is seen", await isSeen(), true);
+  await page.press("Enter");
+  await page.until(`!${object(2)}.parentElement.open`).catch(() => {});
+  checks.equal("whether it is seen when it is folded", await isSeen(), false);
+  await page.press("Tab");
+  const isInside = 'document.activeElement.closest(".tree") !== null';
+  checks.equal("whether the focus leaves what is folded", await page.value(isInside), false);
+}
+
+// Sessions and judged traces have a picture, with moments to scale if they have some. Others have none.
+async function drawn(page) {
+  const widths = { 5: null, 6: 860, 7: 860, 9: 960 };
+  for (const [at, width] of Object.entries(widths)) {
+    await choose(page, Number(at));
+    await page.until(`!document.querySelector("#picture img") || document.querySelector("#picture img").naturalWidth`);
+    const found = await page.value('document.querySelector("#picture img")?.naturalWidth ?? null');
+    checks.equal(`the width of the ladder of example ${Number(at) + 1}`, found, width);
+  }
+}
+
+// Enter in a field leaves the page and its answer as they are.
+async function entered(page) {
+  await choose(page, 9);
+  await page.value('(globalThis.isHere = true, part("field-atr").focus(), 0)');
+  await page.press("Enter");
+  await wait(100);
+  checks.equal("Enter in a field", await page.value(`globalThis.isHere && ${STATUS}`), "Exit status 1");
 }
 
 // Drops a file on the page.
@@ -195,8 +280,10 @@ async function measure(page) {
 async function draw(page) {
   for (const at of SAID.keys()) {
     await choose(page, at);
-    for (const [name, width, scheme] of [["light", 1000, "light"], ["dark", 1000, "dark"], ["narrow", 360, "light"]]) {
-      await page.picture(join(pictures, `${at + 1}-${name}.png`), width, scheme);
+    for (const [name, width] of [["wide", 1200], ["narrow", 400]]) {
+      for (const scheme of ["light", "dark"]) {
+        await page.picture(join(pictures, `${at + 1}-${name}-${scheme}.png`), width, scheme);
+      }
     }
   }
 }
@@ -217,7 +304,7 @@ async function first(page) {
 async function used(page) {
   await first(page);
   for (const at of SAID.keys()) await choose(page, at);
-  for (const test of [pictured, dropped, stopped, shared, compare]) await test(page);
+  for (const test of [pictured, lit, folded, drawn, entered, dropped, stopped, shared, compare]) await test(page);
 }
 
 // Checks that the browser requested only the page, and that it complains of nothing. Firefox doesn't report requests

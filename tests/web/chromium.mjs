@@ -9,6 +9,8 @@ import { Remote, wait } from "./remote.mjs";
 const WORDS = ["--headless=new", "--remote-debugging-pipe", "--no-first-run", "--disable-gpu", "--disable-extensions",
   "--disable-background-networking", "--disable-dev-shm-usage"];
 
+const KEYS = { Tab: 9, Enter: 13, ArrowDown: 40 };
+
 export class Page extends Remote {
   // Starts a browser. Only root runs Chromium without its sandbox.
   constructor(chromium) {
@@ -56,6 +58,19 @@ export class Page extends Remote {
     const { result, exceptionDetails } = await this.call("Runtime.evaluate", how);
     if (exceptionDetails) throw new Error(exceptionDetails.exception?.description ?? exceptionDetails.text);
     return result.value;
+  }
+
+  // Moves the pointer to a place of the window.
+  async point(x, y) {
+    await this.call("Input.dispatchMouseEvent", { type: "mouseMoved", x, y });
+  }
+
+  // Presses a key, by its name.
+  async press(key) {
+    const text = key === "Enter" ? { text: "\r" } : {};
+    for (const type of ["keyDown", "keyUp"]) {
+      await this.call("Input.dispatchKeyEvent", { type, key, code: key, windowsVirtualKeyCode: KEYS[key], ...text });
+    }
   }
 
   async version() {

@@ -9,6 +9,8 @@ import { Remote } from "./remote.mjs";
 const HERE = /WebDriver BiDi listening on (ws:\S+)/;
 const EVENTS = ["log.entryAdded", "network.beforeRequestSent"];
 
+const KEYS = { Tab: "\uE004", Enter: "\uE007", ArrowDown: "\uE015" };
+
 export class Page extends Remote {
   // Starts a browser.
   constructor(firefox) {
@@ -19,13 +21,13 @@ export class Page extends Remote {
     this.ended = new Promise((yes) => this.browser.on("exit", yes));
   }
 
-  // Opens a file in it.
+  // Opens a file in a new window of it, which has the focus.
   async open(file) {
     await this.connected();
     const { capabilities } = await this.call("session.new", { capabilities: {} });
     this.capabilities = capabilities;
-    const { contexts } = await this.call("browsingContext.getTree", {});
-    this.context = contexts[0].context;
+    const { context } = await this.call("browsingContext.create", { type: "window" });
+    this.context = context;
     await this.call("session.subscribe", { events: EVENTS });
     await this.load(pathToFileURL(file).href);
   }
@@ -64,6 +66,21 @@ export class Page extends Remote {
     const { type, result, exceptionDetails } = await this.call("script.evaluate", how);
     if (type === "exception") throw new Error(exceptionDetails.text);
     return result.value === undefined ? undefined : JSON.parse(result.value);
+  }
+
+  // Moves the pointer to a place of the window.
+  async point(x, y) {
+    await this.acts({ type: "pointer", id: "pointer", actions: [{ type: "pointerMove", x, y }] });
+  }
+
+  // Presses a key, by its name.
+  async press(key) {
+    const actions = ["keyDown", "keyUp"].map((type) => ({ type, value: KEYS[key] }));
+    await this.acts({ type: "key", id: "keys", actions });
+  }
+
+  async acts(...actions) {
+    await this.call("input.performActions", { context: this.context, actions });
   }
 
   async version() {

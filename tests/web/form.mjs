@@ -3,17 +3,19 @@
 // usage: node tests/web/form.mjs PAGE
 //
 // PAGE is the file that web/make made. Its whole script runs, with its worker. Each example is chosen, values put in,
-// files are dropped, the address is written and read again, a call is stopped, and a module ends with an error. Then
-// each line of vectors/ goes through the form, and status and text have to be the line's. The look of the page isn't
-// tested. The last line is 'N passed, M failed'.
+// files are dropped, the address is written and read again, a call is stopped, and a module ends with an error. Each
+// line of each value of vectors/ has to light up its own octets, and what judge says has to be at its blocks. Then each
+// line of vectors/ goes through the form, and status and text have to be the line's. The look of the page isn't tested.
+// The last line is 'N passed, M failed'.
 import { cases, through, TRAPS, withModule } from "./cases.mjs";
 import { Checks } from "./checks.mjs";
 import { File, opened, read } from "./paper.mjs";
+import { formsPictured, momentsPictured, tracesPictured, valuesPictured } from "./pictures.mjs";
 import { SAID, SHOWN_LINES, TEXTS } from "./shown.mjs";
 
 const text = read(process.argv[2]);
-const NAMES = "SUBCOMMANDS, asked, fill, later, lineOf, program, quoted, split, valuesOf";
-const { own, find, examples, location, handlers } = opened(text, NAMES);
+const NAMES = "SUBCOMMANDS, asked, drawn, fill, judged, later, lineOf, program, quoted, split, strip, valuesOf";
+const { own, find, examples, location, handlers, urls } = opened(text, NAMES);
 const checks = new Checks("form", 20);
 
 // Waits until the line of the status begins with this, for ten seconds at most.
@@ -39,6 +41,12 @@ function put(values, page = own) {
 
 function choose(at) {
   find("examples").handlers.click({ target: { closest: () => ({ dataset: examples[at] }) } });
+}
+
+// Runs the program, as the page does for its pictures.
+async function ask(words, input) {
+  const { status, parts } = await own.program.run(words, input);
+  return { status, text: await new Blob(parts).text() };
 }
 
 async function vectors() {
@@ -137,6 +145,35 @@ async function files() {
   await gives("help", () => find("help").handlers.click(), [0, "Build octets: "]);
 }
 
+// The parts of the pictures and of the text that light up octets.
+const lighting = (id) => find(id).every().filter((it) => it["data-lit"]);
+
+// Pictures of answers, and of all that vectors/ have. An answer in JSON has a strip, and no line that lights up octets.
+async function pictures() {
+  const values = { do: "show", kind: "response", text: "019000" };
+  await gives("a response", () => put(values), [0, "part 01\nstatus 9000 normal\n"]);
+  checks.equal("its strip", lighting("picture").map((it) => it["data-lit"]).join(), "0,1,2");
+  checks.equal("its lines", lighting("out").map((it) => it["data-lit"]).join(), "0,1 2");
+  await gives("a response in JSON", () => put({ ...values, json: "1" }), [0, '{"version":1,']);
+  checks.equal("the strip of JSON", lighting("picture").length, 3);
+  checks.equal("the lines of JSON", lighting("out").length, 0);
+  await gives("a check", () => put({ ...values, do: "check" }), [0, "ok 3 octets\n"]);
+  checks.equal("the strip of a check", lighting("picture").length, 3);
+  checks.equal("the lines of a check", lighting("out").length, 0);
+  for (let late = 0; late < 60; late += 5) {
+    choose(2);
+    await new Promise((go) => { setTimeout(go, late); });
+    await gives(`an answer ${late} ms after another run`, () => choose(0), SAID[0]);
+    checks.equal("its own strip", find("picture").inside[0].textContent, "3B80800101");
+  }
+  await gives("an answer without a picture", () => put({ do: "words", line: "help" }), [0, ""]);
+  checks.equal("its pictures", find("picture").inside.length, 0);
+  await formsPictured(checks, own, ask);
+  await momentsPictured(checks, own, ask);
+  await valuesPictured(checks, own, ask);
+  await tracesPictured(checks, own, ask, urls);
+}
+
 // A call that is stopped, and a module that ends with an error.
 async function ends() {
   const stopped = own.program.run(["-V"], new File(new Uint8Array()));
@@ -161,5 +198,6 @@ addresses();
 await chosen();
 await files();
 await ends();
+await pictures();
 await vectors();
-checks.end(12000);
+checks.end(50000);

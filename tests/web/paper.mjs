@@ -47,24 +47,26 @@ function workers(script) {
 export function opened(text, exports) {
   const tags = [...text.matchAll(/<(\w+)[^>]*? id="([^"]+)"/g)];
   const parts = Object.fromEntries(tags.map(([, tag, id]) => [id, new Element(tag)]));
-  for (const id of ["module", "worker"]) parts[id].textContent = text.match(`id="${id}">([\\s\\S]*?)</script>`)[1];
+  for (const id of ["module", "worker", "table"]) {
+    parts[id].textContent = text.match(`id="${id}">([\\s\\S]*?)</script>`)[1];
+  }
   const buttons = [...text.matchAll(/<button type="button"\s+(data-[^>]*)>/g)];
   const examples = buttons.map(([, given]) => Object.fromEntries([...given.matchAll(/data-(\w+)="([^"]*)"/g)]
     .map(([, name, value]) => [name, value.replaceAll("&#10;", "\n")])));
   parts.examples.querySelector = () => ({ dataset: examples[0] });
   const [location, handlers] = [{ hash: "" }, {}];
-  // an element that the script made is found by its id once it was looked for
-  const made = () => [...parts.fields.every(), ...parts.flags.every()];
-  const find = (id) => (parts[id] ??= made().find((it) => it.id === id));
+  // an element that the script made is in another one
+  const find = (id) => parts[id] ?? parts.picture.every().find((it) => it.id === id);
   const worker = () => parts.worker.textContent;
-  const url = { createObjectURL: (it) => it.type, revokeObjectURL() {} };
+  const urls = [];
+  const url = { createObjectURL: (it) => `blob:${urls.push(it)}`, revokeObjectURL() {} };
   const on = (name, handler) => { handlers[name] = handler; };
   const world = vm.createContext({ performance, setTimeout, clearTimeout, URLSearchParams, URL: url, Blob,
     Worker: workers(worker), location, history: { replaceState: (_, __, address) => { location.hash = address; } },
     document: { getElementById: find, createElement: (tag) => new Element(tag), addEventListener: on },
     addEventListener: on });
   vm.runInContext(`${text.match(/<script>([\s\S]*)<\/script>/)[1]}\nglobalThis.own = { ${exports} };`, world);
-  return { own: world.own, find, examples, location, handlers };
+  return { own: world.own, find, examples, location, handlers, urls };
 }
 
 export const read = (file) => readFileSync(file, "utf8");

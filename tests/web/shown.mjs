@@ -20,9 +20,10 @@ const session = "command 00A4040000\nt 00000500A4040000A5\nasked 00A4040000\nrep
 const header = "scard-exchange 1\natr 3B808131204555\n";
 
 const kib = (what, values) => [`64 KiB of text, ${what}`, { do: "show", notes: "1", ...values }];
+const strip = (what, values) => [`256 octets with a strip, ${what}`, { do: "show", notes: "1", ...values }];
 const mib = (what, text) => [`1 MiB, ${what}`, { do: "show", notes: "1", kind: "tlv", text }];
 
-// Long texts: the values of the form.
+// Long texts, and the longest that have pictures: the values of the form.
 export const TEXTS = [
   kib("empty objects", { kind: "tlv", text: filled("5000", KIB_64) }),
   kib("one object", { kind: "tlv", text: `5A827FFC${"41".repeat(32764)}` }),
@@ -35,4 +36,8 @@ export const TEXTS = [
   mib("empty objects", filled("5000", 2 * MIB)),
   mib("one object", `5A830FFFFB${"41".repeat(MIB - 5)}`),
   mib("objects of three octets", filled("5A0101", 2 * MIB)),
+  strip("empty objects", { kind: "tlv", text: "5000".repeat(128) }),
+  strip("a command", { kind: "command", text: `00D60000FB${"41".repeat(0xFB)}` }),
+  strip("an answer to reset and more", { kind: "atr", text: `3B00${"41".repeat(254)}` }),
+  ["4 KiB, an exchange with a ladder", { do: "replay", text: header + filled(session, KIB_64 / 16 - header.length) }],
 ];
