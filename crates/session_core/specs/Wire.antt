@@ -1,6 +1,6 @@
 -- How an end uses its line, step by step: what happened on the line, and what the end does next. The clauses are those
 -- of ISO/IEC 7816-3:2006. Times are in microseconds.
-use Rattle.std.specs.Prelude.{◌≡◌, ℕ, ◌+◌, ◌-◌, ◌*◌, ◌/◌, List, [], ◌∷◌, ◌++◌, length, take, drop, slice_index, min, max, Bool, true, false, ◌&&◌, ◌||◌, ◌==◌, not, nat_eq, nat_lt, nat_le, if◌then◌else◌}
+use Rattle.std.specs.Prelude.{◌^◌, ◌%◌, ◌≡◌, ℕ, ◌+◌, ◌-◌, ◌*◌, ◌/◌, List, [], ◌∷◌, ◌++◌, length, take, drop, slice_index, min, max, Bool, true, false, ◌&&◌, ◌||◌, ◌==◌, not, nat_eq, nat_lt, nat_le, if◌then◌else◌}
 use Rattle.std.specs.List.{starts_with}
 use Rattle.std.specs.Cmp.Lexicographic.{pointwise}
 use Rattle.line_core.specs.Bursts.{HasHeard, handed, is_whole}
@@ -25,11 +25,29 @@ forever = 18446744073709551615
 abbrev pub capped : ℕ → ℕ
 capped time = min time forever
 
+-- ---- the clock
+
+-- How far the clock went on. After its greatest number a clock begins again at 0.
+abbrev pub turned : ℕ → ℕ → ℕ
+turned now began = (now + (2 ^ 64 - began)) % 2 ^ 64
+
+-- Half of all numbers. A clock that would have gone on further went back.
+abbrev pub half : ℕ
+half = 9223372036854775807
+
+-- the time since a moment, or another one if the clock went back
+abbrev pub passed : ℕ → ℕ → ℕ → ℕ
+passed now began back = if nat_le (turned now began) half then turned now began else back
+
+-- a clock that went back stood still
+abbrev pub since : ℕ → ℕ → ℕ
+since now began = passed now began 0
+
 -- ---- the limits of an exchange
 
 -- how much of the time of the exchange is over: by the clock, or what is certainly over
 abbrev pub gone : Rules → Progress → ℕ → ℕ
-gone r p now = if r.has_clock then now - p.began else p.spent
+gone r p now = if r.has_clock then since now p.began else p.spent
 
 -- what is left of it
 abbrev pub left_of : Rules → Progress → ℕ → ℕ
@@ -259,7 +277,7 @@ goes_on r p burst now block =
 
 -- these octets came
 abbrev pub begun : Rules → Progress → List ℕ → ℕ → Progress
-begun r p [] now = record p { began_at = moment_of r p (now - p.asked_at) }
+begun r p [] now = record p { began_at = moment_of r p (since now p.asked_at) }
 begun r p (octet ∷ octets) now = p
 
 abbrev pub spoiled : Progress → Bool → Progress
@@ -313,7 +331,7 @@ echoed r p burst octets now block =
 
 -- how long the sending of the block took; a clock that went back doesn't know
 abbrev pub took : Progress → ℕ → ℕ
-took p now = if nat_lt now p.asked_at then forever else now - p.asked_at
+took p now = passed now p.asked_at forever
 
 -- the block was sent
 abbrev pub timed : Progress → ℕ → ℕ → Progress
@@ -409,7 +427,7 @@ counts_interrupt r p burst =
     else step_of (record p { interrupts = p.interrupts + 1 }) burst (Wait p.asked)
 
 abbrev pub is_past : Rules → Progress → ℕ → Bool
-is_past r p now = r.has_clock && nat_le p.asked (now - p.asked_at)
+is_past r p now = r.has_clock && nat_le p.asked (since now p.asked_at)
 
 unfoldable pub interrupted : Rules → Progress → List ℕ → ℕ → List ℕ → Step
 interrupted r p burst now block =

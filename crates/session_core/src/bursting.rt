@@ -5,6 +5,7 @@ ghost use Rattle.line_core.specs.Bursts.{HasHeard};
 ghost use Rattle.session_core.specs.Wire.{Step, step_of, IsStep, wait_in, is_over, owed_after, guard, moment_of, pcb_of, is_info, is_supervisory, is_echo, echoes_after, is_certain, is_refused, hands, counted, judges, judged, ends, goes_on, begun, spoiled, weighed, hears, awaits, serves};
 
 use crate::event::Next;
+use crate::limits::passed;
 use crate::progress::{Moment, NO_SILENCE, Phase, Progress, Rules};
 use crate::sending::MOST_NOISE;
 use line_core::Framer;
@@ -209,7 +210,7 @@ impl Progress {
             → self.new ≡ begun rules.now self.old burst now }
     {
         if framer.count == 0 {
-            self.began_at = self.moment(rules, now.saturating_sub(self.asked_at));
+            self.began_at = self.moment(rules, passed(now, self.asked_at, 0));
         }
     }
 

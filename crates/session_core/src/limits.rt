@@ -1,10 +1,22 @@
 //! The limits of an exchange, and the waits within them.
 
 ghost use Rattle.std.specs.Prelude.{◌≡◌, List, ℕ};
-ghost use Rattle.session_core.specs.Wire.{gone, left_of, time_of, spends, asking, broken, waits, Step};
+ghost use Rattle.session_core.specs.Wire.{gone, left_of, passed, time_of, spends, asking, broken, waits, Step};
 
 use crate::event::Next;
 use crate::progress::{FOREVER, NO_SILENCE, Progress, Rules};
+
+/// Half of all numbers of a clock. A clock that would have gone on further went back.
+const HALF: u64 = 9_223_372_036_854_775_807;
+
+/// Returns how far the clock went on since a moment, or `back` if it went back. After its greatest number a clock
+/// begins again at 0.
+pub(crate) fn passed(now: u64, began: u64, back: u64) -> u64
+    ensures { result ≡ passed now began back }
+{
+    let turned = now.wrapping_sub(began);
+    if turned <= HALF { turned } else { back }
+}
 
 impl Rules {
     /// Returns how long so many octets take on the line. It is 0 if the line delivers whole bursts.
@@ -25,7 +37,7 @@ impl Progress {
         ensures { result ≡ gone rules.now self.now now }
     {
         if rules.has_clock {
-            now.saturating_sub(self.began)
+            passed(now, self.began, 0)
         } else {
             self.spent
         }

@@ -5,6 +5,7 @@ ghost use Rattle.line_core.specs.Bursts.{HasHeard};
 ghost use Rattle.session_core.specs.Wire.{Step, step_of, IsStep, silence_in, dropping, drops, dropped, cleared, stops, says, settles, talks, begins, clears, misses, takes, echo_wait, took, timed, is_used_up, sent, sent_in, follows, unechoed, met, hears_echo, echoed, agrees, unheard};
 
 use crate::event::Next;
+use crate::limits::passed;
 use crate::progress::{FOREVER, Moment, Phase, Progress, Rules};
 use line_core::Framer;
 
@@ -167,11 +168,7 @@ impl Progress {
     fn took(&self, now: u64) -> u64
         ensures { result ≡ took self.now now }
     {
-        if now < self.asked_at {
-            FOREVER
-        } else {
-            now - self.asked_at
-        }
+        passed(now, self.asked_at, FOREVER)
     }
 
     /// Notes how long the sending of a block took, and that none of its echo came.

@@ -5,6 +5,7 @@ ghost use Rattle.line_core.specs.Bursts.{HasHeard};
 ghost use Rattle.session_core.specs.Wire.{Step, step_of, IsStep, is_waiting, is_idle, is_sending, left_in, used_up, silent_in, came_in, silent, failed, interrupted, came, takes_in, has_none_left, is_past, counts_interrupt, missed, on_sent, on_came, on_silent, on_failed, step, spends, time_of};
 
 use crate::event::{Event, Next};
+use crate::limits::passed;
 use crate::progress::{FOREVER, Phase, Progress, Rules};
 use line_core::Framer;
 
@@ -285,7 +286,7 @@ impl Progress {
     fn is_past(&self, rules: &Rules, now: u64) -> bool
         ensures { result ≡ is_past rules.now self.now now }
     {
-        rules.has_clock && self.asked <= now.saturating_sub(self.asked_at)
+        rules.has_clock && self.asked <= passed(now, self.asked_at, 0)
     }
 
     /// Counts an interrupt of a wait, which goes on.
