@@ -13,7 +13,10 @@ static int take_atr(const struct scard_line *line, struct scard_atr *atr)
     size_t count = 0;
     struct scard_verdict verdict = {SCARD_SHORT, 0, 0};
     while (verdict.status == SCARD_SHORT && count < sizeof octets) {
-        int got = scard_line_take(line, octets + count, sizeof octets - count, RESET_TIME);
+        int got = line->receive(line->context, octets + count, sizeof octets - count, RESET_TIME);
+        if (got == SCARD_LINE_INTERRUPTED) {
+            continue;
+        }
         if (got <= 0) {
             return -1;
         }

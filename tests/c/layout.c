@@ -39,15 +39,32 @@ static void sizes(void)
     SIZE(SCARD_STRUCT_LENT_JUDGE, scard_lent_judge);
     SIZE(SCARD_STRUCT_DUE, scard_due);
     SIZE(SCARD_STRUCT_JUDGMENT, scard_judgment);
+    SIZE(SCARD_STRUCT_LENT_LINE_RULES, scard_lent_line_rules);
+    SIZE(SCARD_STRUCT_LENT_LINE_PROGRESS, scard_lent_line_progress);
+    SIZE(SCARD_STRUCT_LENT_LINE, scard_lent_line);
+    SIZE(SCARD_STRUCT_LINE_NEXT, scard_line_next);
     CHECK(sizeof(struct scard_lent_terminal) < 128 && sizeof(struct scard_lent_card) < 128);
     CHECK(sizeof(struct scard_lent_check) == 92 && sizeof(struct scard_lent_check) < 128);
     CHECK(sizeof(struct scard_lent_receiver) == 32 && sizeof(struct scard_lent_judge) == 592);
     CHECK(sizeof(struct scard_lent_block_reader) == 264 && sizeof(struct scard_lent_atr_reader) == 40);
-    CHECK(scard_struct_size(0) == 0 && scard_struct_size(32) == 0 && scard_struct_size(255) == 0);
+    CHECK(scard_struct_size(0) == 0 && scard_struct_size(36) == 0 && scard_struct_size(255) == 0);
 }
 
 static void places(void)
 {
+    PLACE(scard_lent_line_rules, most_blocks, 48);
+    PLACE(scard_lent_line_rules, has_clock, 52);
+    PLACE(scard_lent_line_rules, is_card, 55);
+    PLACE(scard_lent_line_progress, late, 48);
+    PLACE(scard_lent_line_progress, own, 56);
+    PLACE(scard_lent_line_progress, interrupts, 64);
+    PLACE(scard_lent_line_progress, left, 72);
+    PLACE(scard_lent_line_progress, phase, 76);
+    PLACE(scard_lent_line_progress, echoes, 82);
+    PLACE(scard_lent_line, progress, 56);
+    PLACE(scard_lent_line, framer, 144);
+    PLACE(scard_line_next, count, 8);
+    PLACE(scard_line_next, wait, 16);
     PLACE(scard_lent_framer, count, 0);
     PLACE(scard_lent_framer, octets, 8);
     PLACE(scard_lent_block_reader, count, 0);

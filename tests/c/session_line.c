@@ -44,35 +44,60 @@ static int send(void *context, const uint8_t *octets, size_t count)
 
 static struct script script;
 static struct scard_line line;
-static struct scard_wire wire;
+static struct scard_session_wire wire;
 
-enum { FIRST = 1000, CWT = 70, AFTER = 20, BGT = 30, BROKEN = 500 };
+/* A terminal waits as long after a broken burst as for the first octet. */
+enum { FIRST = 1000, CWT = 70, AFTER = 20, BGT = 30, BROKEN = FIRST };
+
+static void begins(struct scard_lent_line_rules rules)
+{
+    scard_lent_line_begin(&wire.line, &rules);
+}
 
 static void says(const char *const *words)
 {
+    struct scard_lent_line_rules rules;
     memset(&script, 0, sizeof script);
     script.words = words;
     line.context = &script;
+    line.send = send;
     line.receive = receive;
-    memset(&wire, 0, sizeof wire);
-    wire.after = AFTER;
-    wire.bgt = BGT;
-    wire.most = SCARD_LINE_FOREVER;
+    memset(&rules, 0, sizeof rules);
+    rules.bwt = FIRST;
+    rules.cwt = CWT;
+    rules.bgt = BGT;
+    rules.after = AFTER;
+    rules.most_time = SCARD_LINE_FOREVER;
+    rules.most_blocks = UINT32_MAX;
+    begins(rules);
 }
 
-static int next(void)
+/* Sends a block, which goes nowhere, and takes what comes after it. Returns what the line says then. */
+static struct scard_line_next sends(void)
 {
-    scard_lent_framer_begin(&wire.framer);
-    wire.owed = 0;
-    return scard_wire_burst(&wire, &line, FIRST, CWT, BROKEN);
+    static const uint8_t block[] = {0x00, 0xC1, 0x01, 0xFE, 0x3E};
+    return scard_session_go(&wire, &line, scard_lent_line_talk(&wire.line, FIRST, 0), block, sizeof block);
+}
+
+/* The same for a line that owes no silence. */
+static struct scard_line_next next(void)
+{
+    wire.line.progress.owed = 0;
+    return sends();
+}
+
+static int ends(uint8_t kind, uint64_t owed)
+{
+    return next().kind == kind && wire.line.progress.owed == owed;
 }
 
 /* Returns whether the next burst is these octets. The silence that is owed after it says whether it is a whole
  * block. */
 static int gives(const char *text, uint64_t owed)
 {
-    int count = next();
-    return count >= 0 && wire.owed == owed && is_hex(wire.framer.octets, (size_t)count, text);
+    struct scard_line_next said = next();
+    return said.kind == SCARD_NEXT_HEARD && wire.line.progress.owed == owed
+        && is_hex(wire.line.framer.octets, (size_t)said.count, text);
 }
 
 static void whole(void)
@@ -82,8 +107,8 @@ static void whole(void)
     says(words);
     CHECK(gives("00000500A4040000A5", BGT) && script.waited == AFTER && script.calls == 6);
     CHECK(gives("00800080", BGT) && gives("000002900092", BGT) && gives("00000000", BGT));
-    CHECK(next() == 0 && script.waited == FIRST && wire.owed == 0);
-    wire.after = BGT;
+    CHECK(ends(SCARD_NEXT_QUIET, 0) && script.waited == FIRST);
+    wire.line.rules.after = BGT;
     script.words = words;
     CHECK(gives("00000500A4040000A5", 0) && script.waited == BGT);
 }
@@ -118,11 +143,11 @@ static void interrupted(void)
                                         "?", "", "+", NULL};
     says(words);
     CHECK(gives("00800080", BGT));
-    CHECK(next() == 0);
-    CHECK(next() == SCARD_LINE_FAILED && wire.owed == BROKEN);
-    CHECK(next() == SCARD_LINE_FAILED && wire.owed == BGT);
+    CHECK(ends(SCARD_NEXT_QUIET, 0));
+    CHECK(ends(SCARD_NEXT_FAILED, BROKEN));
+    CHECK(ends(SCARD_NEXT_FAILED, BGT));
     CHECK(gives("0080", BROKEN));
-    CHECK(next() == SCARD_LINE_FAILED && wire.owed == 0);
+    CHECK(ends(SCARD_NEXT_FAILED, 0));
 }
 
 /* On a line of whole bursts, a burst that is a whole block ends at once. Any other burst ends as on other lines. */
@@ -130,8 +155,8 @@ static void packets(void)
 {
     static const char *const words[] = {"00800080", "00", "800080", "0000029000926A82EF", "", "00800080", NULL};
     says(words);
-    wire.after = SCARD_SILENCE_NONE;
-    wire.bgt = 0;
+    wire.line.rules.after = SCARD_SILENCE_NONE;
+    wire.line.rules.bgt = 0;
     CHECK(gives("00800080", 0) && script.calls == 1);
     CHECK(gives("00800080", 0) && script.calls == 3 && script.waited == CWT);
     CHECK(gives("0000029000926A82EF", BROKEN) && script.waited == CWT);
@@ -145,8 +170,8 @@ static void long_ones(void)
     const char *words[] = {text, "", "00800080", "", NULL};
     memset(text, '1', 2 * 300);
     says(words);
-    CHECK(next() == SCARD_BURST_ROOM && wire.framer.count == 300 && wire.owed == BROKEN);
-    CHECK(wire.framer.octets[0] == 0x11 && wire.framer.octets[SCARD_BLOCK_ROOM] == 0x11);
+    CHECK(next().count == SCARD_BURST_ROOM && wire.line.framer.count == 300 && wire.line.progress.owed == BROKEN);
+    CHECK(wire.line.framer.octets[0] == 0x11 && wire.line.framer.octets[SCARD_BLOCK_ROOM] == 0x11);
     CHECK(gives("00800080", BGT));
 }
 
@@ -165,38 +190,117 @@ static void babbles(void)
     says(NULL);
     line.context = &said;
     line.receive = babble;
-    CHECK(next() == SCARD_BURST_ROOM && wire.owed == BROKEN && said >= SCARD_BURST_MOST && said < 70000);
+    CHECK(next().count == SCARD_BURST_ROOM && said >= SCARD_BURST_MOST && said < 70000);
+    CHECK(wire.line.progress.owed == BROKEN);
     said = 0;
-    CHECK(scard_wire_settle(&wire, &line) == SCARD_LINE_FAILED && wire.owed == BROKEN && said < 70000);
+    CHECK(sends().kind == SCARD_NEXT_FAILED && wire.line.progress.owed == BROKEN && said < 70000);
 }
 
-/* Octets that nobody waited for are dropped, and the line has to be silent before the next block. */
+/* Takes what comes until the line says to send, or rests. Returns what it says then. */
+static uint8_t until_sent(struct scard_line_next next)
+{
+    while (next.kind == SCARD_NEXT_WAIT) {
+        next = scard_session_step(&wire, &line, next, NULL, 0);
+    }
+    return next.kind;
+}
+
+static uint8_t late(void)
+{
+    return until_sent(scard_lent_line_exchange(&wire.line, SCARD_LINE_FOREVER, 0));
+}
+
+static uint8_t settled(void)
+{
+    return until_sent(scard_lent_line_talk(&wire.line, SCARD_LINE_FOREVER, 0));
+}
+
+/* Octets that nobody waited for are dropped, and the line has to be silent before the next block of a card. */
 static void drops(void)
 {
     static const char *const words[] = {"00E000E0", "?", "00800080", "", "", "00", "", "!", "", "00", "01", "", NULL};
+    struct scard_lent_line_progress *progress = &wire.line.progress;
     says(words);
-    wire.owed = 0;
-    CHECK(scard_wire_settle(&wire, &line) == 0 && script.calls == 0);
-    wire.owed = BGT;
-    CHECK(scard_wire_late(&wire, &line, BGT) == 0 && script.waited == BGT && wire.owed == 0 && script.calls == 4);
-    CHECK(scard_wire_late(&wire, &line, BGT) == 0 && script.waited == 0 && script.calls == 5);
-    wire.owed = BROKEN;
-    CHECK(scard_wire_late(&wire, &line, BGT) == 0 && script.waited == BGT && wire.owed == BROKEN);
-    CHECK(scard_wire_settle(&wire, &line) == SCARD_LINE_FAILED && wire.owed == BROKEN);
-    CHECK(scard_wire_settle(&wire, &line) == 0 && script.waited == BROKEN && wire.owed == 0);
-    CHECK(scard_wire_late(&wire, &line, 0) == 0 && script.waited == 0 && script.calls == 12);
+    wire.line.rules.is_card = 1;
+    progress->owed = 0;
+    CHECK(settled() == SCARD_NEXT_SEND && script.calls == 0);
+    progress->owed = BGT;
+    CHECK(late() == SCARD_NEXT_SEND && script.waited == BGT && progress->owed == 0 && script.calls == 4);
+    CHECK(late() == SCARD_NEXT_SEND && script.waited == 0 && script.calls == 5);
+    progress->owed = BROKEN;
+    CHECK(late() == SCARD_NEXT_FAILED && script.waited == BROKEN && progress->owed == BROKEN && script.calls == 8);
+    CHECK(settled() == SCARD_NEXT_SEND && script.waited == BROKEN && progress->owed == 0 && script.calls == 9);
+    wire.line.rules.bgt = 0;
+    CHECK(late() == SCARD_NEXT_SEND && script.waited == 0 && script.calls == 12);
 }
 
 /* A wait is at most as long as the time that is left, and its length is counted. */
 static void times_out(void)
 {
-    static const char *const words[] = {"", "00800080", "", "", NULL};
+    static const char *const words[] = {"", "", "00800080", "", "", NULL};
+    const struct scard_lent_line_progress *progress = &wire.line.progress;
     says(words);
-    scard_wire_start(&wire, &line, FIRST + AFTER + 10);
-    CHECK(next() == 0 && wire.spent == FIRST);
-    CHECK(gives("00800080", BGT) && script.waited == AFTER && wire.spent == FIRST + AFTER);
-    CHECK(next() == SCARD_WIRE_USED_UP && script.waited == 10 && scard_wire_left(&wire, &line) == 0);
-    CHECK(next() == SCARD_WIRE_USED_UP && script.waited == 0);
+    wire.line.rules.most_time = FIRST + AFTER + 10;
+    wire.line.progress.owed = 0;
+    CHECK(late() == SCARD_NEXT_SEND);
+    CHECK(ends(SCARD_NEXT_QUIET, 0) && progress->spent == FIRST);
+    CHECK(gives("00800080", BGT) && script.waited == AFTER && progress->spent == FIRST + AFTER);
+    CHECK(ends(SCARD_NEXT_USED_UP, 0) && script.waited == 10 && progress->spent == FIRST + AFTER + 10);
+    CHECK(ends(SCARD_NEXT_USED_UP, 0) && script.calls == 5);
+}
+
+/* A block with an octet that came damaged isn't a whole block, even if the octets are those of one. */
+static void garbled(void)
+{
+    static const uint8_t block[] = {0x00, 0x80, 0x00, 0x80};
+    struct scard_line_next said;
+    says(NULL);
+    wire.line.progress.owed = 0;
+    CHECK(scard_lent_line_talk(&wire.line, FIRST, 0).kind == SCARD_NEXT_SEND);
+    said = scard_lent_line_step(&wire.line, SCARD_EVENT_SENT, NULL, 0, 0, block, sizeof block);
+    CHECK(said.kind == SCARD_NEXT_WAIT && said.wait == FIRST && said.count == 0);
+    said = scard_lent_line_step(&wire.line, SCARD_EVENT_GARBLED, block, 2, 0, block, sizeof block);
+    CHECK(said.kind == SCARD_NEXT_WAIT && said.wait == CWT);
+    said = scard_lent_line_step(&wire.line, SCARD_EVENT_CAME, block + 2, 2, 0, block, sizeof block);
+    CHECK(said.kind == SCARD_NEXT_WAIT && said.wait == CWT);
+    said = scard_lent_line_step(&wire.line, SCARD_EVENT_SILENT, NULL, 0, 0, NULL, 0);
+    CHECK(said.kind == SCARD_NEXT_HEARD && is_hex(wire.line.framer.octets, (size_t)said.count, "00000001"));
+    CHECK(wire.line.progress.owed == BROKEN);
+}
+
+/* Returns what the line says to an event without octets, and whether that changed nothing. */
+static uint8_t refuses(uint8_t event)
+{
+    const struct scard_lent_line before = wire.line;
+    uint8_t kind = scard_lent_line_step(&wire.line, event, NULL, 0, 0, NULL, 0).kind;
+    CHECK(memcmp(&before, &wire.line, sizeof before) == 0);
+    return kind;
+}
+
+/* Events that don't fit, octets that no call left, and a mark that is neither 0 nor 1: it counts as 1. */
+static void unfit(void)
+{
+    struct scard_lent_line_rules rules;
+    uint8_t event;
+    says(NULL);
+    rules = wire.line.rules;
+    for (event = SCARD_EVENT_SENT; event <= SCARD_EVENT_FAILED; event++) {
+        CHECK(refuses(event) == SCARD_NEXT_ORDER);
+    }
+    CHECK(refuses(SCARD_EVENT_FAILED + 1) == SCARD_NEXT_ORDER);
+    CHECK(scard_lent_line_exchange(&wire.line, FIRST, 0).kind == SCARD_NEXT_WAIT);
+    CHECK(refuses(SCARD_EVENT_SENT) == SCARD_NEXT_ORDER);
+    wire.line.progress.owed = 0;
+    CHECK(scard_lent_line_step(&wire.line, SCARD_EVENT_SILENT, NULL, 0, 0, NULL, 0).kind == SCARD_NEXT_SEND);
+    CHECK(refuses(SCARD_EVENT_CAME) == SCARD_NEXT_ORDER && refuses(SCARD_EVENT_SILENT) == SCARD_NEXT_ORDER);
+    memset(&wire.line.progress, 0xA5, sizeof wire.line.progress);
+    CHECK(refuses(SCARD_EVENT_SILENT) == SCARD_NEXT_ORDER);
+    CHECK(scard_lent_line_serve(&wire.line, 0).kind == SCARD_NEXT_WAIT);
+    rules.has_echo = 2;
+    begins(rules);
+    wire.line.progress.owed = 0;
+    CHECK(scard_lent_line_talk(&wire.line, FIRST, 0).kind == SCARD_NEXT_SEND);
+    CHECK(scard_lent_line_step(&wire.line, SCARD_EVENT_SENT, NULL, 0, 0, NULL, 0).wait == CWT);
 }
 
 static struct scard_session session;
@@ -209,7 +313,6 @@ static struct scard_setup plain(void)
     memset(&setup, 0, sizeof setup);
     says(NULL);
     setup.line = line;
-    setup.line.send = send;
     setup.command = command;
     setup.command_room = sizeof command;
     setup.answer = answer;
@@ -224,16 +327,17 @@ static struct scard_setup plain(void)
 static void clocks(void)
 {
     static const struct scard_clock fast = {512, 8, 4000000};
+    const struct scard_lent_line_rules *rules = &session.wire.line.rules;
     struct scard_setup setup = plain();
     CHECK(scard_session_begin(&session, &setup).status == SCARD_OK);
-    CHECK(session.bwt == 1601146 && session.cwt == 4480 && session.wire.bgt == 2292 && session.wire.after == 2292);
+    CHECK(session.bwt == 1601146 && session.cwt == 4480 && rules->bgt == 2292 && rules->after == 2292);
     setup.clock = fast;
     setup.silence = 688;
     CHECK(scard_session_begin(&session, &setup).status == SCARD_OK);
-    CHECK(session.bwt == 1428656 && session.cwt == 688 && session.wire.bgt == 352 && session.wire.after == 688);
+    CHECK(session.bwt == 1428656 && session.cwt == 688 && rules->bgt == 352 && rules->after == 688);
     setup.silence = SCARD_SILENCE_NONE;
     setup.t1.bwi = setup.t1.cwi = 15;
-    CHECK(scard_session_begin(&session, &setup).status == SCARD_OK && session.wire.bgt == 0);
+    CHECK(scard_session_begin(&session, &setup).status == SCARD_OK && rules->bgt == 0);
     CHECK(session.bwt == 2925527216u && session.cwt == 524464);
     setup.t1.bwi = 0; /* BWT is shorter than CWT, but three quarters of the time that the session waits aren't */
     CHECK(scard_session_begin(&session, &setup).status == SCARD_OK && session.cwt == 524464);
@@ -259,8 +363,8 @@ static void refused(void)
     other.silence = session.cwt + 1;
     CHECK(scard_session_begin(&session, &other).status == SCARD_ARGUMENT);
     other.silence--;
-    CHECK(session.wire.after == 2292 && scard_session_begin(&session, &other).status == SCARD_OK);
-    CHECK(session.cwt == 4480 && session.wire.after == 4480);
+    CHECK(session.wire.line.rules.after == 2292 && scard_session_begin(&session, &other).status == SCARD_OK);
+    CHECK(session.cwt == 4480 && session.wire.line.rules.after == 4480);
 }
 
 int main(void)
@@ -274,6 +378,8 @@ int main(void)
     babbles();
     drops();
     times_out();
+    garbled();
+    unfit();
     clocks();
     refused();
     return verdict_of_checks("session_line");

@@ -87,10 +87,12 @@ static int receives(void *context, uint8_t *octets, size_t room, uint64_t micros
     return (int)count;
 }
 
+static uint64_t behind; /* how far the clock goes back while the first block is sent */
+
 static uint64_t now(void *context)
 {
     (void)context;
-    return line.time;
+    return UINT64_C(1000000000) + line.time - (line.blocks > 0 ? behind : 0);
 }
 
 /* A clock whose steps are too long. */
@@ -188,6 +190,17 @@ static void right(void)
     CHECK(is_answer(exchange(true, OCTET, 0, ETU(20), OCTET), 1));
     CHECK(is_answer(exchange(true, OCTET, 30000, ETU(20), OCTET), 2));
     command_count = 9;
+}
+
+/* The clock goes back while the command is sent, so it doesn't tell the answer of a card from an echo. */
+static void goes_back(void)
+{
+    behind = 500000;
+    line.answerer = CARD;
+    CHECK(is_answer(exchange(true, OCTET, 30000, ETU(22), OCTET), 2));
+    line.answerer = LINE;
+    CHECK(is_echo(exchange(true, OCTET, 0, 0, 0), 2));
+    behind = 0;
 }
 
 /* The command is lost, so both ends send the same R-block. The clock can't tell when it came. */
@@ -299,6 +312,7 @@ int main(void)
     at_once();
     asked();
     right();
+    goes_back();
     same_r_block(NULL, OCTET);
     same_r_block(now, OCTET);
     same_r_block(now, 0);

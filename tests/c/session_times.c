@@ -86,11 +86,12 @@ static int card_sends(void *context, const uint8_t *octets, size_t count)
     return send_some(1, octets, count);
 }
 
-static void meets(int kind, unsigned number)
+static void meets(int kind, unsigned number, uint64_t card_bwt)
 {
     begins(0, kind);
     rough.terminal.setup.line.send = terminal_sends;
     rough.card.setup.line.send = card_sends;
+    rough.card.bwt = card_bwt;
     met = number;
     CHECK(exchange() > 0 && acted == 1);
 }
@@ -99,19 +100,24 @@ static void meets(int kind, unsigned number)
  */
 static void card_waits(int kind, uint64_t more)
 {
-    meets(kind, 0);
+    meets(kind, 0, BWT);
     CHECK(rough.blocks == 4 && rough.sent[1].from == 1 && rough.sent[1].pcb > 0x80 && rough.sent[1].pcb < 0x83);
     CHECK(between(1, 9) >= BWT / 4 * 3 && between(1, 9) <= BWT / 4 * 3 + more);
     CHECK(between(1, 9) + 4 * ROUGH_OCTET < BWT);
     CHECK(rough.sent[2].from == 0 && rough.sent[2].pcb == 0x00 && between(2, 4) == BGT);
-    rough.card.bwt = CWT; /* never less than CWT */
-    CHECK(scard_card_session_pause(&rough.card) == CWT);
+}
+
+/* It never waits less than CWT. */
+static void card_waits_least(void)
+{
+    meets(ROUGH_CHANGED, 0, CWT);
+    CHECK(between(1, 9) == CWT);
 }
 
 /* After a broken block of the card, the terminal asks for it again once the line was silent for BWT. */
 static void terminal_waits(int kind, uint64_t least, uint64_t most)
 {
-    meets(kind, 1);
+    meets(kind, 1, BWT);
     CHECK(rough.blocks == 4 && rough.sent[2].from == 0 && rough.sent[2].pcb > 0x80 && rough.sent[2].pcb < 0x93);
     CHECK(rough.sent[3].pcb == 0x00 && between(3, 4) == BGT);
     CHECK(between(2, 6) >= least && between(2, 6) <= most);
@@ -215,6 +221,7 @@ int main(void)
     silences();
     card_waits(ROUGH_CHANGED, 0);
     card_waits(ROUGH_PAUSED_CWT, 5 * CWT);
+    card_waits_least();
     terminal_waits(ROUGH_CHANGED, BWT, BWT);
     terminal_waits(ROUGH_ADDED, BWT + ROUGH_OCTET, BWT + 20 * ROUGH_OCTET);
     terminal_waits(ROUGH_PAUSED_CWT, BWT + CWT, BWT + 5 * CWT);

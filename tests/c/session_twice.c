@@ -75,17 +75,30 @@ static void exchanges(int sockets, uint64_t silence, int most)
     CHECK(waitpid(card, &status, 0) == card && status == 0);
 }
 
-static struct scard_wire wire;
+static struct scard_session_wire wire;
 
-/* Returns whether the next burst, within 100 milliseconds, is these octets. A silence of 5 milliseconds ends a
- * burst. */
+/* Takes the next burst, within 100 milliseconds. A silence of 5 milliseconds ends a burst. */
+static struct scard_line_next takes(const struct scard_line *line)
+{
+    struct scard_lent_line_rules rules;
+    struct scard_line_next next;
+    memset(&rules, 0, sizeof rules);
+    rules.cwt = rules.after = 5000;
+    rules.most_time = SCARD_LINE_FOREVER;
+    rules.most_blocks = 1;
+    rules.has_clock = 1;
+    scard_lent_line_begin(&wire.line, &rules);
+    CHECK(scard_lent_line_talk(&wire.line, 100000, scard_line_now(line)).kind == SCARD_NEXT_SEND);
+    next = scard_lent_line_step(&wire.line, SCARD_EVENT_SENT, NULL, 0, scard_line_now(line), NULL, 0);
+    return scard_session_go(&wire, line, next, NULL, 0);
+}
+
+/* Returns whether the next burst is these octets. */
 static int comes(const struct scard_line *line, const uint8_t *octets, size_t count)
 {
-    memset(&wire, 0, sizeof wire);
-    wire.after = 5000;
-    wire.most = SCARD_LINE_FOREVER;
-    return scard_wire_burst(&wire, line, 100000, 5000, 0) == (int)count && wire.framer.count == count
-        && (count == 0 || memcmp(wire.framer.octets, octets, count) == 0);
+    struct scard_line_next next = takes(line);
+    return next.kind == SCARD_NEXT_HEARD && next.count == count && wire.line.framer.count == count
+        && memcmp(wire.line.framer.octets, octets, count) == 0;
 }
 
 /* Checks the line alone. */
@@ -102,11 +115,11 @@ static void bursts(void)
     CHECK(write(lines[0], part, sizeof part) == sizeof part && comes(&line, part, sizeof part));
     signals(1000);
     began = line.now(line.context);
-    CHECK(comes(&line, NULL, 0));
+    CHECK(takes(&line).kind == SCARD_NEXT_QUIET);
     CHECK(line.now(line.context) - began >= 100000);
     signals(0);
     close(lines[0]);
-    CHECK(scard_wire_burst(&wire, &line, 100000, 5000, 0) == SCARD_LINE_FAILED);
+    CHECK(takes(&line).kind == SCARD_NEXT_FAILED);
     close(lines[1]);
 }
 

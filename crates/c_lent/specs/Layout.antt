@@ -4,7 +4,8 @@ use Rattle.std.specs.Prelude.{ℕ, ◌==◌, if◌then◌else◌}
 -- in octets, by the number of the struct: verdict, interface, indicated, ATR, T=1 parameters, rates, block, command,
 -- response, turn, tag, part, known value, handle, state of a terminal, of a card, of a header that is being read, of a
 -- check, of a receiver, text, entry of a list, note, framer, reader of a block, and of an answer to reset; what decides
--- what an end may send, what it received, an end of the line, state of a judge, what was due, and judgment; else 0
+-- what an end may send, what it received, an end of the line, state of a judge, what was due, and judgment; rules of a
+-- line, what an end has done on it, the line, and what the end does next; else 0
 abbrev pub size_of_struct : ℕ → ℕ
 size_of_struct number =
     if number == 1 then 16
@@ -38,4 +39,8 @@ size_of_struct number =
     else if number == 29 then 592
     else if number == 30 then 5
     else if number == 31 then 32
+    else if number == 32 then 56
+    else if number == 33 then 88
+    else if number == 34 then 416
+    else if number == 35 then 24
     else 0

@@ -19,6 +19,7 @@ use crate::parts::{CKnown, CPart, CTag};
 use crate::turn::CTurn;
 use crate::verdict::Verdict;
 use line_core::Framer;
+use session_core::{Line, LineNext, Progress, Rules};
 use std::mem::size_of;
 
 /// A handle as C has it: a pointer and a mark. Only the library with memory knows what the handle holds.
@@ -64,6 +65,10 @@ pub fn struct_size(number: u8) -> usize
         29 => size_of::<CJudge>(),
         30 => size_of::<CDue>(),
         31 => size_of::<CJudgment>(),
+        32 => size_of::<Rules>(),
+        33 => size_of::<Progress>(),
+        34 => size_of::<Line>(),
+        35 => size_of::<LineNext>(),
         _ => 0,
     }
 }

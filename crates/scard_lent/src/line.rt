@@ -1,18 +1,18 @@
-//! The line of one end of a session, step by step (ISO/IEC 7816-3, clause 11.4). The caller keeps the line. It says what
-//! happened, one event a call, and each call returns the one thing to do next. Any values of a line are valid.
+//! The line of one end of a session, step by step (ISO/IEC 7816-3, clause 11.4). The caller keeps the line. It says
+//! what happened, one event a call, and each call returns the one thing to do next. Any values of a line are valid.
 
 ghost use Rattle.std.specs.Prelude.{◌≡◌, [], List, ℕ};
 ghost use Rattle.line_core.specs.Bursts.{HasHeard};
-ghost use Rattle.session_core.specs.Wire.{forever, fresh, begins, clears, talks, serves};
-ghost use Rattle.session_core.specs.Plain.{rules_of, progress_of, first_of, stepped, IsTold};
+ghost use Rattle.session_core.specs.Wire.{ruled, seen, forever, fresh, begins, clears, talks, serves};
+ghost use Rattle.session_core.specs.Lines.{first_of, stepped, IsTold};
 
-use session_core::{PlainLine, PlainNext, PlainRules};
+use session_core::{Line, LineNext, Rules};
 
 /// Begins the line of an end that hasn't used it yet. The line may have any value before.
 #[unsafe(no_mangle)]
-pub extern "C" fn scard_lent_line_begin(line: &mut PlainLine, rules: &PlainRules)
+pub extern "C" fn scard_lent_line_begin(line: &mut Line, rules: &Rules)
     ensures rules { line.new.rules ≡ rules.now }
-    ensures progress { progress_of line.new.progress ≡ fresh (rules_of rules.now) }
+    ensures progress { seen line.new.progress ≡ fresh (ruled rules.now) }
     ensures burst { HasHeard line.new.framer [] }
 {
     line.begin(rules);
@@ -22,9 +22,9 @@ pub extern "C" fn scard_lent_line_begin(line: &mut PlainLine, rules: &PlainRules
 /// first. After the block the end waits for the first octet of a burst for `first` microseconds, and a card without a
 /// limit, with `UINT64_MAX`.
 #[unsafe(no_mangle)]
-pub extern "C" fn scard_lent_line_exchange(line: &mut PlainLine, first: u64, now: u64) -> PlainNext
+pub extern "C" fn scard_lent_line_exchange(line: &mut Line, first: u64, now: u64) -> LineNext
     ensures { (burst : List ℕ) → HasHeard line.old.framer burst
-        → IsTold (begins (rules_of line.old.rules) (first_of line.old first) burst now) line.old.rules
+        → IsTold (begins (ruled line.old.rules) (first_of line.old first) burst now) line.old.rules
         line.new result }
 {
     line.exchange(first, now)
@@ -33,9 +33,9 @@ pub extern "C" fn scard_lent_line_exchange(line: &mut PlainLine, first: u64, now
 /// Begins an exchange as `scard_lent_line_exchange` does, but with a silence: octets are dropped until the line is
 /// silent for BWT.
 #[unsafe(no_mangle)]
-pub extern "C" fn scard_lent_line_clear(line: &mut PlainLine, first: u64, now: u64) -> PlainNext
+pub extern "C" fn scard_lent_line_clear(line: &mut Line, first: u64, now: u64) -> LineNext
     ensures { (burst : List ℕ) → HasHeard line.old.framer burst
-        → IsTold (clears (rules_of line.old.rules) (first_of line.old first) burst now) line.old.rules
+        → IsTold (clears (ruled line.old.rules) (first_of line.old first) burst now) line.old.rules
         line.new result }
 {
     line.clear(first, now)
@@ -43,9 +43,9 @@ pub extern "C" fn scard_lent_line_clear(line: &mut PlainLine, first: u64, now: u
 
 /// Sends the next block, within the limits of the exchange.
 #[unsafe(no_mangle)]
-pub extern "C" fn scard_lent_line_talk(line: &mut PlainLine, first: u64, now: u64) -> PlainNext
+pub extern "C" fn scard_lent_line_talk(line: &mut Line, first: u64, now: u64) -> LineNext
     ensures { (burst : List ℕ) → HasHeard line.old.framer burst
-        → IsTold (talks (rules_of line.old.rules) (first_of line.old first) burst now) line.old.rules
+        → IsTold (talks (ruled line.old.rules) (first_of line.old first) burst now) line.old.rules
         line.new result }
 {
     line.talk(first, now)
@@ -53,9 +53,9 @@ pub extern "C" fn scard_lent_line_talk(line: &mut PlainLine, first: u64, now: u6
 
 /// Begins to serve the terminal, as a card does, or goes on after the line failed.
 #[unsafe(no_mangle)]
-pub extern "C" fn scard_lent_line_serve(line: &mut PlainLine, now: u64) -> PlainNext
+pub extern "C" fn scard_lent_line_serve(line: &mut Line, now: u64) -> LineNext
     ensures { (burst : List ℕ) → HasHeard line.old.framer burst
-        → IsTold (serves (rules_of line.old.rules) (first_of line.old forever) burst now) line.old.rules line.new
+        → IsTold (serves (ruled line.old.rules) (first_of line.old forever) burst now) line.old.rules line.new
         result }
 {
     line.serve(now)
@@ -66,14 +66,14 @@ pub extern "C" fn scard_lent_line_serve(line: &mut PlainLine, now: u64) -> Plain
 /// failed. `block` is the end's own block: the one that it sends, or sent last.
 #[unsafe(no_mangle)]
 pub extern "C" fn scard_lent_line_step(
-    line: &mut PlainLine,
+    line: &mut Line,
     event: u8,
     octets: &[u8],
     now: u64,
     block: &[u8],
-) -> PlainNext
+) -> LineNext
     ensures { (burst : List ℕ) → HasHeard line.old.framer burst
-        → IsTold (stepped event (rules_of line.old.rules) (progress_of line.old.progress) burst octets.now now
+        → IsTold (stepped event (ruled line.old.rules) (seen line.old.progress) burst octets.now now
         block.now) line.old.rules line.new result }
 {
     line.step(event, octets, now, block)

@@ -1,2 +1,2 @@
 pub mod Wire
-pub mod Plain
+pub mod Lines

@@ -2,11 +2,14 @@
 
 ghost use Rattle.std.specs.Prelude.{◌≡◌, ◌&&◌, List, ℕ};
 ghost use Rattle.line_core.specs.Bursts.{HasHeard};
-ghost use Rattle.session_core.specs.Wire.{Step, step_of, IsStep, wait_in, is_over, owed_after, guard, moment_of, pcb_of, is_info, is_supervisory, is_echo, echoes_after, is_certain, is_refused, hands, counted, judges, judged, ends, goes_on, begun, spoiled, weighed, hears, awaits, serves};
+ghost use Rattle.session_core.specs.Wire.{ruled, seen, phase_of, moment_with, is_set, Step, step_of, IsStep, wait_in, is_over, owed_after, guard, moment_of, pcb_of, is_info, is_supervisory, is_echo, echoes_after, is_certain, is_refused, hands, counted, judges, judged, ends, goes_on, begun, spoiled, weighed, hears, awaits, serves};
 
 use crate::event::Next;
 use crate::limits::passed;
-use crate::progress::{Moment, NO_SILENCE, Phase, Progress, Rules};
+use crate::progress::{
+    EARLY, IN_TIME, LISTENING, MISSING, NO_SILENCE, Progress, Rules, SET, UNKNOWN, UNSET, is_set,
+    mark,
+};
 use crate::sending::MOST_NOISE;
 use line_core::Framer;
 
@@ -23,7 +26,7 @@ impl Rules {
     /// Returns the time after a block was sent within which no octet of the other end can be there: 20 elementary time
     /// units.
     fn guard(&self) -> u64
-        ensures { result ≡ guard self.now }
+        ensures { result ≡ guard (ruled self.now) }
     {
         self.octet.saturating_mul(5) / 3
     }
@@ -33,11 +36,11 @@ impl Progress {
     /// Returns how long a silence must be to end the burst.
     fn wait_in(&self, rules: &Rules, framer: &Framer) -> u64
         ensures { (burst : List ℕ) → HasHeard framer.now burst
-            → result ≡ wait_in rules.now self.now burst }
+            → result ≡ wait_in (ruled rules.now) (seen self.now) burst }
     {
         if framer.count == 0 {
             self.first
-        } else if self.is_whole {
+        } else if is_set(self.is_whole) {
             rules.after
         } else {
             rules.cwt
@@ -47,19 +50,20 @@ impl Progress {
     /// Whether the burst is over without a silence.
     fn is_over(&self, rules: &Rules, framer: &Framer) -> bool
         ensures { (burst : List ℕ) → HasHeard framer.now burst
-            → result ≡ is_over rules.now self.now burst }
+            → result ≡ is_over (ruled rules.now) (seen self.now) burst }
     {
-        u64::from(MOST_NOISE) <= framer.count || (self.is_whole && rules.after == NO_SILENCE)
+        u64::from(MOST_NOISE) <= framer.count
+            || (is_set(self.is_whole) && rules.after == NO_SILENCE)
     }
 
     /// Returns what the end owes after the burst.
     pub(crate) fn owed_after(&self, rules: &Rules, framer: &Framer) -> u64
         ensures { (burst : List ℕ) → HasHeard framer.now burst
-            → result ≡ owed_after rules.now self.now burst }
+            → result ≡ owed_after (ruled rules.now) (seen self.now) burst }
     {
         if framer.count == 0 {
             self.owed
-        } else if !self.is_whole {
+        } else if !is_set(self.is_whole) {
             self.broken(rules)
         } else if rules.after < rules.bgt {
             rules.bgt
@@ -69,17 +73,17 @@ impl Progress {
     }
 
     /// Returns when a burst began whose first octet came so long after the block was sent.
-    fn moment(&self, rules: &Rules, since: u64) -> Moment
-        ensures { result ≡ moment_of rules.now self.now since }
+    fn moment(&self, rules: &Rules, since: u64) -> u8
+        ensures { moment_with result ≡ moment_of (ruled rules.now) (seen self.now) since }
     {
-        if !rules.has_clock || rules.after == NO_SILENCE {
-            Moment::Unknown
+        if !is_set(rules.has_clock) || rules.after == NO_SILENCE {
+            UNKNOWN
         } else if rules.guard() <= since {
-            Moment::InTime
+            IN_TIME
         } else if self.late < rules.guard() - since {
-            Moment::Early
+            EARLY
         } else {
-            Moment::Unknown
+            UNKNOWN
         }
     }
 }
@@ -87,33 +91,32 @@ impl Progress {
 impl Progress {
     /// Whether the octets of a burst that are passed to the end may be an echo of its block.
     fn is_echo(&self, rules: &Rules, octets: &[u8], block: &[u8]) -> bool
-        ensures { result ≡ is_echo rules.now self.now octets.now block.now }
+        ensures { result ≡ is_echo (ruled rules.now) (seen self.now) octets.now block.now }
     {
-        !rules.has_echo
+        !is_set(rules.has_echo)
             && (!block.is_empty()
-                && (octets.starts_with(block)
-                    && !(is_info(octets) && self.began_at == Moment::InTime)))
+                && (octets.starts_with(block) && !(is_info(octets) && self.began_at == IN_TIME)))
     }
 
     /// Whether an echo is certain.
     fn is_certain(&self, octets: &[u8]) -> bool
-        ensures { result ≡ is_certain self.now octets.now }
+        ensures { result ≡ is_certain (seen self.now) octets.now }
     {
-        (self.began_at == Moment::Early && (is_info(octets) || !self.is_quick))
+        (self.began_at == EARLY && (is_info(octets) || !is_set(self.is_quick)))
             || (is_supervisory(octets) || self.echoes == MOST_ECHOES)
     }
 
     /// Whether a burst counts as a damaged block.
     fn is_refused(&self, rules: &Rules, octets: &[u8], is_echo: bool) -> bool
-        ensures { result ≡ is_refused rules.now self.now octets.now is_echo }
+        ensures { result ≡ is_refused (ruled rules.now) (seen self.now) octets.now is_echo }
     {
-        self.is_whole
-            && (is_info(octets) && (is_echo || (rules.refuses_empty && octets.len() == 4)))
+        is_set(self.is_whole)
+            && (is_info(octets) && (is_echo || (is_set(rules.refuses_empty) && octets.len() == 4)))
     }
 
     /// Returns how many echoes came in a row after this burst.
     fn echoes_after(&self, is_echo: bool) -> u8
-        ensures { result ≡ echoes_after is_echo self.now }
+        ensures { result ≡ echoes_after is_echo (seen self.now) }
     {
         if is_echo {
             self.echoes.saturating_add(1).min(MOST_ECHOES)
@@ -124,7 +127,7 @@ impl Progress {
 
     /// Notes what the end owes, and the echoes in a row.
     fn count(&mut self, owed: u64, is_echo: bool)
-        ensures { self.new ≡ counted self.old owed is_echo }
+        ensures { (seen self.new) ≡ counted (seen self.old) owed is_echo }
     {
         self.echoes = self.echoes_after(is_echo);
         self.owed = owed;
@@ -133,12 +136,13 @@ impl Progress {
     /// Takes a burst that has ended.
     #[tactic(auto, using(crate::proofs::Parts::is_step), unfolding(crate::specs::Wire::hands))]
     fn hand(&mut self, rules: &Rules, octets: &[u8], is_echo: bool) -> Next
-        ensures { (burst : List ℕ) → hands rules.now self.old burst octets.now is_echo
-            ≡ step_of self.new burst result }
+        ensures { (burst : List ℕ)
+            → hands (ruled rules.now) (seen self.old) burst octets.now is_echo
+            ≡ step_of (seen self.new) burst result }
     {
         if self.is_refused(rules, octets, is_echo) {
             self.owed = self.broken(rules);
-            self.is_spoiled = true;
+            self.is_spoiled = SET;
             return self.stop(Next::Heard);
         }
         self.stop(Next::Heard)
@@ -146,7 +150,7 @@ impl Progress {
 
     /// Whether a burst is an echo for certain.
     fn is_known_echo(&self, octets: &[u8], is_echo: bool) -> bool
-        ensures { result ≡ (is_echo && is_certain self.now octets.now) }
+        ensures { result ≡ (is_echo && is_certain (seen self.now) octets.now) }
     {
         is_echo && self.is_certain(octets)
     }
@@ -154,8 +158,9 @@ impl Progress {
     /// Takes a burst that has ended, unless it is an echo.
     #[tactic(auto, using(crate::proofs::Parts::is_step), unfolding(crate::specs::Wire::judges))]
     fn take(&mut self, rules: &Rules, octets: &[u8], is_echo: bool) -> Next
-        ensures { (burst : List ℕ) → judges rules.now self.old burst octets.now is_echo
-            ≡ step_of self.new burst result }
+        ensures { (burst : List ℕ)
+            → judges (ruled rules.now) (seen self.old) burst octets.now is_echo
+            ≡ step_of (seen self.new) burst result }
     {
         if self.is_known_echo(octets, is_echo) {
             self.echoes = 0;
@@ -168,7 +173,7 @@ impl Progress {
     #[tactic(auto, using(crate::proofs::Parts::is_step), unfolding(crate::specs::Wire::judged))]
     fn judge(&mut self, rules: &Rules, framer: &Framer, block: &[u8]) -> Next
         ensures { (burst : List ℕ) → HasHeard framer.now burst
-            → judged rules.now self.old burst block.now ≡ step_of self.new burst result }
+            → judged (ruled rules.now) (seen self.old) burst block.now ≡ step_of (seen self.new) burst result }
     {
         let octets = framer.burst();
         let is_echo = self.is_echo(rules, octets, block);
@@ -181,7 +186,7 @@ impl Progress {
     #[tactic(auto, using(crate::proofs::Parts::is_step), unfolding(crate::specs::Wire::ends))]
     pub(crate) fn end(&mut self, rules: &Rules, framer: &Framer, block: &[u8]) -> Next
         ensures { (burst : List ℕ) → HasHeard framer.now burst
-            → ends rules.now self.old burst block.now ≡ step_of self.new burst result }
+            → ends (ruled rules.now) (seen self.old) burst block.now ≡ step_of (seen self.new) burst result }
     {
         if framer.count == 0 {
             self.stop(Next::Quiet)
@@ -194,7 +199,7 @@ impl Progress {
     #[tactic(auto, using(crate::proofs::Parts::is_step), unfolding(crate::specs::Wire::goes_on))]
     pub(crate) fn go_on(&mut self, rules: &Rules, framer: &Framer, now: u64, block: &[u8]) -> Next
         ensures { (burst : List ℕ) → HasHeard framer.now burst
-            → goes_on rules.now self.old burst now block.now ≡ step_of self.new burst result }
+            → goes_on (ruled rules.now) (seen self.old) burst now block.now ≡ step_of (seen self.new) burst result }
     {
         if self.is_over(rules, framer) {
             self.judge(rules, framer, block)
@@ -207,7 +212,7 @@ impl Progress {
     /// Notes when the burst began, if it hasn't begun yet.
     fn note(&mut self, rules: &Rules, framer: &Framer, now: u64)
         ensures { (burst : List ℕ) → HasHeard framer.now burst
-            → self.new ≡ begun rules.now self.old burst now }
+            → (seen self.new) ≡ begun (ruled rules.now) (seen self.old) burst now }
     {
         if framer.count == 0 {
             self.began_at = self.moment(rules, passed(now, self.asked_at, 0));
@@ -216,9 +221,10 @@ impl Progress {
 
     /// Notes whether the burst is a whole block.
     pub(crate) fn weigh(&mut self, framer: &Framer)
-        ensures { (burst : List ℕ) → HasHeard framer.now burst → self.new ≡ weighed self.old burst }
+        ensures { (burst : List ℕ) → HasHeard framer.now burst
+            → (seen self.new) ≡ weighed (seen self.old) burst }
     {
-        self.is_whole = !self.is_spoiled && framer.is_whole();
+        self.is_whole = mark(!is_set(self.is_spoiled) && framer.is_whole());
     }
 
     /// Takes octets of the burst.
@@ -233,11 +239,11 @@ impl Progress {
         block: &[u8],
     ) -> Next
         ensures { (burst : List ℕ) → HasHeard framer.old burst
-            → IsStep (hears rules.now self.old burst octets.now is_garbled now block.now) self.new
+            → IsStep (hears (ruled rules.now) (seen self.old) burst octets.now is_garbled now block.now) (seen self.new)
             framer.new result }
     {
         self.note(rules, framer, now);
-        self.is_spoiled = self.is_spoiled || is_garbled;
+        self.is_spoiled = mark(is_set(self.is_spoiled) || is_garbled);
         framer.feed(octets);
         self.weigh(framer);
         self.go_on(rules, framer, now, block)
@@ -246,13 +252,14 @@ impl Progress {
     /// Waits for the next block, as a card does.
     #[tactic(auto, using(crate::proofs::Parts::is_step), unfolding(crate::specs::Wire::awaits))]
     pub(crate) fn await_block(&mut self, rules: &Rules, framer: &mut Framer, now: u64) -> Next
-        ensures { IsStep (awaits rules.now self.old now) self.new framer.new result }
+        ensures { IsStep (awaits (ruled rules.now) (seen self.old) now) (seen self.new) framer.new
+            result }
     {
         framer.restart();
-        self.phase = Phase::Listening;
-        self.is_spoiled = false;
-        self.is_whole = false;
-        self.began_at = Moment::Unknown;
+        self.phase = LISTENING;
+        self.is_spoiled = UNSET;
+        self.is_whole = UNSET;
+        self.began_at = UNKNOWN;
         self.wait(rules, self.first, now)
     }
 
@@ -260,10 +267,10 @@ impl Progress {
     #[tactic(auto, using(crate::proofs::Parts::is_step), unfolding(crate::specs::Wire::serves))]
     pub fn serve(&mut self, rules: &Rules, framer: &mut Framer, now: u64) -> Next
         ensures { (burst : List ℕ) → HasHeard framer.old burst
-            → IsStep (serves rules.now self.old burst now) self.new framer.new result }
+            → IsStep (serves (ruled rules.now) (seen self.old) burst now) (seen self.new) framer.new result }
     {
         if rules.bgt < self.owed {
-            self.drop_octets(rules, Phase::Missing, now)
+            self.drop_octets(rules, MISSING, now)
         } else {
             self.await_block(rules, framer, now)
         }

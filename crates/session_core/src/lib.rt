@@ -14,11 +14,11 @@
 pub mod bursting;
 pub mod event;
 pub mod limits;
-pub mod plain;
+pub mod lines;
 pub mod progress;
 pub mod sending;
 pub mod stepping;
 
 pub use event::{Event, Next};
-pub use plain::{PlainLine, PlainNext, PlainProgress, PlainRules};
+pub use lines::{Line, LineNext};
 pub use progress::{FOREVER, Moment, NO_SILENCE, Phase, Progress, Rules};

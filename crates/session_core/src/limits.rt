@@ -1,10 +1,10 @@
 //! The limits of an exchange, and the waits within them.
 
 ghost use Rattle.std.specs.Prelude.{◌≡◌, List, ℕ};
-ghost use Rattle.session_core.specs.Wire.{gone, left_of, passed, time_of, spends, asking, broken, waits, Step};
+ghost use Rattle.session_core.specs.Wire.{ruled, seen, phase_of, moment_with, is_set, gone, left_of, passed, time_of, spends, asking, broken, waits, Step};
 
 use crate::event::Next;
-use crate::progress::{FOREVER, NO_SILENCE, Progress, Rules};
+use crate::progress::{FOREVER, NO_SILENCE, Progress, Rules, is_set, mark};
 
 /// Half of all numbers of a clock. A clock that would have gone on further went back.
 const HALF: u64 = 9_223_372_036_854_775_807;
@@ -21,7 +21,7 @@ pub(crate) fn passed(now: u64, began: u64, back: u64) -> u64
 impl Rules {
     /// Returns how long so many octets take on the line. It is 0 if the line delivers whole bursts.
     pub(crate) fn time_of(&self, count: usize) -> u64
-        ensures { result ≡ time_of self.now count }
+        ensures { result ≡ time_of (ruled self.now) count }
     {
         if self.after == NO_SILENCE {
             0
@@ -34,9 +34,9 @@ impl Rules {
 impl Progress {
     /// Returns how much of the time of the exchange is over.
     fn gone(&self, rules: &Rules, now: u64) -> u64
-        ensures { result ≡ gone rules.now self.now now }
+        ensures { result ≡ gone (ruled rules.now) (seen self.now) now }
     {
-        if rules.has_clock {
+        if is_set(rules.has_clock) {
             passed(now, self.began, 0)
         } else {
             self.spent
@@ -45,7 +45,7 @@ impl Progress {
 
     /// Returns how much of it is left.
     pub(crate) fn left(&self, rules: &Rules, now: u64) -> u64
-        ensures { result ≡ left_of rules.now self.now now }
+        ensures { result ≡ left_of (ruled rules.now) (seen self.now) now }
     {
         if rules.most_time == FOREVER {
             FOREVER
@@ -56,19 +56,19 @@ impl Progress {
 
     /// Adds to what is certainly over.
     pub(crate) fn spend(&mut self, time: u64)
-        ensures { self.new ≡ spends self.old time }
+        ensures { (seen self.new) ≡ spends (seen self.old) time }
     {
         self.spent = self.spent.saturating_add(time);
     }
 
     /// Waits for octets, no longer than what is left of the time.
     pub(crate) fn wait(&mut self, rules: &Rules, wanted: u64, now: u64) -> Next
-        ensures { (burst : List ℕ) → waits rules.now self.old burst wanted now
-            ≡ record { progress = self.new; burst = burst; next = result } }
+        ensures { (burst : List ℕ) → waits (ruled rules.now) (seen self.old) burst wanted now
+            ≡ record { progress = (seen self.new); burst = burst; next = result } }
     {
         let left = self.left(rules, now);
         self.asked = wanted.min(left);
-        self.is_cut = left < wanted;
+        self.is_cut = mark(left < wanted);
         self.asked_at = now;
         self.interrupts = 0;
         Next::Wait(self.asked)
@@ -76,9 +76,9 @@ impl Progress {
 
     /// Returns how long the line has to be silent after a burst that isn't a whole block.
     pub(crate) fn broken(&self, rules: &Rules) -> u64
-        ensures { result ≡ broken rules.now self.now }
+        ensures { result ≡ broken (ruled rules.now) (seen self.now) }
     {
-        if rules.is_card {
+        if is_set(rules.is_card) {
             (rules.bwt / 4 * 3).max(rules.cwt)
         } else {
             self.first

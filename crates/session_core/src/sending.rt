@@ -2,11 +2,14 @@
 
 ghost use Rattle.std.specs.Prelude.{◌≡◌, List, ℕ, length};
 ghost use Rattle.line_core.specs.Bursts.{HasHeard};
-ghost use Rattle.session_core.specs.Wire.{Step, step_of, IsStep, silence_in, dropping, drops, dropped, cleared, stops, says, settles, talks, begins, clears, misses, takes, echo_wait, took, timed, is_used_up, sent, sent_in, follows, unechoed, met, hears_echo, echoed, agrees, unheard};
+ghost use Rattle.session_core.specs.Wire.{ruled, seen, phase_of, moment_with, is_set, Step, step_of, IsStep, silence_in, dropping, drops, dropped, cleared, stops, says, settles, talks, begins, clears, misses, takes, echo_wait, took, timed, is_used_up, sent, sent_in, follows, unechoed, met, hears_echo, echoed, agrees, unheard};
 
 use crate::event::Next;
 use crate::limits::passed;
-use crate::progress::{FOREVER, Moment, Phase, Progress, Rules};
+use crate::progress::{
+    CLEARING, ECHOING, FOREVER, IDLE, LATE, LISTENING, MISSING, Progress, Rules, SENDING, SETTLING,
+    UNKNOWN, UNSET, is_set, mark,
+};
 use line_core::Framer;
 
 /// After this many octets without a silence, the line doesn't wait for one any more.
@@ -15,20 +18,21 @@ pub(crate) const MOST_NOISE: u32 = 65_536;
 impl Progress {
     /// Stops.
     pub(crate) fn stop(&mut self, next: Next) -> Next
-        ensures { (burst : List ℕ) → stops self.old burst next ≡ step_of self.new burst result }
+        ensures { (burst : List ℕ)
+            → stops (seen self.old) burst next ≡ step_of (seen self.new) burst result }
     {
-        self.phase = Phase::Idle;
+        self.phase = IDLE;
         next
     }
 
     /// Returns the silence that the end waits for in a phase in which it drops octets.
     fn silence(&self, rules: &Rules) -> u64
-        ensures { result ≡ silence_in self.now.phase rules.now self.now }
+        ensures { result ≡ silence_in (phase_of self.now.phase) (ruled rules.now) (seen self.now) }
     {
         match self.phase {
-            Phase::Settling => self.owed,
-            Phase::Missing => self.broken(rules),
-            _ if rules.is_card => rules.bgt,
+            SETTLING => self.owed,
+            MISSING => self.broken(rules),
+            _ if is_set(rules.is_card) => rules.bgt,
             _ => rules.bwt,
         }
     }
@@ -36,8 +40,8 @@ impl Progress {
     /// Waits for the silence.
     #[tactic(auto, using(crate::proofs::Parts::is_step), unfolding(crate::specs::Wire::dropping))]
     fn wait_silent(&mut self, rules: &Rules, now: u64) -> Next
-        ensures { (burst : List ℕ) → dropping rules.now self.old burst now
-            ≡ step_of self.new burst result }
+        ensures { (burst : List ℕ) → dropping (ruled rules.now) (seen self.old) burst now
+            ≡ step_of (seen self.new) burst result }
     {
         let silence = self.silence(rules);
         self.wait(rules, silence, now)
@@ -45,9 +49,10 @@ impl Progress {
 
     /// Begins to drop octets.
     #[tactic(auto, using(crate::proofs::Parts::is_step), unfolding(crate::specs::Wire::drops))]
-    pub(crate) fn drop_octets(&mut self, rules: &Rules, phase: Phase, now: u64) -> Next
-        ensures { (burst : List ℕ) → drops rules.now self.old phase burst now
-            ≡ step_of self.new burst result }
+    pub(crate) fn drop_octets(&mut self, rules: &Rules, phase: u8, now: u64) -> Next
+        ensures { (burst : List ℕ)
+            → drops (ruled rules.now) (seen self.old) (phase_of phase) burst now
+            ≡ step_of (seen self.new) burst result }
     {
         self.phase = phase;
         self.left = MOST_NOISE;
@@ -57,8 +62,8 @@ impl Progress {
     /// Drops octets that came.
     #[tactic(auto, using(crate::proofs::Parts::is_step), unfolding(crate::specs::Wire::dropped))]
     pub(crate) fn dropped(&mut self, rules: &Rules, count: usize, now: u64) -> Next
-        ensures { (burst : List ℕ) → dropped rules.now self.old burst count now
-            ≡ step_of self.new burst result }
+        ensures { (burst : List ℕ) → dropped (ruled rules.now) (seen self.old) burst count now
+            ≡ step_of (seen self.new) burst result }
     {
         if self.left as usize <= count {
             self.left = 0;
@@ -70,7 +75,7 @@ impl Progress {
 
     /// Notes that the line was silent.
     pub(crate) fn clear(&mut self, rules: &Rules)
-        ensures { self.new ≡ cleared rules.now self.old }
+        ensures { (seen self.new) ≡ cleared (ruled rules.now) (seen self.old) }
     {
         if self.owed <= self.silence(rules) {
             self.owed = 0;
@@ -80,36 +85,37 @@ impl Progress {
     /// Says that another block met the end's own.
     #[tactic(auto, using(crate::proofs::Parts::is_step), unfolding(crate::specs::Wire::misses))]
     pub(crate) fn miss(&mut self, rules: &Rules, now: u64) -> Next
-        ensures { (burst : List ℕ) → misses rules.now self.old burst now
-            ≡ step_of self.new burst result }
+        ensures { (burst : List ℕ) → misses (ruled rules.now) (seen self.old) burst now
+            ≡ step_of (seen self.new) burst result }
     {
-        self.drop_octets(rules, Phase::Missing, now)
+        self.drop_octets(rules, MISSING, now)
     }
 
     /// Begins an exchange: octets that came late are dropped first.
     #[tactic(auto, using(crate::proofs::Parts::is_step), unfolding(crate::specs::Wire::begins))]
     pub fn begin(&mut self, rules: &Rules, now: u64) -> Next
-        ensures { (burst : List ℕ) → begins rules.now self.old burst now
-            ≡ step_of self.new burst result }
+        ensures { (burst : List ℕ) → begins (ruled rules.now) (seen self.old) burst now
+            ≡ step_of (seen self.new) burst result }
     {
         self.start(now);
-        self.phase = Phase::Late;
+        self.phase = LATE;
         self.wait(rules, 0, now)
     }
 
     /// Begins an exchange with a silence: octets are dropped until then.
     #[tactic(auto, using(crate::proofs::Parts::is_step), unfolding(crate::specs::Wire::clears))]
     pub fn begin_silent(&mut self, rules: &Rules, now: u64) -> Next
-        ensures { (burst : List ℕ) → clears rules.now self.old burst now
-            ≡ step_of self.new burst result }
+        ensures { (burst : List ℕ) → clears (ruled rules.now) (seen self.old) burst now
+            ≡ step_of (seen self.new) burst result }
     {
         self.start(now);
-        self.drop_octets(rules, Phase::Clearing, now)
+        self.drop_octets(rules, CLEARING, now)
     }
 
     /// Starts to count the blocks and the time of an exchange.
     fn start(&mut self, now: u64)
-        ensures { self.new ≡ record self.old { blocks = 0; spent = 0; echoes = 0; began = now } }
+        ensures { (seen self.new) ≡ record (seen self.old)
+            { blocks = 0; spent = 0; echoes = 0; began = now } }
     {
         self.blocks = 0;
         self.spent = 0;
@@ -120,14 +126,14 @@ impl Progress {
     /// Sends the block.
     #[tactic(auto, using(crate::proofs::Parts::is_step), unfolding(crate::specs::Wire::says))]
     pub(crate) fn say(&mut self, framer: &mut Framer, now: u64) -> Next
-        ensures { IsStep (says self.old now) self.new framer.new result }
+        ensures { IsStep (says (seen self.old) now) (seen self.new) framer.new result }
     {
         framer.restart();
-        self.phase = Phase::Sending;
+        self.phase = SENDING;
         self.asked_at = now;
-        self.is_spoiled = false;
-        self.is_whole = false;
-        self.began_at = Moment::Unknown;
+        self.is_spoiled = UNSET;
+        self.is_whole = UNSET;
+        self.began_at = UNKNOWN;
         Next::Send
     }
 
@@ -135,27 +141,27 @@ impl Progress {
     #[tactic(auto, using(crate::proofs::Parts::is_step), unfolding(crate::specs::Wire::settles))]
     fn settle(&mut self, rules: &Rules, framer: &mut Framer, now: u64) -> Next
         ensures { (burst : List ℕ) → HasHeard framer.old burst
-            → IsStep (settles rules.now self.old burst now) self.new framer.new result }
+            → IsStep (settles (ruled rules.now) (seen self.old) burst now) (seen self.new) framer.new result }
     {
         if self.owed == 0 {
             self.say(framer, now)
         } else {
-            self.drop_octets(rules, Phase::Settling, now)
+            self.drop_octets(rules, SETTLING, now)
         }
     }
 
     /// Whether the blocks or the time of the exchange are used up.
     fn is_used_up(&self, rules: &Rules, now: u64) -> bool
-        ensures { result ≡ is_used_up rules.now self.now now }
+        ensures { result ≡ is_used_up (ruled rules.now) (seen self.now) now }
     {
-        !rules.is_card && (rules.most_blocks <= self.blocks || self.left(rules, now) == 0)
+        !is_set(rules.is_card) && (rules.most_blocks <= self.blocks || self.left(rules, now) == 0)
     }
 
     /// Sends a block, within the limits of the exchange.
     #[tactic(auto, using(crate::proofs::Parts::is_step), unfolding(crate::specs::Wire::talks))]
     pub fn talk(&mut self, rules: &Rules, framer: &mut Framer, now: u64) -> Next
         ensures { (burst : List ℕ) → HasHeard framer.old burst
-            → IsStep (talks rules.now self.old burst now) self.new framer.new result }
+            → IsStep (talks (ruled rules.now) (seen self.old) burst now) (seen self.new) framer.new result }
     {
         if self.is_used_up(rules, now) {
             return self.stop(Next::UsedUp);
@@ -166,16 +172,16 @@ impl Progress {
 
     /// Returns how long the sending of a block took. A clock that went back doesn't know.
     fn took(&self, now: u64) -> u64
-        ensures { result ≡ took self.now now }
+        ensures { result ≡ took (seen self.now) now }
     {
         passed(now, self.asked_at, FOREVER)
     }
 
     /// Notes how long the sending of a block took, and that none of its echo came.
     fn time(&mut self, took: u64, needs: u64)
-        ensures { self.new ≡ timed self.old took needs }
+        ensures { (seen self.new) ≡ timed (seen self.old) took needs }
     {
-        self.is_quick = took < needs / 2;
+        self.is_quick = mark(took < needs / 2);
         self.late = took.saturating_sub(needs);
         self.own = 0;
     }
@@ -184,7 +190,7 @@ impl Progress {
     #[tactic(auto, using(crate::proofs::Parts::is_step), unfolding(crate::specs::Wire::sent))]
     pub(crate) fn sent(&mut self, rules: &Rules, framer: &Framer, now: u64, block: &[u8]) -> Next
         ensures { (burst : List ℕ) → HasHeard framer.now burst
-            → sent rules.now self.old burst now block.now ≡ step_of self.new burst result }
+            → sent (ruled rules.now) (seen self.old) burst now block.now ≡ step_of (seen self.new) burst result }
     {
         let needs = rules.takes(block);
         let took = self.took(now);
@@ -196,16 +202,16 @@ impl Progress {
     #[tactic(auto, using(crate::proofs::Parts::is_step), unfolding(crate::specs::Wire::sent_in))]
     fn sent_in(&mut self, rules: &Rules, framer: &Framer, now: u64, block: &[u8]) -> Next
         ensures { (burst : List ℕ) → HasHeard framer.now burst
-            → sent_in rules.now self.old burst now block.now ≡ step_of self.new burst result }
+            → sent_in (ruled rules.now) (seen self.old) burst now block.now ≡ step_of (seen self.new) burst result }
     {
-        if rules.has_echo {
+        if is_set(rules.has_echo) {
             let wanted = rules.echo_wait(block);
-            self.phase = Phase::Echoing;
+            self.phase = ECHOING;
             return self.wait(rules, wanted, now);
         }
         let time = rules.time_of(block.len());
         self.spend(time);
-        self.phase = Phase::Listening;
+        self.phase = LISTENING;
         self.go_on(rules, framer, now, block)
     }
 
@@ -220,7 +226,8 @@ impl Progress {
         block: &[u8],
     ) -> Next
         ensures { (burst : List ℕ) → HasHeard framer.old burst
-            → IsStep (echoed rules.now self.old burst octets.now now block.now) self.new framer.new
+            → IsStep (echoed (ruled rules.now) (seen self.old) burst octets.now now block.now) (seen self.new)
+            framer.new
             result }
     {
         let rest = self.unheard(block);
@@ -243,7 +250,8 @@ impl Progress {
         block: &[u8],
     ) -> Next
         ensures { (burst : List ℕ) → HasHeard framer.old burst
-            → IsStep (hears_echo rules.now self.old burst octets.now rest.now now block.now) self.new
+            → IsStep (hears_echo (ruled rules.now) (seen self.old) burst octets.now rest.now now block.now) (seen
+            self.new)
             framer.new result }
     {
         if octets.len() < rest.len() {
@@ -257,7 +265,7 @@ impl Progress {
 
     /// Returns what is left to come of the echo.
     fn unheard<'a>(&self, block: &'a [u8]) -> &'a [u8]
-        ensures { result.now ≡ unheard self.now block.now }
+        ensures { result.now ≡ unheard (seen self.now) block.now }
     {
         &block[self.own.min(block.len())..]
     }
@@ -273,11 +281,12 @@ impl Progress {
         block: &[u8],
     ) -> Next
         ensures { (burst : List ℕ) → HasHeard framer.old burst
-            → IsStep (follows rules.now self.old burst octets.now now block.now) self.new framer.new
+            → IsStep (follows (ruled rules.now) (seen self.old) burst octets.now now block.now) (seen self.new)
+            framer.new
             result }
     {
         framer.feed(octets);
-        self.phase = Phase::Listening;
+        self.phase = LISTENING;
         self.own = block.len();
         self.weigh(framer);
         self.go_on(rules, framer, now, block)
@@ -286,8 +295,8 @@ impl Progress {
     /// Goes on after a silence in which no more of the echo came.
     #[tactic(auto, using(crate::proofs::Parts::is_step), unfolding(crate::specs::Wire::unechoed))]
     pub(crate) fn unechoed(&mut self, rules: &Rules, now: u64) -> Next
-        ensures { (burst : List ℕ) → unechoed rules.now self.old burst now
-            ≡ step_of self.new burst result }
+        ensures { (burst : List ℕ) → unechoed (ruled rules.now) (seen self.old) burst now
+            ≡ step_of (seen self.new) burst result }
     {
         if self.own == 0 {
             self.stop(Next::Failed)
@@ -308,7 +317,7 @@ impl Progress {
         block: &[u8],
     ) -> Next
         ensures { (burst : List ℕ) → HasHeard framer.old burst
-            → IsStep (met rules.now self.old burst octets.now is_garbled now block.now) self.new
+            → IsStep (met (ruled rules.now) (seen self.old) burst octets.now is_garbled now block.now) (seen self.new)
             framer.new result }
     {
         if is_garbled {
@@ -329,14 +338,14 @@ fn agrees(octets: &[u8], rest: &[u8]) -> bool
 impl Rules {
     /// Returns how long the octets of a block take.
     fn takes(&self, block: &[u8]) -> u64
-        ensures { result ≡ takes self.now block.now }
+        ensures { result ≡ takes (ruled self.now) block.now }
     {
         (block.len() as u64).saturating_mul(self.octet)
     }
 
     /// Returns the wait for each part of the echo of a block.
     fn echo_wait(&self, block: &[u8]) -> u64
-        ensures { result ≡ echo_wait self.now block.now }
+        ensures { result ≡ echo_wait (ruled self.now) block.now }
     {
         self.cwt.saturating_add(self.takes(block))
     }

@@ -2,11 +2,14 @@
 
 ghost use Rattle.std.specs.Prelude.{◌≡◌, ◌∷◌, List, ℕ, length};
 ghost use Rattle.line_core.specs.Bursts.{HasHeard};
-ghost use Rattle.session_core.specs.Wire.{Step, step_of, IsStep, is_waiting, is_idle, is_sending, left_in, used_up, silent_in, came_in, silent, failed, interrupted, came, takes_in, has_none_left, is_past, counts_interrupt, missed, on_sent, on_came, on_silent, on_failed, step, spends, time_of};
+ghost use Rattle.session_core.specs.Wire.{ruled, seen, phase_of, moment_with, is_set, Step, step_of, IsStep, is_waiting, is_idle, is_sending, left_in, used_up, silent_in, came_in, silent, failed, interrupted, came, takes_in, has_none_left, is_past, counts_interrupt, missed, on_sent, on_came, on_silent, on_failed, step, spends, time_of};
 
 use crate::event::{Event, Next};
 use crate::limits::passed;
-use crate::progress::{FOREVER, Phase, Progress, Rules};
+use crate::progress::{
+    CLEARING, ECHOING, FOREVER, LATE, LISTENING, MISSING, Progress, Rules, SENDING, SETTLING,
+    is_set,
+};
 use line_core::Framer;
 
 /// After so many interrupts in a row the line has failed, if the wait has an end.
@@ -15,26 +18,32 @@ const MOST_INTERRUPTS: u32 = 1_000_000;
 /// In place of the number of interrupts: the wait is over, and the end looks at what is there already.
 const LAST_LOOK: u32 = u32::MAX;
 
-impl Phase {
+impl Progress {
     /// Whether the end waits for octets.
-    fn is_waiting(self) -> bool
-        ensures { result ≡ is_waiting self }
+    fn is_waiting(&self) -> bool
+        ensures { result ≡ is_waiting (phase_of self.now.phase) }
     {
-        !matches!(self, Phase::Idle | Phase::Sending)
+        match self.phase {
+            LATE | CLEARING | SETTLING | ECHOING | LISTENING | MISSING => true,
+            _ => false,
+        }
     }
 
     /// Whether it sends its block.
-    fn is_sending(self) -> bool
-        ensures { result ≡ is_sending self }
+    fn is_sending(&self) -> bool
+        ensures { result ≡ is_sending (phase_of self.now.phase) }
     {
-        matches!(self, Phase::Sending)
+        self.phase == SENDING
     }
 
     /// Whether it does nothing.
-    fn is_idle(self) -> bool
-        ensures { result ≡ is_idle self }
+    fn is_idle(&self) -> bool
+        ensures { result ≡ is_idle (phase_of self.now.phase) }
     {
-        matches!(self, Phase::Idle)
+        match self.phase {
+            LATE | CLEARING | SETTLING | SENDING | ECHOING | LISTENING | MISSING => false,
+            _ => true,
+        }
     }
 }
 
@@ -53,7 +62,8 @@ impl Progress {
         block: &[u8],
     ) -> Next
         ensures { (burst : List ℕ) → HasHeard framer.old burst
-            → IsStep (step rules.now self.old burst event.entry now block.now) self.new framer.new result }
+            → IsStep (step (ruled rules.now) (seen self.old) burst event.entry now block.now) (seen self.new)
+            framer.new result }
     {
         match event {
             Event::Sent => self.on_sent(rules, framer, now, block),
@@ -68,9 +78,9 @@ impl Progress {
     #[tactic(auto, using(crate::proofs::Parts::is_step), unfolding(crate::specs::Wire::on_sent))]
     pub(crate) fn on_sent(&mut self, rules: &Rules, framer: &Framer, now: u64, block: &[u8]) -> Next
         ensures { (burst : List ℕ) → HasHeard framer.now burst
-            → on_sent rules.now self.old burst now block.now ≡ step_of self.new burst result }
+            → on_sent (ruled rules.now) (seen self.old) burst now block.now ≡ step_of (seen self.new) burst result }
     {
-        if self.phase.is_sending() {
+        if self.is_sending() {
             self.sent(rules, framer, now, block)
         } else {
             Next::Order
@@ -89,10 +99,11 @@ impl Progress {
         block: &[u8],
     ) -> Next
         ensures { (burst : List ℕ) → HasHeard framer.old burst
-            → IsStep (on_came rules.now self.old burst octets.now is_garbled now block.now) self.new
+            → IsStep (on_came (ruled rules.now) (seen self.old) burst octets.now is_garbled now block.now) (seen
+            self.new)
             framer.new result }
     {
-        if self.phase.is_waiting() {
+        if self.is_waiting() {
             self.came(rules, framer, octets, is_garbled, now, block)
         } else {
             Next::Order
@@ -109,9 +120,10 @@ impl Progress {
         block: &[u8],
     ) -> Next
         ensures { (burst : List ℕ) → HasHeard framer.old burst
-            → IsStep (on_silent rules.now self.old burst now block.now) self.new framer.new result }
+            → IsStep (on_silent (ruled rules.now) (seen self.old) burst now block.now) (seen self.new) framer.new
+            result }
     {
-        if self.phase.is_waiting() {
+        if self.is_waiting() {
             self.silent(rules, framer, now, block)
         } else {
             Next::Order
@@ -122,9 +134,9 @@ impl Progress {
     #[tactic(auto, using(crate::proofs::Parts::is_step), unfolding(crate::specs::Wire::on_failed))]
     pub(crate) fn on_failed(&mut self, rules: &Rules, framer: &Framer) -> Next
         ensures { (burst : List ℕ) → HasHeard framer.now burst
-            → on_failed rules.now self.old burst ≡ step_of self.new burst result }
+            → on_failed (ruled rules.now) (seen self.old) burst ≡ step_of (seen self.new) burst result }
     {
-        if self.phase.is_idle() {
+        if self.is_idle() {
             Next::Order
         } else {
             self.failed(rules, framer)
@@ -143,7 +155,7 @@ impl Progress {
         block: &[u8],
     ) -> Next
         ensures { (burst : List ℕ) → HasHeard framer.old burst
-            → IsStep (came rules.now self.old burst octets.now is_garbled now block.now) self.new
+            → IsStep (came (ruled rules.now) (seen self.old) burst octets.now is_garbled now block.now) (seen self.new)
             framer.new result }
     {
         if octets.is_empty() {
@@ -166,7 +178,8 @@ impl Progress {
         block: &[u8],
     ) -> Next
         ensures { (burst : List ℕ) → HasHeard framer.old burst
-            → IsStep (takes_in rules.now self.old burst octets.now is_garbled now block.now) self.new
+            → IsStep (takes_in (ruled rules.now) (seen self.old) burst octets.now is_garbled now block.now) (seen
+            self.new)
             framer.new result }
     {
         if self.has_none_left() {
@@ -178,9 +191,9 @@ impl Progress {
 
     /// Whether nothing was left of the time when the wait began.
     fn has_none_left(&self) -> bool
-        ensures { result ≡ has_none_left self.now }
+        ensures { result ≡ has_none_left (seen self.now) }
     {
-        self.is_cut && self.asked == 0
+        is_set(self.is_cut) && self.asked == 0
     }
 
     /// Takes octets that came in time.
@@ -195,17 +208,16 @@ impl Progress {
         block: &[u8],
     ) -> Next
         ensures { (burst : List ℕ) → HasHeard framer.old burst
-            → IsStep (came_in self.old.phase rules.now self.old burst octets.now is_garbled now block.now)
-            self.new framer.new result }
+            → IsStep (came_in (phase_of self.old.phase) (ruled rules.now) (seen self.old) burst octets.now is_garbled
+            now block.now)
+            (seen self.new) framer.new result }
     {
         match self.phase {
-            Phase::Late => self.drop_octets(rules, Phase::Clearing, now),
-            Phase::Clearing | Phase::Settling | Phase::Missing => {
-                self.dropped(rules, octets.len(), now)
-            }
-            Phase::Echoing => self.meet(rules, framer, octets, is_garbled, now, block),
-            Phase::Listening => self.hear(rules, framer, octets, is_garbled, now, block),
-            Phase::Idle | Phase::Sending => Next::Order,
+            LATE => self.drop_octets(rules, CLEARING, now),
+            CLEARING | SETTLING | MISSING => { self.dropped(rules, octets.len(), now) }
+            ECHOING => self.meet(rules, framer, octets, is_garbled, now, block),
+            LISTENING => self.hear(rules, framer, octets, is_garbled, now, block),
+            _ => Next::Order,
         }
     }
 
@@ -213,10 +225,10 @@ impl Progress {
     #[tactic(auto, using(crate::proofs::Parts::is_step), unfolding(crate::specs::Wire::silent))]
     fn silent(&mut self, rules: &Rules, framer: &mut Framer, now: u64, block: &[u8]) -> Next
         ensures { (burst : List ℕ) → HasHeard framer.old burst
-            → IsStep (silent rules.now self.old burst now block.now) self.new framer.new result }
+            → IsStep (silent (ruled rules.now) (seen self.old) burst now block.now) (seen self.new) framer.new result }
     {
         self.spend(self.asked);
-        if self.is_cut {
+        if is_set(self.is_cut) {
             self.use_up(rules, framer)
         } else {
             self.silent_in(rules, framer, now, block)
@@ -227,26 +239,27 @@ impl Progress {
     #[tactic(auto, using(crate::proofs::Parts::is_step), unfolding(crate::specs::Wire::silent_in))]
     fn silent_in(&mut self, rules: &Rules, framer: &mut Framer, now: u64, block: &[u8]) -> Next
         ensures { (burst : List ℕ) → HasHeard framer.old burst
-            → IsStep (silent_in self.old.phase rules.now self.old burst now block.now) self.new
+            → IsStep (silent_in (phase_of self.old.phase) (ruled rules.now) (seen self.old) burst now block.now) (seen
+            self.new)
             framer.new result }
     {
         match self.phase {
-            Phase::Late => self.talk(rules, framer, now),
-            Phase::Clearing => {
+            LATE => self.talk(rules, framer, now),
+            CLEARING => {
                 self.clear(rules);
                 self.talk(rules, framer, now)
             }
-            Phase::Settling => {
+            SETTLING => {
                 self.clear(rules);
                 self.say(framer, now)
             }
-            Phase::Echoing => self.unechoed(rules, now),
-            Phase::Listening => self.end(rules, framer, block),
-            Phase::Missing => {
+            ECHOING => self.unechoed(rules, now),
+            LISTENING => self.end(rules, framer, block),
+            MISSING => {
                 self.clear(rules);
                 self.missed(rules, framer, now)
             }
-            Phase::Idle | Phase::Sending => Next::Order,
+            _ => Next::Order,
         }
     }
 
@@ -254,9 +267,9 @@ impl Progress {
     #[tactic(auto, using(crate::proofs::Parts::is_step), unfolding(crate::specs::Wire::missed))]
     fn missed(&mut self, rules: &Rules, framer: &mut Framer, now: u64) -> Next
         ensures { (burst : List ℕ) → HasHeard framer.old burst
-            → IsStep (missed rules.now self.old burst now) self.new framer.new result }
+            → IsStep (missed (ruled rules.now) (seen self.old) burst now) (seen self.new) framer.new result }
     {
-        if rules.is_card {
+        if is_set(rules.is_card) {
             self.await_block(rules, framer, now)
         } else {
             self.stop(Next::Quiet)
@@ -267,7 +280,8 @@ impl Progress {
     #[tactic(auto, using(crate::proofs::Parts::is_step), unfolding(crate::specs::Wire::interrupted))]
     fn interrupted(&mut self, rules: &Rules, framer: &mut Framer, now: u64, block: &[u8]) -> Next
         ensures { (burst : List ℕ) → HasHeard framer.old burst
-            → IsStep (interrupted rules.now self.old burst now block.now) self.new framer.new result }
+            → IsStep (interrupted (ruled rules.now) (seen self.old) burst now block.now) (seen self.new) framer.new
+            result }
     {
         if self.asked == FOREVER {
             return Next::Wait(FOREVER);
@@ -284,16 +298,16 @@ impl Progress {
 
     /// Whether the wait is over by the clock.
     fn is_past(&self, rules: &Rules, now: u64) -> bool
-        ensures { result ≡ is_past rules.now self.now now }
+        ensures { result ≡ is_past (ruled rules.now) (seen self.now) now }
     {
-        rules.has_clock && self.asked <= passed(now, self.asked_at, 0)
+        is_set(rules.has_clock) && self.asked <= passed(now, self.asked_at, 0)
     }
 
     /// Counts an interrupt of a wait, which goes on.
     #[tactic(auto, using(crate::proofs::Parts::is_step), unfolding(crate::specs::Wire::counts_interrupt))]
     fn count_interrupt(&mut self, rules: &Rules, framer: &Framer) -> Next
         ensures { (burst : List ℕ) → HasHeard framer.now burst
-            → counts_interrupt rules.now self.old burst ≡ step_of self.new burst result }
+            → counts_interrupt (ruled rules.now) (seen self.old) burst ≡ step_of (seen self.new) burst result }
     {
         if MOST_INTERRUPTS <= self.interrupts {
             return self.failed(rules, framer);
@@ -305,9 +319,9 @@ impl Progress {
     /// Notes what the end owes if it stops inside a burst.
     fn leave(&mut self, rules: &Rules, framer: &Framer)
         ensures { (burst : List ℕ) → HasHeard framer.now burst
-            → self.new ≡ left_in self.old.phase rules.now self.old burst }
+            → (seen self.new) ≡ left_in (phase_of self.old.phase) (ruled rules.now) (seen self.old) burst }
     {
-        if self.phase == Phase::Listening {
+        if self.phase == LISTENING {
             self.owed = self.owed_after(rules, framer);
         }
     }
@@ -316,7 +330,7 @@ impl Progress {
     #[tactic(auto, using(crate::proofs::Parts::is_step), unfolding(crate::specs::Wire::used_up))]
     fn use_up(&mut self, rules: &Rules, framer: &Framer) -> Next
         ensures { (burst : List ℕ) → HasHeard framer.now burst
-            → used_up rules.now self.old burst ≡ step_of self.new burst result }
+            → used_up (ruled rules.now) (seen self.old) burst ≡ step_of (seen self.new) burst result }
     {
         self.leave(rules, framer);
         self.stop(Next::UsedUp)
@@ -326,7 +340,7 @@ impl Progress {
     #[tactic(auto, using(crate::proofs::Parts::is_step), unfolding(crate::specs::Wire::failed))]
     fn failed(&mut self, rules: &Rules, framer: &Framer) -> Next
         ensures { (burst : List ℕ) → HasHeard framer.now burst
-            → failed rules.now self.old burst ≡ step_of self.new burst result }
+            → failed (ruled rules.now) (seen self.old) burst ≡ step_of (seen self.new) burst result }
     {
         self.leave(rules, framer);
         self.stop(Next::Failed)

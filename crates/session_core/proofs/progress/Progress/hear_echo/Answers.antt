@@ -1,3 +1,5 @@
+use Rattle.session_core.specs.Wire.{ruled}
+use Rattle.session_core.specs.Wire.{seen}
 use Rattle.std.proofs.Common.{◌≡◌, ◌-◌, length, take, drop, arith}
 use Rattle.std.proofs.lemmas.List.{take_all, length-drop}
 use Rattle.std.proofs.lemmas.Bool.{lt-ltb, le-ltb}
@@ -9,8 +11,9 @@ pub returns-then-octets-rest : goal.returns-then-octets-rest
 unfolding hears_echo
 returns-then-octets-rest c = λ burst h.
     is_step
-    (hears_echo c.args.rules.now c.args.self.now burst c.args.octets.now c.args.rest.now c.args.now c.args.block.now)
-    c.wait.new.self burst c.wait.result c.args.framer.now
+    (hears_echo (ruled c.args.rules.now) (seen c.args.self.now) burst c.args.octets.now c.args.rest.now c.args.now
+    c.args.block.now)
+    (seen c.wait.new.self) burst c.wait.result c.args.framer.now
     (rw (lt-ltb _ _ c.if-octets-rest.true)
     (rw c.saturating_add-self.ensures at (rw c.echo_wait-wanted.ensures at (c.wait.ensures burst)))) h
 

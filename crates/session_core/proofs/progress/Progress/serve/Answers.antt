@@ -1,3 +1,5 @@
+use Rattle.session_core.specs.Wire.{ruled}
+use Rattle.session_core.specs.Wire.{seen}
 use Rattle.std.proofs.lemmas.Bool.{lt-ltb, le-ltb}
 use Rattle.session_core.specs.Wire.{serves}
 use Rattle.session_core.proofs.Parts.{is_step}
@@ -6,7 +8,8 @@ use Rattle.session_core.proofs.progress.Progress.serve.Goals as goal
 pub returns-then-rules-self : goal.returns-then-rules-self
 unfolding serves
 returns-then-rules-self c = λ burst h.
-    is_step (serves c.args.rules.now c.args.self.now burst c.args.now) c.drop_octets.new.self burst
+    is_step (serves (ruled c.args.rules.now) (seen c.args.self.now) burst c.args.now) (seen c.drop_octets.new.self)
+    burst
     c.drop_octets.result c.args.framer.now (rw (lt-ltb _ _ c.if-rules-self.true) (c.drop_octets.ensures burst)) h
 
 pub returns-else-rules-self : goal.returns-else-rules-self

@@ -1,0 +1,53 @@
+-- The line of one end as plain numbers.
+use Rattle.std.specs.Prelude.{◌≡◌, ℕ, List, min, Bool, true, false, ◌==◌, if◌then◌else◌}
+use Rattle.line_core.specs.Bursts.{HasHeard, handed}
+use Rattle.session_core.specs.declared.event.Next.{Next}
+use Rattle.session_core.specs.declared.event.Next.TheVariants.{Send, Wait, Heard, Quiet, Failed, UsedUp, Echo, Order}
+use Rattle.session_core.specs.declared.progress.Rules.{Rules}
+use Rattle.session_core.specs.declared.lines.Line.{Line}
+use Rattle.session_core.specs.declared.lines.LineNext.{LineNext}
+use Rattle.session_core.specs.Wire.{Ruled, Doing, seen, Step, step_of, handed_over, on_sent, on_came, on_silent, on_failed}
+
+-- what the end has done, with the time that it waits for the first octet of a burst
+abbrev pub first_of : Line → ℕ → Doing
+first_of line first = record (seen line.progress) { first = first }
+
+-- what happened, by its number
+abbrev pub stepped : ℕ → Ruled → Doing → List ℕ → List ℕ → ℕ → List ℕ → Step
+stepped event r p burst octets now block =
+    if event == 0 then on_sent r p burst now block
+    else (if event == 1 then on_came r p burst octets false now block
+    else (if event == 2 then on_came r p burst octets true now block
+    else (if event == 3 then on_silent r p burst now block
+    else (if event == 4 then on_failed r p burst else step_of p burst Order))))
+
+abbrev pub told_of : ℕ → ℕ → ℕ → LineNext
+told_of kind count wait = record { kind = kind; count = count; wait = wait }
+
+-- what the end does next; a burst that it takes has so many octets
+abbrev pub told_next : Next → ℕ → LineNext
+told_next Send count = told_of 0 0 0
+told_next (Wait time) count = told_of 1 0 time
+told_next Heard count = told_of 2 count 0
+told_next Quiet count = told_of 3 0 0
+told_next Failed count = told_of 4 0 0
+told_next UsedUp count = told_of 5 0 0
+told_next Echo count = told_of 6 0 0
+told_next Order count = told_of 7 0 0
+
+-- the burst that the line holds then: what the end takes as one block, if it takes one
+abbrev pub held_over : Next → Bool → List ℕ → List ℕ
+held_over Heard is_spoiled burst = handed_over is_spoiled burst
+held_over next is_spoiled burst = burst
+
+-- What a call leaves. The rules stay. The number of octets that are handed over is that of the burst, at most 259.
+pub record IsLeft (p : Doing) (burst : List ℕ) (next : Next) (rules : Rules) (new : Line)
+    (told : LineNext) : Type 0 where
+  pub rules_are : new.rules ≡ rules
+  pub progress : seen new.progress ≡ p
+  pub burst_is : HasHeard new.framer (held_over next p.is_spoiled burst)
+  pub told_is : told ≡ told_next next (min new.framer.count handed)
+
+-- the line after this step of the table
+abbrev pub IsTold : Step → Rules → Line → LineNext → Type 0
+IsTold step rules new told = IsLeft step.progress step.burst step.next rules new told

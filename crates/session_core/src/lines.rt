@@ -1,0 +1,196 @@
+//! The line of one end in one struct, and what it does next as plain numbers, for callers in C.
+
+ghost use Rattle.std.specs.Prelude.{◌≡◌, List, [], ℕ};
+ghost use Rattle.line_core.specs.Bursts.{HasHeard};
+ghost use Rattle.session_core.specs.Wire.{ruled, seen, fresh, begins, clears, talks, serves, forever, handed_over, IsStep, step_of};
+ghost use Rattle.session_core.specs.Lines.{first_of, told_next, stepped, held_over, IsTold, IsLeft};
+
+use crate::event::Next;
+use crate::progress::{FOREVER, Progress, Rules, is_set};
+use line_core::Framer;
+
+/// A block with a wrong check octet. An end gets it in place of a burst that it may not take.
+const DAMAGED: &[u8] = &[0x00, 0x00, 0x00, 0x01];
+
+/// The line of one end: its rules, what the end has done on it, and the burst that came so far.
+#[repr(C)]
+#[derive(Clone, Copy)]
+pub struct Line {
+    pub rules: Rules,
+    pub progress: Progress,
+    pub framer: Framer,
+}
+
+/// [`Next`] as plain numbers.
+///
+/// `kind` is one of these numbers:
+///
+/// - 0: send the block
+/// - 1: wait for octets, for a silence of `wait` microseconds at most
+/// - 2: a burst has ended: the end takes the first `count` octets that the framer holds
+/// - 3: nothing came within the waiting time
+/// - 4: the line failed
+/// - 5: the blocks or the time of the exchange are used up
+/// - 6: the line returns what is sent on it, and the rules don't say so
+/// - 7: the call doesn't fit what the end is doing, and nothing changes
+#[repr(C)]
+#[derive(Clone, Copy)]
+pub struct LineNext {
+    pub kind: u8,
+    pub count: usize,
+    pub wait: u64,
+}
+
+impl LineNext {
+    /// Returns what an end does next. A burst that the end takes has so many octets.
+    pub fn of(next: Next, count: usize) -> LineNext
+        ensures { result ≡ told_next next count }
+    {
+        let (kind, count, wait) = match next {
+            Next::Send => (0, 0, 0),
+            Next::Wait(time) => (1, 0, time),
+            Next::Heard => (2, count, 0),
+            Next::Quiet => (3, 0, 0),
+            Next::Failed => (4, 0, 0),
+            Next::UsedUp => (5, 0, 0),
+            Next::Echo => (6, 0, 0),
+            Next::Order => (7, 0, 0),
+        };
+        LineNext { kind, count, wait }
+    }
+}
+
+impl Line {
+    /// Begins the line of an end that hasn't used it yet.
+    pub fn begin(&mut self, rules: &Rules)
+        ensures rules { self.new.rules ≡ rules.now }
+        ensures progress { seen self.new.progress ≡ fresh (ruled rules.now) }
+        ensures burst { HasHeard self.new.framer [] }
+    {
+        self.rules = *rules;
+        self.progress = Progress::new(rules);
+        self.framer.restart();
+    }
+
+    /// Begins an exchange: octets that came late are dropped first. After its first block the end waits so long for
+    /// the first octet.
+    pub fn exchange(&mut self, first: u64, now: u64) -> LineNext
+        ensures { (burst : List ℕ) → HasHeard self.old.framer burst
+            → IsTold (begins (ruled self.old.rules) (first_of self.old first) burst now) self.old.rules
+            self.new result }
+    {
+        self.progress.first = first;
+        let next = self.progress.begin(&self.rules, now);
+        self.put(next)
+    }
+
+    /// Begins an exchange with a silence: octets are dropped until then.
+    pub fn clear(&mut self, first: u64, now: u64) -> LineNext
+        ensures { (burst : List ℕ) → HasHeard self.old.framer burst
+            → IsTold (clears (ruled self.old.rules) (first_of self.old first) burst now) self.old.rules
+            self.new result }
+    {
+        self.progress.first = first;
+        let next = self.progress.begin_silent(&self.rules, now);
+        self.put(next)
+    }
+
+    /// Sends the next block of an exchange, after which the end waits so long for the first octet.
+    pub fn talk(&mut self, first: u64, now: u64) -> LineNext
+        ensures { (burst : List ℕ) → HasHeard self.old.framer burst
+            → IsTold (talks (ruled self.old.rules) (first_of self.old first) burst now) self.old.rules
+            self.new result }
+    {
+        self.progress.first = first;
+        let next = self.progress.talk(&self.rules, &mut self.framer, now);
+        self.put(next)
+    }
+
+    /// Begins to serve the terminal, or goes on after the line failed.
+    pub fn serve(&mut self, now: u64) -> LineNext
+        ensures { (burst : List ℕ) → HasHeard self.old.framer burst
+            → IsTold (serves (ruled self.old.rules) (first_of self.old forever) burst now) self.old.rules
+            self.new result }
+    {
+        self.progress.first = FOREVER;
+        let next = self.progress.serve(&self.rules, &mut self.framer, now);
+        self.put(next)
+    }
+
+    /// Says what happened on the line: by its number, 0 sent, 1 came, 2 garbled, 3 silent and 4 failed. `octets` are
+    /// those that came, and `block` is the end's own block. Another number doesn't fit.
+    pub fn step(&mut self, event: u8, octets: &[u8], now: u64, block: &[u8]) -> LineNext
+        ensures { (burst : List ℕ) → HasHeard self.old.framer burst
+            → IsTold (stepped event (ruled self.old.rules) (seen self.old.progress) burst octets.now now
+            block.now) self.old.rules self.new result }
+    {
+        let framer = &mut self.framer;
+        let next = stepped(
+            &mut self.progress,
+            &self.rules,
+            framer,
+            event,
+            octets,
+            now,
+            block,
+        );
+        self.put(next)
+    }
+
+    /// Returns what the end does next. If it may not take its burst, a damaged block is in place of that.
+    fn put(&mut self, next: Next) -> LineNext
+        ensures { (burst : List ℕ) → HasHeard self.old.framer burst
+            → IsLeft (seen self.old.progress) burst next self.old.rules self.new result }
+    {
+        hand_over(&mut self.framer, next, is_set(self.progress.is_spoiled));
+        LineNext::of(next, self.framer.kept())
+    }
+}
+
+/// Puts a damaged block in place of a burst that the end may not take.
+fn hand_over(framer: &mut Framer, next: Next, is_spoiled: bool)
+    ensures { (burst : List ℕ) → HasHeard framer.old burst
+        → HasHeard framer.new (held_over next is_spoiled burst) }
+{
+    match next {
+        Next::Heard => replace(framer, is_spoiled),
+        _ => {}
+    }
+}
+
+/// Puts a damaged block in place of a spoiled burst.
+fn replace(framer: &mut Framer, is_spoiled: bool)
+    ensures { (burst : List ℕ) → HasHeard framer.old burst
+        → HasHeard framer.new (handed_over is_spoiled burst) }
+{
+    if is_spoiled {
+        framer.restart();
+        framer.feed(DAMAGED);
+    }
+}
+
+/// Takes an event by its number.
+#[tactic(auto, using(crate::proofs::Parts::is_step))]
+fn stepped(
+    progress: &mut Progress,
+    rules: &Rules,
+    framer: &mut Framer,
+    event: u8,
+    octets: &[u8],
+    now: u64,
+    block: &[u8],
+) -> Next
+    ensures { (burst : List ℕ) → HasHeard framer.old burst
+        → IsStep (stepped event (ruled rules.now) (seen progress.old) burst octets.now now block.now) (seen
+        progress.new)
+        framer.new result }
+{
+    match event {
+        0 => progress.on_sent(rules, framer, now, block),
+        1 => progress.on_came(rules, framer, octets, false, now, block),
+        2 => progress.on_came(rules, framer, octets, true, now, block),
+        3 => progress.on_silent(rules, framer, now, block),
+        4 => progress.on_failed(rules, framer),
+        _ => Next::Order,
+    }
+}
