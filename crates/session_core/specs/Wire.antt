@@ -2,7 +2,6 @@
 -- of ISO/IEC 7816-3:2006. Times are in microseconds.
 use Rattle.std.specs.Prelude.{◌^◌, ◌%◌, ◌≡◌, ℕ, ◌+◌, ◌-◌, ◌*◌, ◌/◌, List, [], ◌∷◌, ◌++◌, length, take, drop, slice_index, min, max, Bool, true, false, ◌&&◌, ◌||◌, ◌==◌, not, nat_eq, nat_lt, nat_le, if◌then◌else◌}
 use Rattle.std.specs.List.{starts_with}
-use Rattle.std.specs.Cmp.Lexicographic.{pointwise}
 use Rattle.line_core.specs.Bursts.{HasHeard, handed, is_whole}
 use Rattle.line_core.specs.Timed.{damaged_block}
 use Rattle.line_core.specs.declared.framing.Framer.{Framer}
@@ -410,7 +409,8 @@ unheard p block = drop p.own block
 
 -- octets are the next ones of it, as far as both go
 abbrev pub agrees : List ℕ → List ℕ → Bool
-agrees octets rest = pointwise nat_eq (take (length rest) octets) (take (length octets) rest)
+agrees octets rest =
+    if nat_lt (length octets) (length rest) then starts_with nat_eq rest octets else starts_with nat_eq octets rest
 
 -- the other end's block met it
 unfoldable pub misses : Ruled → Doing → List ℕ → ℕ → Step

@@ -10,7 +10,7 @@ use crate::progress::{
     EARLY, IN_TIME, LISTENING, MISSING, NO_SILENCE, Progress, Rules, SET, UNKNOWN, UNSET, is_set,
     mark,
 };
-use crate::sending::MOST_NOISE;
+use crate::sending::{MOST_NOISE, begin_with};
 use line_core::Framer;
 
 /// So many echoes in a row are no chance.
@@ -57,6 +57,7 @@ impl Progress {
     }
 
     /// Returns what the end owes after the burst.
+    #[inline(never)]
     pub(crate) fn owed_after(&self, rules: &Rules, framer: &Framer) -> u64
         ensures { (burst : List ℕ) → HasHeard framer.now burst
             → result ≡ owed_after (ruled rules.now) (seen self.now) burst }
@@ -95,7 +96,7 @@ impl Progress {
     {
         !is_set(rules.has_echo)
             && (!block.is_empty()
-                && (octets.starts_with(block) && !(is_info(octets) && self.began_at == IN_TIME)))
+                && (begin_with(octets, block) && !(is_info(octets) && self.began_at == IN_TIME)))
     }
 
     /// Whether an echo is certain.
@@ -171,6 +172,7 @@ impl Progress {
 
     /// Judges a burst that has ended.
     #[tactic(auto, using(crate::proofs::Parts::is_step), unfolding(crate::specs::Wire::judged))]
+    #[inline(never)]
     fn judge(&mut self, rules: &Rules, framer: &Framer, block: &[u8]) -> Next
         ensures { (burst : List ℕ) → HasHeard framer.now burst
             → judged (ruled rules.now) (seen self.old) burst block.now ≡ step_of (seen self.new) burst result }
@@ -197,6 +199,7 @@ impl Progress {
 
     /// Waits for more of the burst, unless that is over.
     #[tactic(auto, using(crate::proofs::Parts::is_step), unfolding(crate::specs::Wire::goes_on))]
+    #[inline(never)]
     pub(crate) fn go_on(&mut self, rules: &Rules, framer: &Framer, now: u64, block: &[u8]) -> Next
         ensures { (burst : List ℕ) → HasHeard framer.now burst
             → goes_on (ruled rules.now) (seen self.old) burst now block.now ≡ step_of (seen self.new) burst result }
@@ -229,6 +232,7 @@ impl Progress {
 
     /// Takes octets of the burst.
     #[tactic(auto, using(crate::proofs::Parts::is_step), unfolding(crate::specs::Wire::hears))]
+    #[inline(never)]
     pub(crate) fn hear(
         &mut self,
         rules: &Rules,
@@ -251,6 +255,7 @@ impl Progress {
 
     /// Waits for the next block, as a card does.
     #[tactic(auto, using(crate::proofs::Parts::is_step), unfolding(crate::specs::Wire::awaits))]
+    #[inline(never)]
     pub(crate) fn await_block(&mut self, rules: &Rules, framer: &mut Framer, now: u64) -> Next
         ensures { IsStep (awaits (ruled rules.now) (seen self.old) now) (seen self.new) framer.new
             result }

@@ -44,6 +44,7 @@ impl Progress {
     }
 
     /// Returns how much of it is left.
+    #[inline(never)]
     pub(crate) fn left(&self, rules: &Rules, now: u64) -> u64
         ensures { result ≡ left_of (ruled rules.now) (seen self.now) now }
     {
@@ -62,6 +63,7 @@ impl Progress {
     }
 
     /// Waits for octets, no longer than what is left of the time.
+    #[inline(never)]
     pub(crate) fn wait(&mut self, rules: &Rules, wanted: u64, now: u64) -> Next
         ensures { (burst : List ℕ) → waits (ruled rules.now) (seen self.old) burst wanted now
             ≡ record { progress = (seen self.new); burst = burst; next = result } }

@@ -1,6 +1,7 @@
 //! Octets that are dropped before a block is sent, and the sending of the block.
 
-ghost use Rattle.std.specs.Prelude.{◌≡◌, List, ℕ, length};
+ghost use Rattle.std.specs.List.{starts_with};
+ghost use Rattle.std.specs.Prelude.{nat_eq, ◌≡◌, List, ℕ, length};
 ghost use Rattle.line_core.specs.Bursts.{HasHeard};
 ghost use Rattle.session_core.specs.Wire.{ruled, seen, phase_of, moment_with, is_set, Step, step_of, IsStep, silence_in, dropping, drops, dropped, cleared, stops, says, settles, talks, begins, clears, misses, takes, echo_wait, took, timed, is_used_up, sent, sent_in, follows, unechoed, met, hears_echo, echoed, agrees, unheard};
 
@@ -39,6 +40,7 @@ impl Progress {
 
     /// Waits for the silence.
     #[tactic(auto, using(crate::proofs::Parts::is_step), unfolding(crate::specs::Wire::dropping))]
+    #[inline(never)]
     fn wait_silent(&mut self, rules: &Rules, now: u64) -> Next
         ensures { (burst : List ℕ) → dropping (ruled rules.now) (seen self.old) burst now
             ≡ step_of (seen self.new) burst result }
@@ -49,6 +51,7 @@ impl Progress {
 
     /// Begins to drop octets.
     #[tactic(auto, using(crate::proofs::Parts::is_step), unfolding(crate::specs::Wire::drops))]
+    #[inline(never)]
     pub(crate) fn drop_octets(&mut self, rules: &Rules, phase: u8, now: u64) -> Next
         ensures { (burst : List ℕ)
             → drops (ruled rules.now) (seen self.old) (phase_of phase) burst now
@@ -84,6 +87,7 @@ impl Progress {
 
     /// Says that another block met the end's own.
     #[tactic(auto, using(crate::proofs::Parts::is_step), unfolding(crate::specs::Wire::misses))]
+    #[inline(never)]
     pub(crate) fn miss(&mut self, rules: &Rules, now: u64) -> Next
         ensures { (burst : List ℕ) → misses (ruled rules.now) (seen self.old) burst now
             ≡ step_of (seen self.new) burst result }
@@ -139,6 +143,7 @@ impl Progress {
 
     /// Sends the block, once the line is silent.
     #[tactic(auto, using(crate::proofs::Parts::is_step), unfolding(crate::specs::Wire::settles))]
+    #[inline(never)]
     fn settle(&mut self, rules: &Rules, framer: &mut Framer, now: u64) -> Next
         ensures { (burst : List ℕ) → HasHeard framer.old burst
             → IsStep (settles (ruled rules.now) (seen self.old) burst now) (seen self.new) framer.new result }
@@ -159,6 +164,7 @@ impl Progress {
 
     /// Sends a block, within the limits of the exchange.
     #[tactic(auto, using(crate::proofs::Parts::is_step), unfolding(crate::specs::Wire::talks))]
+    #[inline(never)]
     pub fn talk(&mut self, rules: &Rules, framer: &mut Framer, now: u64) -> Next
         ensures { (burst : List ℕ) → HasHeard framer.old burst
             → IsStep (talks (ruled rules.now) (seen self.old) burst now) (seen self.new) framer.new result }
@@ -188,6 +194,7 @@ impl Progress {
 
     /// Says that the block was sent.
     #[tactic(auto, using(crate::proofs::Parts::is_step), unfolding(crate::specs::Wire::sent))]
+    #[inline(never)]
     pub(crate) fn sent(&mut self, rules: &Rules, framer: &Framer, now: u64, block: &[u8]) -> Next
         ensures { (burst : List ℕ) → HasHeard framer.now burst
             → sent (ruled rules.now) (seen self.old) burst now block.now ≡ step_of (seen self.new) burst result }
@@ -217,6 +224,7 @@ impl Progress {
 
     /// Takes octets of the echo. Octets after it begin the next burst.
     #[tactic(auto, using(crate::proofs::Parts::is_step), unfolding(crate::specs::Wire::echoed))]
+    #[inline(never)]
     pub(crate) fn echoed(
         &mut self,
         rules: &Rules,
@@ -332,7 +340,19 @@ impl Progress {
 fn agrees(octets: &[u8], rest: &[u8]) -> bool
     ensures { result ≡ agrees octets.now rest.now }
 {
-    octets[..rest.len().min(octets.len())] == rest[..octets.len().min(rest.len())]
+    if octets.len() < rest.len() {
+        begin_with(rest, octets)
+    } else {
+        begin_with(octets, rest)
+    }
+}
+
+/// Whether octets begin with the first ones. It is a function of its own, so that a library has it once.
+#[inline(never)]
+pub(crate) fn begin_with(octets: &[u8], first: &[u8]) -> bool
+    ensures { result ≡ starts_with nat_eq octets.now first.now }
+{
+    octets.starts_with(first)
 }
 
 impl Rules {

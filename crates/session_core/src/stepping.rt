@@ -168,6 +168,7 @@ impl Progress {
 
     /// Takes octets that came, unless they came too late.
     #[tactic(auto, using(crate::proofs::Parts::is_step), unfolding(crate::specs::Wire::takes_in))]
+    #[inline(never)]
     fn take_in(
         &mut self,
         rules: &Rules,
@@ -223,6 +224,7 @@ impl Progress {
 
     /// Says that nothing came within the silence that was asked for.
     #[tactic(auto, using(crate::proofs::Parts::is_step), unfolding(crate::specs::Wire::silent))]
+    #[inline(never)]
     fn silent(&mut self, rules: &Rules, framer: &mut Framer, now: u64, block: &[u8]) -> Next
         ensures { (burst : List ℕ) → HasHeard framer.old burst
             → IsStep (silent (ruled rules.now) (seen self.old) burst now block.now) (seen self.new) framer.new result }
@@ -278,6 +280,7 @@ impl Progress {
 
     /// Takes an interrupt of a wait.
     #[tactic(auto, using(crate::proofs::Parts::is_step), unfolding(crate::specs::Wire::interrupted))]
+    #[inline(never)]
     fn interrupted(&mut self, rules: &Rules, framer: &mut Framer, now: u64, block: &[u8]) -> Next
         ensures { (burst : List ℕ) → HasHeard framer.old burst
             → IsStep (interrupted (ruled rules.now) (seen self.old) burst now block.now) (seen self.new) framer.new
@@ -317,6 +320,7 @@ impl Progress {
     }
 
     /// Notes what the end owes if it stops inside a burst.
+    #[inline(never)]
     fn leave(&mut self, rules: &Rules, framer: &Framer)
         ensures { (burst : List ℕ) → HasHeard framer.now burst
             → (seen self.new) ≡ left_in (phase_of self.old.phase) (ruled rules.now) (seen self.old) burst }
