@@ -1,38 +1,24 @@
 /* The UART, the timer and the startup code of the board. board.h describes the functions. */
 #include "board.h"
-
-/* ---- registers ---- */
-
-struct uart {
-    volatile uint32_t data, state, control, interrupt, divider;
-};
-
-struct timer {
-    volatile uint32_t control, value, reload, interrupt;
-};
-
-#define UART ((struct uart *)0x40004000u)
-#define TIMER ((struct timer *)0x40000000u)
-
-enum { TX_FULL = 1, RX_FULL = 2, TX_ON = 1, RX_ON = 2, TIMER_ON = 1, MEGAHERTZ = 25 };
+#include "registers.h"
 
 static uint64_t ticks;
 static uint32_t seen;
 
 void board_begin(void)
 {
-    UART->divider = 16;
+    UART->divider = 1860; /* a bit takes an etu, 372 cycles of the card's 5 MHz */
     UART->control = TX_ON | RX_ON;
-    TIMER->reload = 0xFFFFFFFFu;
-    TIMER->value = 0xFFFFFFFFu;
-    TIMER->control = TIMER_ON;
-    seen = TIMER->value;
+    CLOCK->reload = 0xFFFFFFFFu;
+    CLOCK->value = 0xFFFFFFFFu;
+    CLOCK->control = TIMER_ON;
+    seen = CLOCK->value;
 }
 
 /* The timer counts down, and wraps after 171 seconds. The program has to read it more often than that. */
 uint64_t board_now(void)
 {
-    uint32_t value = TIMER->value;
+    uint32_t value = CLOCK->value;
     ticks += (uint32_t)(seen - value);
     seen = value;
     return ticks / MEGAHERTZ;
@@ -46,6 +32,15 @@ uint32_t board_any(uint32_t *die)
     return *die >> 8;
 }
 
+bool board_disturb(struct board_line *line, uint8_t *octet)
+{
+    uint32_t fate = board_any(&line->die) % 1000000u;
+    if (fate >= line->in_million && fate < 2 * line->in_million) {
+        *octet ^= (uint8_t)(1u + board_any(&line->die) % 255u);
+    }
+    return fate >= line->in_million;
+}
+
 static void put(uint8_t octet)
 {
     while (UART->state & TX_FULL) {
@@ -53,18 +48,28 @@ static void put(uint8_t octet)
     UART->data = octet;
 }
 
+/* Waits until the last bit is on the line. The transmitter reports that it is free a character earlier. */
+static void await_last_bit(void)
+{
+    uint64_t began;
+    while (UART->state & TX_FULL) {
+    }
+    began = board_now();
+    while (board_now() - began < BOARD_CHARACTER) {
+    }
+}
+
 static int line_send(void *context, const uint8_t *octets, size_t count)
 {
     struct board_line *line = (struct board_line *)context;
     size_t place;
     for (place = 0; place < count; place++) {
-        uint32_t fate = board_any(&line->die) % 1000000u;
-        if (fate >= 2 * line->in_million) {
-            put(octets[place]);
-        } else if (fate >= line->in_million) {
-            put((uint8_t)(octets[place] ^ (1u + board_any(&line->die) % 255u)));
+        uint8_t octet = octets[place];
+        if (board_disturb(line, &octet)) {
+            put(octet);
         }
     }
+    await_last_bit();
     line->last = board_now();
     return 0;
 }
@@ -174,8 +179,17 @@ void scard_trap(void)
     board_end(3);
 }
 
-/* The vector table of the processor: the end of the stack, and the handlers of the first exceptions. */
+/* The handlers of interrupts.c. An image without that file switches no interrupt on. */
+void board_octet_came(void) __attribute__((weak, alias("fault")));
+void board_octet_sent(void) __attribute__((weak, alias("fault")));
+void board_alarm(void) __attribute__((weak, alias("fault")));
+
+enum { DEVICES = 15 }; /* the place of the handler of interrupt 0 */
+
+/* The vector table of the processor: the end of the stack, and the handlers of the first exceptions and of devices. */
 __attribute__((section(".vectors"), used)) static const struct {
     uint32_t *stack;
-    void (*handlers[15])(void);
-} vectors = {&stack_end, {reset, fault, fault, fault, fault, fault}};
+    void (*handlers[DEVICES + 16])(void);
+} vectors = {&stack_end,
+             {reset, fault, fault, fault, fault, fault, [DEVICES + RX_NUMBER] = board_octet_came,
+              [DEVICES + TX_NUMBER] = board_octet_sent, [DEVICES + ALARM_NUMBER] = board_alarm}};

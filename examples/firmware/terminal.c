@@ -1,37 +1,22 @@
-/* The image of the terminal. It exchanges commands with the card over a line that loses and damages octets. An exchange
- * is right if its answer belongs to its command, and wrong if it has another answer. An exchange that the session gives
- * up counts as neither right nor wrong: the terminal knows that it has no answer. The program prints `N right, M given
- * up, 0 wrong`.
+/* The image of a terminal whose calls wait. It exchanges commands with the card over a line that loses and damages
+ * octets. The program prints `N right, M given up, 0 wrong`.
  */
-#include "trial.h"
+#include "trial_terminal.h"
 
 static struct scard_session session;
 static struct scard_setup setup;
 static struct board_line line;
-static uint8_t kept_command[ROOM], kept_answer[ROOM], command[LONGEST], wanted[LONGEST + 2];
-static uint32_t die = 7;
-
-static size_t make_command(uint32_t number)
-{
-    size_t count = SHORTEST + board_any(&die) % (LONGEST - SHORTEST), place;
-    for (place = 0; place < count; place++) {
-        command[place] = (uint8_t)board_any(&die);
-    }
-    for (place = 0; place < NUMBER; place++) {
-        command[place] = (uint8_t)(number >> 8 * place);
-    }
-    return count;
-}
 
 /* Makes one exchange. Returns 1 if it is right, 0 if it was given up, and -1 if it is wrong. A line that returns what
  * is sent on it is the wrong line: RESYNCH doesn't help there.
  */
 static int exchange(uint32_t number)
 {
-    size_t count = make_command(number), answers = trial_answer(command, count, wanted);
-    struct scard_turn turn = scard_session_exchange(&session, command, count);
+    struct scard_turn turn;
+    make_command(number);
+    turn = scard_session_exchange(&session, command, command_count);
     if (turn.kind == SCARD_DONE) {
-        return turn.count == answers && memcmp(kept_answer, wanted, answers) == 0 ? 1 : -1;
+        return is_right((size_t)turn.count) ? 1 : -1;
     }
     if (turn.kind == SCARD_SESSION_NO_STATUS) {
         return -1;
@@ -49,7 +34,8 @@ int main(void)
     board_begin();
     line.in_million = IN_MILLION;
     line.die = 1;
-    setup = trial_setup(&line);
+    setup = trial_setup();
+    setup.line = board_line_of(&line);
     setup.command = kept_command;
     setup.command_room = sizeof kept_command;
     setup.answer = kept_answer;
@@ -64,11 +50,5 @@ int main(void)
         given_up += said == 0;
         wrong += said < 0;
     }
-    board_say_number(right);
-    board_say(" right, ");
-    board_say_number(given_up);
-    board_say(" given up, ");
-    board_say_number(wrong);
-    board_say(" wrong\n");
-    return wrong > 0 ? 1 : 0;
+    return report(right, given_up, wrong);
 }

@@ -1,13 +1,18 @@
-/* What both images share: the parameters of the session, the form of a command, and its answer. */
+/* What all images share: the parameters of the session, the form of a command, and its answer. */
 #ifndef TRIAL_H
 #define TRIAL_H
 
 #include "board.h"
 
+/* The number of exchanges. examples/firmware/run sets it. */
+#ifndef EXCHANGES
+#define EXCHANGES 1000
+#endif
+
 /* A command has the number of its exchange in its first octets. Its answer has the octets of the command, changed, and
  * 90 00 at its end.
  */
-enum { EXCHANGES = 1000, NUMBER = 4, SHORTEST = NUMBER + 1, LONGEST = 200, ROOM = 256, IN_MILLION = 150 };
+enum { NUMBER = 4, SHORTEST = NUMBER + 1, LONGEST = 200, ROOM = 256, IN_MILLION = 150 };
 
 /* Writes the answer: each octet of the command, changed, and the status bytes. Returns its length. */
 static inline size_t trial_answer(const uint8_t *command, size_t count, uint8_t *answer)
@@ -21,21 +26,35 @@ static inline size_t trial_answer(const uint8_t *command, size_t count, uint8_t 
     return count + 2;
 }
 
-/* Returns a setup without the buffers. An etu is 74.4 microseconds, BWT some 290 milliseconds and CWT 39 milliseconds.
+/* Returns a setup without the line and the buffers. An etu is 74.4 microseconds, BWT some 290 milliseconds and CWT 39
+ * milliseconds.
  */
-static inline struct scard_setup trial_setup(struct board_line *line)
+static inline struct scard_setup trial_setup(void)
 {
     struct scard_setup setup;
     memset(&setup, 0, sizeof setup);
-    setup.line = board_line_of(line);
     setup.t1.ifsc = 32;
     setup.t1.bwi = 2;
     setup.t1.cwi = 9;
     setup.clock.fi = 372;
     setup.clock.di = 1;
     setup.clock.hertz = 5000000;
-    setup.refuses_empty = true; /* neither image sends an empty I-block */
+    setup.refuses_empty = true; /* no image sends an empty I-block */
     return setup;
+}
+
+/* Returns the rules of a line that interrupts drive, of a terminal or a card (SCARD_SESSION_TERMINAL or _CARD). If BWT
+ * were less than 4/3 of CWT, it would have to be made longer: a card answers a broken block after three quarters of it.
+ */
+static inline struct scard_lent_line_rules trial_rules(uint32_t end)
+{
+    const struct scard_setup setup = trial_setup();
+    const struct scard_clock *clock = &setup.clock;
+    const uint64_t cwt = scard_clock_time(clock, (uint64_t)scard_t1_cwt(&setup.t1) * clock->fi);
+    const uint64_t bwt = scard_clock_time(clock, scard_t1_bwt(&setup.t1, clock->fi, clock->di));
+    struct scard_lent_line_rules rules = scard_setup_rules(&setup, end, bwt, cwt);
+    rules.has_clock = 1;
+    return rules;
 }
 
 #endif
