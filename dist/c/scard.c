@@ -20,7 +20,7 @@
 
 #define FIRST 65536u
 
-static const unsigned char constants[7952] = {
+static const unsigned char constants[7984] = {
     48, 49, 50, 51, 52, 53, 54, 55, 56, 57, 65, 66, 67, 68, 69, 70, 82, 69, 83, 89, 78, 67, 72, 32, 116, 111, 111,
     32, 101, 97, 114, 108, 121, 0, 114, 101, 115, 112, 111, 110, 115, 101, 32, 116, 111, 32, 110, 111, 32, 114,
     101, 113, 117, 101, 115, 116, 0, 110, 111, 32, 114, 101, 112, 101, 97, 116, 101, 100, 32, 114, 101, 113, 117,
@@ -61,15 +61,15 @@ static const unsigned char constants[7952] = {
     101, 32, 50, 46, 50, 0, 49, 49, 46, 54, 46, 50, 46, 51, 32, 114, 117, 108, 101, 32, 50, 46, 49, 44, 32, 49,
     49, 46, 54, 46, 51, 46, 50, 32, 114, 117, 108, 101, 32, 55, 46, 49, 0, 49, 49, 46, 51, 46, 50, 46, 49, 0, 49,
     49, 46, 54, 46, 50, 46, 51, 32, 114, 117, 108, 101, 32, 50, 46, 49, 0, 49, 49, 46, 54, 46, 50, 46, 51, 32,
-    114, 117, 108, 101, 32, 49, 0, 32, 111, 99, 116, 101, 116, 32, 97, 118, 97, 105, 108, 97, 98, 108, 101, 32,
-    111, 99, 116, 101, 116, 115, 32, 97, 118, 97, 105, 108, 97, 98, 108, 101, 119, 114, 111, 110, 103, 32, 76,
-    101, 58, 32, 116, 104, 101, 32, 99, 97, 114, 100, 32, 104, 97, 115, 32, 97, 32, 113, 117, 101, 114, 121, 32,
-    111, 102, 32, 32, 111, 99, 116, 101, 116, 115, 99, 111, 117, 110, 116, 101, 114, 32, 97, 116, 32, 44, 32, 115,
-    117, 99, 104, 32, 97, 115, 32, 116, 104, 101, 32, 116, 114, 105, 101, 115, 32, 108, 101, 102, 116, 0, 0, 0, 0,
-    0, 144, 0, 0, 0, 0, 0, 0, 0, 184, 8, 1, 0, 0, 0, 0, 0, 24, 0, 0, 0, 0, 0, 0, 0, 98, 0, 0, 0, 0, 0, 0, 0, 208,
-    8, 1, 0, 0, 0, 0, 0, 38, 0, 0, 0, 0, 0, 0, 0, 98, 129, 0, 0, 0, 0, 0, 0, 246, 8, 1, 0, 0, 0, 0, 0, 33, 0, 0,
-    0, 0, 0, 0, 0, 98, 130, 0, 0, 0, 0, 0, 0, 23, 9, 1, 0, 0, 0, 0, 0, 46, 0, 0, 0, 0, 0, 0, 0, 98, 131, 0, 0, 0,
-    0, 0, 0, 69, 9, 1, 0, 0, 0, 0, 0, 25, 0, 0, 0, 0, 0, 0, 0, 98, 132, 0, 0, 0, 0, 0, 0, 94, 9, 1, 0, 0, 0, 0, 0,
+    114, 117, 108, 101, 32, 49, 0, 0, 0, 0, 1, 32, 111, 99, 116, 101, 116, 32, 97, 118, 97, 105, 108, 97, 98, 108,
+    101, 32, 111, 99, 116, 101, 116, 115, 32, 97, 118, 97, 105, 108, 97, 98, 108, 101, 119, 114, 111, 110, 103,
+    32, 76, 101, 58, 32, 116, 104, 101, 32, 99, 97, 114, 100, 32, 104, 97, 115, 32, 97, 32, 113, 117, 101, 114,
+    121, 32, 111, 102, 32, 32, 111, 99, 116, 101, 116, 115, 99, 111, 117, 110, 116, 101, 114, 32, 97, 116, 32, 44,
+    32, 115, 117, 99, 104, 32, 97, 115, 32, 116, 104, 101, 32, 116, 114, 105, 101, 115, 32, 108, 101, 102, 116, 0,
+    144, 0, 0, 0, 0, 0, 0, 0, 184, 8, 1, 0, 0, 0, 0, 0, 24, 0, 0, 0, 0, 0, 0, 0, 98, 0, 0, 0, 0, 0, 0, 0, 208, 8,
+    1, 0, 0, 0, 0, 0, 38, 0, 0, 0, 0, 0, 0, 0, 98, 129, 0, 0, 0, 0, 0, 0, 246, 8, 1, 0, 0, 0, 0, 0, 33, 0, 0, 0,
+    0, 0, 0, 0, 98, 130, 0, 0, 0, 0, 0, 0, 23, 9, 1, 0, 0, 0, 0, 0, 46, 0, 0, 0, 0, 0, 0, 0, 98, 131, 0, 0, 0, 0,
+    0, 0, 69, 9, 1, 0, 0, 0, 0, 0, 25, 0, 0, 0, 0, 0, 0, 0, 98, 132, 0, 0, 0, 0, 0, 0, 94, 9, 1, 0, 0, 0, 0, 0,
     38, 0, 0, 0, 0, 0, 0, 0, 98, 133, 0, 0, 0, 0, 0, 0, 132, 9, 1, 0, 0, 0, 0, 0, 34, 0, 0, 0, 0, 0, 0, 0, 98,
     134, 0, 0, 0, 0, 0, 0, 166, 9, 1, 0, 0, 0, 0, 0, 34, 0, 0, 0, 0, 0, 0, 0, 99, 0, 0, 0, 0, 0, 0, 0, 200, 9, 1,
     0, 0, 0, 0, 0, 36, 0, 0, 0, 0, 0, 0, 0, 99, 129, 0, 0, 0, 0, 0, 0, 236, 9, 1, 0, 0, 0, 0, 0, 32, 0, 0, 0, 0,
@@ -299,7 +299,8 @@ static const unsigned char constants[7952] = {
     0, 0, 0, 0, 0, 0, 64, 0, 0, 0, 0, 0, 0, 0, 12, 0, 0, 0, 0, 0, 0, 0, 92, 0, 0, 0, 0, 0, 0, 0, 32, 0, 0, 0, 0,
     0, 0, 0, 16, 0, 0, 0, 0, 0, 0, 0, 5, 0, 0, 0, 0, 0, 0, 0, 40, 0, 0, 0, 0, 0, 0, 0, 16, 1, 0, 0, 0, 0, 0, 0, 8,
     1, 0, 0, 0, 0, 0, 0, 40, 0, 0, 0, 0, 0, 0, 0, 15, 0, 0, 0, 0, 0, 0, 0, 5, 0, 0, 0, 0, 0, 0, 0, 32, 1, 0, 0, 0,
-    0, 0, 0, 80, 2, 0, 0, 0, 0, 0, 0, 5, 0, 0, 0, 0, 0, 0, 0, 32, 0, 0, 0, 0, 0, 0, 0
+    0, 0, 0, 80, 2, 0, 0, 0, 0, 0, 0, 5, 0, 0, 0, 0, 0, 0, 0, 32, 0, 0, 0, 0, 0, 0, 0, 56, 0, 0, 0, 0, 0, 0, 0,
+    88, 0, 0, 0, 0, 0, 0, 0, 160, 1, 0, 0, 0, 0, 0, 0, 24, 0, 0, 0, 0, 0, 0, 0
 };
 
 static const unsigned char first_constants[95] = {
@@ -999,10 +1000,14 @@ INLINE void begin(struct call *m, u8 *stack, u32 size, struct shaped *shaped)
 static u32 rattle_enter(struct call *m);
 static void rattle_leave(struct call *m);
 static void rattle_trap(struct call *m);
+static void multi3(struct call *m, u64 v0, u64 v1, u64 v2, u64 v3, u64 v4);
 static void atr_core_length_whole_len(struct call *m, u64 v0, u64 v1, u64 v2);
 static void atr_core_decoding_len_by_octets(struct call *m, u64 v0, u64 v1, u64 v2);
-static void atr_core_decoding_by_octets(struct call *m, u64 v0, u64 v1, u64 v2);
-static void c_lent_atr_atr_decode(struct call *m, u64 v0, u64 v1, u64 v2, u64 v3);
+static void atr_core_partial_Partial_take_octets(struct call *m, u64 v0, u64 v1, u64 v2, u64 v3);
+static void atr_core_partial_Partial_begin_tail(struct call *m, u64 v0);
+static void atr_core_partial_Partial_complete(struct call *m, u64 v0);
+static void atr_core_partial_Partial_take_whole(struct call *m, u64 v0, u64 v1, u64 v2, u64 v3);
+static void c_lent_atr_tell(struct call *m, u64 v0, u64 v1);
 static void atr_core_encoding_checked_octets(struct call *m, u64 v0, u64 v1);
 static void c_lent_atr_made(struct call *m, u64 v0, u64 v1);
 static void c_lent_block_block_decode(struct call *m, u64 v0, u64 v1, u64 v2, u32 v3, u64 v4);
@@ -1030,6 +1035,32 @@ static void judge_core_end_End_got_whole(struct call *m, u64 v0, u64 v1, u64 v2)
 static void judge_core_monitor_Watched_sent_other(struct call *m, u64 v0, u64 v1, u32 v2, u64 v3);
 static void judge_core_courses_attempted(struct call *m, u64 v0, u64 v1, u64 v2, u64 v3, u64 v4, u64 v5, u64 v6);
 static void judge_core_end_End_repeats_request(struct call *m, u64 v0, u64 v1, u32 v2, u32 v3, u32 v4);
+static void session_core_progress_Progress_drop_octets(struct call *m, u64 v0, u64 v1, u64 v2, u32 v3, u64 v4);
+static void session_core_progress_Progress_wait_silent(struct call *m, u64 v0, u64 v1, u64 v2, u64 v3);
+static void session_core_progress_Progress_wait(struct call *m, u64 v0, u64 v1, u64 v2, u64 v3, u64 v4);
+static u64 session_core_progress_Progress_left(struct call *m, u64 v0, u64 v1, u64 v2);
+static void session_core_progress_Progress_await_block(struct call *m, u64 v0, u64 v1, u64 v2, u64 v3, u64 v4);
+static void session_core_progress_Progress_sent(struct call *m, u64 v0, u64 v1, u64 v2, u64 v3, u64 v4, u64 v5, u64
+    v6);
+static void session_core_progress_Progress_go_on(struct call *m, u64 v0, u64 v1, u64 v2, u64 v3, u64 v4, u64 v5, u64
+    v6);
+static u32 session_core_progress_Progress_judge(struct call *m, u64 v0, u64 v1, u64 v2, u64 v3, u64 v4);
+static u32 session_core_sending_begin_with(struct call *m, u64 v0, u64 v1, u64 v2, u64 v3);
+static u64 session_core_progress_Progress_owed_after(struct call *m, u64 v0, u64 v1, u64 v2);
+static void session_core_progress_Progress_interrupted(struct call *m, u64 v0, u64 v1, u64 v2, u64 v3, u64 v4, u64 v5,
+    u64 v6);
+static void session_core_progress_Progress_silent(struct call *m, u64 v0, u64 v1, u64 v2, u64 v3, u64 v4, u64 v5, u64
+    v6);
+static void session_core_progress_Progress_leave(struct call *m, u64 v0, u64 v1, u64 v2);
+static void session_core_progress_Progress_talk(struct call *m, u64 v0, u64 v1, u64 v2, u64 v3, u64 v4);
+static void session_core_progress_Progress_miss(struct call *m, u64 v0, u64 v1, u64 v2, u64 v3);
+static void session_core_progress_Progress_settle(struct call *m, u64 v0, u64 v1, u64 v2, u64 v3, u64 v4);
+static void session_core_progress_Progress_take_in(struct call *m, u64 v0, u64 v1, u64 v2, u64 v3, u64 v4, u64 v5, u32
+    v6, u64 v7, u64 v8, u64 v9);
+static void session_core_progress_Progress_echoed(struct call *m, u64 v0, u64 v1, u64 v2, u64 v3, u64 v4, u64 v5, u64
+    v6, u64 v7, u64 v8);
+static void session_core_progress_Progress_hear(struct call *m, u64 v0, u64 v1, u64 v2, u64 v3, u64 v4, u64 v5, u32
+    v6, u64 v7, u64 v8, u64 v9);
 static void c_lent_kept_receiver_CReceiver_fitting(struct call *m, u64 v0, u64 v1, u64 v2);
 static void c_lent_kept_CTerminal_fitting(struct call *m, u64 v0, u64 v1, u64 v2, u64 v3);
 static void c_lent_lent_terminal_turn(struct call *m, u64 v0, u64 v1, u64 v2, u64 v3, u64 v4, u64 v5, u64 v6, u64 v7,
@@ -1151,6 +1182,20 @@ static void module_scard_lent_judge_finish(struct call *m, u64 v0, u64 v1);
 static void rattle_export_scard_lent_judge_finish(struct call *m, u64 v0, u64 v1);
 static void module_scard_lent_judge_quiet(struct call *m, u64 v0, u64 v1);
 static void rattle_export_scard_lent_judge_quiet(struct call *m, u64 v0, u64 v1);
+static void module_scard_lent_line_begin(struct call *m, u64 v0, u64 v1);
+static void rattle_export_scard_lent_line_begin(struct call *m, u64 v0, u64 v1);
+static void module_scard_lent_line_clear(struct call *m, u64 v0, u64 v1, u64 v2, u64 v3);
+static void rattle_export_scard_lent_line_clear(struct call *m, u64 v0, u64 v1, u64 v2, u64 v3);
+static void module_scard_lent_line_exchange(struct call *m, u64 v0, u64 v1, u64 v2, u64 v3);
+static void rattle_export_scard_lent_line_exchange(struct call *m, u64 v0, u64 v1, u64 v2, u64 v3);
+static void module_scard_lent_line_serve(struct call *m, u64 v0, u64 v1, u64 v2);
+static void rattle_export_scard_lent_line_serve(struct call *m, u64 v0, u64 v1, u64 v2);
+static void module_scard_lent_line_step(struct call *m, u64 v0, u64 v1, u32 v2, u64 v3, u64 v4, u64 v5, u64 v6, u64
+    v7);
+static void rattle_export_scard_lent_line_step(struct call *m, u64 v0, u64 v1, u32 v2, u64 v3, u64 v4, u64 v5, u64 v6,
+    u64 v7);
+static void module_scard_lent_line_talk(struct call *m, u64 v0, u64 v1, u64 v2, u64 v3);
+static void rattle_export_scard_lent_line_talk(struct call *m, u64 v0, u64 v1, u64 v2, u64 v3);
 static void module_scard_lent_receiver_begin(struct call *m, u64 v0, u64 v1, u32 v2, u32 v3, u64 v4);
 static void rattle_export_scard_lent_receiver_begin(struct call *m, u64 v0, u64 v1, u32 v2, u32 v3, u64 v4);
 static void module_scard_lent_receiver_feed(struct call *m, u64 v0, u64 v1, u64 v2, u64 v3, u64 v4, u64 v5);
@@ -1232,6 +1277,25 @@ static void rattle_trap(struct call *m)
 {
     (void)m;
     UNREACHABLE;
+}
+
+static void multi3(struct call *m, u64 v0, u64 v1, u64 v2, u64 v3, u64 v4)
+{
+    u64 v5 = 0;
+    u64 v6 = 0;
+    u64 w1 = 0;
+    u8 *p49 = NULL;
+    v5 = v3 >> 32;
+    v6 = v1 >> 32;
+    w1 = ((v5 * v6) + (v2 * v3)) + (v4 * v1);
+    v3 = v3 & 0xFFFFFFFFull;
+    v1 = v1 & 0xFFFFFFFFull;
+    v2 = v3 * v1;
+    v3 = (v2 >> 32) + (v3 * v6);
+    v1 = (v3 & 0xFFFFFFFFull) + (v5 * v1);
+    p49 = held(m, v0, 16);
+    put_held64(p49, 8, m, v0, (w1 + (v3 >> 32)) + (v1 >> 32));
+    put_held64(p49, 0, m, v0, (v1 << 32) | (v2 & 0xFFFFFFFFull));
 }
 
 static void atr_core_length_whole_len(struct call *m, u64 v0, u64 v1, u64 v2)
@@ -1358,30 +1422,48 @@ after2:;
 static void atr_core_decoding_len_by_octets(struct call *m, u64 v0, u64 v1, u64 v2)
 {
     u64 v3 = 0;
-    u64 v5 = 0;
+    u64 v6 = 0;
+    u64 v7 = 0;
+    u64 v8 = 0;
     u32 v4 = 0;
-    u8 *f5 = NULL;
-    u8 *p27 = NULL;
-    v5 = m->g0 - 288ull;
-    f5 = at(m, v5, 288);
-    v3 = v5;
+    u32 v5 = 0;
+    u8 *f8 = NULL;
+    u8 *p79 = NULL;
+    v8 = m->g0 - 320ull;
+    f8 = at(m, v8, 320);
+    v3 = v8;
     m->g0 = v3;
-    memset(f5 + 8, (int)(0u & 255u), 280);
-    atr_core_decoding_by_octets(m, v5 + 8ull, v1, v2);
-    v2 = (u64)get8(f5 + 8);
-    p27 = held(m, v0, 25);
-    put_held64(p27, 0, m, v0, v2);
-    v4 = (u32)(v2 == 0);
-    put_held8(p27, 24, m, v0, v4 ? 0u : get8(f5 + 32));
-    put_held64(p27, 16, m, v0, v4 ? 0ull : get64(f5 + 24));
-    put_held64(p27, 8, m, v0, v4 ? get64(f5 + 280) : (u64)get8(f5 + 16));
-    m->g0 = v5 + 288ull;
-    return;
+    v4 = 0u;
+    memset(f8 + 32, (int)(0u & 255u), 288);
+    put64(f8 + 24, 0ull);
+    put64(f8 + 16, 0ull);
+    put64(f8 + 8, 0ull);
+    atr_core_partial_Partial_take_octets(m, v8 + 8ull, v8 + 32ull, v1, v2);
+    v2 = get64(f8 + 16);
+    if (get8(f8 + 8)) { goto after3; }
+    v5 = (u32)(get8(f8 + 32) != 4u);
+    v1 = v5 ? v2 : 0ull;
+    v6 = v5 ? 0ull : v2;
+    v7 = (u64)v5;
+    goto after1;
+after3:;
+    v7 = 1ull;
+    v4 = get8(f8 + 24);
+    v6 = 1ull;
+    v1 = v2;
+    goto after1;
+after1:;
+    p79 = held(m, v0, 25);
+    put_held64(p79, 0, m, v0, v7);
+    put_held8(p79, 24, m, v0, v4);
+    put_held64(p79, 16, m, v0, v1);
+    put_held64(p79, 8, m, v0, v6);
+    m->g0 = v8 + 320ull;
 }
 
-static void atr_core_decoding_by_octets(struct call *m, u64 v0, u64 v1, u64 v2)
+static void atr_core_partial_Partial_take_octets(struct call *m, u64 v0, u64 v1, u64 v2, u64 v3)
 {
-    u64 v3 = 0;
+    u64 v4 = 0;
     u64 v5 = 0;
     u64 v6 = 0;
     u64 v7 = 0;
@@ -1389,430 +1471,477 @@ static void atr_core_decoding_by_octets(struct call *m, u64 v0, u64 v1, u64 v2)
     u64 v9 = 0;
     u64 v10 = 0;
     u64 v11 = 0;
-    u64 v12 = 0;
-    u64 v13 = 0;
-    u64 v14 = 0;
-    u64 v29 = 0;
-    u64 v30 = 0;
-    u64 v31 = 0;
-    u32 v4 = 0;
+    u64 v17 = 0;
+    u64 v19 = 0;
+    u64 v20 = 0;
+    u64 v21 = 0;
+    u64 v22 = 0;
+    u32 v12 = 0;
+    u32 v13 = 0;
+    u32 v14 = 0;
     u32 v15 = 0;
     u32 v16 = 0;
-    u32 v17 = 0;
     u32 v18 = 0;
-    u32 v19 = 0;
-    u32 v20 = 0;
-    u32 v21 = 0;
-    u32 v22 = 0;
-    u32 v23 = 0;
-    u32 v24 = 0;
-    u32 v25 = 0;
-    u32 v26 = 0;
-    u32 v27 = 0;
-    u32 v28 = 0;
     u32 t0 = 0;
-    u8 *f31 = NULL;
+    u8 *f5 = NULL;
+    u8 *p87 = NULL;
+    u8 *p101 = NULL;
+    u8 *p111 = NULL;
+    u8 *p174 = NULL;
+    u8 *p218 = NULL;
     u8 *p288 = NULL;
-    u8 *p335 = NULL;
-    u8 *p473 = NULL;
-    u8 *p474 = NULL;
-    u8 *p523 = NULL;
-    u8 *p536 = NULL;
-    u8 *p562 = NULL;
-    u8 *p632 = NULL;
-    u8 *p633 = NULL;
-    u8 *p641 = NULL;
-    u8 *p654 = NULL;
-    u8 *p712 = NULL;
-    u8 *p738 = NULL;
-    u8 *p772 = NULL;
-    u8 *p797 = NULL;
-    u8 *p805 = NULL;
-    u8 *p964 = NULL;
-    u8 *p1049 = NULL;
-    v31 = m->g0 - 1536ull;
-    f31 = at(m, v31, 1536);
-    v3 = v31;
-    m->g0 = v3;
-    v4 = 0u;
-    memset(f31 + 545, (int)(0u & 255u), 247);
-    memset(f31 + 256, (int)(0u & 255u), 288);
-    memset(f31 + 9, (int)(0u & 255u), 247);
-    if (v2) { goto after4; }
-    v5 = 0ull;
-    v6 = 1ull;
-    v2 = 0ull;
-    v1 = 0ull;
-    goto after3;
-after4:;
-    v7 = v31 + 264ull;
-    v8 = v31 + 538ull;
-    v9 = v31 + 265ull;
-    v10 = v31 + 280ull;
-    v11 = v31 + 288ull;
-    v12 = v31 + 272ull;
-    v13 = v31 + 522ull;
-    v14 = v31 + 504ull;
-    v5 = 0ull;
-    v15 = 0u;
-    v16 = 0u;
-    v17 = 0u;
-    v18 = 0u;
-    v19 = 0u;
-    v20 = 0u;
-    v21 = 0u;
-    v22 = 0u;
-    v23 = 0u;
-    v24 = 0u;
-    v25 = 0u;
-    v26 = 0u;
-    v27 = 0u;
-    v28 = 0u;
-again7:;
-    v4 = load8(m, v1 + v5, 0);
-    switch ((u32)(((u64)v28) & 255ull)) {
-        case 1: goto after16;
-        case 2: goto after15;
-        case 3: goto after13;
-        default: goto after17;
+    u8 *p309 = NULL;
+    u8 *p326 = NULL;
+    u8 *p378 = NULL;
+    u8 *p379 = NULL;
+    u8 *p387 = NULL;
+    u8 *p397 = NULL;
+    u8 *p407 = NULL;
+    u8 *p428 = NULL;
+    u8 *p452 = NULL;
+    u8 *p502 = NULL;
+    u8 *p503 = NULL;
+    u8 *p511 = NULL;
+    u8 *p521 = NULL;
+    u8 *p531 = NULL;
+    u8 *p565 = NULL;
+    u8 *p610 = NULL;
+    u8 *p638 = NULL;
+    u8 *p677 = NULL;
+    u8 *p703 = NULL;
+    v22 = m->g0 - 16ull;
+    v4 = v22;
+    m->g0 = v4;
+    v5 = v22;
+    f5 = at(m, v5, 16);
+    if (v3 == 0) { goto after3; }
+    v6 = v1 + 9ull;
+    v7 = v1 + 8ull;
+    v8 = v1 + 24ull;
+    v9 = v1 + 32ull;
+    v10 = v1 + 266ull;
+    v11 = v1 + 248ull;
+    v12 = load8(m, v1, 0);
+    v4 = 0ull;
+again4:;
+    v13 = load8(m, v2 + v4, 0);
+    switch ((u32)(((u64)v12) & 255ull)) {
+        case 1: goto after13;
+        case 2: goto after12;
+        case 3: goto after11;
+        case 4: goto after6;
+        default: goto after14;
     }
-after17:;
-    v16 = 0u;
-    v26 = 0u;
-    switch (v4 + 0xFFFFFFC5u) {
-        case 0: goto after18;
-        case 4: goto after19;
+after14:;
+    v12 = 0u;
+    v14 = 0u;
+    switch (v13 + 0xFFFFFFC5u) {
+        case 0: goto after15;
+        case 4: goto after16;
         default: goto after10;
     }
-after19:;
-    v26 = 1u;
-after18:;
-    put8(f31 + 257, v26);
-    v15 = 1u;
-    put8(f31 + 256, 1u);
-    fill(m, v7, 0u, 280ull);
-    v17 = 0u;
-    v18 = 0u;
-    v19 = 0u;
-    v23 = 0u;
-    v24 = 0u;
-    v25 = 0u;
-    v26 = 0u;
-    v27 = 0u;
-    v28 = 1u;
-    goto after9;
 after16:;
-    v6 = (u64)v4;
-    v29 = v6 & 15ull;
-    v26 = get8(f31 + 257);
-    v15 = ((((v4 << 10) | (v4 << 17)) | (v4 << 3)) | (v4 >> 4)) & 0x1010101u;
-    if (v15 == 0) { goto after21; }
-    v27 = 0u;
-    put16(f31 + 1524, 0u);
-    put32(f31 + 1520, 0u);
-    memset(f31 + 1304, (int)(0u & 255u), 216);
-    put64(f31 + 1296, 0ull);
-    put64(f31 + 1288, 0ull);
-    v6 = (v6 << 40) | ((u64)v15);
-    v15 = 2u;
-    v30 = v29;
-    v16 = 2u;
-    goto after20;
-after21:;
-    v16 = 0u;
-    put16(f31 + 1524, 0u);
-    put32(f31 + 1520, 0u);
-    memset(f31 + 1304, (int)(0u & 255u), 216);
-    v30 = 0ull;
-    put64(f31 + 1296, 0ull);
-    put64(f31 + 1288, 0ull);
-    v28 = v4 & 15u;
-    v15 = v28 ? 3u : 4u;
-    v27 = v28 ? v4 : 0u;
-    v6 = v29;
-after20:;
-    p288 = held(m, v10, 6);
-    put_held32(p288, 0, m, v10, get32(f31 + 1520));
-    put_held16(p288, 4, m, v10, get16(f31 + 1524));
-    put16(f31 + 269, (u32)0ull);
-    put32(f31 + 265, (u32)0ull);
-    put64(f31 + 272, v30);
-    v17 = 0u;
-    put8(f31 + 271, 0u);
-    put8(f31 + 264, v26);
-    put8(f31 + 257, 0u);
-    put8(f31 + 256, v15);
-    put16(f31 + 286, 0u);
-    copy(m, v11, v31 + 1304ull, 216ull);
-    put16(f31 + 542, (u32)0ull);
-    p335 = held(m, v14, 16);
-    put_held64(p335, 8, m, v14, get64(f31 + 1296));
-    put_held64(p335, 0, m, v14, get64(f31 + 1288));
-    put32(f31 + 538, (u32)0ull);
-    put8(f31 + 537, v27);
-    put8(f31 + 536, v16);
-    put64(f31 + 520, 0ull);
-    put64(f31 + 528, v6);
-    v16 = (u32)(v6 >> 32);
-    v19 = (u32)(v6 >> 40);
-    v26 = (u32)v6;
-    goto after14;
+    v14 = 1u;
 after15:;
-    if ((v26 & 0x10101u) == 0) { goto after30; }
-    if ((v26 & 1u) == 0) { goto after31; }
-    v25 = ((v25 & 0xFFFF0000u) | (v4 << 8)) | 1u;
-    v26 = v26 & 0x1010100u;
-    goto after28;
-after31:;
-    if ((v26 & 256u) == 0) { goto after29; }
-    v25 = ((v25 & 65535u) | (v4 << 24)) | 0x10000u;
-    v26 = v26 & 0x1010000u;
-    goto after28;
-after30:;
-    v6 = get64(f31 + 536) + 1ull;
-    v26 = v4 >> 4;
-    v17 = v4 & 15u;
-    v22 = ((u32)(v17 != 0u)) | v22;
-    t0 = (u32)((((v6 + ((u64)ones64((u64)v26))) + get64(f31 + 272)) + (((u64)v22) & 1ull)) <= 33ull);
-    if (t0) { goto after32; }
-    v16 = 1u;
-    goto after10;
-after32:;
-    v16 = v22 & 1u;
-    if (v21 & 255u) { goto after27; }
-    p473 = held(m, v13, 6);
-    p474 = held(m, v10, 6);
-    put_held16(p474, 4, m, v10, held16(p473, 4, m, v13));
-    put_held32(p474, 0, m, v10, held32(p473, 0, m, v13));
-    goto after26;
-after29:;
-    v26 = v26 & 0x1000000u;
-    v24 = 1u;
-    v23 = v4;
-after28:;
-    put32(f31 + 528, v26);
-    put8(f31 + 527, v23);
-    put8(f31 + 526, v24);
-    put32(f31 + 522, v25);
-    v27 = v19 ^ v4;
-    put8(f31 + 533, v27);
-    v6 = get64(f31 + 536) + 1ull;
-    put64(f31 + 536, v6);
-    if (v26 == 0) { goto after24; }
-    v19 = v27;
-    goto after25;
-after27:;
-    p523 = held(m, v13, 6);
-    v15 = held32(p523, 0, m, v13);
-    v30 = get64(f31 + 512);
-    v29 = v11 + (v30 * 7ull);
-    v28 = held16(p523, 4, m, v13);
-    p536 = held(m, v29, 7);
-    put_held16(p536, 5, m, v29, v28);
-    put_held32(p536, 1, m, v29, v15);
-    put_held8(p536, 0, m, v29, v20);
-    put16(f31 + 1532, v28);
-    put32(f31 + 1528, v15);
-    put64(f31 + 512, v30 + 1ull);
-    v19 = get8(f31 + 533);
-after26:;
-    v25 = 0u;
-    p562 = held(m, v13, 6);
-    put_held32(p562, 0, m, v13, 0u);
-    put_held16(p562, 4, m, v13, 0u);
-    put8(f31 + 521, v17);
-    v21 = 1u;
-    put8(f31 + 520, 1u);
-    put64(f31 + 536, v6);
-    put8(f31 + 532, v16);
-    v19 = v19 ^ v4;
-    put8(f31 + 533, v19);
-    v26 = ((((v4 << 10) | (v4 << 17)) | (v4 << 3)) | v26) & 0x1010101u;
-    put32(f31 + 528, v26);
-    if (v26 == 0) { goto after23; }
-    v24 = 0u;
-    v23 = 0u;
-    v20 = v17;
-    v18 = 1u;
-after25:;
-    v27 = (u32)(v6 >> 8);
-    v15 = get8(f31 + 256);
-    goto after12;
-after24:;
-    if (v18 & 255u) { goto after23; }
-    p632 = held(m, v13, 6);
-    p633 = held(m, v10, 6);
-    put_held16(p633, 4, m, v10, held16(p632, 4, m, v13));
-    put_held32(p633, 0, m, v10, held32(p632, 0, m, v13));
-    goto after22;
-after23:;
-    p641 = held(m, v13, 6);
-    v4 = held32(p641, 0, m, v13);
-    v29 = get64(f31 + 512);
-    v6 = v11 + (v29 * 7ull);
-    v26 = held16(p641, 4, m, v13);
-    p654 = held(m, v6, 7);
-    put_held16(p654, 5, m, v6, v26);
-    put_held32(p654, 1, m, v6, v4);
-    put_held8(p654, 0, m, v6, v17);
-    put16(f31 + 1532, v26);
-    put32(f31 + 1528, v4);
-    put64(f31 + 512, v29 + 1ull);
-    v16 = get8(f31 + 532);
-    v27 = get8(f31 + 533);
-after22:;
-    copy(m, v31 + 792ull, v11, 232ull);
-    fill(m, v11, 0u, 216ull);
-    v6 = get64(f31 + 272);
-    if (v6 != 0ull) { goto after35; }
-    if ((v16 & 1u) == 0) { goto after34; }
-after35:;
-    put16(f31 + 1028, 0u);
-    put32(f31 + 1024, 0u);
-    p712 = held(m, v10, 6);
-    put32(f31 + 1280, held32(p712, 0, m, v10));
-    put16(f31 + 1284, held16(p712, 4, m, v10));
-    copy(m, v31 + 1048ull, v31 + 792ull, 232ull);
-    put64(f31 + 1040, 0ull);
-    put64(f31 + 1032, 0ull);
-    v15 = 3u;
-    goto after33;
-after34:;
-    p738 = held(m, v10, 6);
-    put16(f31 + 1284, held16(p738, 4, m, v10));
-    put32(f31 + 1280, held32(p738, 0, m, v10));
-    copy(m, v31 + 1048ull, v31 + 792ull, 232ull);
-    put64(f31 + 1040, 0ull);
-    put64(f31 + 1032, 0ull);
-    v27 = 0u;
-    put32(f31 + 1024, 0u);
-    put16(f31 + 1028, 0u);
-    v15 = 4u;
-after33:;
-    p772 = held(m, v9, 6);
-    put_held32(p772, 0, m, v9, get32(f31 + 1280));
-    put_held16(p772, 4, m, v9, get16(f31 + 1284));
-    v17 = 0u;
-    put8(f31 + 257, 0u);
-    put8(f31 + 256, v15);
-    put8(f31 + 271, 0u);
-    copy(m, v12, v31 + 1048ull, 232ull);
-    p797 = held(m, v14, 16);
-    put_held64(p797, 8, m, v14, get64(f31 + 1040));
-    put_held64(p797, 0, m, v14, get64(f31 + 1032));
-    p805 = held(m, v8, 6);
-    put_held32(p805, 0, m, v8, get32(f31 + 1024));
-    put_held16(p805, 4, m, v8, get16(f31 + 1028));
-    put8(f31 + 537, v27);
-    put8(f31 + 536, v16);
-    put64(f31 + 520, 0ull);
-    put64(f31 + 528, v6);
-    v16 = (u32)(v6 >> 32);
-    v19 = (u32)(v6 >> 40);
-    v26 = (u32)v6;
-after14:;
-    v18 = 0u;
-    v20 = 0u;
-    v21 = 0u;
-    v22 = v16;
-    v23 = 0u;
-    v24 = 0u;
-    v25 = 0u;
-    goto after12;
+    v12 = 1u;
+    p87 = held(m, v1, 2);
+    put_held8(p87, 0, m, v1, 1u);
+    put_held8(p87, 1, m, v1, v14);
+    fill(m, v7, 0u, 280ull);
+    goto after5;
 after13:;
-    v6 = get64(f31 + 520);
-    if (v6 >= get64(f31 + 528)) { goto after37; }
-    store8(m, v14 + v6, 0, v4);
-    v27 = get8(f31 + 537) ^ v4;
-    put8(f31 + 537, v27);
-    v6 = v6 + 1ull;
-    put64(f31 + 520, v6);
-    v18 = (u32)v6;
-    v17 = (u32)(v6 >> 8);
-    v29 = get64(f31 + 528);
-    v16 = (u32)(v29 >> 32);
-    v19 = (u32)(v29 >> 40);
-    v23 = (u32)(v6 >> 56);
-    v24 = (u32)(v6 >> 48);
-    v25 = (u32)(v6 >> 16);
-    v26 = (u32)v29;
-    v28 = 3u;
-    if (v6 < v29) { goto after9; }
-    if (get8(f31 + 536) & 1u) { goto after9; }
-    goto after36;
-after37:;
-    if (v4 == (v27 & 255u)) { goto after36; }
-    v16 = 2u;
-    goto after10;
-after36:;
-    put8(f31 + 271, 0u);
-    goto after11;
+    p101 = held(m, v6, 7);
+    put_held32(p101, 0, m, v6, 0u);
+    put_held32(p101, 3, m, v6, 0u);
+    p111 = held(m, v1, 288);
+    put_held8(p111, 8, m, v1, held8(p111, 1, m, v1));
+    put_held16(p111, 0, m, v1, 2u);
+    put_held64(p111, 16, m, v1, ((u64)v13) & 15ull);
+    fill(m, v8, 0u, 248ull);
+    put_held64(p111, 280, m, v1, 2ull);
+    put_held16(p111, 278, m, v1, 0u);
+    put_held8(p111, 277, m, v1, v13);
+    put_held8(p111, 276, m, v1, 0u);
+    v13 = ((((v13 << 10) | (v13 << 17)) | (v13 << 3)) | (v13 >> 4)) & 0x1010101u;
+    put_held32(p111, 272, m, v1, v13);
+    if (v13) { goto after8; }
+    p174 = held(m, v8, 6);
+    put_held16(p174, 4, m, v8, 0u);
+    put_held32(p174, 0, m, v8, 0u);
+    atr_core_partial_Partial_begin_tail(m, v1);
+    v12 = held8(p111, 0, m, v1);
+    if (v12 != 3u) { goto after7; }
+    if (held64(p111, 264, m, v1) < held64(p111, 272, m, v1)) { goto after8; }
+    if (held8(p111, 280, m, v1) == 0) { goto after9; }
+    goto after8;
 after12:;
-    v28 = v15;
-    if ((v15 & 255u) != 4u) { goto after8; }
+    v12 = load32(m, v1 + 272ull, 0);
+    if ((v12 & 0x10101u) == 0) { goto after18; }
+    p218 = held(m, v1 + 266ull, 6);
+    v15 = held8(p218, 5, m, v1 + 266ull);
+    v16 = held8(p218, 4, m, v1 + 266ull);
+    v14 = held32(p218, 0, m, v1 + 266ull);
+    if ((v12 & 1u) == 0) { goto after20; }
+    v14 = ((v14 & 0xFFFF0000u) | (v13 << 8)) | 1u;
+    v12 = v12 & 0x1010100u;
+    goto after19;
+after20:;
+    if ((v12 & 256u) == 0) { goto after21; }
+    v14 = ((v14 & 65535u) | (v13 << 24)) | 0x10000u;
+    v12 = v12 & 0x1010000u;
+    goto after19;
+after21:;
+    v12 = v12 & 0x1000000u;
+    v16 = 1u;
+    v15 = v13;
+after19:;
+    p288 = held(m, v1 + 266ull, 22);
+    put_held32(p288, 6, m, v1 + 266ull, v12);
+    put_held8(p218, 5, m, v1 + 266ull, v15);
+    put_held8(p218, 4, m, v1 + 266ull, v16);
+    put_held32(p218, 0, m, v1 + 266ull, v14);
+    v17 = v1 + 277ull;
+    p309 = held(m, v17, 1);
+    put_held8(p309, 0, m, v17, held8(p309, 0, m, v17) ^ v13);
+    v17 = held64(p288, 14, m, v1 + 266ull) + 1ull;
+    goto after17;
+after18:;
+    p326 = held(m, v1 + 16ull, 272);
+    v17 = held64(p326, 264, m, v1 + 16ull) + 1ull;
+    v12 = v13 >> 4;
+    v14 = v13 & 15u;
+    v15 = ((u32)(v14 != 0u)) | held8(p326, 260, m, v1 + 16ull);
+    t0 = (u32)((((v17 + ((u64)ones64((u64)v12))) + held64(p326, 0, m, v1 + 16ull)) + (((u64)v15) & 1ull)) <= 33ull);
+    if (t0) { goto after22; }
+    v12 = 1u;
+    goto after10;
+after22:;
+    v15 = v15 & 1u;
+    if (held8(p326, 248, m, v1 + 16ull)) { goto after24; }
+    p378 = held(m, v10, 6);
+    p379 = held(m, v8, 6);
+    put_held16(p379, 4, m, v8, held16(p378, 4, m, v10));
+    put_held32(p379, 0, m, v8, held32(p378, 0, m, v10));
+    goto after23;
+after24:;
+    p387 = held(m, v10, 6);
+    v16 = held32(p387, 0, m, v10);
+    v18 = held16(p387, 4, m, v10);
+    v19 = v1 + 256ull;
+    p397 = held(m, v19, 8);
+    v20 = held64(p397, 0, m, v19);
+    v21 = v9 + (v20 * 7ull);
+    p407 = held(m, v21, 7);
+    put_held8(p407, 0, m, v21, held8(p326, 249, m, v1 + 16ull));
+    put_held16(p407, 5, m, v21, v18);
+    put_held32(p407, 1, m, v21, v16);
+    put_held64(p397, 0, m, v19, v20 + 1ull);
+    put32(f5, v16);
+    put16(f5 + 4, v18);
+after23:;
+    p428 = held(m, v10, 6);
+    put_held32(p428, 0, m, v10, 0u);
+    put_held16(p428, 4, m, v10, 0u);
+    put_held8(p326, 249, m, v1 + 16ull, v14);
+    put_held8(p326, 248, m, v1 + 16ull, 1u);
+    put_held8(p326, 260, m, v1 + 16ull, v15);
+    v21 = v1 + 277ull;
+    p452 = held(m, v21, 1);
+    put_held8(p452, 0, m, v21, held8(p452, 0, m, v21) ^ v13);
+    v12 = ((((v13 << 10) | (v13 << 17)) | (v13 << 3)) | v12) & 0x1010101u;
+    put_held32(p326, 256, m, v1 + 16ull, v12);
+after17:;
+    store64(m, v1 + 280ull, 0, v17);
+    if (v12 & 0x1010101u) { goto after8; }
+    v13 = load8(m, v1, 0);
+    if (v13 != 2u) { goto after25; }
+    if (load8(m, v1 + 264ull, 0)) { goto after27; }
+    p502 = held(m, v10, 6);
+    p503 = held(m, v8, 6);
+    put_held16(p503, 4, m, v8, held16(p502, 4, m, v10));
+    put_held32(p503, 0, m, v8, held32(p502, 0, m, v10));
+    goto after26;
+after27:;
+    p511 = held(m, v10, 6);
+    v13 = held32(p511, 0, m, v10);
+    v12 = held16(p511, 4, m, v10);
+    v21 = v1 + 256ull;
+    p521 = held(m, v21, 8);
+    v19 = held64(p521, 0, m, v21);
+    v17 = v9 + (v19 * 7ull);
+    p531 = held(m, v17, 7);
+    put_held8(p531, 0, m, v17, load8(m, v1 + 265ull, 0));
+    put_held16(p531, 5, m, v17, v12);
+    put_held32(p531, 1, m, v17, v13);
+    put_held64(p521, 0, m, v21, v19 + 1ull);
+    put32(f5 + 8, v13);
+    put16(f5 + 12, v12);
+after26:;
+    atr_core_partial_Partial_begin_tail(m, v1);
+    v13 = load8(m, v1, 0);
+after25:;
+    if ((v13 & 255u) != 3u) { goto after8; }
+    p565 = held(m, v1 + 264ull, 16);
+    if (held64(p565, 0, m, v1 + 264ull) < held64(p565, 8, m, v1 + 264ull)) { goto after8; }
+    if (load8(m, v1 + 280ull, 0) == 0) { goto after9; }
+    goto after8;
 after11:;
-    v1 = v5 + 1ull;
-    goto after6;
+    v21 = v1 + 264ull;
+    v17 = load64(m, v21, 0);
+    v19 = v1 + 272ull;
+    if (v17 >= load64(m, v19, 0)) { goto after28; }
+    store8(m, v11 + v17, 0, v13);
+    v17 = v17 + 1ull;
+    store64(m, v21, 0, v17);
+    v21 = v1 + 281ull;
+    p610 = held(m, v21, 1);
+    put_held8(p610, 0, m, v21, held8(p610, 0, m, v21) ^ v13);
+    if (v17 < load64(m, v19, 0)) { goto after8; }
+    if (load8(m, v1 + 280ull, 0)) { goto after8; }
+    goto after9;
+after28:;
+    if (v13 == load8(m, v1 + 281ull, 0)) { goto after9; }
+    v12 = 2u;
 after10:;
-    p964 = held(m, v0, 280);
-    put_held8(p964, 24, m, v0, v16);
-    put_held64(p964, 16, m, v0, v5);
-    put_held64(p964, 8, m, v0, 1ull);
-    put_held64(p964, 0, m, v0, 1ull);
-    copy(m, v0 + 25ull, v31 + 545ull, 247ull);
-    put_held64(p964, 272, m, v0, 0ull);
-    goto after1;
+    p638 = held(m, v0, 24);
+    put_held64(p638, 0, m, v0, 1ull);
+    put_held32(p638, 17, m, v0, 0u);
+    put_held8(p638, 16, m, v0, v12);
+    put_held64(p638, 8, m, v0, v4);
+    put_held32(p638, 20, m, v0, 0u);
+    goto after2;
 after9:;
-    v20 = v17;
-    v21 = v18;
-    v22 = v16;
+    atr_core_partial_Partial_complete(m, v1);
 after8:;
-    v6 = 1ull;
-    v5 = v5 + 1ull;
-    if (v2 != v5) { goto again7; }
-    if ((v15 & 255u) != 4u) { goto after5; }
-    v1 = v2;
+    v12 = load8(m, v1, 0);
+after7:;
+    if ((v12 & 255u) != 4u) { goto after5; }
 after6:;
-    v4 = get8(f31 + 280);
-    v2 = get64(f31 + 272);
-    v5 = get64(f31 + 264);
-    copy(m, v31 + 9ull, v31 + 281ull, 247ull);
-    v6 = 0ull;
-    goto after3;
+    p677 = held(m, v0, 24);
+    put_held64(p677, 0, m, v0, 0ull);
+    put_held64(p677, 16, m, v0, 0ull);
+    put_held64(p677, 8, m, v0, v4 + 1ull);
+    goto after2;
 after5:;
-    v4 = 0u;
-    v1 = 0ull;
-    v5 = 0ull;
+    v4 = v4 + 1ull;
+    if (v3 != v4) { goto again4; }
 after3:;
-    p1049 = held(m, v0, 280);
-    put_held64(p1049, 0, m, v0, v6);
-    put_held8(p1049, 24, m, v0, v4);
-    put_held64(p1049, 16, m, v0, v2);
-    put_held64(p1049, 8, m, v0, v5);
-    copy(m, v0 + 25ull, v31 + 9ull, 247ull);
-    put_held64(p1049, 272, m, v0, v1);
-    goto after1;
-after1:;
-    m->g0 = v31 + 1536ull;
+    p703 = held(m, v0, 24);
+    put_held64(p703, 0, m, v0, 0ull);
+    put_held64(p703, 16, m, v0, 0ull);
+    put_held64(p703, 8, m, v0, v3);
+after2:;
+    m->g0 = v5 + 16ull;
+    return;
 }
 
-static void c_lent_atr_atr_decode(struct call *m, u64 v0, u64 v1, u64 v2, u64 v3)
+static void atr_core_partial_Partial_begin_tail(struct call *m, u64 v0)
+{
+    u64 v1 = 0;
+    u64 v2 = 0;
+    u64 v3 = 0;
+    u64 v4 = 0;
+    u64 v6 = 0;
+    u64 v8 = 0;
+    u64 v9 = 0;
+    u64 v11 = 0;
+    u64 v13 = 0;
+    u64 v14 = 0;
+    u64 v15 = 0;
+    u64 v16 = 0;
+    u64 v18 = 0;
+    u64 v20 = 0;
+    u32 v5 = 0;
+    u32 v7 = 0;
+    u32 v10 = 0;
+    u32 v12 = 0;
+    u32 v17 = 0;
+    u32 v19 = 0;
+    u8 *f20 = NULL;
+    u8 *p22 = NULL;
+    u8 *p47 = NULL;
+    u8 *p128 = NULL;
+    u8 *p188 = NULL;
+    u8 *p196 = NULL;
+    u8 *p221 = NULL;
+    u8 *p229 = NULL;
+    v20 = m->g0 - 288ull;
+    f20 = at(m, v20, 288);
+    v1 = v20;
+    m->g0 = v1;
+    v2 = v0 + 9ull;
+    put32(f20 + 280, load32(m, v2, 0));
+    p22 = held(m, v0, 30);
+    put32(f20 + 283, held32(p22, 12, m, v0));
+    v3 = v0 + 24ull;
+    put32(f20 + 272, load32(m, v3, 0));
+    put16(f20 + 276, held16(p22, 28, m, v0));
+    v4 = v0 + 8ull;
+    v5 = load8(m, v4, 0);
+    v6 = v0 + 1ull;
+    p47 = held(m, v6, 1);
+    v7 = held8(p47, 0, m, v6);
+    v8 = v0 + 16ull;
+    v9 = load64(m, v8, 0);
+    v10 = held8(p22, 0, m, v0);
+    v11 = v0 + 30ull;
+    copy(m, v20 + 38ull, v11, 234ull);
+    v12 = 0u;
+    put_held8(p47, 0, m, v6, 0u);
+    v13 = v0 + 272ull;
+    put32(f20 + 32, load32(m, v13, 0));
+    v6 = v0 + 264ull;
+    put64(f20 + 24, load64(m, v6, 0));
+    v14 = v0 + 278ull;
+    put64(f20 + 8, load64(m, v14, 0));
+    v15 = v0 + 286ull;
+    put16(f20 + 16, load16(m, v15, 0));
+    v16 = v0 + 276ull;
+    v17 = load8(m, v16, 0);
+    v18 = v0 + 277ull;
+    v19 = load8(m, v18, 0);
+    fill(m, v4, 0u, 280ull);
+    if (v10 != 2u) { goto after3; }
+    put_held8(p22, 0, m, v0, 3u);
+    p128 = held(m, v2, 6);
+    put_held32(p128, 0, m, v2, get32(f20 + 272));
+    put_held16(p128, 4, m, v2, get16(f20 + 276));
+    put_held8(p22, 15, m, v0, 0u);
+    copy(m, v8, v20 + 40ull, 232ull);
+    store64(m, v6, 0, 0ull);
+    store64(m, v0 + 256ull, 0, 0ull);
+    store64(m, v0 + 248ull, 0, 0ull);
+    store32(m, v0 + 282ull, 0, 0u);
+    store8(m, v0 + 281ull, 0, v19);
+    store8(m, v0 + 280ull, 0, v17 & 1u);
+    store64(m, v13, 0, v9);
+    store16(m, v15, 0, 0u);
+    goto after2;
+after3:;
+    put_held8(p22, 0, m, v0, v10);
+    p188 = held(m, v2, 7);
+    put_held32(p188, 0, m, v2, get32(f20 + 280));
+    put_held32(p188, 3, m, v2, get32(f20 + 283));
+    p196 = held(m, v3, 6);
+    put_held32(p196, 0, m, v3, get32(f20 + 272));
+    put_held16(p196, 4, m, v3, get16(f20 + 276));
+    put_held64(p22, 16, m, v0, v9);
+    copy(m, v11, v20 + 38ull, 234ull);
+    store8(m, v18, 0, v19);
+    store8(m, v16, 0, v17);
+    p221 = held(m, v6, 12);
+    put_held32(p221, 8, m, v6, get32(f20 + 32));
+    put_held64(p221, 0, m, v6, get64(f20 + 24));
+    p229 = held(m, v14, 10);
+    put_held64(p229, 0, m, v14, get64(f20 + 8));
+    put_held16(p229, 8, m, v14, get16(f20 + 16));
+    v12 = v7;
+after2:;
+    put_held8(p22, 8, m, v0, v5);
+    put_held8(p22, 1, m, v0, v12);
+    m->g0 = v20 + 288ull;
+    return;
+}
+
+static void atr_core_partial_Partial_complete(struct call *m, u64 v0)
+{
+    u64 v1 = 0;
+    u64 v2 = 0;
+    u64 v3 = 0;
+    u64 v7 = 0;
+    u64 v9 = 0;
+    u64 v10 = 0;
+    u64 v11 = 0;
+    u32 v4 = 0;
+    u32 v5 = 0;
+    u32 v6 = 0;
+    u32 v8 = 0;
+    u8 *f11 = NULL;
+    u8 *p22 = NULL;
+    u8 *p97 = NULL;
+    u8 *p117 = NULL;
+    u8 *p124 = NULL;
+    u8 *p140 = NULL;
+    u8 *p154 = NULL;
+    u8 *p166 = NULL;
+    v11 = m->g0 - 288ull;
+    f11 = at(m, v11, 288);
+    v1 = v11;
+    m->g0 = v1;
+    v2 = v0 + 9ull;
+    put32(f11 + 280, load32(m, v2, 0));
+    p22 = held(m, v0, 288);
+    put16(f11 + 284, held16(p22, 13, m, v0));
+    v3 = v0 + 8ull;
+    v4 = load8(m, v3, 0);
+    v5 = held8(p22, 1, m, v0);
+    v6 = held8(p22, 0, m, v0);
+    v7 = v0 + 15ull;
+    copy(m, v11 + 47ull, v7, 233ull);
+    v8 = 0u;
+    put_held16(p22, 0, m, v0, 0u);
+    put64(f11 + 32, held64(p22, 264, m, v0));
+    put64(f11 + 24, held64(p22, 256, m, v0));
+    v9 = v0 + 248ull;
+    put64(f11 + 16, load64(m, v9, 0));
+    v10 = v0 + 272ull;
+    put64(f11, load64(m, v10, 0));
+    put64(f11 + 8, held64(p22, 280, m, v0));
+    fill(m, v3, 0u, 280ull);
+    if (v6 != 3u) { goto after3; }
+    p97 = held(m, v2, 6);
+    put_held16(p97, 4, m, v2, get16(f11 + 284));
+    put_held32(p97, 0, m, v2, get32(f11 + 280));
+    store8(m, v7, 0, 0u);
+    copy(m, v0 + 16ull, (v11 + 47ull) + 1ull, 232ull);
+    p117 = held(m, v10, 16);
+    put_held64(p117, 0, m, v10, 0ull);
+    put_held64(p117, 8, m, v10, 0ull);
+    p124 = held(m, v9, 24);
+    put_held64(p124, 16, m, v9, get64(f11 + 32));
+    put_held64(p124, 8, m, v9, get64(f11 + 24));
+    put_held64(p124, 0, m, v9, get64(f11 + 16));
+    v6 = 4u;
+    goto after2;
+after3:;
+    p140 = held(m, v2, 6);
+    put_held16(p140, 4, m, v2, get16(f11 + 284));
+    put_held32(p140, 0, m, v2, get32(f11 + 280));
+    copy(m, v7, v11 + 47ull, 233ull);
+    p154 = held(m, v9, 24);
+    put_held64(p154, 16, m, v9, get64(f11 + 32));
+    put_held64(p154, 8, m, v9, get64(f11 + 24));
+    put_held64(p154, 0, m, v9, get64(f11 + 16));
+    p166 = held(m, v10, 16);
+    put_held64(p166, 0, m, v10, get64(f11));
+    put_held64(p166, 8, m, v10, get64(f11 + 8));
+    v8 = v5;
+after2:;
+    put_held8(p22, 0, m, v0, v6);
+    put_held8(p22, 8, m, v0, v4);
+    put_held8(p22, 1, m, v0, v8);
+    m->g0 = v11 + 288ull;
+    return;
+}
+
+static void atr_core_partial_Partial_take_whole(struct call *m, u64 v0, u64 v1, u64 v2, u64 v3)
 {
     u64 v4 = 0;
-    u64 v5 = 0;
+    u64 v6 = 0;
     u64 v8 = 0;
     u64 v10 = 0;
     u64 v15 = 0;
     u64 v17 = 0;
     u64 v18 = 0;
-    u64 v19 = 0;
     u64 v20 = 0;
     u64 v21 = 0;
     u64 v22 = 0;
     u64 v23 = 0;
     u64 v24 = 0;
     u64 v25 = 0;
-    u32 v6 = 0;
+    u64 v26 = 0;
+    u64 v27 = 0;
+    u32 v5 = 0;
     u32 v7 = 0;
     u32 v9 = 0;
     u32 v11 = 0;
@@ -1820,107 +1949,98 @@ static void c_lent_atr_atr_decode(struct call *m, u64 v0, u64 v1, u64 v2, u64 v3
     u32 v13 = 0;
     u32 v14 = 0;
     u32 v16 = 0;
+    u32 v19 = 0;
     u32 t0 = 0;
     u32 t4 = 0;
-    u8 *f25 = NULL;
-    u8 *p341 = NULL;
-    u8 *p479 = NULL;
-    u8 *p480 = NULL;
-    u8 *p663 = NULL;
-    u8 *p760 = NULL;
-    u8 *p777 = NULL;
-    u8 *p924 = NULL;
-    u8 *p925 = NULL;
-    u8 *p1109 = NULL;
-    u8 *p1306 = NULL;
-    u8 *p1404 = NULL;
-    u64 n34;
-    const u8 *q34;
-    u64 n35;
-    const u8 *q35;
-    u64 n44;
-    const u8 *q44;
-    u64 n45;
-    const u8 *q45;
-    v25 = m->g0 - 1552ull;
-    f25 = at(m, v25, 1552);
-    v4 = v25;
+    u8 *f27 = NULL;
+    u8 *p332 = NULL;
+    u8 *p455 = NULL;
+    u8 *p456 = NULL;
+    u8 *p632 = NULL;
+    u8 *p731 = NULL;
+    u8 *p742 = NULL;
+    u8 *p775 = NULL;
+    u8 *p796 = NULL;
+    u64 n36;
+    const u8 *q36;
+    u64 n37;
+    const u8 *q37;
+    v27 = m->g0 - 272ull;
+    f27 = at(m, v27, 272);
+    v4 = v27;
     m->g0 = v4;
-    memset(f25 + 496, (int)(0u & 255u), 264);
-    put32(f25 + 491, 0u);
-    put32(f25 + 488, 0u);
-    memset(f25 + 241, (int)(0u & 255u), 247);
-    memset(f25 + 24, (int)(0u & 255u), 217);
-    put64(f25 + 15, 0ull);
-    put64(f25 + 8, 0ull);
-    memset(f25 + 760, (int)(0u & 255u), 280);
-    memset(f25 + 1040, (int)(0u & 255u), 264);
-    if (v2 == 0) { goto after5; }
-    v5 = v2 + 0xFFFFFFFFFFFFFFFFull;
-    if (v5 == 0) { goto after5; }
-    v6 = 0u;
+    v5 = 0u;
+    memset(f27 + 8, (int)(0u & 255u), 264);
+    v6 = 0ull;
     v7 = 0u;
-    switch (load8(m, v1, 0) + 0xFFFFFFC5u) {
-        case 0: goto after6;
-        case 4: goto after7;
-        default: goto after5;
+    switch (load8(m, v2, 0) + 0xFFFFFFC5u) {
+        case 0: goto after3;
+        case 4: goto after4;
+        default: goto after2;
     }
-after7:;
+after4:;
     v7 = 1u;
-after6:;
-    v8 = v2 + 0xFFFFFFFFFFFFFFFEull;
-    v9 = load8(m, v1 + 1ull, 0);
-    if (v9 & 16u) { goto after9; }
-    v10 = v1 + 2ull;
+after3:;
+    v8 = v3 + 0xFFFFFFFFFFFFFFFEull;
+    v9 = load8(m, v2 + 1ull, 0);
+    if (v9 & 16u) { goto after6; }
+    v10 = v2 + 2ull;
     v11 = 0u;
-    goto after8;
-after9:;
-    if (v8 == 0) { goto after5; }
-    v8 = v2 + 0xFFFFFFFFFFFFFFFDull;
-    v10 = v1 + 3ull;
-    v11 = load8(m, v1 + 2ull, 0);
-    v6 = 1u;
-after8:;
+    goto after5;
+after6:;
+    if (v8 == 0) { goto after2; }
+    v8 = v3 + 0xFFFFFFFFFFFFFFFDull;
+    v10 = v2 + 3ull;
+    v11 = load8(m, v2 + 2ull, 0);
+    v5 = 1u;
+after5:;
     v12 = 0u;
     v13 = spread32(v9, 8);
-    if (v13 & 32u) { goto after11; }
+    if (v13 & 32u) { goto after8; }
     v9 = 0u;
     v14 = 0u;
     v15 = v10;
-    goto after10;
-after11:;
-    if (v8 == 0) { goto after5; }
+    goto after7;
+after8:;
+    if (v8) { goto after9; }
+    v5 = 0u;
+    goto after2;
+after9:;
     v8 = v8 + 0xFFFFFFFFFFFFFFFFull;
     v15 = v10 + 1ull;
     v14 = load8(m, v10, 0);
     v9 = 1u;
-after10:;
-    if (v13 & 64u) { goto after13; }
+after7:;
+    if (v13 & 64u) { goto after11; }
     v16 = 0u;
     v17 = v15;
-    goto after12;
-after13:;
-    if (v8 == 0) { goto after5; }
+    goto after10;
+after11:;
+    if (v8) { goto after12; }
+    v5 = 0u;
+    goto after2;
+after12:;
     v8 = v8 + 0xFFFFFFFFFFFFFFFFull;
     v17 = v15 + 1ull;
     v16 = load8(m, v15, 0);
     v12 = 1u;
-after12:;
-    put8(f25 + 1046, v16);
-    put8(f25 + 1045, v12);
-    put8(f25 + 1044, v14);
-    put8(f25 + 1043, v9);
-    put8(f25 + 1042, v11);
-    put8(f25 + 1041, v6);
-    put8(f25 + 1040, v7);
-    v18 = 0ull;
-    if ((v13 ^ 0x80000000u) > (0xFFFFFFFFu ^ 0x80000000u)) { goto after14; }
-    v18 = 0ull;
-    v15 = 0xFFFFFFFFFFFFFF27ull;
-again15:;
-    if (v8 == 0) { goto after5; }
+after10:;
+    v18 = v27 + 16ull;
+    put8(f27 + 14, v16);
+    put8(f27 + 13, v12);
+    put8(f27 + 12, v14);
+    put8(f27 + 11, v9);
+    put8(f27 + 10, v11);
+    put8(f27 + 9, v5);
+    put8(f27 + 8, v7);
+    if ((v13 ^ 0x80000000u) > (0xFFFFFFFFu ^ 0x80000000u)) { goto after13; }
+again14:;
+    if (v8) { goto after15; }
+    v5 = 0u;
+    goto after2;
+after15:;
     v10 = v8 + 0xFFFFFFFFFFFFFFFFull;
-    v6 = 0u;
+    v9 = 0u;
     v7 = load8(m, v17, 0);
     if (v7 & 16u) { goto after17; }
     v8 = v17 + 1ull;
@@ -1928,358 +2048,368 @@ again15:;
     v11 = 0u;
     goto after16;
 after17:;
-    if (v10 == 0) { goto after5; }
+    if (v10) { goto after18; }
+    v5 = 0u;
+    goto after2;
+after18:;
     v10 = v8 + 0xFFFFFFFFFFFFFFFEull;
     v8 = v17 + 2ull;
     v11 = load8(m, v17 + 1ull, 0);
     v12 = 1u;
 after16:;
     v7 = spread32(v7, 8);
-    if (v7 & 32u) { goto after19; }
+    if (v7 & 32u) { goto after20; }
     v14 = 0u;
-    v19 = v8;
-    goto after18;
-after19:;
-    if (v10 == 0) { goto after5; }
-    v10 = v10 + 0xFFFFFFFFFFFFFFFFull;
-    v19 = v8 + 1ull;
-    v14 = load8(m, v8, 0);
-    v6 = 1u;
-after18:;
-    v9 = 0u;
-    if (v7 & 64u) { goto after21; }
-    v16 = 0u;
-    v17 = v19;
-    v8 = v10;
-    goto after20;
-after21:;
-    if (v10 == 0) { goto after5; }
-    v8 = v10 + 0xFFFFFFFFFFFFFFFFull;
-    v17 = v19 + 1ull;
-    v16 = load8(m, v19, 0);
-    v9 = 1u;
+    v15 = v8;
+    goto after19;
 after20:;
-    if (v15 == 0) { goto after5; }
-    v10 = (v25 + 1040ull) + v15;
-    p341 = held(m, v10 + 225ull, 7);
-    put_held8(p341, 6, m, v10 + 225ull, v16);
-    put_held8(p341, 5, m, v10 + 225ull, v9);
-    put_held8(p341, 4, m, v10 + 225ull, v14);
-    put_held8(p341, 3, m, v10 + 225ull, v6);
-    put_held8(p341, 2, m, v10 + 225ull, v11);
-    put_held8(p341, 1, m, v10 + 225ull, v12);
-    put_held8(p341, 0, m, v10 + 225ull, v7 & 15u);
-    v18 = v18 + 1ull;
-    put64(f25 + 1272, v18);
-    v15 = v15 + 7ull;
-    if ((v7 ^ 0x80000000u) < (0u ^ 0x80000000u)) { goto again15; }
-after14:;
-    v20 = ((u64)v13) & 15ull;
-    if (v8 < v20) { goto after5; }
-    v21 = v25 + 1280ull;
-    v7 = v13 & 15u;
-    if (v7 != 1u) { goto after23; }
-    v10 = get64(f25 + 1296);
-    store8(m, v21 + v10, 0, load8(m, v17, 0));
-    put64(f25 + 1296, v10 + 1ull);
+    if (v10) { goto after21; }
+    v5 = 0u;
+    goto after2;
+after21:;
+    v10 = v10 + 0xFFFFFFFFFFFFFFFFull;
+    v15 = v8 + 1ull;
+    v14 = load8(m, v8, 0);
+    v9 = 1u;
+after19:;
+    v5 = 0u;
+    if (v7 & 64u) { goto after23; }
+    v16 = 0u;
+    v19 = 0u;
+    v17 = v15;
+    v8 = v10;
     goto after22;
 after23:;
-    v22 = get64(f25 + 1296);
+    if (v10) { goto after24; }
+    v5 = 0u;
+    goto after2;
+after24:;
+    v8 = v10 + 0xFFFFFFFFFFFFFFFFull;
+    v17 = v15 + 1ull;
+    v19 = load8(m, v15, 0);
+    v16 = 1u;
+after22:;
+    v15 = get64(f27 + 240);
+    if (v15 == 31ull) { goto after2; }
+    v10 = v18 + (v15 * 7ull);
+    p332 = held(m, v10, 7);
+    put_held8(p332, 6, m, v10, v19);
+    put_held8(p332, 5, m, v10, v16);
+    put_held8(p332, 4, m, v10, v14);
+    put_held8(p332, 3, m, v10, v9);
+    put_held8(p332, 2, m, v10, v11);
+    put_held8(p332, 1, m, v10, v12);
+    put_held8(p332, 0, m, v10, v7 & 15u);
+    put64(f27 + 240, v15 + 1ull);
+    if ((v7 ^ 0x80000000u) < (0u ^ 0x80000000u)) { goto again14; }
+after13:;
+    v5 = 0u;
+    v20 = ((u64)v13) & 15ull;
+    if (v8 < v20) { goto after2; }
+    v21 = v27 + 248ull;
+    v7 = v13 & 15u;
+    if (v7 != 1u) { goto after26; }
+    v10 = get64(f27 + 264);
+    store8(m, v21 + v10, 0, load8(m, v17, 0));
+    put64(f27 + 264, v10 + 1ull);
+    goto after25;
+after26:;
+    v22 = get64(f27 + 264);
     if ((15ull - v22) < v20) { goto after1; }
     v10 = v21 + v22;
-    if ((v10 - v17) >= v20) { goto after25; }
-    v19 = v20 & 3ull;
+    if ((v10 - v17) >= v20) { goto after28; }
+    v23 = v20 & 3ull;
     v15 = 0ull;
-    if (v7 < 4u) { goto after26; }
-    v23 = v20 & 12ull;
-    v24 = (v25 + 1040ull) + v22;
+    if (v7 < 4u) { goto after29; }
+    v24 = v20 & 12ull;
+    v25 = (v27 + 8ull) + v22;
     v15 = 0ull;
-again27:;
-    v10 = v24 + v15;
-    v18 = v17 + v15;
-    p479 = held(m, v18, 4);
-    p480 = held(m, v10 + 240ull, 4);
-    put_held8(p480, 0, m, v10 + 240ull, held8(p479, 0, m, v18));
-    put_held8(p480, 1, m, v10 + 240ull, held8(p479, 1, m, v18));
-    put_held8(p480, 2, m, v10 + 240ull, held8(p479, 2, m, v18));
-    put_held8(p480, 3, m, v10 + 240ull, held8(p479, 3, m, v18));
+again30:;
+    v10 = v25 + v15;
+    v26 = v17 + v15;
+    p455 = held(m, v26, 4);
+    p456 = held(m, v10 + 240ull, 4);
+    put_held8(p456, 0, m, v10 + 240ull, held8(p455, 0, m, v26));
+    put_held8(p456, 1, m, v10 + 240ull, held8(p455, 1, m, v26));
+    put_held8(p456, 2, m, v10 + 240ull, held8(p455, 2, m, v26));
+    put_held8(p456, 3, m, v10 + 240ull, held8(p455, 3, m, v26));
     v15 = v15 + 4ull;
-    if (v23 != v15) { goto again27; }
-    if (v19 == 0) { goto after24; }
-after26:;
+    if (v24 != v15) { goto again30; }
+    if (v23 == 0) { goto after27; }
+after29:;
     v10 = v17 + v15;
-    v15 = ((v15 + v22) + (v25 + 1040ull)) + 240ull;
-again28:;
+    v15 = ((v15 + v22) + (v27 + 8ull)) + 240ull;
+again31:;
     store8(m, v15, 0, load8(m, v10, 0));
     v15 = v15 + 1ull;
     v10 = v10 + 1ull;
-    v19 = v19 + 0xFFFFFFFFFFFFFFFFull;
-    if (v19 != 0ull) { goto again28; }
-    goto after24;
-after25:;
-    if (v20 == 0) { goto after24; }
+    v23 = v23 + 0xFFFFFFFFFFFFFFFFull;
+    if (v23 != 0ull) { goto again31; }
+    goto after27;
+after28:;
+    if (v20 == 0) { goto after27; }
     copy(m, v10, v17, v20);
-after24:;
-    put64(f25 + 1296, v22 + v20);
-    v18 = get64(f25 + 1272);
-after22:;
-    v15 = v1 + 1ull;
-    v23 = (v25 + 1040ull) | 1ull;
-    v19 = v8 - v20;
-    v24 = v17 + v20;
-    v17 = v18 + 1ull;
-    v18 = v25 + 1048ull;
+after27:;
+    put64(f27 + 264, v22 + v20);
+after25:;
+    v2 = v2 + 1ull;
+    v26 = (v27 + 8ull) | 1ull;
+    v15 = v8 - v20;
+    v23 = v17 + v20;
+    v17 = get64(f27 + 240) + 1ull;
     v10 = v18;
-again30:;
+again33:;
     v17 = v17 + 0xFFFFFFFFFFFFFFFFull;
-    if (v17 == 0) { goto after29; }
+    if (v17 == 0) { goto after32; }
     v7 = load8(m, v10, 0);
     v10 = v10 + 7ull;
-    if (v7 == 0) { goto again30; }
-    if (v19 == 0) { goto after5; }
-    v6 = load8(m, v24, 0);
-    v17 = v5 - v19;
-    if (v17) { goto after32; }
+    if (v7 == 0) { goto again33; }
+    if (v15 == 0) { goto after2; }
+    v9 = load8(m, v23, 0);
     v7 = 0u;
-    goto after31;
-after32:;
+    v17 = v3 + (v15 ^ 0xFFFFFFFFFFFFFFFFull);
+    if (v17 == 0) { goto after34; }
     v10 = v17 & 7ull;
     v7 = 0u;
-    if ((((v2 + v20) - v8) + 0xFFFFFFFFFFFFFFFEull) < 7ull) { goto after33; }
+    if ((((v3 + v20) - v8) + 0xFFFFFFFFFFFFFFFEull) < 7ull) { goto after35; }
     v8 = v17 & 0xFFFFFFFFFFFFFFF8ull;
     v7 = 0u;
-    n34 = v8 - 8ull;
-    q34 = span(m, v15, n34, 8, 8);
-    if (q34) {
-        n34 /= 8;
-        v7 ^= exclusive_or(q34, (n34 + 1u) * 8);
-        v15 = v15 + 8ull + 8ull * n34;
-        v8 = v8 - 8ull + 0xFFFFFFFFFFFFFFF8ull * n34;
+    n36 = v8 - 8ull;
+    q36 = span(m, v2, n36, 8, 8);
+    if (q36) {
+        n36 /= 8;
+        v7 ^= exclusive_or(q36, (n36 + 1u) * 8);
+        v2 = v2 + 8ull + 8ull * n36;
+        v8 = v8 - 8ull + 0xFFFFFFFFFFFFFFF8ull * n36;
     } else {
-again34:;
-        p663 = held(m, v15, 8);
-        t4 = held8(p663, 3, m, v15) ^ (held8(p663, 2, m, v15) ^ (held8(p663, 1, m, v15) ^ (held8(p663, 0, m, v15) ^
-            v7)));
-        t0 = held8(p663, 7, m, v15) ^ (held8(p663, 6, m, v15) ^ (held8(p663, 5, m, v15) ^ (held8(p663, 4, m, v15) ^
-            t4)));
-        v7 = t0;
-        v15 = v15 + 8ull;
-        v8 = v8 + 0xFFFFFFFFFFFFFFF8ull;
-        if (v8 != 0ull) { goto again34; }
-    }
-    if (v10 == 0) { goto after31; }
-after33:;
-    n35 = v10 - 1ull;
-    q35 = span(m, v15, n35, 1, 1);
-    if (q35) {
-        v7 ^= exclusive_or(q35, (n35 + 1u) * 1);
-        v15 = v15 + 1ull + 1ull * n35;
-        v10 = v10 - 1ull + 0xFFFFFFFFFFFFFFFFull * n35;
-    } else {
-again35:;
-        v7 = load8(m, v15, 0) ^ v7;
-        v15 = v15 + 1ull;
-        v10 = v10 + 0xFFFFFFFFFFFFFFFFull;
-        if (v10 != 0ull) { goto again35; }
-    }
-after31:;
-    if ((v6 & 255u) != (v7 & 255u)) { goto after5; }
-    v19 = v19 + 0xFFFFFFFFFFFFFFFFull;
-after29:;
-    v17 = v2 - v19;
-    if (v17 > 33ull) { goto after5; }
-    put8(f25 + 775, 0u);
-    p760 = held(m, v23, 6);
-    put32(f25 + 769, held32(p760, 0, m, v23));
-    put16(f25 + 773, held16(p760, 4, m, v23));
-    v12 = get8(f25 + 1040);
-    copy(m, v25 + 776ull, v18, 232ull);
-    p777 = held(m, v21, 24);
-    put64(f25 + 1024, held64(p777, 16, m, v21));
-    put64(f25 + 1016, held64(p777, 8, m, v21));
-    put64(f25 + 1008, held64(p777, 0, m, v21));
-    put32(f25 + 488, get32(f25 + 769));
-    put32(f25 + 491, get32(f25 + 772));
-    v1 = get64(f25 + 776);
-    v7 = get8(f25 + 784);
-    copy(m, v25 + 241ull, v25 + 785ull, 247ull);
-    goto after4;
-after5:;
-    atr_core_decoding_by_octets(m, v25 + 760ull, v1, v2);
-    put32(f25 + 488, get32(f25 + 769));
-    put32(f25 + 491, get32(f25 + 772));
-    v2 = get64(f25 + 1032);
-    v12 = get8(f25 + 768);
-    v6 = get8(f25 + 760);
-    v17 = get64(f25 + 776);
-    v7 = get8(f25 + 784);
-    copy(m, v25 + 241ull, v25 + 785ull, 247ull);
-    if (v6) { goto after3; }
-    v1 = v17;
-    v17 = v2;
-after4:;
-    put8(f25 + 496, v12);
-    put32(f25 + 497, get32(f25 + 488));
-    put32(f25 + 500, get32(f25 + 491));
-    put8(f25 + 512, v7);
-    put64(f25 + 504, v1);
-    copy(m, v25 + 513ull, v25 + 241ull, 247ull);
-    memset(f25 + 1040, (int)(0u & 255u), 217);
-    v10 = 0ull;
-    put64(f25 + 1311, 0ull);
-    put64(f25 + 1304, 0ull);
-    v15 = get64(f25 + 728);
-    memset(f25 + 1320, (int)(0u & 255u), 232);
-    if (v15 == 0) { goto after36; }
-    v8 = 0ull;
-again37:;
-    v2 = (v25 + 1320ull) + v10;
-    v1 = (v25 + 496ull) + v10;
-    p924 = held(m, v1 + 8ull, 7);
-    p925 = held(m, v2, 7);
-    put_held8(p925, 0, m, v2, held8(p924, 0, m, v1 + 8ull));
-    v7 = (u32)(held8(p924, 5, m, v1 + 8ull) == 1u);
-    put_held8(p925, 5, m, v2, v7);
-    v6 = (u32)(held8(p924, 3, m, v1 + 8ull) == 1u);
-    put_held8(p925, 3, m, v2, v6);
-    v9 = (u32)(held8(p924, 1, m, v1 + 8ull) == 1u);
-    put_held8(p925, 1, m, v2, v9);
-    put_held8(p925, 6, m, v2, v7 ? held8(p924, 6, m, v1 + 8ull) : 0u);
-    put_held8(p925, 4, m, v2, v6 ? held8(p924, 4, m, v1 + 8ull) : 0u);
-    put_held8(p925, 2, m, v2, v9 ? held8(p924, 2, m, v1 + 8ull) : 0u);
-    v8 = v8 + 1ull;
-    put64(f25 + 1544, v8);
-    v10 = v10 + 7ull;
-    if (v15 != v8) { goto again37; }
-after36:;
-    v2 = v25 + 504ull;
-    v1 = v15 + 1ull;
-    v15 = get64(f25 + 752);
-again39:;
-    v1 = v1 + 0xFFFFFFFFFFFFFFFFull;
-    if (v1) { goto after40; }
-    v7 = 0u;
-    goto after38;
-after40:;
-    v7 = load8(m, v2, 0);
-    v2 = v2 + 7ull;
-    if (v7 == 0) { goto again39; }
-    put64(f25 + 792, 0ull);
-    put64(f25 + 784, 0ull);
-    put64(f25 + 776, 0ull);
-    put64(f25 + 768, 0ull);
-    put64(f25 + 760, 0ull);
-    atr_core_encoding_checked_octets(m, v25 + 760ull, v25 + 496ull);
-    v2 = get64(f25 + 792);
-    if (v2) { goto after41; }
-    v7 = 0u;
-    goto after38;
-after41:;
-    v10 = v2 & 7ull;
-    if (v2 >= 8ull) { goto after43; }
-    v2 = v25 + 760ull;
-    v7 = 0u;
-    goto after42;
-after43:;
-    v8 = v2 & 0xFFFFFFFFFFFFFFF8ull;
-    v2 = v25 + 760ull;
-    v7 = 0u;
-    n44 = v8 - 8ull;
-    q44 = span(m, v2, n44, 8, 8);
-    if (q44) {
-        n44 /= 8;
-        v7 ^= exclusive_or(q44, (n44 + 1u) * 8);
-        v2 = v2 + 8ull + 8ull * n44;
-        v8 = v8 - 8ull + 0xFFFFFFFFFFFFFFF8ull * n44;
-    } else {
-again44:;
-        p1109 = held(m, v2, 8);
-        t4 = held8(p1109, 3, m, v2) ^ (held8(p1109, 2, m, v2) ^ (held8(p1109, 1, m, v2) ^ (held8(p1109, 0, m, v2) ^
-            v7)));
-        t0 = held8(p1109, 7, m, v2) ^ (held8(p1109, 6, m, v2) ^ (held8(p1109, 5, m, v2) ^ (held8(p1109, 4, m, v2) ^
-            t4)));
+again36:;
+        p632 = held(m, v2, 8);
+        t4 = held8(p632, 3, m, v2) ^ (held8(p632, 2, m, v2) ^ (held8(p632, 1, m, v2) ^ (held8(p632, 0, m, v2) ^ v7)));
+        t0 = held8(p632, 7, m, v2) ^ (held8(p632, 6, m, v2) ^ (held8(p632, 5, m, v2) ^ (held8(p632, 4, m, v2) ^ t4)));
         v7 = t0;
         v2 = v2 + 8ull;
         v8 = v8 + 0xFFFFFFFFFFFFFFF8ull;
-        if (v8 != 0ull) { goto again44; }
+        if (v8 != 0ull) { goto again36; }
     }
-    if (v10 == 0) { goto after38; }
-after42:;
-    n45 = v10 - 1ull;
-    q45 = span(m, v2, n45, 1, 1);
-    if (q45) {
-        v7 ^= exclusive_or(q45, (n45 + 1u) * 1);
-        v2 = v2 + 1ull + 1ull * n45;
-        v10 = v10 - 1ull + 0xFFFFFFFFFFFFFFFFull * n45;
+    if (v10 == 0) { goto after34; }
+after35:;
+    n37 = v10 - 1ull;
+    q37 = span(m, v2, n37, 1, 1);
+    if (q37) {
+        v7 ^= exclusive_or(q37, (n37 + 1u) * 1);
+        v2 = v2 + 1ull + 1ull * n37;
+        v10 = v10 - 1ull + 0xFFFFFFFFFFFFFFFFull * n37;
     } else {
-again45:;
+again37:;
         v7 = load8(m, v2, 0) ^ v7;
         v2 = v2 + 1ull;
         v10 = v10 + 0xFFFFFFFFFFFFFFFFull;
-        if (v10 != 0ull) { goto again45; }
+        if (v10 != 0ull) { goto again37; }
     }
-after38:;
-    v6 = get8(f25 + 502);
-    v9 = get8(f25 + 501);
-    v11 = get8(f25 + 500);
-    v14 = get8(f25 + 499);
-    v16 = get8(f25 + 498);
-    v13 = get8(f25 + 497);
-    v10 = get64(f25 + 1544);
-    memset(f25 + 760, (int)(0u & 255u), 217);
-    v2 = v10 * 7ull;
-    if (((v25 + 760ull) - (v25 + 1320ull)) >= v2) { goto after47; }
-    if (v10 == 0) { goto after46; }
-    if (v2 == 0) { goto after46; }
-    copy(m, v25 + 760ull, v25 + 1320ull, v2);
-    goto after46;
-after47:;
-    if (v2 == 0) { goto after46; }
-    copy(m, v25 + 760ull, v25 + 1320ull, v2);
-after46:;
-    copy(m, v25 + 1040ull, v25 + 760ull, 217ull);
-    v2 = 0ull;
-    put64(f25 + 767, 0ull);
-    put64(f25 + 760, 0ull);
-    if (v15 == 0) { goto after48; }
-    copy(m, v25 + 760ull, v25 + 736ull, v15);
-after48:;
-    put64(f25 + 1311, get64(f25 + 767));
-    put64(f25 + 1304, get64(f25 + 760));
-    copy(m, v25 + 24ull, v25 + 1040ull, 217ull);
-    put64(f25 + 15, get64(f25 + 1311));
-    put64(f25 + 8, get64(f25 + 1304));
-    p1306 = held(m, v3, 243);
-    put_held8(p1306, 7, m, v3, (u32)v10);
-    v9 = (u32)((v9 & 255u) == 1u);
-    put_held8(p1306, 6, m, v3, v9 ? v6 : 0u);
-    put_held8(p1306, 5, m, v3, v9);
-    v6 = (u32)((v14 & 255u) == 1u);
-    put_held8(p1306, 4, m, v3, v6 ? v11 : 0u);
-    put_held8(p1306, 3, m, v3, v6);
-    v6 = (u32)((v13 & 255u) == 1u);
-    put_held8(p1306, 2, m, v3, v6 ? v16 : 0u);
-    put_held8(p1306, 1, m, v3, v6);
-    put_held8(p1306, 0, m, v3, v12);
-    copy(m, v3 + 8ull, v25 + 24ull, 217ull);
-    put_held8(p1306, 225, m, v3, (u32)v15);
-    put_held8(p1306, 242, m, v3, v7);
-    put_held8(p1306, 241, m, v3, (u32)(v1 != 0ull));
-    put_held64(p1306, 226, m, v3, get64(f25 + 8));
-    put_held64(p1306, 233, m, v3, get64(f25 + 15));
+after34:;
+    if ((v9 & 255u) == (v7 & 255u)) { goto after38; }
+    v5 = 0u;
     goto after2;
-after3:;
-    t0 = v7 + 1u;
-    v7 = v12 & 255u;
-    v2 = ((((u64)(v7 ? t0 : 0u)) & 255ull) << 8) | (v7 ? 2ull : 1ull);
+after38:;
+    v15 = v15 + 0xFFFFFFFFFFFFFFFFull;
+after32:;
+    v10 = v3 - v15;
+    if (v10 > 33ull) { goto after2; }
+    p731 = held(m, v1, 288);
+    put_held16(p731, 0, m, v1, 4u);
+    put_held8(p731, 8, m, v1, get8(f27 + 8));
+    p742 = held(m, v26, 6);
+    put_held32(p731, 9, m, v1, held32(p742, 0, m, v26));
+    put_held16(p731, 13, m, v1, held16(p742, 4, m, v26));
+    put_held8(p731, 15, m, v1, 0u);
+    copy(m, v1 + 16ull, v18, 232ull);
+    put_held64(p731, 272, m, v1, 0ull);
+    put_held64(p731, 280, m, v1, 0ull);
+    p775 = held(m, v21, 24);
+    put_held64(p731, 264, m, v1, held64(p775, 16, m, v21));
+    put_held64(p731, 256, m, v1, held64(p775, 8, m, v21));
+    put_held64(p731, 248, m, v1, held64(p775, 0, m, v21));
+    v5 = 1u;
+    v6 = v10;
 after2:;
-    p1404 = held(m, v0, 16);
-    put_held64(p1404, 8, m, v0, v17);
-    put_held64(p1404, 0, m, v0, v2);
-    m->g0 = v25 + 1552ull;
+    p796 = held(m, v0, 16);
+    put_held64(p796, 8, m, v0, v6);
+    put_held8(p796, 0, m, v0, v5);
+    m->g0 = v27 + 272ull;
     return;
 after1:;
     UNREACHABLE;
+}
+
+static void c_lent_atr_tell(struct call *m, u64 v0, u64 v1)
+{
+    u64 v2 = 0;
+    u64 v3 = 0;
+    u64 v4 = 0;
+    u64 v5 = 0;
+    u64 v6 = 0;
+    u64 v9 = 0;
+    u64 v10 = 0;
+    u64 v16 = 0;
+    u64 v17 = 0;
+    u32 v7 = 0;
+    u32 v8 = 0;
+    u32 v11 = 0;
+    u32 v12 = 0;
+    u32 v13 = 0;
+    u32 v14 = 0;
+    u32 v15 = 0;
+    u32 t0 = 0;
+    u32 t4 = 0;
+    u8 *f3 = NULL;
+    u8 *p25 = NULL;
+    u8 *p122 = NULL;
+    u8 *p196 = NULL;
+    u8 *p197 = NULL;
+    u8 *p302 = NULL;
+    u8 *p339 = NULL;
+    u8 *p438 = NULL;
+    u64 n8;
+    const u8 *q8;
+    u64 n9;
+    const u8 *q9;
+    v17 = m->g0 - 64ull;
+    v2 = v17;
+    m->g0 = v2;
+    v3 = v17;
+    f3 = at(m, v3, 64);
+    put64(f3 + 15, 0ull);
+    put64(f3 + 8, 0ull);
+    v2 = v0 + 8ull;
+    p25 = held(m, v0 + 232ull, 32);
+    v4 = held64(p25, 24, m, v0 + 232ull);
+    v5 = held64(p25, 0, m, v0 + 232ull);
+    v6 = 0xFFFFFFFFFFFFFFFFull;
+again3:;
+    v6 = v6 + 1ull;
+    if (v5 != v6) { goto after4; }
+    v7 = 0u;
+    goto after2;
+after4:;
+    v8 = load8(m, v2, 0);
+    v2 = v2 + 7ull;
+    if (v8 == 0) { goto again3; }
+    put64(f3 + 56, 0ull);
+    put64(f3 + 48, 0ull);
+    put64(f3 + 40, 0ull);
+    put64(f3 + 32, 0ull);
+    put64(f3 + 24, 0ull);
+    atr_core_encoding_checked_octets(m, v3 + 24ull, v0);
+    v2 = get64(f3 + 56);
+    if (v2) { goto after5; }
+    v7 = 0u;
+    goto after2;
+after5:;
+    v9 = v2 & 7ull;
+    if (v2 >= 8ull) { goto after7; }
+    v2 = v3 + 24ull;
+    v7 = 0u;
+    goto after6;
+after7:;
+    v10 = v2 & 0xFFFFFFFFFFFFFFF8ull;
+    v2 = v3 + 24ull;
+    v7 = 0u;
+    n8 = v10 - 8ull;
+    q8 = span(m, v2, n8, 8, 8);
+    if (q8) {
+        n8 /= 8;
+        v7 ^= exclusive_or(q8, (n8 + 1u) * 8);
+        v2 = v2 + 8ull + 8ull * n8;
+        v10 = v10 - 8ull + 0xFFFFFFFFFFFFFFF8ull * n8;
+    } else {
+again8:;
+        p122 = held(m, v2, 8);
+        t4 = held8(p122, 3, m, v2) ^ (held8(p122, 2, m, v2) ^ (held8(p122, 1, m, v2) ^ (held8(p122, 0, m, v2) ^ v7)));
+        t0 = held8(p122, 7, m, v2) ^ (held8(p122, 6, m, v2) ^ (held8(p122, 5, m, v2) ^ (held8(p122, 4, m, v2) ^ t4)));
+        v7 = t0;
+        v2 = v2 + 8ull;
+        v10 = v10 + 0xFFFFFFFFFFFFFFF8ull;
+        if (v10 != 0ull) { goto again8; }
+    }
+    if (v9 == 0) { goto after2; }
+after6:;
+    n9 = v9 - 1ull;
+    q9 = span(m, v2, n9, 1, 1);
+    if (q9) {
+        v7 ^= exclusive_or(q9, (n9 + 1u) * 1);
+        v2 = v2 + 1ull + 1ull * n9;
+        v9 = v9 - 1ull + 0xFFFFFFFFFFFFFFFFull * n9;
+    } else {
+again9:;
+        v7 = load8(m, v2, 0) ^ v7;
+        v2 = v2 + 1ull;
+        v9 = v9 + 0xFFFFFFFFFFFFFFFFull;
+        if (v9 != 0ull) { goto again9; }
+    }
+after2:;
+    p196 = held(m, v0, 7);
+    p197 = held(m, v1, 8);
+    put_held8(p197, 0, m, v1, held8(p196, 0, m, v0));
+    v8 = held8(p196, 2, m, v0);
+    v11 = held8(p196, 4, m, v0);
+    v12 = held8(p196, 6, m, v0);
+    v13 = held8(p196, 1, m, v0);
+    v14 = held8(p196, 3, m, v0);
+    v15 = held8(p196, 5, m, v0);
+    put_held8(p197, 7, m, v1, (u32)v5);
+    v15 = (u32)(v15 == 1u);
+    put_held8(p197, 5, m, v1, v15);
+    v14 = (u32)(v14 == 1u);
+    put_held8(p197, 3, m, v1, v14);
+    v13 = (u32)(v13 == 1u);
+    put_held8(p197, 1, m, v1, v13);
+    put_held8(p197, 6, m, v1, v15 ? v12 : 0u);
+    put_held8(p197, 4, m, v1, v14 ? v11 : 0u);
+    put_held8(p197, 2, m, v1, v13 ? v8 : 0u);
+    fill(m, v1 + 8ull, 0u, 217ull);
+    if (v5 == 0) { goto after10; }
+    v10 = 0ull;
+    v16 = v5;
+again11:;
+    v2 = v0 + v10;
+    p302 = held(m, v2 + 8ull, 7);
+    v8 = held8(p302, 2, m, v2 + 8ull);
+    v11 = held8(p302, 4, m, v2 + 8ull);
+    v12 = held8(p302, 6, m, v2 + 8ull);
+    v13 = held8(p302, 1, m, v2 + 8ull);
+    v14 = held8(p302, 3, m, v2 + 8ull);
+    v15 = held8(p302, 5, m, v2 + 8ull);
+    v9 = v1 + v10;
+    p339 = held(m, v9 + 8ull, 7);
+    put_held8(p339, 0, m, v9 + 8ull, held8(p302, 0, m, v2 + 8ull));
+    v15 = (u32)(v15 == 1u);
+    put_held8(p339, 5, m, v9 + 8ull, v15);
+    v14 = (u32)(v14 == 1u);
+    put_held8(p339, 3, m, v9 + 8ull, v14);
+    v13 = (u32)(v13 == 1u);
+    put_held8(p339, 1, m, v9 + 8ull, v13);
+    put_held8(p339, 6, m, v9 + 8ull, v15 ? v12 : 0u);
+    put_held8(p339, 4, m, v9 + 8ull, v14 ? v11 : 0u);
+    put_held8(p339, 2, m, v9 + 8ull, v13 ? v8 : 0u);
+    v10 = v10 + 7ull;
+    v16 = v16 + 0xFFFFFFFFFFFFFFFFull;
+    if (v16 != 0ull) { goto again11; }
+after10:;
+    store8(m, v1 + 225ull, 0, (u32)v4);
+    put64(f3 + 31, 0ull);
+    put64(f3 + 24, 0ull);
+    if (v4 == 0) { goto after12; }
+    copy(m, v3 + 24ull, v0 + 240ull, v4);
+after12:;
+    put64(f3 + 15, get64(f3 + 31));
+    put64(f3 + 8, get64(f3 + 24));
+    p438 = held(m, v1 + 226ull, 17);
+    put_held64(p438, 7, m, v1 + 226ull, get64(f3 + 15));
+    put_held64(p438, 0, m, v1 + 226ull, get64(f3 + 8));
+    put_held8(p438, 16, m, v1 + 226ull, v7);
+    put_held8(p438, 15, m, v1 + 226ull, (u32)(v5 != v6));
+    m->g0 = v3 + 64ull;
+    return;
 }
 
 static void atr_core_encoding_checked_octets(struct call *m, u64 v0, u64 v1)
@@ -3350,7 +3480,7 @@ again11:;
     v3 = v3 + 32ull;
     v5 = v5 + 32ull;
     v7 = v7 + 0xFFFFFFFFFFFFFFE0ull;
-    if (v7 >= 32ull) { goto again11; }
+    if (v7 > 31ull) { goto again11; }
     goto after9;
 after10:;
     if (v7 > 31ull) { goto after1; }
@@ -6166,7 +6296,7 @@ after2:;
     v2 = v1 & 7ull;
     v3 = 0u;
     if (v1 < 8ull) { goto after4; }
-    v1 = v1 & 504ull;
+    v1 = v1 & 0xFFFFFFFFFFFFFFF8ull;
     v3 = 0u;
     n5 = v1 - 8ull;
     q5 = span(m, v0, n5, 8, 8);
@@ -10572,6 +10702,1319 @@ after1:;
     put_held8(p620, 1, m, v0, v4);
 }
 
+static void session_core_progress_Progress_drop_octets(struct call *m, u64 v0, u64 v1, u64 v2, u32 v3, u64 v4)
+{
+    u64 v5 = 0;
+    u64 v6 = 0;
+    u8 *f6 = NULL;
+    u8 *p15 = NULL;
+    u8 *p32 = NULL;
+    v6 = m->g0 - 16ull;
+    f6 = at(m, v6, 16);
+    v5 = v6;
+    m->g0 = v5;
+    p15 = held(m, v1 + 72ull, 5);
+    put_held32(p15, 0, m, v1 + 72ull, 0x10000u);
+    put_held8(p15, 4, m, v1 + 72ull, v3);
+    session_core_progress_Progress_wait_silent(m, v6, v1, v2, v4);
+    v3 = get8(f6);
+    p32 = held(m, v0, 16);
+    put_held64(p32, 8, m, v0, get64(f6 + 8));
+    put_held8(p32, 0, m, v0, v3);
+    m->g0 = v6 + 16ull;
+    return;
+}
+
+static void session_core_progress_Progress_wait_silent(struct call *m, u64 v0, u64 v1, u64 v2, u64 v3)
+{
+    u64 v4 = 0;
+    u64 v5 = 0;
+    u64 v6 = 0;
+    u64 v8 = 0;
+    u32 v7 = 0;
+    u8 *f8 = NULL;
+    u8 *p38 = NULL;
+    u8 *p91 = NULL;
+    v8 = m->g0 - 16ull;
+    f8 = at(m, v8, 16);
+    v4 = v8;
+    m->g0 = v4;
+    switch (load8(m, v1 + 76ull, 0) + 0xFFFFFFFDu) {
+        case 0: goto after5;
+        case 4: goto after4;
+        default: goto after3;
+    }
+after5:;
+    v5 = load64(m, v1, 0);
+    goto after2;
+after4:;
+    if (load8(m, v2 + 55ull, 0) == 0) { goto after6; }
+    p38 = held(m, v2, 16);
+    v5 = held64(p38, 8, m, v2);
+    v6 = (held64(p38, 0, m, v2) >> 2) * 3ull;
+    v5 = (v5 > v6) ? v5 : v6;
+    goto after2;
+after6:;
+    v5 = load64(m, v1 + 8ull, 0);
+    goto after2;
+after3:;
+    if (load8(m, v2 + 55ull, 0) == 0) { goto after7; }
+    v5 = load64(m, v2 + 16ull, 0);
+    goto after2;
+after7:;
+    v5 = load64(m, v2, 0);
+after2:;
+    session_core_progress_Progress_wait(m, v8, v1, v2, v5, v3);
+    v7 = get8(f8);
+    p91 = held(m, v0, 16);
+    put_held64(p91, 8, m, v0, get64(f8 + 8));
+    put_held8(p91, 0, m, v0, v7);
+    m->g0 = v8 + 16ull;
+    return;
+}
+
+static void session_core_progress_Progress_wait(struct call *m, u64 v0, u64 v1, u64 v2, u64 v3, u64 v4)
+{
+    u64 v5 = 0;
+    u32 v6 = 0;
+    u64 w0 = 0;
+    u8 *p15 = NULL;
+    u8 *p40 = NULL;
+    v5 = m->g0;
+    if ((v5 ^ 0x8000000000000000ull) < (16ull ^ 0x8000000000000000ull)) { goto after1; }
+    w0 = session_core_progress_Progress_left(m, v1, v2, v4);
+    v2 = w0;
+    p15 = held(m, v1 + 24ull, 54);
+    put_held32(p15, 40, m, v1 + 24ull, 0u);
+    put_held64(p15, 0, m, v1 + 24ull, v4);
+    v6 = (u32)(v2 < v3);
+    put_held8(p15, 53, m, v1 + 24ull, v6);
+    w0 = v1 + 16ull;
+    v1 = v6 ? v2 : v3;
+    store64(m, w0, 0, v1);
+    p40 = held(m, v0, 16);
+    put_held64(p40, 8, m, v0, v1);
+    put_held8(p40, 0, m, v0, 1u);
+    m->g0 = v5;
+    return;
+after1:;
+    UNREACHABLE;
+}
+
+static u64 session_core_progress_Progress_left(struct call *m, u64 v0, u64 v1, u64 v2)
+{
+    u64 v3 = 0;
+    u64 v4 = 0;
+    v3 = 0xFFFFFFFFFFFFFFFFull;
+    v4 = load64(m, v1 + 40ull, 0);
+    if (v4 == 0xFFFFFFFFFFFFFFFFull) { goto after2; }
+    if (load8(m, v1 + 52ull, 0) == 0) { goto after4; }
+    v1 = v2 - load64(m, v0 + 32ull, 0);
+    v1 = ((v1 ^ 0x8000000000000000ull) > (0ull ^ 0x8000000000000000ull)) ? v1 : 0ull;
+    goto after3;
+after4:;
+    v1 = load64(m, v0 + 40ull, 0);
+after3:;
+    v1 = v4 - v1;
+    v3 = (v1 > v4) ? 0ull : v1;
+after2:;
+    return v3;
+}
+
+static void session_core_progress_Progress_await_block(struct call *m, u64 v0, u64 v1, u64 v2, u64 v3, u64 v4)
+{
+    u64 v5 = 0;
+    u64 v7 = 0;
+    u32 v6 = 0;
+    u64 w3 = 0;
+    u8 *f7 = NULL;
+    u8 *p18 = NULL;
+    u8 *p44 = NULL;
+    v7 = m->g0 - 16ull;
+    f7 = at(m, v7, 16);
+    v5 = v7;
+    m->g0 = v5;
+    store64(m, v3, 0, 0ull);
+    p18 = held(m, v1 + 8ull, 74);
+    put_held8(p18, 73, m, v1 + 8ull, 0u);
+    put_held8(p18, 68, m, v1 + 8ull, 6u);
+    put_held16(p18, 71, m, v1 + 8ull, 0u);
+    w3 = held64(p18, 0, m, v1 + 8ull);
+    session_core_progress_Progress_wait(m, v7, v1, v2, w3, v4);
+    v6 = get8(f7);
+    p44 = held(m, v0, 16);
+    put_held64(p44, 8, m, v0, get64(f7 + 8));
+    put_held8(p44, 0, m, v0, v6);
+    m->g0 = v7 + 16ull;
+    return;
+}
+
+static void session_core_progress_Progress_sent(struct call *m, u64 v0, u64 v1, u64 v2, u64 v3, u64 v4, u64 v5, u64
+    v6)
+{
+    u64 v7 = 0;
+    u64 v8 = 0;
+    u64 v9 = 0;
+    u64 v10 = 0;
+    u64 v11 = 0;
+    u64 v13 = 0;
+    u32 v12 = 0;
+    u64 w0 = 0;
+    u64 w1 = 0;
+    u64 w4 = 0;
+    u8 *f13 = NULL;
+    u8 *p30 = NULL;
+    u8 *p214 = NULL;
+    v13 = m->g0 - 80ull;
+    f13 = at(m, v13, 80);
+    v7 = v13;
+    m->g0 = v7;
+    v8 = 0ull;
+    v9 = v2 + 32ull;
+    v10 = load64(m, v9, 0);
+    multi3(m, v13 + 64ull, v10, 0ull, v6, 0ull);
+    p30 = held(m, v1 + 24ull, 55);
+    put_held64(p30, 32, m, v1 + 24ull, 0ull);
+    v11 = v4 - held64(p30, 0, m, v1 + 24ull);
+    w1 = ((v11 ^ 0x8000000000000000ull) > (0xFFFFFFFFFFFFFFFFull ^ 0x8000000000000000ull)) ? v11 :
+        0xFFFFFFFFFFFFFFFFull;
+    v11 = w1;
+    v10 = (v10 == 0) ? 0ull : ((get64(f13 + 72) != 0ull) ? 0xFFFFFFFFFFFFFFFFull : (v10 * v6));
+    put_held8(p30, 54, m, v1 + 24ull, (u32)(v11 < (v10 >> 1)));
+    v10 = v11 - v10;
+    put_held64(p30, 24, m, v1 + 24ull, (v10 > v11) ? 0ull : v10);
+    if (load8(m, v2 + 53ull, 0) == 0) { goto after3; }
+    v10 = load64(m, v9, 0);
+    multi3(m, v13 + 32ull, v10, 0ull, v6, 0ull);
+    v11 = load64(m, v2 + 8ull, 0);
+    put_held8(p30, 52, m, v1 + 24ull, 5u);
+    v6 = v10 * v6;
+    v8 = v11 + v6;
+    w4 = (get64(f13 + 40) != 0ull) ? 0xFFFFFFFFFFFFFFFFull : ((v8 < v6) ? 0xFFFFFFFFFFFFFFFFull : v8);
+    session_core_progress_Progress_wait(m, v13 + 48ull, v1, v2, (v10 == 0) ? v11 : w4, v4);
+    v12 = 1u;
+    v1 = get64(f13 + 56);
+    goto after2;
+after3:;
+    if (load64(m, v2 + 24ull, 0) == 0xFFFFFFFFFFFFFFFFull) { goto after4; }
+    v10 = load64(m, v2 + 32ull, 0);
+    multi3(m, v13 + 16ull, v10, 0ull, v6, 0ull);
+    v8 = (v10 == 0) ? 0ull : ((get64(f13 + 24) != 0ull) ? 0xFFFFFFFFFFFFFFFFull : (v10 * v6));
+after4:;
+    put_held8(p30, 52, m, v1 + 24ull, 6u);
+    v10 = v1 + 40ull;
+    w0 = v10;
+    v10 = v8 + load64(m, v10, 0);
+    store64(m, w0, 0, (v10 < v8) ? 0xFFFFFFFFFFFFFFFFull : v10);
+    session_core_progress_Progress_go_on(m, v13, v1, v2, v3, v4, v5, v6);
+    v1 = get64(f13 + 8);
+    v12 = get8(f13);
+after2:;
+    p214 = held(m, v0, 16);
+    put_held8(p214, 0, m, v0, v12);
+    put_held64(p214, 8, m, v0, v1);
+    m->g0 = v13 + 80ull;
+    return;
+}
+
+static void session_core_progress_Progress_go_on(struct call *m, u64 v0, u64 v1, u64 v2, u64 v3, u64 v4, u64 v5, u64
+    v6)
+{
+    u64 v7 = 0;
+    u64 v8 = 0;
+    u64 v9 = 0;
+    u64 v11 = 0;
+    u32 v10 = 0;
+    u32 t0 = 0;
+    u64 w3 = 0;
+    u8 *f11 = NULL;
+    u8 *p72 = NULL;
+    v11 = m->g0 - 16ull;
+    f11 = at(m, v11, 16);
+    v7 = v11;
+    m->g0 = v7;
+    v8 = load64(m, v3, 0);
+    if (v8 > 65535ull) { goto after4; }
+    v9 = 8ull;
+    if (load8(m, v1 + 81ull, 0) == 0) { goto after3; }
+    v9 = 24ull;
+    if (load64(m, v2 + 24ull, 0) != 0xFFFFFFFFFFFFFFFFull) { goto after3; }
+after4:;
+    v4 = 0ull;
+    t0 = session_core_progress_Progress_judge(m, v1, v2, v3, v5, v6);
+    v10 = t0;
+    goto after2;
+after3:;
+    w3 = load64(m, (v8 == 0) ? (v1 + 8ull) : (v2 + v9), 0);
+    session_core_progress_Progress_wait(m, v11, v1, v2, w3, v4);
+    v10 = 1u;
+    v4 = get64(f11 + 8);
+after2:;
+    p72 = held(m, v0, 16);
+    put_held64(p72, 8, m, v0, v4);
+    put_held8(p72, 0, m, v0, v10);
+    m->g0 = v11 + 16ull;
+    return;
+}
+
+static u32 session_core_progress_Progress_judge(struct call *m, u64 v0, u64 v1, u64 v2, u64 v3, u64 v4)
+{
+    u64 v5 = 0;
+    u64 v6 = 0;
+    u32 v7 = 0;
+    u32 v8 = 0;
+    u32 t0 = 0;
+    u64 w0 = 0;
+    u8 *p86 = NULL;
+    u8 *p106 = NULL;
+    u8 *p248 = NULL;
+    u8 *p272 = NULL;
+    u8 *p300 = NULL;
+    v5 = m->g0;
+    if ((v5 ^ 0x8000000000000000ull) < (16ull ^ 0x8000000000000000ull)) { goto after4; }
+    v6 = load64(m, v2, 0);
+    if (v4 == 0) { goto after7; }
+    if (load8(m, v1 + 53ull, 0) & 255u) { goto after7; }
+    t0 = session_core_sending_begin_with(m, v2 + 8ull, (v6 < 259ull) ? v6 : 259ull, v3, v4);
+    if (t0 == 0) { goto after7; }
+    if (v6 < 2ull) { goto after6; }
+    if ((spread32(load8(m, v2 + 9ull, 0), 8) ^ 0x80000000u) > (0xFFFFFFFFu ^ 0x80000000u)) { goto after6; }
+    w0 = session_core_progress_Progress_owed_after(m, v0, v1, v2);
+    v4 = w0;
+    v7 = load8(m, v0 + 79ull, 0);
+    goto after3;
+after7:;
+    w0 = session_core_progress_Progress_owed_after(m, v0, v1, v2);
+    v4 = w0;
+    goto after5;
+after6:;
+    v7 = load8(m, v0 + 79ull, 0);
+    w0 = session_core_progress_Progress_owed_after(m, v0, v1, v2);
+    v4 = w0;
+    if (v7 != 2u) { goto after3; }
+after5:;
+    p86 = held(m, v0, 83);
+    put_held64(p86, 0, m, v0, v4);
+    v7 = 0u;
+    put_held8(p86, 82, m, v0, 0u);
+    goto after2;
+after4:;
+    UNREACHABLE;
+after3:;
+    store64(m, v0, 0, v4);
+    v4 = v0 + 82ull;
+    p106 = held(m, v4, 1);
+    v8 = held8(p106, 0, m, v4) + 1u;
+    put_held8(p106, 0, m, v4, (v8 < 5u) ? v8 : 5u);
+    v8 = (v8 < 255u) ? v8 : 255u;
+    if ((v7 & 255u) != 1u) { goto after11; }
+    if (v6 < 2ull) { goto after1; }
+    v7 = spread32(load8(m, v2 + 9ull, 0), 8);
+    if ((v7 ^ 0x80000000u) > (0xFFFFFFFFu ^ 0x80000000u)) { goto after1; }
+    if (load8(m, v0 + 78ull, 0)) { goto after10; }
+    goto after1;
+after11:;
+    if (v6 < 2ull) { goto after9; }
+    v7 = load8(m, v2 + 9ull, 0);
+after10:;
+    if ((v8 & 255u) > 4u) { goto after1; }
+    if ((v7 & 255u) > 191u) { goto after1; }
+    goto after8;
+after9:;
+    if ((v8 & 255u) >= 5u) { goto after1; }
+after8:;
+    v7 = 1u;
+after2:;
+    if (load8(m, v0 + 81ull, 0) == 0) { goto after13; }
+    v8 = 1u;
+    if (v6 < 2ull) { goto after14; }
+    v8 = (u32)((spread32(load8(m, v2 + 9ull, 0), 8) ^ 0x80000000u) > (0xFFFFFFFFu ^ 0x80000000u));
+after14:;
+    if (v7 | (v8 ^ 1u)) { goto after16; }
+    if (v6 != 4ull) { goto after13; }
+    if (load8(m, v1 + 54ull, 0) & 255u) { goto after15; }
+    goto after13;
+after16:;
+    if ((v7 & v8) != 1u) { goto after13; }
+after15:;
+    if (load8(m, v1 + 55ull, 0) == 0) { goto after18; }
+    p248 = held(m, v1, 16);
+    v2 = held64(p248, 8, m, v1);
+    v1 = (held64(p248, 0, m, v1) >> 2) * 3ull;
+    v2 = (v2 > v1) ? v2 : v1;
+    goto after17;
+after18:;
+    v2 = load64(m, v0 + 8ull, 0);
+after17:;
+    p272 = held(m, v0, 81);
+    put_held64(p272, 0, m, v0, v2);
+    put_held8(p272, 80, m, v0, 1u);
+    put_held8(p272, 76, m, v0, 0u);
+    goto after12;
+after13:;
+    store8(m, v0 + 76ull, 0, 0u);
+after12:;
+    m->g0 = v5;
+    return 2u;
+after1:;
+    p300 = held(m, v0 + 76ull, 7);
+    put_held8(p300, 0, m, v0 + 76ull, 0u);
+    put_held8(p300, 6, m, v0 + 76ull, 0u);
+    m->g0 = v5;
+    return 6u;
+}
+
+static u32 session_core_sending_begin_with(struct call *m, u64 v0, u64 v1, u64 v2, u64 v3)
+{
+    u64 v5 = 0;
+    u64 v6 = 0;
+    u64 v7 = 0;
+    u64 v8 = 0;
+    u64 v9 = 0;
+    u64 v10 = 0;
+    u32 v4 = 0;
+    u32 t0 = 0;
+    u32 t1 = 0;
+    u32 t2 = 0;
+    u32 t3 = 0;
+    u32 t4 = 0;
+    u8 *p68 = NULL;
+    u8 *p70 = NULL;
+    u8 *p175 = NULL;
+    u8 *p180 = NULL;
+    u8 *p192 = NULL;
+    u8 *p197 = NULL;
+    u8 *p204 = NULL;
+    u8 *p209 = NULL;
+    u8 *p357 = NULL;
+    u8 *p359 = NULL;
+    u8 *p461 = NULL;
+    u8 *p466 = NULL;
+    u8 *p534 = NULL;
+    u8 *p536 = NULL;
+    u8 *p817 = NULL;
+    u8 *p822 = NULL;
+    u8 *p1086 = NULL;
+    u8 *p1091 = NULL;
+    u8 *p1344 = NULL;
+    u8 *p1346 = NULL;
+    v4 = 0u;
+    if (v1 < v3) { goto after1; }
+    if (v3 > 3ull) { goto after5; }
+    if (v3) { goto after6; }
+    v4 = 0u;
+    goto after2;
+after6:;
+    v1 = v3 >> 1;
+    t0 = ((u32)(load8(m, v2, 0) != load8(m, v0, 0))) | ((u32)(load8(m, v2 + v1, 0) != load8(m, v0 + v1, 0)));
+    v1 = v3 + 0xFFFFFFFFFFFFFFFFull;
+    v4 = t0 | ((u32)(load8(m, v2 + v1, 0) != load8(m, v0 + v1, 0)));
+    goto after2;
+after5:;
+    if (v3 > 8ull) { goto after7; }
+    p68 = held(m, v2, 4);
+    p70 = held(m, v0, 4);
+    t0 = ((u32)(held8(p68, 0, m, v2) != held8(p70, 0, m, v0))) | ((u32)(held8(p68, 1, m, v2) != held8(p70, 1, m,
+        v0)));
+    t0 = (t0 | ((u32)(held8(p68, 2, m, v2) != held8(p70, 2, m, v0)))) | ((u32)(held8(p68, 3, m, v2) != held8(p70, 3,
+        m, v0)));
+    v1 = v3 + 0xFFFFFFFFFFFFFFFCull;
+    t1 = (u32)(load8(m, v2 + v1, 0) != load8(m, v0 + v1, 0));
+    v1 = v3 + 0xFFFFFFFFFFFFFFFDull;
+    t1 = t1 | ((u32)(load8(m, v2 + v1, 0) != load8(m, v0 + v1, 0)));
+    v1 = v3 + 0xFFFFFFFFFFFFFFFEull;
+    t1 = t1 | ((u32)(load8(m, v2 + v1, 0) != load8(m, v0 + v1, 0)));
+    v1 = v3 + 0xFFFFFFFFFFFFFFFFull;
+    v4 = t0 | (t1 | ((u32)(load8(m, v2 + v1, 0) != load8(m, v0 + v1, 0))));
+    goto after2;
+after7:;
+    if (v3 > 32ull) { goto after8; }
+    v3 = v3 + 0xFFFFFFFFFFFFFFF8ull;
+    v5 = (v3 < 8ull) ? v3 : 8ull;
+    v1 = v2 + v5;
+    p175 = held(m, v1, 8);
+    v5 = v0 + v5;
+    p180 = held(m, v5, 8);
+    v6 = (v3 < 16ull) ? v3 : 16ull;
+    v7 = v2 + v6;
+    p192 = held(m, v7, 8);
+    v6 = v0 + v6;
+    p197 = held(m, v6, 8);
+    t0 = ((u32)(held8(p175, 0, m, v1) != held8(p180, 0, m, v5))) | ((u32)(held8(p192, 0, m, v7) != held8(p197, 0, m,
+        v6)));
+    v8 = v2 + v3;
+    p204 = held(m, v8, 8);
+    v3 = v0 + v3;
+    p209 = held(m, v3, 8);
+    t1 = ((u32)(held8(p175, 1, m, v1) != held8(p180, 1, m, v5))) | ((u32)(held8(p192, 1, m, v7) != held8(p197, 1, m,
+        v6)));
+    t0 = (t0 | ((u32)(held8(p204, 0, m, v8) != held8(p209, 0, m, v3)))) | ((t1 | ((u32)(held8(p204, 1, m, v8) !=
+        held8(p209, 1, m, v3)))) << 1);
+    t1 = ((u32)(held8(p175, 3, m, v1) != held8(p180, 3, m, v5))) | ((u32)(held8(p192, 3, m, v7) != held8(p197, 3, m,
+        v6)));
+    t2 = ((u32)(held8(p175, 2, m, v1) != held8(p180, 2, m, v5))) | ((u32)(held8(p192, 2, m, v7) != held8(p197, 2, m,
+        v6)));
+    t1 = ((t1 | ((u32)(held8(p204, 3, m, v8) != held8(p209, 3, m, v3)))) << 3) | ((t2 | ((u32)(held8(p204, 2, m, v8)
+        != held8(p209, 2, m, v3)))) << 2);
+    t0 = t0 | t1;
+    t1 = ((u32)(held8(p175, 4, m, v1) != held8(p180, 4, m, v5))) | ((u32)(held8(p192, 4, m, v7) != held8(p197, 4, m,
+        v6)));
+    t2 = ((u32)(held8(p175, 5, m, v1) != held8(p180, 5, m, v5))) | ((u32)(held8(p192, 5, m, v7) != held8(p197, 5, m,
+        v6)));
+    t1 = (t1 | ((u32)(held8(p204, 4, m, v8) != held8(p209, 4, m, v3)))) | ((t2 | ((u32)(held8(p204, 5, m, v8) !=
+        held8(p209, 5, m, v3)))) << 1);
+    t2 = ((u32)(held8(p175, 7, m, v1) != held8(p180, 7, m, v5))) | ((u32)(held8(p192, 7, m, v7) != held8(p197, 7, m,
+        v6)));
+    t3 = ((u32)(held8(p175, 6, m, v1) != held8(p180, 6, m, v5))) | ((u32)(held8(p192, 6, m, v7) != held8(p197, 6, m,
+        v6)));
+    t2 = ((t2 | ((u32)(held8(p204, 7, m, v8) != held8(p209, 7, m, v3)))) << 3) | ((t3 | ((u32)(held8(p204, 6, m, v8)
+        != held8(p209, 6, m, v3)))) << 2);
+    p357 = held(m, v2, 8);
+    p359 = held(m, v0, 8);
+    t0 = ((u32)(((t0 | ((t1 | t2) << 4)) & 255u) != 0u)) | ((u32)(held8(p357, 0, m, v2) != held8(p359, 0, m, v0)));
+    t1 = ((u32)(held8(p357, 1, m, v2) != held8(p359, 1, m, v0))) | ((u32)(held8(p357, 2, m, v2) != held8(p359, 2, m,
+        v0)));
+    t0 = t0 | t1;
+    t1 = ((u32)(held8(p357, 3, m, v2) != held8(p359, 3, m, v0))) | ((u32)(held8(p357, 4, m, v2) != held8(p359, 4, m,
+        v0)));
+    t2 = ((u32)(held8(p357, 5, m, v2) != held8(p359, 5, m, v0))) | ((u32)(held8(p357, 6, m, v2) != held8(p359, 6, m,
+        v0)));
+    v4 = (t0 | (t1 | t2)) | ((u32)(held8(p357, 7, m, v2) != held8(p359, 7, m, v0)));
+    goto after2;
+after8:;
+    if (v3 < 65ull) { goto after3; }
+    v9 = v3 & 0xFFFFFFFFFFFFFFC0ull;
+    v10 = 0ull;
+    v6 = v2;
+    v8 = v0;
+again10:;
+    v4 = 0u;
+    v1 = 0ull;
+again11:;
+    v5 = v6 + v1;
+    p461 = held(m, v5, 2);
+    v7 = v8 + v1;
+    p466 = held(m, v7, 2);
+    t0 = (v4 | ((u32)(held8(p461, 0, m, v5) != held8(p466, 0, m, v7)))) | ((u32)(held8(p461, 1, m, v5) != held8(p466,
+        1, m, v7)));
+    v4 = t0;
+    v1 = v1 + 2ull;
+    if (v1 != 64ull) { goto again11; }
+    if (v4 & 1u) { goto after9; }
+    v6 = v6 + 64ull;
+    v8 = v8 + 64ull;
+    v10 = v10 + 64ull;
+    if ((v3 - v10) > 63ull) { goto again10; }
+    v10 = v9;
+after9:;
+    v7 = v3 - v10;
+    if (v7 < 32ull) { goto after12; }
+    v1 = v2 + v10;
+    v5 = v0 + v10;
+again14:;
+    v4 = 1u;
+    p534 = held(m, v1, 32);
+    p536 = held(m, v5, 32);
+    t0 = ((u32)(held8(p534, 0, m, v1) != held8(p536, 0, m, v5))) | (((u32)(held8(p534, 1, m, v1) != held8(p536, 1, m,
+        v5))) << 1);
+    t1 = (((u32)(held8(p534, 3, m, v1) != held8(p536, 3, m, v5))) << 3) | (((u32)(held8(p534, 2, m, v1) != held8(p536,
+        2, m, v5))) << 2);
+    t0 = t0 | t1;
+    t1 = ((u32)(held8(p534, 4, m, v1) != held8(p536, 4, m, v5))) | (((u32)(held8(p534, 5, m, v1) != held8(p536, 5, m,
+        v5))) << 1);
+    t2 = (((u32)(held8(p534, 7, m, v1) != held8(p536, 7, m, v5))) << 3) | (((u32)(held8(p534, 6, m, v1) != held8(p536,
+        6, m, v5))) << 2);
+    t0 = t0 | ((t1 | t2) << 4);
+    t1 = ((u32)(held8(p534, 12, m, v1) != held8(p536, 12, m, v5))) | (((u32)(held8(p534, 13, m, v1) != held8(p536, 13,
+        m, v5))) << 1);
+    t2 = (((u32)(held8(p534, 15, m, v1) != held8(p536, 15, m, v5))) << 3) | (((u32)(held8(p534, 14, m, v1) !=
+        held8(p536, 14, m, v5))) << 2);
+    t1 = (t1 | t2) << 12;
+    t2 = ((u32)(held8(p534, 8, m, v1) != held8(p536, 8, m, v5))) | (((u32)(held8(p534, 9, m, v1) != held8(p536, 9, m,
+        v5))) << 1);
+    t3 = (((u32)(held8(p534, 11, m, v1) != held8(p536, 11, m, v5))) << 3) | (((u32)(held8(p534, 10, m, v1) !=
+        held8(p536, 10, m, v5))) << 2);
+    t0 = t0 | (t1 | ((t2 | t3) << 8));
+    t1 = ((u32)(held8(p534, 16, m, v1) != held8(p536, 16, m, v5))) | (((u32)(held8(p534, 17, m, v1) != held8(p536, 17,
+        m, v5))) << 1);
+    t2 = (((u32)(held8(p534, 19, m, v1) != held8(p536, 19, m, v5))) << 3) | (((u32)(held8(p534, 18, m, v1) !=
+        held8(p536, 18, m, v5))) << 2);
+    t1 = t1 | t2;
+    t2 = ((u32)(held8(p534, 20, m, v1) != held8(p536, 20, m, v5))) | (((u32)(held8(p534, 21, m, v1) != held8(p536, 21,
+        m, v5))) << 1);
+    t3 = (((u32)(held8(p534, 23, m, v1) != held8(p536, 23, m, v5))) << 3) | (((u32)(held8(p534, 22, m, v1) !=
+        held8(p536, 22, m, v5))) << 2);
+    t1 = t1 | ((t2 | t3) << 4);
+    t2 = ((u32)(held8(p534, 28, m, v1) != held8(p536, 28, m, v5))) | (((u32)(held8(p534, 29, m, v1) != held8(p536, 29,
+        m, v5))) << 1);
+    t3 = (((u32)(held8(p534, 31, m, v1) != held8(p536, 31, m, v5))) << 3) | (((u32)(held8(p534, 30, m, v1) !=
+        held8(p536, 30, m, v5))) << 2);
+    t2 = (t2 | t3) << 12;
+    t3 = ((u32)(held8(p534, 24, m, v1) != held8(p536, 24, m, v5))) | (((u32)(held8(p534, 25, m, v1) != held8(p536, 25,
+        m, v5))) << 1);
+    t4 = (((u32)(held8(p534, 27, m, v1) != held8(p536, 27, m, v5))) << 3) | (((u32)(held8(p534, 26, m, v1) !=
+        held8(p536, 26, m, v5))) << 2);
+    if ((t0 | (t1 | (t2 | ((t3 | t4) << 8)))) & 65535u) { goto after13; }
+    v1 = v1 + 32ull;
+    v5 = v5 + 32ull;
+    v7 = v7 + 0xFFFFFFFFFFFFFFE0ull;
+    if (v7 > 31ull) { goto again14; }
+    goto after12;
+after13:;
+    if (v7 > 31ull) { goto after2; }
+after12:;
+    v5 = v3 + 0xFFFFFFFFFFFFFFE0ull;
+    v1 = v2 + v5;
+    p817 = held(m, v1, 32);
+    v5 = v0 + v5;
+    p822 = held(m, v5, 32);
+    t0 = ((u32)(held8(p817, 0, m, v1) != held8(p822, 0, m, v5))) | (((u32)(held8(p817, 1, m, v1) != held8(p822, 1, m,
+        v5))) << 1);
+    t1 = (((u32)(held8(p817, 3, m, v1) != held8(p822, 3, m, v5))) << 3) | (((u32)(held8(p817, 2, m, v1) != held8(p822,
+        2, m, v5))) << 2);
+    t0 = t0 | t1;
+    t1 = ((u32)(held8(p817, 4, m, v1) != held8(p822, 4, m, v5))) | (((u32)(held8(p817, 5, m, v1) != held8(p822, 5, m,
+        v5))) << 1);
+    t2 = (((u32)(held8(p817, 7, m, v1) != held8(p822, 7, m, v5))) << 3) | (((u32)(held8(p817, 6, m, v1) != held8(p822,
+        6, m, v5))) << 2);
+    t0 = t0 | ((t1 | t2) << 4);
+    t1 = ((u32)(held8(p817, 12, m, v1) != held8(p822, 12, m, v5))) | (((u32)(held8(p817, 13, m, v1) != held8(p822, 13,
+        m, v5))) << 1);
+    t2 = (((u32)(held8(p817, 15, m, v1) != held8(p822, 15, m, v5))) << 3) | (((u32)(held8(p817, 14, m, v1) !=
+        held8(p822, 14, m, v5))) << 2);
+    t1 = (t1 | t2) << 12;
+    t2 = ((u32)(held8(p817, 8, m, v1) != held8(p822, 8, m, v5))) | (((u32)(held8(p817, 9, m, v1) != held8(p822, 9, m,
+        v5))) << 1);
+    t3 = (((u32)(held8(p817, 11, m, v1) != held8(p822, 11, m, v5))) << 3) | (((u32)(held8(p817, 10, m, v1) !=
+        held8(p822, 10, m, v5))) << 2);
+    t0 = t0 | (t1 | ((t2 | t3) << 8));
+    t1 = ((u32)(held8(p817, 16, m, v1) != held8(p822, 16, m, v5))) | (((u32)(held8(p817, 17, m, v1) != held8(p822, 17,
+        m, v5))) << 1);
+    t2 = (((u32)(held8(p817, 19, m, v1) != held8(p822, 19, m, v5))) << 3) | (((u32)(held8(p817, 18, m, v1) !=
+        held8(p822, 18, m, v5))) << 2);
+    t1 = t1 | t2;
+    t2 = ((u32)(held8(p817, 20, m, v1) != held8(p822, 20, m, v5))) | (((u32)(held8(p817, 21, m, v1) != held8(p822, 21,
+        m, v5))) << 1);
+    t3 = (((u32)(held8(p817, 23, m, v1) != held8(p822, 23, m, v5))) << 3) | (((u32)(held8(p817, 22, m, v1) !=
+        held8(p822, 22, m, v5))) << 2);
+    t1 = t1 | ((t2 | t3) << 4);
+    t2 = ((u32)(held8(p817, 28, m, v1) != held8(p822, 28, m, v5))) | (((u32)(held8(p817, 29, m, v1) != held8(p822, 29,
+        m, v5))) << 1);
+    t3 = (((u32)(held8(p817, 31, m, v1) != held8(p822, 31, m, v5))) << 3) | (((u32)(held8(p817, 30, m, v1) !=
+        held8(p822, 30, m, v5))) << 2);
+    t2 = (t2 | t3) << 12;
+    t3 = ((u32)(held8(p817, 24, m, v1) != held8(p822, 24, m, v5))) | (((u32)(held8(p817, 25, m, v1) != held8(p822, 25,
+        m, v5))) << 1);
+    t4 = (((u32)(held8(p817, 27, m, v1) != held8(p822, 27, m, v5))) << 3) | (((u32)(held8(p817, 26, m, v1) !=
+        held8(p822, 26, m, v5))) << 2);
+    v4 = (u32)(((t0 | (t1 | (t2 | ((t3 | t4) << 8)))) & 65535u) != 0u);
+    goto after2;
+after3:;
+    v5 = v3 + 0xFFFFFFFFFFFFFFE0ull;
+    v1 = v2 + v5;
+    p1086 = held(m, v1, 32);
+    v5 = v0 + v5;
+    p1091 = held(m, v5, 32);
+    t0 = ((u32)(held8(p1086, 0, m, v1) != held8(p1091, 0, m, v5))) | (((u32)(held8(p1086, 1, m, v1) != held8(p1091, 1,
+        m, v5))) << 1);
+    t1 = (((u32)(held8(p1086, 3, m, v1) != held8(p1091, 3, m, v5))) << 3) | (((u32)(held8(p1086, 2, m, v1) !=
+        held8(p1091, 2, m, v5))) << 2);
+    t0 = t0 | t1;
+    t1 = ((u32)(held8(p1086, 4, m, v1) != held8(p1091, 4, m, v5))) | (((u32)(held8(p1086, 5, m, v1) != held8(p1091, 5,
+        m, v5))) << 1);
+    t2 = (((u32)(held8(p1086, 7, m, v1) != held8(p1091, 7, m, v5))) << 3) | (((u32)(held8(p1086, 6, m, v1) !=
+        held8(p1091, 6, m, v5))) << 2);
+    t0 = t0 | ((t1 | t2) << 4);
+    t1 = ((u32)(held8(p1086, 12, m, v1) != held8(p1091, 12, m, v5))) | (((u32)(held8(p1086, 13, m, v1) != held8(p1091,
+        13, m, v5))) << 1);
+    t2 = (((u32)(held8(p1086, 15, m, v1) != held8(p1091, 15, m, v5))) << 3) | (((u32)(held8(p1086, 14, m, v1) !=
+        held8(p1091, 14, m, v5))) << 2);
+    t1 = (t1 | t2) << 12;
+    t2 = ((u32)(held8(p1086, 8, m, v1) != held8(p1091, 8, m, v5))) | (((u32)(held8(p1086, 9, m, v1) != held8(p1091, 9,
+        m, v5))) << 1);
+    t3 = (((u32)(held8(p1086, 11, m, v1) != held8(p1091, 11, m, v5))) << 3) | (((u32)(held8(p1086, 10, m, v1) !=
+        held8(p1091, 10, m, v5))) << 2);
+    t0 = t0 | (t1 | ((t2 | t3) << 8));
+    t1 = ((u32)(held8(p1086, 16, m, v1) != held8(p1091, 16, m, v5))) | (((u32)(held8(p1086, 17, m, v1) != held8(p1091,
+        17, m, v5))) << 1);
+    t2 = (((u32)(held8(p1086, 19, m, v1) != held8(p1091, 19, m, v5))) << 3) | (((u32)(held8(p1086, 18, m, v1) !=
+        held8(p1091, 18, m, v5))) << 2);
+    t1 = t1 | t2;
+    t2 = ((u32)(held8(p1086, 20, m, v1) != held8(p1091, 20, m, v5))) | (((u32)(held8(p1086, 21, m, v1) != held8(p1091,
+        21, m, v5))) << 1);
+    t3 = (((u32)(held8(p1086, 23, m, v1) != held8(p1091, 23, m, v5))) << 3) | (((u32)(held8(p1086, 22, m, v1) !=
+        held8(p1091, 22, m, v5))) << 2);
+    t1 = t1 | ((t2 | t3) << 4);
+    t2 = ((u32)(held8(p1086, 28, m, v1) != held8(p1091, 28, m, v5))) | (((u32)(held8(p1086, 29, m, v1) != held8(p1091,
+        29, m, v5))) << 1);
+    t3 = (((u32)(held8(p1086, 31, m, v1) != held8(p1091, 31, m, v5))) << 3) | (((u32)(held8(p1086, 30, m, v1) !=
+        held8(p1091, 30, m, v5))) << 2);
+    t2 = (t2 | t3) << 12;
+    t3 = ((u32)(held8(p1086, 24, m, v1) != held8(p1091, 24, m, v5))) | (((u32)(held8(p1086, 25, m, v1) != held8(p1091,
+        25, m, v5))) << 1);
+    t4 = (((u32)(held8(p1086, 27, m, v1) != held8(p1091, 27, m, v5))) << 3) | (((u32)(held8(p1086, 26, m, v1) !=
+        held8(p1091, 26, m, v5))) << 2);
+    p1344 = held(m, v2, 32);
+    p1346 = held(m, v0, 32);
+    t0 = ((u32)(((t0 | (t1 | (t2 | ((t3 | t4) << 8)))) & 65535u) != 0u)) | ((u32)(held8(p1344, 0, m, v2) !=
+        held8(p1346, 0, m, v0)));
+    t1 = ((u32)(held8(p1344, 1, m, v2) != held8(p1346, 1, m, v0))) | ((u32)(held8(p1344, 2, m, v2) != held8(p1346, 2,
+        m, v0)));
+    t0 = t0 | t1;
+    t1 = ((u32)(held8(p1344, 3, m, v2) != held8(p1346, 3, m, v0))) | ((u32)(held8(p1344, 4, m, v2) != held8(p1346, 4,
+        m, v0)));
+    t2 = ((u32)(held8(p1344, 5, m, v2) != held8(p1346, 5, m, v0))) | ((u32)(held8(p1344, 6, m, v2) != held8(p1346, 6,
+        m, v0)));
+    t0 = t0 | (t1 | t2);
+    t1 = ((u32)(held8(p1344, 7, m, v2) != held8(p1346, 7, m, v0))) | ((u32)(held8(p1344, 8, m, v2) != held8(p1346, 8,
+        m, v0)));
+    t2 = ((u32)(held8(p1344, 9, m, v2) != held8(p1346, 9, m, v0))) | ((u32)(held8(p1344, 10, m, v2) != held8(p1346,
+        10, m, v0)));
+    t1 = t1 | t2;
+    t2 = ((u32)(held8(p1344, 11, m, v2) != held8(p1346, 11, m, v0))) | ((u32)(held8(p1344, 12, m, v2) != held8(p1346,
+        12, m, v0)));
+    t3 = ((u32)(held8(p1344, 13, m, v2) != held8(p1346, 13, m, v0))) | ((u32)(held8(p1344, 14, m, v2) != held8(p1346,
+        14, m, v0)));
+    t0 = t0 | (t1 | (t2 | t3));
+    t1 = ((u32)(held8(p1344, 15, m, v2) != held8(p1346, 15, m, v0))) | ((u32)(held8(p1344, 16, m, v2) != held8(p1346,
+        16, m, v0)));
+    t2 = ((u32)(held8(p1344, 17, m, v2) != held8(p1346, 17, m, v0))) | ((u32)(held8(p1344, 18, m, v2) != held8(p1346,
+        18, m, v0)));
+    t1 = t1 | t2;
+    t2 = ((u32)(held8(p1344, 19, m, v2) != held8(p1346, 19, m, v0))) | ((u32)(held8(p1344, 20, m, v2) != held8(p1346,
+        20, m, v0)));
+    t3 = ((u32)(held8(p1344, 21, m, v2) != held8(p1346, 21, m, v0))) | ((u32)(held8(p1344, 22, m, v2) != held8(p1346,
+        22, m, v0)));
+    t1 = t1 | (t2 | t3);
+    t2 = ((u32)(held8(p1344, 23, m, v2) != held8(p1346, 23, m, v0))) | ((u32)(held8(p1344, 24, m, v2) != held8(p1346,
+        24, m, v0)));
+    t3 = ((u32)(held8(p1344, 25, m, v2) != held8(p1346, 25, m, v0))) | ((u32)(held8(p1344, 26, m, v2) != held8(p1346,
+        26, m, v0)));
+    t2 = t2 | t3;
+    t3 = ((u32)(held8(p1344, 27, m, v2) != held8(p1346, 27, m, v0))) | ((u32)(held8(p1344, 28, m, v2) != held8(p1346,
+        28, m, v0)));
+    t4 = ((u32)(held8(p1344, 29, m, v2) != held8(p1346, 29, m, v0))) | ((u32)(held8(p1344, 30, m, v2) != held8(p1346,
+        30, m, v0)));
+    t0 = (t0 | (t1 | (t2 | (t3 | t4)))) | ((u32)(held8(p1344, 31, m, v2) != held8(p1346, 31, m, v0)));
+    v4 = t0;
+after2:;
+    v4 = v4 ^ 1u;
+after1:;
+    return v4 & 1u;
+}
+
+static u64 session_core_progress_Progress_owed_after(struct call *m, u64 v0, u64 v1, u64 v2)
+{
+    u8 *p31 = NULL;
+    u8 *p55 = NULL;
+    if (load64(m, v2, 0) != 0ull) { goto after2; }
+    return load64(m, v0, 0);
+after2:;
+    if (load8(m, v0 + 81ull, 0)) { goto after3; }
+    if (load8(m, v1 + 55ull, 0) == 0) { goto after4; }
+    p31 = held(m, v1, 16);
+    v0 = held64(p31, 8, m, v1);
+    v1 = (held64(p31, 0, m, v1) >> 2) * 3ull;
+    return (v0 > v1) ? v0 : v1;
+after4:;
+    return load64(m, v0 + 8ull, 0);
+after3:;
+    p55 = held(m, v1 + 16ull, 16);
+    v0 = held64(p55, 0, m, v1 + 16ull);
+    return (held64(p55, 8, m, v1 + 16ull) < v0) ? v0 : 0ull;
+}
+
+static void session_core_progress_Progress_interrupted(struct call *m, u64 v0, u64 v1, u64 v2, u64 v3, u64 v4, u64 v5,
+    u64 v6)
+{
+    u64 v7 = 0;
+    u64 v8 = 0;
+    u64 v10 = 0;
+    u64 v12 = 0;
+    u32 v9 = 0;
+    u32 v11 = 0;
+    u8 *f8 = NULL;
+    u8 *p115 = NULL;
+    v12 = m->g0 - 16ull;
+    v7 = v12;
+    m->g0 = v7;
+    v8 = v12;
+    f8 = at(m, v8, 16);
+    v7 = 0xFFFFFFFFFFFFFFFFull;
+    v9 = 1u;
+    v10 = load64(m, v1 + 16ull, 0);
+    if (v10 == 0xFFFFFFFFFFFFFFFFull) { goto after2; }
+    v11 = load32(m, v1 + 64ull, 0);
+    if (v11 != 0xFFFFFFFFu) { goto after3; }
+    session_core_progress_Progress_silent(m, v8, v1, v2, v3, v4, v5, v6);
+    v7 = get64(f8 + 8);
+    v9 = get8(f8);
+    goto after2;
+after3:;
+    if (load8(m, v2 + 52ull, 0) == 0) { goto after4; }
+    v7 = 0ull;
+    v4 = v4 - load64(m, v1 + 24ull, 0);
+    if (v10 > (((v4 ^ 0x8000000000000000ull) > (0ull ^ 0x8000000000000000ull)) ? v4 : 0ull)) { goto after4; }
+    store32(m, v1 + 64ull, 0, 0xFFFFFFFFu);
+    goto after2;
+after4:;
+    if (v11 < 0xF4240u) { goto after5; }
+    session_core_progress_Progress_leave(m, v1, v2, v3);
+    store8(m, v1 + 76ull, 0, 0u);
+    v9 = 4u;
+    v7 = 0ull;
+    goto after2;
+after5:;
+    v9 = 1u;
+    store32(m, v1 + 64ull, 0, v11 + 1u);
+    v7 = v10;
+after2:;
+    p115 = held(m, v0, 16);
+    put_held64(p115, 8, m, v0, v7);
+    put_held8(p115, 0, m, v0, v9);
+    m->g0 = v8 + 16ull;
+    return;
+}
+
+static void session_core_progress_Progress_silent(struct call *m, u64 v0, u64 v1, u64 v2, u64 v3, u64 v4, u64 v5, u64
+    v6)
+{
+    u64 v7 = 0;
+    u64 v8 = 0;
+    u64 v9 = 0;
+    u64 v11 = 0;
+    u32 v10 = 0;
+    u32 t0 = 0;
+    u64 w0 = 0;
+    u8 *f11 = NULL;
+    u8 *p19 = NULL;
+    u8 *p126 = NULL;
+    u8 *p224 = NULL;
+    u8 *p292 = NULL;
+    v11 = m->g0 - 64ull;
+    f11 = at(m, v11, 64);
+    v7 = v11;
+    m->g0 = v7;
+    v8 = v1 + 40ull;
+    p19 = held(m, v1 + 16ull, 62);
+    v9 = held64(p19, 0, m, v1 + 16ull);
+    w0 = v8;
+    v8 = v9 + load64(m, v8, 0);
+    store64(m, w0, 0, (v8 < v9) ? 0xFFFFFFFFFFFFFFFFull : v8);
+    if (held8(p19, 61, m, v1 + 16ull) == 0) { goto after3; }
+    session_core_progress_Progress_leave(m, v1, v2, v3);
+    put_held8(p19, 60, m, v1 + 16ull, 0u);
+    v8 = 0ull;
+    v10 = 5u;
+    goto after2;
+after3:;
+    v10 = 7u;
+    v8 = 0ull;
+    v9 = v1 + 76ull;
+    switch (load8(m, v9, 0) + 0xFFFFFFFFu) {
+        case 0: goto after10;
+        case 1: goto after9;
+        case 2: goto after8;
+        case 4: goto after7;
+        case 5: goto after6;
+        case 6: goto after5;
+        default: goto after2;
+    }
+after10:;
+    session_core_progress_Progress_talk(m, v11, v1, v2, v3, v4);
+    v8 = get64(f11 + 8);
+    v10 = get8(f11);
+    goto after2;
+after9:;
+    if (load64(m, v1, 0) > load64(m, v2 + ((load8(m, v2 + 55ull, 0)) ? 16ull : 0ull), 0)) { goto after11; }
+    store64(m, v1, 0, 0ull);
+after11:;
+    session_core_progress_Progress_talk(m, v11 + 16ull, v1, v2, v3, v4);
+    v8 = get64(f11 + 24);
+    v10 = get8(f11 + 16);
+    goto after2;
+after8:;
+    v8 = 0ull;
+    p126 = held(m, v1, 82);
+    put_held64(p126, 0, m, v1, 0ull);
+    store64(m, v3, 0, 0ull);
+    v10 = 0u;
+    put_held8(p126, 81, m, v1, 0u);
+    put_held64(p126, 24, m, v1, v4);
+    store8(m, v9, 0, 4u);
+    put_held16(p126, 79, m, v1, 0u);
+    goto after2;
+after7:;
+    v8 = 0ull;
+    if (held64(p19, 40, m, v1 + 16ull) != 0ull) { goto after12; }
+    put_held8(p19, 60, m, v1 + 16ull, 0u);
+    v10 = 4u;
+    goto after2;
+after12:;
+    session_core_progress_Progress_miss(m, v11 + 32ull, v1, v2, v4);
+    v10 = 1u;
+    v8 = get64(f11 + 40);
+    goto after2;
+after6:;
+    v8 = 0ull;
+    if (load64(m, v3, 0) != 0ull) { goto after13; }
+    put_held8(p19, 60, m, v1 + 16ull, 0u);
+    goto after4;
+after13:;
+    t0 = session_core_progress_Progress_judge(m, v1, v2, v3, v5, v6);
+    v10 = t0;
+    goto after2;
+after5:;
+    v9 = load64(m, v1, 0);
+    v10 = load8(m, v2 + 55ull, 0);
+    if (v10 == 0) { goto after15; }
+    p224 = held(m, v2, 16);
+    v6 = held64(p224, 8, m, v2);
+    v5 = (held64(p224, 0, m, v2) >> 2) * 3ull;
+    v6 = (v6 > v5) ? v6 : v5;
+    goto after14;
+after15:;
+    v6 = load64(m, v1 + 8ull, 0);
+after14:;
+    if (v9 > v6) { goto after16; }
+    store64(m, v1, 0, 0ull);
+    v10 = load8(m, v2 + 55ull, 0);
+after16:;
+    if ((v10 & 255u) == 0) { goto after17; }
+    session_core_progress_Progress_await_block(m, v11 + 48ull, v1, v2, v3, v4);
+    v10 = 1u;
+    v8 = get64(f11 + 56);
+    goto after2;
+after17:;
+    put_held8(p19, 60, m, v1 + 16ull, 0u);
+after4:;
+    v10 = 3u;
+after2:;
+    p292 = held(m, v0, 16);
+    put_held64(p292, 8, m, v0, v8);
+    put_held8(p292, 0, m, v0, v10);
+    m->g0 = v11 + 64ull;
+    return;
+}
+
+static void session_core_progress_Progress_leave(struct call *m, u64 v0, u64 v1, u64 v2)
+{
+    u64 v3 = 0;
+    u64 w1 = 0;
+    v3 = m->g0;
+    if ((v3 ^ 0x8000000000000000ull) < (16ull ^ 0x8000000000000000ull)) { goto after1; }
+    if (load8(m, v0 + 76ull, 0) != 6u) { goto after2; }
+    w1 = session_core_progress_Progress_owed_after(m, v0, v1, v2);
+    store64(m, v0, 0, w1);
+after2:;
+    m->g0 = v3;
+    return;
+after1:;
+    UNREACHABLE;
+}
+
+static void session_core_progress_Progress_talk(struct call *m, u64 v0, u64 v1, u64 v2, u64 v3, u64 v4)
+{
+    u64 v5 = 0;
+    u64 v7 = 0;
+    u32 v6 = 0;
+    u64 w0 = 0;
+    u8 *f7 = NULL;
+    u8 *p86 = NULL;
+    v7 = m->g0 - 16ull;
+    f7 = at(m, v7, 16);
+    v5 = v7;
+    m->g0 = v5;
+    if (load8(m, v2 + 55ull, 0) == 0) { goto after4; }
+    v6 = load32(m, v1 + 68ull, 0);
+    goto after2;
+after4:;
+    v6 = load32(m, v1 + 68ull, 0);
+    if (load32(m, v2 + 48ull, 0) <= v6) { goto after5; }
+    w0 = session_core_progress_Progress_left(m, v1, v2, v4);
+    if (w0 != 0ull) { goto after2; }
+after5:;
+    store8(m, v1 + 76ull, 0, 0u);
+    v1 = 0ull;
+    v6 = 5u;
+    goto after1;
+after2:;
+    v6 = v6 + 1u;
+    store32(m, v1 + 68ull, 0, v6 ? v6 : 0xFFFFFFFFu);
+    session_core_progress_Progress_settle(m, v7, v1, v2, v3, v4);
+    v1 = get64(f7 + 8);
+    v6 = get8(f7);
+after1:;
+    p86 = held(m, v0, 16);
+    put_held64(p86, 8, m, v0, v1);
+    put_held8(p86, 0, m, v0, v6);
+    m->g0 = v7 + 16ull;
+}
+
+static void session_core_progress_Progress_miss(struct call *m, u64 v0, u64 v1, u64 v2, u64 v3)
+{
+    u64 v4 = 0;
+    u64 v6 = 0;
+    u32 v5 = 0;
+    u8 *f6 = NULL;
+    u8 *p23 = NULL;
+    v6 = m->g0 - 16ull;
+    f6 = at(m, v6, 16);
+    v4 = v6;
+    m->g0 = v4;
+    session_core_progress_Progress_drop_octets(m, v6, v1, v2, 7u, v3);
+    v5 = get8(f6);
+    p23 = held(m, v0, 16);
+    put_held64(p23, 8, m, v0, get64(f6 + 8));
+    put_held8(p23, 0, m, v0, v5);
+    m->g0 = v6 + 16ull;
+    return;
+}
+
+static void session_core_progress_Progress_settle(struct call *m, u64 v0, u64 v1, u64 v2, u64 v3, u64 v4)
+{
+    u64 v5 = 0;
+    u64 v6 = 0;
+    u64 v8 = 0;
+    u32 v7 = 0;
+    u8 *f8 = NULL;
+    u8 *p29 = NULL;
+    u8 *p61 = NULL;
+    v8 = m->g0 - 16ull;
+    f8 = at(m, v8, 16);
+    v5 = v8;
+    m->g0 = v5;
+    v6 = 0ull;
+    if (load64(m, v1, 0) != 0ull) { goto after3; }
+    store64(m, v3, 0, 0ull);
+    v7 = 0u;
+    p29 = held(m, v1 + 24ull, 58);
+    put_held8(p29, 57, m, v1 + 24ull, 0u);
+    put_held64(p29, 0, m, v1 + 24ull, v4);
+    put_held8(p29, 52, m, v1 + 24ull, 4u);
+    put_held16(p29, 55, m, v1 + 24ull, 0u);
+    goto after2;
+after3:;
+    session_core_progress_Progress_drop_octets(m, v8, v1, v2, 3u, v4);
+    v7 = 1u;
+    v6 = get64(f8 + 8);
+after2:;
+    p61 = held(m, v0, 16);
+    put_held64(p61, 8, m, v0, v6);
+    put_held8(p61, 0, m, v0, v7);
+    m->g0 = v8 + 16ull;
+    return;
+}
+
+static void session_core_progress_Progress_take_in(struct call *m, u64 v0, u64 v1, u64 v2, u64 v3, u64 v4, u64 v5, u32
+    v6, u64 v7, u64 v8, u64 v9)
+{
+    u64 v10 = 0;
+    u64 v11 = 0;
+    u64 v14 = 0;
+    u32 v12 = 0;
+    u32 v13 = 0;
+    u8 *f14 = NULL;
+    u8 *p178 = NULL;
+    v14 = m->g0 - 80ull;
+    f14 = at(m, v14, 80);
+    v10 = v14;
+    m->g0 = v10;
+    if (load8(m, v1 + 77ull, 0) == 0) { goto after3; }
+    if (load64(m, v1 + 16ull, 0) != 0ull) { goto after3; }
+    session_core_progress_Progress_leave(m, v1, v2, v3);
+    store8(m, v1 + 76ull, 0, 0u);
+    v11 = 0ull;
+    v12 = 5u;
+    goto after2;
+after3:;
+    v12 = 7u;
+    v11 = 0ull;
+    v13 = load8(m, v1 + 76ull, 0);
+    switch (v13) {
+        case 0: goto after2;
+        case 1: goto after8;
+        case 5: goto after7;
+        case 6: goto after6;
+        case 7: goto after4;
+        default: goto after5;
+    }
+after8:;
+    session_core_progress_Progress_drop_octets(m, v14 + 16ull, v1, v2, 2u, v7);
+    v12 = 1u;
+    v11 = get64(f14 + 24);
+    goto after2;
+after7:;
+    if (v6 == 0) { goto after9; }
+    session_core_progress_Progress_miss(m, v14 + 32ull, v1, v2, v7);
+    v12 = 1u;
+    v11 = get64(f14 + 40);
+    goto after2;
+after9:;
+    session_core_progress_Progress_echoed(m, v14 + 48ull, v1, v2, v3, v4, v5, v7, v8, v9);
+    v11 = get64(f14 + 56);
+    v12 = get8(f14 + 48);
+    goto after2;
+after6:;
+    session_core_progress_Progress_hear(m, v14 + 64ull, v1, v2, v3, v4, v5, v6, v7, v8, v9);
+    v11 = get64(f14 + 72);
+    v12 = get8(f14 + 64);
+    goto after2;
+after5:;
+    if (v13 > 3u) { goto after2; }
+after4:;
+    v3 = v1 + 72ull;
+    v12 = load32(m, v3, 0);
+    if (v5 < ((u64)v12)) { goto after10; }
+    store8(m, v1 + 76ull, 0, 0u);
+    store32(m, v3, 0, 0u);
+    v12 = 4u;
+    goto after2;
+after10:;
+    store32(m, v3, 0, v12 - ((u32)v5));
+    session_core_progress_Progress_wait_silent(m, v14, v1, v2, v7);
+    v12 = 1u;
+    v11 = get64(f14 + 8);
+after2:;
+    p178 = held(m, v0, 16);
+    put_held64(p178, 8, m, v0, v11);
+    put_held8(p178, 0, m, v0, v12);
+    m->g0 = v14 + 80ull;
+    return;
+}
+
+static void session_core_progress_Progress_echoed(struct call *m, u64 v0, u64 v1, u64 v2, u64 v3, u64 v4, u64 v5, u64
+    v6, u64 v7, u64 v8)
+{
+    u64 v9 = 0;
+    u64 v10 = 0;
+    u64 v11 = 0;
+    u64 v12 = 0;
+    u64 v13 = 0;
+    u64 v15 = 0;
+    u64 v16 = 0;
+    u64 v17 = 0;
+    u64 v18 = 0;
+    u64 v19 = 0;
+    u64 v20 = 0;
+    u64 v21 = 0;
+    u64 v22 = 0;
+    u32 v14 = 0;
+    u32 t0 = 0;
+    u64 w4 = 0;
+    u8 *f10 = NULL;
+    u8 *p48 = NULL;
+    u8 *p200 = NULL;
+    u8 *p201 = NULL;
+    u8 *p309 = NULL;
+    u8 *p324 = NULL;
+    u8 *p366 = NULL;
+    v22 = m->g0 - 64ull;
+    v9 = v22;
+    m->g0 = v9;
+    v10 = v22;
+    f10 = at(m, v10, 64);
+    v11 = load64(m, v1 + 56ull, 0);
+    v12 = (v8 < v11) ? v8 : v11;
+    v13 = v7 + v12;
+    v9 = v8 - v12;
+    if (v5 >= v9) { goto after5; }
+    t0 = session_core_sending_begin_with(m, v13, v9, v4, v5);
+    if (t0 == 0) { goto after4; }
+    p48 = held(m, v2 + 8ull, 32);
+    v9 = held64(p48, 24, m, v2 + 8ull);
+    multi3(m, v10, v9, 0ull, v8, 0ull);
+    v3 = held64(p48, 0, m, v2 + 8ull);
+    v11 = v5 + v11;
+    store64(m, v1 + 56ull, 0, (v11 < v5) ? 0xFFFFFFFFFFFFFFFFull : v11);
+    v5 = v9 * v8;
+    v11 = v3 + v5;
+    w4 = (get64(f10 + 8) != 0ull) ? 0xFFFFFFFFFFFFFFFFull : ((v11 < v5) ? 0xFFFFFFFFFFFFFFFFull : v11);
+    session_core_progress_Progress_wait(m, v10 + 16ull, v1, v2, (v9 == 0) ? v3 : w4, v6);
+    v14 = 1u;
+    v5 = get64(f10 + 24);
+    goto after1;
+after5:;
+    t0 = session_core_sending_begin_with(m, v4, v5, v13, v9);
+    if (t0) { goto after2; }
+after4:;
+    session_core_progress_Progress_miss(m, v10 + 32ull, v1, v2, v6);
+    v14 = 1u;
+    v5 = get64(f10 + 40);
+    goto after1;
+after2:;
+    v15 = v3 + 8ull;
+    v16 = load64(m, v3, 0);
+    v17 = (v16 < 259ull) ? v16 : 259ull;
+    v18 = v15 + v17;
+    v13 = v4 + v9;
+    v11 = 259ull - v17;
+    v19 = v5 - v9;
+    v5 = (v11 < v19) ? v11 : v19;
+    if ((v18 - v13) >= v5) { goto after7; }
+    v20 = v5 & 3ull;
+    v9 = 0ull;
+    if (v5 < 4ull) { goto after8; }
+    v18 = v3 + v17;
+    v21 = v5 & 508ull;
+    v9 = 0ull;
+again9:;
+    v5 = v18 + v9;
+    v11 = v13 + v9;
+    p200 = held(m, v11, 4);
+    p201 = held(m, v5 + 8ull, 4);
+    put_held8(p201, 0, m, v5 + 8ull, held8(p200, 0, m, v11));
+    put_held8(p201, 1, m, v5 + 8ull, held8(p200, 1, m, v11));
+    put_held8(p201, 2, m, v5 + 8ull, held8(p200, 2, m, v11));
+    put_held8(p201, 3, m, v5 + 8ull, held8(p200, 3, m, v11));
+    v9 = v9 + 4ull;
+    if (v21 != v9) { goto again9; }
+    if (v20 == 0) { goto after6; }
+after8:;
+    v11 = 0ull - v20;
+    v5 = ((v9 + v17) + v3) + 8ull;
+    v9 = v4 + ((v9 + v8) - v12);
+again10:;
+    store8(m, v5, 0, load8(m, v9, 0));
+    v5 = v5 + 1ull;
+    v9 = v9 + 1ull;
+    v11 = v11 + 1ull;
+    if (v11 != 0ull) { goto again10; }
+    goto after6;
+after7:;
+    if (v5 == 0) { goto after11; }
+    copy(m, v18, v13, v5);
+after11:;
+    v16 = load64(m, v3, 0);
+after6:;
+    v5 = v19 + v16;
+    store64(m, v3, 0, (v5 < v19) ? 0xFFFFFFFFFFFFFFFFull : v5);
+    p309 = held(m, v1 + 56ull, 25);
+    put_held64(p309, 0, m, v1 + 56ull, v8);
+    put_held8(p309, 20, m, v1 + 56ull, 6u);
+    v14 = 0u;
+    if (held8(p309, 24, m, v1 + 56ull)) { goto after12; }
+    p324 = held(m, v3, 11);
+    v5 = held64(p324, 0, m, v3);
+    if (v5 != ((u64)held8(p324, 10, m, v3) + 4ull)) { goto after12; }
+    t0 = line_core_framing_sum_of(m, v15, v5);
+    v14 = (u32)((t0 & 255u) == 0);
+after12:;
+    store8(m, v1 + 81ull, 0, v14);
+    session_core_progress_Progress_go_on(m, v10 + 48ull, v1, v2, v3, v6, v7, v8);
+    v5 = get64(f10 + 56);
+    v14 = get8(f10 + 48);
+after1:;
+    p366 = held(m, v0, 16);
+    put_held8(p366, 0, m, v0, v14);
+    put_held64(p366, 8, m, v0, v5);
+    m->g0 = v10 + 64ull;
+}
+
+static void session_core_progress_Progress_hear(struct call *m, u64 v0, u64 v1, u64 v2, u64 v3, u64 v4, u64 v5, u32
+    v6, u64 v7, u64 v8, u64 v9)
+{
+    u64 v10 = 0;
+    u64 v11 = 0;
+    u64 v13 = 0;
+    u64 v14 = 0;
+    u64 v15 = 0;
+    u64 v16 = 0;
+    u64 v17 = 0;
+    u64 v18 = 0;
+    u64 v19 = 0;
+    u64 v20 = 0;
+    u64 v21 = 0;
+    u32 v12 = 0;
+    u32 t0 = 0;
+    u8 *f11 = NULL;
+    u8 *p88 = NULL;
+    u8 *p156 = NULL;
+    u8 *p157 = NULL;
+    u8 *p302 = NULL;
+    v21 = m->g0 - 16ull;
+    v10 = v21;
+    m->g0 = v10;
+    v11 = v21;
+    f11 = at(m, v11, 16);
+    if (load64(m, v3, 0) != 0ull) { goto after2; }
+    v12 = 0u;
+    if (load8(m, v2 + 52ull, 0) == 0) { goto after3; }
+    if (load64(m, v2 + 24ull, 0) == 0xFFFFFFFFFFFFFFFFull) { goto after3; }
+    v12 = 2u;
+    v10 = load64(m, v2 + 32ull, 0);
+    v13 = quotient64(((v10 < 0x3333333333333333ull) ? v10 : 0x3333333333333333ull) * 5ull, 3ull);
+    v10 = v7 - load64(m, v1 + 24ull, 0);
+    v10 = ((v10 ^ 0x8000000000000000ull) > (0ull ^ 0x8000000000000000ull)) ? v10 : 0ull;
+    if (v13 <= v10) { goto after3; }
+    v12 = (u32)(load64(m, v1 + 48ull, 0) < (v13 - v10));
+after3:;
+    store8(m, v1 + 79ull, 0, v12);
+after2:;
+    v10 = v1 + 80ull;
+    p88 = held(m, v10, 1);
+    put_held8(p88, 0, m, v10, v6 | ((u32)(held8(p88, 0, m, v10) != 0u)));
+    v14 = v3 + 8ull;
+    v15 = load64(m, v3, 0);
+    v16 = (v15 < 259ull) ? v15 : 259ull;
+    v13 = v14 + v16;
+    v10 = 259ull - v16;
+    v10 = (v10 < v5) ? v10 : v5;
+    if ((v13 - v4) >= v10) { goto after5; }
+    v17 = v10 & 3ull;
+    v13 = 0ull;
+    if (v10 < 4ull) { goto after6; }
+    v18 = v3 + v16;
+    v19 = v10 & 508ull;
+    v13 = 0ull;
+again7:;
+    v10 = v18 + v13;
+    v20 = v4 + v13;
+    p156 = held(m, v20, 4);
+    p157 = held(m, v10 + 8ull, 4);
+    put_held8(p157, 0, m, v10 + 8ull, held8(p156, 0, m, v20));
+    put_held8(p157, 1, m, v10 + 8ull, held8(p156, 1, m, v20));
+    put_held8(p157, 2, m, v10 + 8ull, held8(p156, 2, m, v20));
+    put_held8(p157, 3, m, v10 + 8ull, held8(p156, 3, m, v20));
+    v13 = v13 + 4ull;
+    if (v19 != v13) { goto again7; }
+    if (v17 == 0) { goto after4; }
+after6:;
+    v20 = 0ull - v17;
+    v10 = v4 + v13;
+    v13 = ((v13 + v16) + v3) + 8ull;
+again8:;
+    store8(m, v13, 0, load8(m, v10, 0));
+    v13 = v13 + 1ull;
+    v10 = v10 + 1ull;
+    v20 = v20 + 1ull;
+    if (v20 != 0ull) { goto again8; }
+    goto after4;
+after5:;
+    if (v10 == 0) { goto after9; }
+    copy(m, v13, v4, v10);
+after9:;
+    v15 = load64(m, v3, 0);
+after4:;
+    v10 = v5 + v15;
+    v10 = (v10 < v5) ? 0xFFFFFFFFFFFFFFFFull : v10;
+    store64(m, v3, 0, v10);
+    v6 = 0u;
+    if (load8(m, v1 + 80ull, 0)) { goto after10; }
+    if (v10 != ((u64)load8(m, v3 + 10ull, 0) + 4ull)) { goto after10; }
+    t0 = line_core_framing_sum_of(m, v14, v10);
+    v6 = (u32)((t0 & 255u) == 0);
+after10:;
+    store8(m, v1 + 81ull, 0, v6);
+    session_core_progress_Progress_go_on(m, v11, v1, v2, v3, v7, v8, v9);
+    v6 = get8(f11);
+    p302 = held(m, v0, 16);
+    put_held64(p302, 8, m, v0, get64(f11 + 8));
+    put_held8(p302, 0, m, v0, v6);
+    m->g0 = v11 + 16ull;
+    return;
+}
+
 static void c_lent_kept_receiver_CReceiver_fitting(struct call *m, u64 v0, u64 v1, u64 v2)
 {
     u64 v3 = 0;
@@ -13368,21 +14811,38 @@ static void rattle_export_scard_atr_decode(struct call *m, u64 v0, u64 v1, u64 v
     u64 v4 = 0;
     u64 v5 = 0;
     u8 *f5 = NULL;
-    u8 *p33 = NULL;
-    v5 = m->g0 - 16ull;
-    f5 = at(m, v5, 16);
+    u8 *p110 = NULL;
+    v5 = m->g0 - 336ull;
+    f5 = at(m, v5, 336);
     v4 = v5;
     m->g0 = v4;
-    if ((v5 ^ 0x8000000000000000ull) > (15ull ^ 0x8000000000000000ull)) { goto after1; }
-    UNREACHABLE;
+    v1 = v1 + ((v1 == 0) ? 4096ull : 0ull);
+    memset(f5 + 24, (int)(0u & 255u), 288);
+    put64(f5 + 328, 0ull);
+    put64(f5 + 320, 0ull);
+    put64(f5 + 312, 0ull);
+    if (v2 < 2ull) { goto after5; }
+    atr_core_partial_Partial_take_whole(m, v5 + 8ull, v5 + 24ull, v1, v2);
+    if (get8(f5 + 8) != 1u) { goto after5; }
+    v1 = get64(f5 + 16);
+    goto after4;
+after5:;
+    atr_core_partial_Partial_take_octets(m, v5 + 312ull, v5 + 24ull, v1, v2);
+    v1 = get64(f5 + 320);
+    if (get8(f5 + 312)) { goto after2; }
+after4:;
+    v2 = 1ull;
+    if (get8(f5 + 24) != 4u) { goto after1; }
+    c_lent_atr_tell(m, v5 + 32ull, v3);
+    v2 = 0ull;
+    goto after1;
+after2:;
+    v2 = ((((u64)(get8(f5 + 328) + 1u)) & 255ull) << 8) | 2ull;
 after1:;
-    put64(f5 + 8, 0ull);
-    put64(f5, 0ull);
-    c_lent_atr_atr_decode(m, v5, v1 + ((v1 == 0) ? 4096ull : 0ull), v2, v3);
-    p33 = held(m, v0, 16);
-    put_held64(p33, 8, m, v0, get64(f5 + 8));
-    put_held64(p33, 0, m, v0, get64(f5));
-    m->g0 = v5 + 16ull;
+    p110 = held(m, v0, 16);
+    put_held64(p110, 8, m, v0, v1);
+    put_held64(p110, 0, m, v0, v2);
+    m->g0 = v5 + 336ull;
 }
 
 static void module_scard_atr_encode(struct call *m, u64 v0, u64 v1, u64 v2, u64 v3)
@@ -15703,34 +17163,50 @@ static void rattle_export_scard_lent_atr_reader_value(struct call *m, u64 v0, u6
 {
     u64 v3 = 0;
     u64 v5 = 0;
+    u64 v6 = 0;
     u32 v4 = 0;
-    u8 *f5 = NULL;
-    u8 *p73 = NULL;
-    v5 = m->g0 - 32ull;
-    f5 = at(m, v5, 32);
-    v3 = v5;
+    u8 *f6 = NULL;
+    u8 *p114 = NULL;
+    v6 = m->g0 - 336ull;
+    f6 = at(m, v6, 336);
+    v3 = v6;
     m->g0 = v3;
     v4 = load32(m, v1, 0);
-    put64(f5 + 24, 0ull);
-    put64(f5 + 16, 0ull);
-    c_lent_atr_atr_decode(m, v5 + 16ull, v1 + 4ull, (u64)((v4 < 33u) ? v4 : 33u), v2);
-    put64(f5, get64(f5 + 17));
-    put64(f5 + 7, get64(f5 + 24));
-    if (get8(f5 + 16)) { goto after2; }
-    put64(f5 + 23, get64(f5 + 7));
-    put64(f5 + 16, get64(f5));
-    v4 = 0u;
+    memset(f6 + 24, (int)(0u & 255u), 288);
+    put64(f6 + 328, 0ull);
+    put64(f6 + 320, 0ull);
+    put64(f6 + 312, 0ull);
+    v1 = v1 + 4ull;
+    v5 = (u64)((v4 < 33u) ? v4 : 33u);
+    if (v4 < 2u) { goto after6; }
+    atr_core_partial_Partial_take_whole(m, v6 + 8ull, v6 + 24ull, v1, v5);
+    if (get8(f6 + 8) != 1u) { goto after6; }
+    v1 = get64(f6 + 16);
+    goto after5;
+after6:;
+    atr_core_partial_Partial_take_octets(m, v6 + 312ull, v6 + 24ull, v1, v5);
+    if (get8(f6 + 312)) { goto after4; }
+    v1 = get64(f6 + 320);
+after5:;
+    v4 = 4u;
+    if (get8(f6 + 24) == 4u) { goto after2; }
+    v1 = 0ull;
+    goto after1;
+after4:;
+    v4 = 4u;
+    v1 = 0ull;
     goto after1;
 after2:;
-    put64(f5 + 23, 0ull);
-    put64(f5 + 16, 0ull);
-    v4 = 4u;
+    c_lent_atr_tell(m, v6 + 32ull, v2);
+    v4 = 0u;
 after1:;
-    p73 = held(m, v0, 16);
-    put_held8(p73, 0, m, v0, v4);
-    put_held64(p73, 1, m, v0, get64(f5 + 16));
-    put_held64(p73, 8, m, v0, get64(f5 + 23));
-    m->g0 = v5 + 32ull;
+    p114 = held(m, v0, 16);
+    put_held32(p114, 1, m, v0, (u32)0ull);
+    put_held64(p114, 8, m, v0, v1);
+    put_held8(p114, 0, m, v0, v4);
+    put_held8(p114, 7, m, v0, (u32)0ull);
+    put_held16(p114, 5, m, v0, (u32)0ull);
+    m->g0 = v6 + 336ull;
 }
 
 static void module_scard_lent_block_reader_begin(struct call *m, u64 v0, u64 v1, u32 v2)
@@ -17553,6 +19029,416 @@ after1:;
     m->g0 = v11 + 2928ull;
 }
 
+static void module_scard_lent_line_begin(struct call *m, u64 v0, u64 v1)
+{
+    u32 t0 = 0;
+    t0 = rattle_enter(m);
+    if (t0 == 0) { goto after1; }
+    rattle_trap(m);
+    UNREACHABLE;
+after1:;
+    rattle_export_scard_lent_line_begin(m, v0, v1);
+    rattle_leave(m);
+}
+
+static void rattle_export_scard_lent_line_begin(struct call *m, u64 v0, u64 v1)
+{
+    u64 v2 = 0;
+    u64 v3 = 0;
+    u64 v4 = 0;
+    u64 v5 = 0;
+    u64 v6 = 0;
+    u64 v7 = 0;
+    u64 v8 = 0;
+    u8 *p11 = NULL;
+    u8 *p14 = NULL;
+    u8 *p31 = NULL;
+    if ((m->g0 ^ 0x8000000000000000ull) > (15ull ^ 0x8000000000000000ull)) { goto after1; }
+    UNREACHABLE;
+after1:;
+    v2 = v1 + 16ull;
+    p11 = held(m, v2, 8);
+    v3 = held64(p11, 0, m, v2);
+    p14 = held(m, v1, 56);
+    v4 = held64(p14, 0, m, v1);
+    v5 = held64(p14, 8, m, v1);
+    v6 = held64(p14, 24, m, v1);
+    v7 = held64(p14, 32, m, v1);
+    v8 = held64(p14, 40, m, v1);
+    p31 = held(m, v0, 72);
+    put_held64(p31, 48, m, v0, held64(p14, 48, m, v1));
+    put_held64(p31, 40, m, v0, v8);
+    put_held64(p31, 32, m, v0, v7);
+    put_held64(p31, 24, m, v0, v6);
+    put_held64(p31, 16, m, v0, v3);
+    put_held64(p31, 8, m, v0, v5);
+    put_held64(p31, 0, m, v0, v4);
+    v1 = held64(p11, 0, m, v2);
+    put_held64(p31, 64, m, v0, 0xFFFFFFFFFFFFFFFFull);
+    put_held64(p31, 56, m, v0, v1);
+    fill(m, v0 + 72ull, 0u, 80ull);
+}
+
+static void module_scard_lent_line_clear(struct call *m, u64 v0, u64 v1, u64 v2, u64 v3)
+{
+    u32 t0 = 0;
+    t0 = rattle_enter(m);
+    if (t0 == 0) { goto after1; }
+    rattle_trap(m);
+    UNREACHABLE;
+after1:;
+    rattle_export_scard_lent_line_clear(m, v0, v1, v2, v3);
+    rattle_leave(m);
+}
+
+static void rattle_export_scard_lent_line_clear(struct call *m, u64 v0, u64 v1, u64 v2, u64 v3)
+{
+    u64 v4 = 0;
+    u64 v5 = 0;
+    u8 *f5 = NULL;
+    u8 *p17 = NULL;
+    u8 *p51 = NULL;
+    v5 = m->g0 - 16ull;
+    f5 = at(m, v5, 16);
+    v4 = v5;
+    m->g0 = v4;
+    if ((v5 ^ 0x8000000000000000ull) > (15ull ^ 0x8000000000000000ull)) { goto after1; }
+    UNREACHABLE;
+after1:;
+    p17 = held(m, v1 + 64ull, 75);
+    put_held32(p17, 60, m, v1 + 64ull, 0u);
+    put_held64(p17, 0, m, v1 + 64ull, v2);
+    put_held8(p17, 74, m, v1 + 64ull, 0u);
+    put_held64(p17, 32, m, v1 + 64ull, 0ull);
+    put_held64(p17, 24, m, v1 + 64ull, v3);
+    session_core_progress_Progress_drop_octets(m, v5, v1 + 56ull, v1, 2u, v3);
+    v1 = get64(f5 + 8);
+    p51 = held(m, v0, 24);
+    put_held64(p51, 1, m, v0, 0ull);
+    put_held8(p51, 0, m, v0, 1u);
+    put_held64(p51, 8, m, v0, 0ull);
+    put_held64(p51, 16, m, v0, v1);
+    m->g0 = v5 + 16ull;
+}
+
+static void module_scard_lent_line_exchange(struct call *m, u64 v0, u64 v1, u64 v2, u64 v3)
+{
+    u32 t0 = 0;
+    t0 = rattle_enter(m);
+    if (t0 == 0) { goto after1; }
+    rattle_trap(m);
+    UNREACHABLE;
+after1:;
+    rattle_export_scard_lent_line_exchange(m, v0, v1, v2, v3);
+    rattle_leave(m);
+}
+
+static void rattle_export_scard_lent_line_exchange(struct call *m, u64 v0, u64 v1, u64 v2, u64 v3)
+{
+    u64 v4 = 0;
+    u64 v5 = 0;
+    u8 *f5 = NULL;
+    u8 *p17 = NULL;
+    u8 *p56 = NULL;
+    v5 = m->g0 - 16ull;
+    f5 = at(m, v5, 16);
+    v4 = v5;
+    m->g0 = v4;
+    if ((v5 ^ 0x8000000000000000ull) > (15ull ^ 0x8000000000000000ull)) { goto after1; }
+    UNREACHABLE;
+after1:;
+    p17 = held(m, v1 + 64ull, 75);
+    put_held32(p17, 60, m, v1 + 64ull, 0u);
+    put_held64(p17, 0, m, v1 + 64ull, v2);
+    put_held8(p17, 74, m, v1 + 64ull, 0u);
+    put_held64(p17, 32, m, v1 + 64ull, 0ull);
+    put_held8(p17, 68, m, v1 + 64ull, 1u);
+    put_held64(p17, 24, m, v1 + 64ull, v3);
+    session_core_progress_Progress_wait(m, v5, v1 + 56ull, v1, 0ull, v3);
+    v1 = get64(f5 + 8);
+    p56 = held(m, v0, 24);
+    put_held64(p56, 1, m, v0, 0ull);
+    put_held8(p56, 0, m, v0, 1u);
+    put_held64(p56, 8, m, v0, 0ull);
+    put_held64(p56, 16, m, v0, v1);
+    m->g0 = v5 + 16ull;
+}
+
+static void module_scard_lent_line_serve(struct call *m, u64 v0, u64 v1, u64 v2)
+{
+    u32 t0 = 0;
+    t0 = rattle_enter(m);
+    if (t0 == 0) { goto after1; }
+    rattle_trap(m);
+    UNREACHABLE;
+after1:;
+    rattle_export_scard_lent_line_serve(m, v0, v1, v2);
+    rattle_leave(m);
+}
+
+static void rattle_export_scard_lent_line_serve(struct call *m, u64 v0, u64 v1, u64 v2)
+{
+    u64 v3 = 0;
+    u64 v4 = 0;
+    u64 v5 = 0;
+    u8 *f5 = NULL;
+    u8 *p17 = NULL;
+    u8 *p58 = NULL;
+    v5 = m->g0 - 32ull;
+    f5 = at(m, v5, 32);
+    v3 = v5;
+    m->g0 = v3;
+    p17 = held(m, v1 + 16ull, 56);
+    put_held64(p17, 48, m, v1 + 16ull, 0xFFFFFFFFFFFFFFFFull);
+    v4 = v1 + 56ull;
+    if (held64(p17, 0, m, v1 + 16ull) >= load64(m, v4, 0)) { goto after2; }
+    session_core_progress_Progress_drop_octets(m, v5, v4, v1, 7u, v2);
+    v1 = get64(f5 + 8);
+    goto after1;
+after2:;
+    session_core_progress_Progress_await_block(m, v5 + 16ull, v4, v1, v1 + 144ull, v2);
+    v1 = get64(f5 + 24);
+after1:;
+    p58 = held(m, v0, 24);
+    put_held64(p58, 1, m, v0, 0ull);
+    put_held8(p58, 0, m, v0, 1u);
+    put_held64(p58, 8, m, v0, 0ull);
+    put_held64(p58, 16, m, v0, v1);
+    m->g0 = v5 + 32ull;
+}
+
+static void module_scard_lent_line_step(struct call *m, u64 v0, u64 v1, u32 v2, u64 v3, u64 v4, u64 v5, u64 v6, u64
+    v7)
+{
+    u32 t0 = 0;
+    t0 = rattle_enter(m);
+    if (t0 == 0) { goto after1; }
+    rattle_trap(m);
+    UNREACHABLE;
+after1:;
+    rattle_export_scard_lent_line_step(m, v0, v1, v2, v3, v4, v5, v6, v7);
+    rattle_leave(m);
+}
+
+static void rattle_export_scard_lent_line_step(struct call *m, u64 v0, u64 v1, u32 v2, u64 v3, u64 v4, u64 v5, u64 v6,
+    u64 v7)
+{
+    u64 v8 = 0;
+    u64 v9 = 0;
+    u64 v10 = 0;
+    u64 v11 = 0;
+    u64 v12 = 0;
+    u64 v14 = 0;
+    u64 v15 = 0;
+    u32 v13 = 0;
+    u64 w0 = 0;
+    u8 *f15 = NULL;
+    u8 *p454 = NULL;
+    v15 = m->g0 - 128ull;
+    f15 = at(m, v15, 128);
+    v8 = v15;
+    m->g0 = v8;
+    v9 = 0ull;
+    v10 = v6 + ((v6 == 0) ? 4096ull : 0ull);
+    v11 = v3 + ((v3 == 0) ? 4096ull : 0ull);
+    v12 = v1 + 56ull;
+    v3 = v1 + 144ull;
+    v13 = 7u;
+    v6 = 0ull;
+    switch ((u32)(((u64)v2) & 255ull)) {
+        case 0: goto after13;
+        case 1: goto after12;
+        case 2: goto after11;
+        case 3: goto after10;
+        case 4: goto after8;
+        default: goto after1;
+    }
+after13:;
+    if (load8(m, v1 + 132ull, 0) != 4u) { goto after7; }
+    session_core_progress_Progress_sent(m, v15, v12, v1, v3, v5, v10, v7);
+    v12 = get64(f15 + 8);
+    v13 = get8(f15);
+    goto after9;
+after12:;
+    v2 = load8(m, v1 + 132ull, 0);
+    if (v2 == 0) { goto after7; }
+    if (v2 < 4u) { goto after14; }
+    if (v2 == 4u) { goto after7; }
+    if (v2 > 7u) { goto after7; }
+after14:;
+    v6 = 0ull;
+    if (v4 != 0ull) { goto after15; }
+    session_core_progress_Progress_interrupted(m, v15 + 16ull, v12, v1, v3, v5, v10, v7);
+    v12 = get64(f15 + 24);
+    v13 = get8(f15 + 16);
+    goto after9;
+after15:;
+    if (load64(m, v1 + 24ull, 0) == 0xFFFFFFFFFFFFFFFFull) { goto after16; }
+    v6 = load64(m, v1 + 32ull, 0);
+    multi3(m, v15 + 48ull, v6, 0ull, v4, 0ull);
+    v6 = (v6 == 0) ? 0ull : ((get64(f15 + 56) != 0ull) ? 0xFFFFFFFFFFFFFFFFull : (v6 * v4));
+after16:;
+    v14 = v1 + 96ull;
+    w0 = v14;
+    v14 = v6 + load64(m, v14, 0);
+    store64(m, w0, 0, (v14 < v6) ? 0xFFFFFFFFFFFFFFFFull : v14);
+    session_core_progress_Progress_take_in(m, v15 + 32ull, v12, v1, v3, v11, v4, 0u, v5, v10, v7);
+    v12 = get64(f15 + 40);
+    v13 = get8(f15 + 32);
+    goto after9;
+after11:;
+    v2 = load8(m, v1 + 132ull, 0);
+    if (v2 == 0) { goto after7; }
+    if (v2 < 4u) { goto after17; }
+    if (v2 == 4u) { goto after7; }
+    if (v2 > 7u) { goto after7; }
+after17:;
+    v6 = 0ull;
+    if (v4 != 0ull) { goto after18; }
+    session_core_progress_Progress_interrupted(m, v15 + 64ull, v12, v1, v3, v5, v10, v7);
+    v12 = get64(f15 + 72);
+    v13 = get8(f15 + 64);
+    goto after9;
+after18:;
+    if (load64(m, v1 + 24ull, 0) == 0xFFFFFFFFFFFFFFFFull) { goto after19; }
+    v6 = load64(m, v1 + 32ull, 0);
+    multi3(m, v15 + 96ull, v6, 0ull, v4, 0ull);
+    v6 = (v6 == 0) ? 0ull : ((get64(f15 + 104) != 0ull) ? 0xFFFFFFFFFFFFFFFFull : (v6 * v4));
+after19:;
+    v14 = v1 + 96ull;
+    w0 = v14;
+    v14 = v6 + load64(m, v14, 0);
+    store64(m, w0, 0, (v14 < v6) ? 0xFFFFFFFFFFFFFFFFull : v14);
+    session_core_progress_Progress_take_in(m, v15 + 80ull, v12, v1, v3, v11, v4, 1u, v5, v10, v7);
+    v12 = get64(f15 + 88);
+    v13 = get8(f15 + 80);
+    goto after9;
+after10:;
+    v2 = load8(m, v1 + 132ull, 0);
+    if (v2 == 0) { goto after7; }
+    if (v2 < 4u) { goto after20; }
+    if (v2 == 4u) { goto after7; }
+    if (v2 > 7u) { goto after7; }
+after20:;
+    session_core_progress_Progress_silent(m, v15 + 112ull, v12, v1, v3, v5, v10, v7);
+    v12 = get64(f15 + 120);
+    v13 = get8(f15 + 112);
+after9:;
+    if ((v13 & 255u) != 2u) { goto after4; }
+    if ((load8(m, v1 + 136ull, 0) & 255u) == 0) { goto after4; }
+    v1 = v1 + 152ull;
+    if ((v1 - 0x103F6ull) > 3ull) { goto after6; }
+    store32(m, v1, 0, 0x1000000u);
+    goto after5;
+after8:;
+    v6 = v1 + 132ull;
+    if (((load8(m, v6, 0) + 0xFFFFFFF8u) & 255u) < 249u) { goto after7; }
+    session_core_progress_Progress_leave(m, v12, v1, v3);
+    store8(m, v6, 0, 0u);
+    v13 = 4u;
+after7:;
+    v6 = 0ull;
+    goto after1;
+after6:;
+    store32(m, v1, 0, 0x1000000u);
+after5:;
+    v1 = 4ull;
+    store64(m, v3, 0, 4ull);
+    goto after2;
+after4:;
+    v1 = load64(m, v3, 0);
+    v1 = (v1 < 259ull) ? v1 : 259ull;
+    v6 = 0ull;
+    switch ((u32)(((u64)v13) & 255ull)) {
+        case 1: goto after21;
+        case 2: goto after2;
+        default: goto after1;
+    }
+after21:;
+    v6 = 0ull;
+    v9 = v12;
+    goto after1;
+after2:;
+    v13 = 2u;
+    v6 = v1;
+after1:;
+    p454 = held(m, v0, 24);
+    put_held32(p454, 1, m, v0, 0u);
+    put_held8(p454, 0, m, v0, v13);
+    put_held32(p454, 4, m, v0, 0u);
+    put_held64(p454, 16, m, v0, v9);
+    put_held64(p454, 8, m, v0, v6);
+    m->g0 = v15 + 128ull;
+}
+
+static void module_scard_lent_line_talk(struct call *m, u64 v0, u64 v1, u64 v2, u64 v3)
+{
+    u32 t0 = 0;
+    t0 = rattle_enter(m);
+    if (t0 == 0) { goto after1; }
+    rattle_trap(m);
+    UNREACHABLE;
+after1:;
+    rattle_export_scard_lent_line_talk(m, v0, v1, v2, v3);
+    rattle_leave(m);
+}
+
+static void rattle_export_scard_lent_line_talk(struct call *m, u64 v0, u64 v1, u64 v2, u64 v3)
+{
+    u64 v4 = 0;
+    u64 v5 = 0;
+    u64 v7 = 0;
+    u64 v8 = 0;
+    u32 v6 = 0;
+    u8 *f8 = NULL;
+    u8 *p104 = NULL;
+    v8 = m->g0 - 16ull;
+    f8 = at(m, v8, 16);
+    v4 = v8;
+    m->g0 = v4;
+    store64(m, v1 + 64ull, 0, v2);
+    v2 = v1 + 144ull;
+    session_core_progress_Progress_talk(m, v8, v1 + 56ull, v1, v2, v3);
+    v5 = get64(f8 + 8);
+    v6 = get8(f8);
+    if (v6 != 2u) { goto after5; }
+    if ((load8(m, v1 + 136ull, 0) & 255u) == 0) { goto after5; }
+    v1 = v1 + 152ull;
+    if ((v1 - 0x103F6ull) > 3ull) { goto after7; }
+    store32(m, v1, 0, 0x1000000u);
+    goto after6;
+after7:;
+    store32(m, v1, 0, 0x1000000u);
+after6:;
+    v7 = 4ull;
+    store64(m, v2, 0, 4ull);
+    goto after2;
+after5:;
+    v1 = load64(m, v2, 0);
+    v7 = (v1 < 259ull) ? v1 : 259ull;
+    v3 = 0ull;
+    v1 = 0ull;
+    switch (v6) {
+        case 1: goto after3;
+        case 2: goto after2;
+        default: goto after1;
+    }
+after3:;
+    v1 = v5;
+    goto after1;
+after2:;
+    v1 = 0ull;
+    v3 = v7;
+after1:;
+    p104 = held(m, v0, 24);
+    put_held32(p104, 1, m, v0, 0u);
+    put_held8(p104, 0, m, v0, v6);
+    put_held32(p104, 4, m, v0, 0u);
+    put_held64(p104, 16, m, v0, v1);
+    put_held64(p104, 8, m, v0, v3);
+    m->g0 = v8 + 16ull;
+}
+
 static void module_scard_lent_receiver_begin(struct call *m, u64 v0, u64 v1, u32 v2, u32 v3, u64 v4)
 {
     u32 t0 = 0;
@@ -18483,28 +20369,28 @@ after35:;
     v1 = v2 & 255u;
     v8 = (u32)(v1 == 1u);
     v4 = v8 ? 16ull : 17ull;
-    v5 = v8 ? 0x103F6ull : 0x10406ull;
+    v5 = v8 ? 0x103FAull : 0x1040Aull;
     v8 = v1 ? v1 : 256u;
     v7 = 10ull;
-    v6 = 0x10417ull;
+    v6 = 0x1041Bull;
     goto after1;
 after34:;
     if (((v2 + 0xFFFFFFFEu) & 255u) > 126u) { goto after32; }
     v8 = v2 & 255u;
     v4 = 7ull;
-    v5 = 0x10439ull;
+    v5 = 0x1043Dull;
     v0 = 1u;
     v7 = 24ull;
-    v6 = 0x10421ull;
+    v6 = 0x10425ull;
     goto after1;
 after33:;
     if ((v2 & 240u) != 192u) { goto after32; }
     v8 = (v2 + 64u) & 255u;
     v4 = 24ull;
-    v5 = 0x1044Bull;
+    v5 = 0x1044Full;
     v0 = 1u;
     v7 = 11ull;
-    v6 = 0x10440ull;
+    v6 = 0x10444ull;
     goto after1;
 after32:;
     v6 = 0xFFFFFFFFFFFFFBB0ull;
@@ -18851,7 +20737,7 @@ after21:;
     v1 = v2 & 255u;
     v8 = (u32)(v1 == 1u);
     v4 = v8 ? 16ull : 17ull;
-    v5 = v8 ? 0x103F6ull : 0x10406ull;
+    v5 = v8 ? 0x103FAull : 0x1040Aull;
     v8 = v1 ? v1 : 256u;
     v6 = 0x10000ull;
     v7 = 0ull;
@@ -19328,7 +21214,7 @@ static u64 rattle_export_scard_struct_size(struct call *m, u32 v0)
     u64 v1 = 0;
     v1 = 0ull;
     v0 = v0 + 0xFFFFFFFFu;
-    if ((v0 & 255u) >= 31u) { goto after2; }
+    if ((v0 & 255u) >= 35u) { goto after2; }
     v1 = load64(m, (((u64)v0) & 255ull) << 3, 73240);
 after2:;
     return v1;
@@ -20390,6 +22276,42 @@ typedef char lent_framer_lies_as_in_the_module[
     sizeof(struct scard_lent_framer) == 272 && offsetof(struct scard_lent_framer, count) == 0
     ? 1 : -1];
 
+typedef char lent_line_rules_lies_as_in_the_module[
+    sizeof(struct scard_lent_line_rules) == 56 && offsetof(struct scard_lent_line_rules, bwt) == 0 &&
+    offsetof(struct scard_lent_line_rules, cwt) == 8 && offsetof(struct scard_lent_line_rules, bgt) == 16 &&
+    offsetof(struct scard_lent_line_rules, after) == 24 && offsetof(struct scard_lent_line_rules, octet) ==
+    32 && offsetof(struct scard_lent_line_rules, most_time) == 40 && offsetof(struct scard_lent_line_rules,
+    most_blocks) == 48 && offsetof(struct scard_lent_line_rules, has_clock) == 52 && offsetof(struct
+    scard_lent_line_rules, has_echo) == 53 && offsetof(struct scard_lent_line_rules, refuses_empty) == 54 &&
+    offsetof(struct scard_lent_line_rules, is_card) == 55
+    ? 1 : -1];
+
+typedef char lent_line_lies_as_in_the_module[
+    sizeof(struct scard_lent_line) == 416 && offsetof(struct scard_lent_line, rules.bwt) == 0 &&
+    offsetof(struct scard_lent_line, rules.cwt) == 8 && offsetof(struct scard_lent_line, rules.bgt) == 16 &&
+    offsetof(struct scard_lent_line, rules.after) == 24 && offsetof(struct scard_lent_line, rules.octet) ==
+    32 && offsetof(struct scard_lent_line, rules.most_time) == 40 && offsetof(struct scard_lent_line,
+    rules.most_blocks) == 48 && offsetof(struct scard_lent_line, rules.has_clock) == 52 && offsetof(struct
+    scard_lent_line, rules.has_echo) == 53 && offsetof(struct scard_lent_line, rules.refuses_empty) == 54 &&
+    offsetof(struct scard_lent_line, rules.is_card) == 55 && offsetof(struct scard_lent_line, progress.owed)
+    == 56 && offsetof(struct scard_lent_line, progress.first) == 64 && offsetof(struct scard_lent_line,
+    progress.asked) == 72 && offsetof(struct scard_lent_line, progress.asked_at) == 80 && offsetof(struct
+    scard_lent_line, progress.began) == 88 && offsetof(struct scard_lent_line, progress.spent) == 96 &&
+    offsetof(struct scard_lent_line, progress.late) == 104 && offsetof(struct scard_lent_line, progress.own)
+    == 112 && offsetof(struct scard_lent_line, progress.interrupts) == 120 && offsetof(struct
+    scard_lent_line, progress.blocks) == 124 && offsetof(struct scard_lent_line, progress.left) == 128 &&
+    offsetof(struct scard_lent_line, progress.phase) == 132 && offsetof(struct scard_lent_line,
+    progress.is_cut) == 133 && offsetof(struct scard_lent_line, progress.is_quick) == 134 && offsetof(struct
+    scard_lent_line, progress.began_at) == 135 && offsetof(struct scard_lent_line, progress.is_spoiled) ==
+    136 && offsetof(struct scard_lent_line, progress.is_whole) == 137 && offsetof(struct scard_lent_line,
+    progress.echoes) == 138 && offsetof(struct scard_lent_line, framer.count) == 144
+    ? 1 : -1];
+
+typedef char line_next_lies_as_in_the_module[
+    sizeof(struct scard_line_next) == 24 && offsetof(struct scard_line_next, kind) == 0 && offsetof(struct
+    scard_line_next, count) == 8 && offsetof(struct scard_line_next, wait) == 16
+    ? 1 : -1];
+
 typedef char judgment_lies_as_in_the_module[
     sizeof(struct scard_judgment) == 32 && offsetof(struct scard_judgment, number) == 0 && offsetof(struct
     scard_judgment, before) == 8 && offsetof(struct scard_judgment, unanswered) == 16 && offsetof(struct
@@ -20755,6 +22677,84 @@ INLINE struct shaped shape_of_lent_framer(u32 leads_to)
 }
 
 
+static const uint16_t octets_of_lent_line_rules[] = {
+#if HIGHEST_FIRST
+    7, 6, 5, 4, 3, 2, 1, 0, 15, 14, 13, 12, 11, 10, 9, 8, 23, 22, 21, 20, 19, 18, 17, 16, 31, 30, 29, 28, 27, 26,
+    25, 24, 39, 38, 37, 36, 35, 34, 33, 32, 47, 46, 45, 44, 43, 42, 41, 40, 51, 50, 49, 48, 52, 53, 54, 55
+#else
+    0, 1, 2, 3, 4, 5, 6, 7, 8, 9, 10, 11, 12, 13, 14, 15, 16, 17, 18, 19, 20, 21, 22, 23, 24, 25, 26, 27, 28, 29,
+    30, 31, 32, 33, 34, 35, 36, 37, 38, 39, 40, 41, 42, 43, 44, 45, 46, 47, 48, 49, 50, 51, 52, 53, 54, 55
+#endif
+};
+
+INLINE struct shaped shape_of_lent_line_rules(u32 leads_to)
+{
+    struct shaped one;
+    one.at = NULL;
+    one.count = 0;
+    one.each = sizeof octets_of_lent_line_rules / sizeof octets_of_lent_line_rules[0];
+    one.octet = octets_of_lent_line_rules;
+    one.element = NULL;
+    one.leads_to = leads_to;
+    return one;
+}
+
+
+static const uint16_t octets_of_lent_line[] = {
+#if HIGHEST_FIRST
+    7, 6, 5, 4, 3, 2, 1, 0, 15, 14, 13, 12, 11, 10, 9, 8, 23, 22, 21, 20, 19, 18, 17, 16, 31, 30, 29, 28, 27, 26,
+    25, 24, 39, 38, 37, 36, 35, 34, 33, 32, 47, 46, 45, 44, 43, 42, 41, 40, 51, 50, 49, 48, 52, 53, 54, 55, 63,
+    62, 61, 60, 59, 58, 57, 56, 71, 70, 69, 68, 67, 66, 65, 64, 79, 78, 77, 76, 75, 74, 73, 72, 87, 86, 85, 84,
+    83, 82, 81, 80, 95, 94, 93, 92, 91, 90, 89, 88, 103, 102, 101, 100, 99, 98, 97, 96, 111, 110, 109, 108, 107,
+    106, 105, 104, 119, 118, 117, 116, 115, 114, 113, 112, 123, 122, 121, 120, 127, 126, 125, 124, 131, 130, 129,
+    128, 132, 133, 134, 135, 136, 137, 138, 139, 140, 141, 142, 143, 151, 150, 149, 148, 147, 146, 145, 144, 152,
+    153, 154, 155, 156, 157, 158, 159, 160, 161, 162, 163, 164, 165, 166, 167, 168, 169, 170, 171, 172, 173, 174,
+    175, 176, 177, 178, 179, 180, 181, 182, 183, 184, 185, 186, 187, 188, 189, 190, 191, 192, 193, 194, 195, 196,
+    197, 198, 199, 200, 201, 202, 203, 204, 205, 206, 207, 208, 209, 210, 211, 212, 213, 214, 215, 216, 217, 218,
+    219, 220, 221, 222, 223, 224, 225, 226, 227, 228, 229, 230, 231, 232, 233, 234, 235, 236, 237, 238, 239, 240,
+    241, 242, 243, 244, 245, 246, 247, 248, 249, 250, 251, 252, 253, 254, 255, 256, 257, 258, 259, 260, 261, 262,
+    263, 264, 265, 266, 267, 268, 269, 270, 271, 272, 273, 274, 275, 276, 277, 278, 279, 280, 281, 282, 283, 284,
+    285, 286, 287, 288, 289, 290, 291, 292, 293, 294, 295, 296, 297, 298, 299, 300, 301, 302, 303, 304, 305, 306,
+    307, 308, 309, 310, 311, 312, 313, 314, 315, 316, 317, 318, 319, 320, 321, 322, 323, 324, 325, 326, 327, 328,
+    329, 330, 331, 332, 333, 334, 335, 336, 337, 338, 339, 340, 341, 342, 343, 344, 345, 346, 347, 348, 349, 350,
+    351, 352, 353, 354, 355, 356, 357, 358, 359, 360, 361, 362, 363, 364, 365, 366, 367, 368, 369, 370, 371, 372,
+    373, 374, 375, 376, 377, 378, 379, 380, 381, 382, 383, 384, 385, 386, 387, 388, 389, 390, 391, 392, 393, 394,
+    395, 396, 397, 398, 399, 400, 401, 402, 403, 404, 405, 406, 407, 408, 409, 410, 411, 412, 413, 414, 415
+#else
+    0, 1, 2, 3, 4, 5, 6, 7, 8, 9, 10, 11, 12, 13, 14, 15, 16, 17, 18, 19, 20, 21, 22, 23, 24, 25, 26, 27, 28, 29,
+    30, 31, 32, 33, 34, 35, 36, 37, 38, 39, 40, 41, 42, 43, 44, 45, 46, 47, 48, 49, 50, 51, 52, 53, 54, 55, 56,
+    57, 58, 59, 60, 61, 62, 63, 64, 65, 66, 67, 68, 69, 70, 71, 72, 73, 74, 75, 76, 77, 78, 79, 80, 81, 82, 83,
+    84, 85, 86, 87, 88, 89, 90, 91, 92, 93, 94, 95, 96, 97, 98, 99, 100, 101, 102, 103, 104, 105, 106, 107, 108,
+    109, 110, 111, 112, 113, 114, 115, 116, 117, 118, 119, 120, 121, 122, 123, 124, 125, 126, 127, 128, 129, 130,
+    131, 132, 133, 134, 135, 136, 137, 138, 139, 140, 141, 142, 143, 144, 145, 146, 147, 148, 149, 150, 151, 152,
+    153, 154, 155, 156, 157, 158, 159, 160, 161, 162, 163, 164, 165, 166, 167, 168, 169, 170, 171, 172, 173, 174,
+    175, 176, 177, 178, 179, 180, 181, 182, 183, 184, 185, 186, 187, 188, 189, 190, 191, 192, 193, 194, 195, 196,
+    197, 198, 199, 200, 201, 202, 203, 204, 205, 206, 207, 208, 209, 210, 211, 212, 213, 214, 215, 216, 217, 218,
+    219, 220, 221, 222, 223, 224, 225, 226, 227, 228, 229, 230, 231, 232, 233, 234, 235, 236, 237, 238, 239, 240,
+    241, 242, 243, 244, 245, 246, 247, 248, 249, 250, 251, 252, 253, 254, 255, 256, 257, 258, 259, 260, 261, 262,
+    263, 264, 265, 266, 267, 268, 269, 270, 271, 272, 273, 274, 275, 276, 277, 278, 279, 280, 281, 282, 283, 284,
+    285, 286, 287, 288, 289, 290, 291, 292, 293, 294, 295, 296, 297, 298, 299, 300, 301, 302, 303, 304, 305, 306,
+    307, 308, 309, 310, 311, 312, 313, 314, 315, 316, 317, 318, 319, 320, 321, 322, 323, 324, 325, 326, 327, 328,
+    329, 330, 331, 332, 333, 334, 335, 336, 337, 338, 339, 340, 341, 342, 343, 344, 345, 346, 347, 348, 349, 350,
+    351, 352, 353, 354, 355, 356, 357, 358, 359, 360, 361, 362, 363, 364, 365, 366, 367, 368, 369, 370, 371, 372,
+    373, 374, 375, 376, 377, 378, 379, 380, 381, 382, 383, 384, 385, 386, 387, 388, 389, 390, 391, 392, 393, 394,
+    395, 396, 397, 398, 399, 400, 401, 402, 403, 404, 405, 406, 407, 408, 409, 410, 411, 412, 413, 414, 415
+#endif
+};
+
+INLINE struct shaped shape_of_lent_line(u32 leads_to)
+{
+    struct shaped one;
+    one.at = NULL;
+    one.count = 0;
+    one.each = sizeof octets_of_lent_line / sizeof octets_of_lent_line[0];
+    one.octet = octets_of_lent_line;
+    one.element = NULL;
+    one.leads_to = leads_to;
+    return one;
+}
+
+
 static const uint16_t octets_of_judgment[] = {
 #if HIGHEST_FIRST
     7, 6, 5, 4, 3, 2, 1, 0, 15, 14, 13, 12, 11, 10, 9, 8, 23, 22, 21, 20, 19, 18, 17, 16, 24, 25, 26, 27, 28, 29,
@@ -20975,23 +22975,23 @@ struct scard_verdict scard_hex_decode(const char *text, size_t length, uint8_t *
 struct scard_verdict scard_atr_check(const uint8_t *octets, size_t count)
 {
     struct call m;
-    u8 stack[1888];
+    u8 stack[688];
     struct shaped *shaped = NULL;
     struct scard_verdict result;
     begin(&m, stack, sizeof stack, shaped);
     lend(&m, 2, octets, count);
     m.g0 -= 16;
     module_scard_atr_check(&m, m.g0, ADDRESS(2), (u64)count);
-    result.status = (uint8_t)get8(stack + 1872);
-    result.reason = (uint8_t)get8(stack + 1872 + 1);
-    result.place = (scard_size)get64(stack + 1872 + 8);
+    result.status = (uint8_t)get8(stack + 672);
+    result.reason = (uint8_t)get8(stack + 672 + 1);
+    result.place = (scard_size)get64(stack + 672 + 8);
     return result;
 }
 
 struct scard_verdict scard_atr_decode(const uint8_t *octets, size_t count, struct scard_atr *out)
 {
     struct call m;
-    u8 stack[3120];
+    u8 stack[656];
     struct shaped *shaped = NULL;
     struct scard_verdict result;
     begin(&m, stack, sizeof stack, shaped);
@@ -20999,9 +22999,9 @@ struct scard_verdict scard_atr_decode(const uint8_t *octets, size_t count, struc
     lend(&m, 3, out, sizeof *out);
     m.g0 -= 16;
     module_scard_atr_decode(&m, m.g0, ADDRESS(2), (u64)count, ADDRESS(3));
-    result.status = (uint8_t)get8(stack + 3104);
-    result.reason = (uint8_t)get8(stack + 3104 + 1);
-    result.place = (scard_size)get64(stack + 3104 + 8);
+    result.status = (uint8_t)get8(stack + 640);
+    result.reason = (uint8_t)get8(stack + 640 + 1);
+    result.place = (scard_size)get64(stack + 640 + 8);
     return result;
 }
 
@@ -21854,7 +23854,7 @@ struct scard_verdict scard_lent_atr_reader_feed(struct scard_lent_atr_reader *st
     count)
 {
     struct call m;
-    u8 stack[1888];
+    u8 stack[688];
     SHAPED_HERE
     struct scard_verdict result;
     begin(&m, stack, sizeof stack, shaped);
@@ -21862,25 +23862,25 @@ struct scard_verdict scard_lent_atr_reader_feed(struct scard_lent_atr_reader *st
     lend(&m, 3, octets, count);
     m.g0 -= 16;
     module_scard_lent_atr_reader_feed(&m, m.g0, ADDRESS(2), ADDRESS(3), (u64)count);
-    result.status = (uint8_t)get8(stack + 1872);
-    result.reason = (uint8_t)get8(stack + 1872 + 1);
-    result.place = (scard_size)get64(stack + 1872 + 8);
+    result.status = (uint8_t)get8(stack + 672);
+    result.reason = (uint8_t)get8(stack + 672 + 1);
+    result.place = (scard_size)get64(stack + 672 + 8);
     return result;
 }
 
 struct scard_verdict scard_lent_atr_reader_finish(const struct scard_lent_atr_reader *state)
 {
     struct call m;
-    u8 stack[1888];
+    u8 stack[688];
     SHAPED_HERE
     struct scard_verdict result;
     begin(&m, stack, sizeof stack, shaped);
     LEND(&m, 2, state, 1, shape_of_lent_atr_reader(0));
     m.g0 -= 16;
     module_scard_lent_atr_reader_finish(&m, m.g0, ADDRESS(2));
-    result.status = (uint8_t)get8(stack + 1872);
-    result.reason = (uint8_t)get8(stack + 1872 + 1);
-    result.place = (scard_size)get64(stack + 1872 + 8);
+    result.status = (uint8_t)get8(stack + 672);
+    result.reason = (uint8_t)get8(stack + 672 + 1);
+    result.place = (scard_size)get64(stack + 672 + 8);
     return result;
 }
 
@@ -21905,7 +23905,7 @@ struct scard_verdict scard_lent_block_reader_value(const struct scard_lent_block
 struct scard_verdict scard_lent_atr_reader_value(const struct scard_lent_atr_reader *state, struct scard_atr *out)
 {
     struct call m;
-    u8 stack[3136];
+    u8 stack[656];
     SHAPED_HERE
     struct scard_verdict result;
     begin(&m, stack, sizeof stack, shaped);
@@ -21913,9 +23913,9 @@ struct scard_verdict scard_lent_atr_reader_value(const struct scard_lent_atr_rea
     lend(&m, 3, out, sizeof *out);
     m.g0 -= 16;
     module_scard_lent_atr_reader_value(&m, m.g0, ADDRESS(2), ADDRESS(3));
-    result.status = (uint8_t)get8(stack + 3120);
-    result.reason = (uint8_t)get8(stack + 3120 + 1);
-    result.place = (scard_size)get64(stack + 3120 + 8);
+    result.status = (uint8_t)get8(stack + 640);
+    result.reason = (uint8_t)get8(stack + 640 + 1);
+    result.place = (scard_size)get64(stack + 640 + 8);
     return result;
 }
 
@@ -21969,6 +23969,103 @@ size_t scard_lent_framer_burst(const struct scard_lent_framer *framer)
     begin(&m, stack, sizeof stack, shaped);
     LEND(&m, 2, framer, 1, shape_of_lent_framer(0));
     return (size_t)module_scard_lent_framer_burst(&m, ADDRESS(2));
+}
+
+void scard_lent_line_begin(struct scard_lent_line *line, const struct scard_lent_line_rules *rules)
+{
+    struct call m;
+    u8 stack[16];
+    SHAPED_HERE
+    begin(&m, stack, sizeof stack, shaped);
+    LEND(&m, 2, line, 1, shape_of_lent_line(0));
+    LEND(&m, 3, rules, 1, shape_of_lent_line_rules(0));
+    module_scard_lent_line_begin(&m, ADDRESS(2), ADDRESS(3));
+}
+
+struct scard_line_next scard_lent_line_exchange(struct scard_lent_line *line, uint64_t first, uint64_t now)
+{
+    struct call m;
+    u8 stack[48];
+    SHAPED_HERE
+    struct scard_line_next result;
+    begin(&m, stack, sizeof stack, shaped);
+    LEND(&m, 2, line, 1, shape_of_lent_line(0));
+    m.g0 -= 24;
+    module_scard_lent_line_exchange(&m, m.g0, ADDRESS(2), (u64)first, (u64)now);
+    result.kind = (uint8_t)get8(stack + 24);
+    result.count = (scard_size)get64(stack + 24 + 8);
+    result.wait = (scard_size)get64(stack + 24 + 16);
+    return result;
+}
+
+struct scard_line_next scard_lent_line_clear(struct scard_lent_line *line, uint64_t first, uint64_t now)
+{
+    struct call m;
+    u8 stack[80];
+    SHAPED_HERE
+    struct scard_line_next result;
+    begin(&m, stack, sizeof stack, shaped);
+    LEND(&m, 2, line, 1, shape_of_lent_line(0));
+    m.g0 -= 24;
+    module_scard_lent_line_clear(&m, m.g0, ADDRESS(2), (u64)first, (u64)now);
+    result.kind = (uint8_t)get8(stack + 56);
+    result.count = (scard_size)get64(stack + 56 + 8);
+    result.wait = (scard_size)get64(stack + 56 + 16);
+    return result;
+}
+
+struct scard_line_next scard_lent_line_talk(struct scard_lent_line *line, uint64_t first, uint64_t now)
+{
+    struct call m;
+    u8 stack[112];
+    SHAPED_HERE
+    struct scard_line_next result;
+    begin(&m, stack, sizeof stack, shaped);
+    lend(&m, 0, constants, sizeof constants);
+    LEND(&m, 2, line, 1, shape_of_lent_line(0));
+    m.g0 -= 24;
+    module_scard_lent_line_talk(&m, m.g0, ADDRESS(2), (u64)first, (u64)now);
+    result.kind = (uint8_t)get8(stack + 88);
+    result.count = (scard_size)get64(stack + 88 + 8);
+    result.wait = (scard_size)get64(stack + 88 + 16);
+    return result;
+}
+
+struct scard_line_next scard_lent_line_serve(struct scard_lent_line *line, uint64_t now)
+{
+    struct call m;
+    u8 stack[96];
+    SHAPED_HERE
+    struct scard_line_next result;
+    begin(&m, stack, sizeof stack, shaped);
+    LEND(&m, 2, line, 1, shape_of_lent_line(0));
+    m.g0 -= 24;
+    module_scard_lent_line_serve(&m, m.g0, ADDRESS(2), (u64)now);
+    result.kind = (uint8_t)get8(stack + 72);
+    result.count = (scard_size)get64(stack + 72 + 8);
+    result.wait = (scard_size)get64(stack + 72 + 16);
+    return result;
+}
+
+struct scard_line_next scard_lent_line_step(struct scard_lent_line *line, uint8_t event, const uint8_t *octets, size_t
+    count, uint64_t now, const uint8_t *block, size_t block_count)
+{
+    struct call m;
+    u8 stack[352];
+    SHAPED_HERE
+    struct scard_line_next result;
+    begin(&m, stack, sizeof stack, shaped);
+    lend(&m, 0, constants, sizeof constants);
+    LEND(&m, 2, line, 1, shape_of_lent_line(0));
+    lend(&m, 3, octets, count);
+    lend(&m, 4, block, block_count);
+    m.g0 -= 24;
+    module_scard_lent_line_step(&m, m.g0, ADDRESS(2), (u32)event, ADDRESS(3), (u64)count, (u64)now, ADDRESS(4),
+        (u64)block_count);
+    result.kind = (uint8_t)get8(stack + 328);
+    result.count = (scard_size)get64(stack + 328 + 8);
+    result.wait = (scard_size)get64(stack + 328 + 16);
+    return result;
 }
 
 struct scard_verdict scard_lent_judge_begin(struct scard_lent_judge *state, uint8_t ifsc)

@@ -2,8 +2,8 @@
  *
  * This header declares codecs for answers to reset, T=1 blocks and chains (ISO/IEC 7816-3), commands and responses
  * (ISO/IEC 7816-4) and data objects (EMV 4.3 Book 3). It also declares readers for octets that arrive in pieces, both
- * ends of a T=1 session, a framer, and a judge of the blocks on a line. Link with libscard.a. docs/C.md says how to
- * link, and what is proved.
+ * ends of a T=1 session, a framer, the line of an end, and a judge of the blocks on a line. Link with libscard.a.
+ * docs/C.md says how to link, and what is proved.
  *
  * Units. A length is a number of octets. A place is the offset of an octet, and starts at 0. The length of an array of
  * structs counts structs. Input is a pointer and a length. An output buffer is a pointer and its room, the capacity. A
@@ -52,8 +52,8 @@
 #endif
 #endif
 
-/* The type of a number of octets in a struct. It has 64 bits on every machine, so the structs are the same everywhere.
- * If size_t has 64 bits too, the two are the same type.
+/* The type of a number of octets or of a time in a struct. It has 64 bits on every machine, so the structs are the same
+ * everywhere. If size_t has 64 bits too, the two are the same type.
  */
 #if SIZE_MAX > 0xFFFFFFFFu
 typedef size_t scard_size;
@@ -1079,6 +1079,163 @@ uint64_t scard_lent_framer_wait(const struct scard_lent_framer *framer, uint64_t
  */
 size_t scard_lent_framer_burst(const struct scard_lent_framer *framer);
 
+/* ---- the line of an end, without an allocator ---- */
+
+/* A line does everything between one block of an end and the next: it says when to send, how long to wait for octets,
+ * when a burst has ended, which octets to drop, and when to give up. It measures no time, waits for nothing and calls
+ * nothing. So the same steps serve a blocking loop, an event loop and an interrupt. scard_session.h is such a loop.
+ *
+ * Each call returns one thing to do (enum scard_line_next_kind). The program does it, and passes what happened to
+ * scard_lent_line_step. A program keeps to these rules:
+ *
+ * - A wait may end later than the line said, but never earlier. It counts from the last octet that was sent or
+ *   received.
+ * - Each octet is passed once, in the order in which the octets came.
+ * - A block counts as sent once its last bit is on the line.
+ * - `now` is the time of the program's clock in microseconds, when the call is made. A clock that goes back counts as
+ *   one that stood still. Without a clock, `now` is 0 in each call.
+ * - `block` is the block that is sent or was sent last, of `block_count` octets. It is empty at a card that has sent
+ *   none.
+ *
+ * The caller owns the struct, 416 octets. A call is safe with any octets in it. These calls allocate nothing.
+ */
+
+/* The rules of a line, which stay the same. Times are in microseconds. A mark that isn't 0 counts as 1. The caller may
+ * change the rules while the line neither sends nor waits.
+ */
+struct scard_lent_line_rules {
+    scard_size bwt;         /* BWT: a terminal waits as long for the first octet of an answer */
+    scard_size cwt;         /* CWT: the silence that ends a burst which isn't a whole block */
+    scard_size bgt;         /* BGT: the pause between a block that came and the next one sent */
+    scard_size after;       /* the silence that ends a burst which is a whole block. UINT64_MAX: none, since the line
+                               delivers whole bursts */
+    scard_size octet;       /* the time of a character, 12 etu */
+    scard_size most_time;   /* the most time of an exchange, or UINT64_MAX: no limit */
+    uint32_t most_blocks;   /* the most blocks that a terminal sends in an exchange */
+    uint8_t has_clock;      /* 1 if `now` is the time of a clock */
+    uint8_t has_echo;       /* 1 if the line returns what is sent on it, as a UART on one wire does */
+    uint8_t refuses_empty;  /* 1 if an I-block without information counts as a damaged block */
+    uint8_t is_card;        /* 1 for the line of a card, 0 for that of a terminal */
+};
+
+/* What an end has done on its line so far. The fields belong to the library. */
+struct scard_lent_line_progress {
+    scard_size owed;      /* the silence before the end sends again, counted from the last octet */
+    scard_size first;     /* the wait for the first octet of a burst */
+    scard_size asked;     /* the current wait, and when it began */
+    scard_size asked_at;
+    scard_size began;     /* the current exchange: when it began, and how much of its time is certainly over */
+    scard_size spent;
+    scard_size late;      /* how much longer the block took than its octets */
+    scard_size own;       /* how many octets of its echo came */
+    uint32_t interrupts;  /* of the current wait */
+    uint32_t blocks;      /* of the current exchange */
+    uint32_t left;        /* how many more octets are dropped before the line has failed */
+    uint8_t phase;        /* what the end does now */
+    uint8_t is_cut;       /* whether the limit of the exchange made the wait shorter */
+    uint8_t is_quick;     /* whether the block took less than half of the time of its octets */
+    uint8_t began_at;     /* whether the burst began before the other end may have sent it */
+    uint8_t is_spoiled;    /* whether the burst had a damaged octet */
+    uint8_t is_whole;     /* whether the burst is a whole block */
+    uint8_t echoes;       /* how many bursts in a row began with the block that was just sent */
+};
+
+struct scard_lent_line {
+    struct scard_lent_line_rules rules;
+    struct scard_lent_line_progress progress;
+    struct scard_lent_framer framer; /* the current burst, or the last one */
+};
+
+/* What happened on the line. */
+enum scard_line_event {
+    SCARD_EVENT_SENT = 0,    /* the block was sent */
+    SCARD_EVENT_CAME = 1,    /* octets came. With none: the wait was interrupted, and it isn't known for how long */
+    SCARD_EVENT_GARBLED = 2, /* octets came, and the receiver found one of them damaged, by its parity for example */
+    SCARD_EVENT_SILENT = 3,  /* no octet came within the wait */
+    SCARD_EVENT_FAILED = 4   /* the line failed */
+};
+
+/* What to do next. After each kind from SCARD_NEXT_HEARD to SCARD_NEXT_ECHO the line rests, until one of the calls that
+ * begin something.
+ */
+enum scard_line_next_kind {
+    SCARD_NEXT_SEND = 0,    /* send the block. Then comes the event SENT or FAILED */
+    SCARD_NEXT_WAIT = 1,    /* wait for octets, at most `wait` microseconds, or without limit if it is UINT64_MAX. Then
+                               comes one of the other events */
+    SCARD_NEXT_HEARD = 2,   /* a burst has ended. Pass the first `count` octets of `framer.octets` to the end. A burst
+                               that the end may not take was replaced by a block with a wrong check octet */
+    SCARD_NEXT_QUIET = 3,   /* nothing came within the wait for the first octet */
+    SCARD_NEXT_FAILED = 4,  /* the line failed, or was never silent */
+    SCARD_NEXT_USED_UP = 5, /* the blocks or the time of the exchange are used up */
+    SCARD_NEXT_ECHO = 6,    /* the line returns what is sent on it, and `has_echo` is 0 */
+    SCARD_NEXT_ORDER = 7    /* the event doesn't fit what the line is doing, or is none of those above. Nothing changed */
+};
+
+struct scard_line_next {
+    uint8_t kind;     /* enum scard_line_next_kind */
+    scard_size count; /* SCARD_NEXT_HEARD: the number of octets, 1 to 259. Otherwise 0 */
+    scard_size wait;  /* SCARD_NEXT_WAIT: how long, in microseconds. Otherwise 0 */
+};
+
+/* After this many octets without a silence, a burst is cut, and a line that waits for silence has failed. */
+#define SCARD_BURST_MOST 65536
+
+/* After this many interrupts in a row, a line whose wait has a limit has failed. Once a wait is over by the clock, an
+ * interrupt is answered by a last wait of 0, so that interrupts make no wait longer.
+ */
+#define SCARD_MOST_INTERRUPTS 1000000
+
+/* The number of echoes in a row that end an exchange.
+ *
+ * A line may return what is sent on it, and `has_echo` doesn't say so. An end could then take its own block for one of
+ * the other end. So each burst is compared with the block that was just sent. If the burst begins with that block, it
+ * is an echo in these cases:
+ *
+ * - Its first octet came less than 20 etu after the block was sent, by the clock. The other end can't have sent it.
+ *   Both ends may rightly send the same R-block one after the other, so an R-block also needs a sending that took about
+ *   as long as its octets take: the clock then isn't too coarse to tell.
+ * - It is an S-block. No end answers with the S-block that it got.
+ * - It is the fifth echo in a row. No end repeats a block as often.
+ *
+ * If the time of an I-block says nothing, the end gets it as a damaged block, and asks for it again by an R-block. A
+ * card that rightly answers with the octets of the command sends them again. A line with an echo returns the R-block.
+ * The time says nothing without a clock, on a line that delivers whole bursts, and if the sending ended so late that
+ * the octets may be an echo, or may not.
+ */
+#define SCARD_MOST_ECHOES 5
+
+/* Begins a line at a reset of the card. The struct may hold anything before, and the rules may have any values. */
+void scard_lent_line_begin(struct scard_lent_line *line, const struct scard_lent_line_rules *rules);
+
+/* Begin to send a block, each in its own case. `first` is how long the line waits afterwards for the first octet of the
+ * burst: BWT times `wait` of the terminal's turn, and UINT64_MAX for a card.
+ *
+ * - scard_lent_line_exchange: the first block of an exchange, or at a card the block after a call of its host. Octets
+ *   that came meanwhile are dropped first, until the line is silent: for BWT at a terminal, for BGT at a card. The
+ *   limits of the exchange count from this call.
+ * - scard_lent_line_clear: the same, but the line has to be silent in any case, as before RESYNCH.
+ * - scard_lent_line_talk: each other block.
+ */
+SCARD_MUST_USE
+struct scard_line_next scard_lent_line_exchange(struct scard_lent_line *line, uint64_t first, uint64_t now);
+SCARD_MUST_USE
+struct scard_line_next scard_lent_line_clear(struct scard_lent_line *line, uint64_t first, uint64_t now);
+SCARD_MUST_USE
+struct scard_line_next scard_lent_line_talk(struct scard_lent_line *line, uint64_t first, uint64_t now);
+
+/* Begins to wait for the terminal's first block at a card, or goes on to wait after a failure. After a broken burst the
+ * line first waits for the silence that it owes.
+ */
+SCARD_MUST_USE
+struct scard_line_next scard_lent_line_serve(struct scard_lent_line *line, uint64_t now);
+
+/* Reports what happened (enum scard_line_event). Events other than CAME and GARBLED have no octets. The octets and the
+ * block may not overlap the struct.
+ */
+SCARD_MUST_USE
+struct scard_line_next scard_lent_line_step(struct scard_lent_line *line, uint8_t event, const uint8_t *octets,
+                                            size_t count, uint64_t now, const uint8_t *block, size_t block_count);
+
 /* ---- a judge of the blocks on a line, without an allocator ---- */
 
 /* A judge checks each block on a line against the rules of T=1. For a deviation it says which end broke which rule, and
@@ -1307,7 +1464,11 @@ enum scard_struct {
     SCARD_STRUCT_LENT_WATCHED = 28,
     SCARD_STRUCT_LENT_JUDGE = 29,
     SCARD_STRUCT_DUE = 30,
-    SCARD_STRUCT_JUDGMENT = 31
+    SCARD_STRUCT_JUDGMENT = 31,
+    SCARD_STRUCT_LENT_LINE_RULES = 32,
+    SCARD_STRUCT_LENT_LINE_PROGRESS = 33,
+    SCARD_STRUCT_LENT_LINE = 34,
+    SCARD_STRUCT_LINE_NEXT = 35
 };
 
 /* Returns the size in octets that a struct has in the library, to compare with its sizeof. `number` is an enum

@@ -4,10 +4,11 @@
  * blocks. A driver supplies two functions: one sends octets, and the other receives them within a waiting time. Over
  * these two functions the session exchanges whole commands and answers.
  *
- * This header is C and isn't proved, since a proved crate can't call functions of C. Two things are proved: what each
- * end does with a block, and which octets are a block (scard_lent_framer_is_whole). This header has no rule about LEN
- * or the check octet. An end gets some whole blocks as damaged ones, with another check octet: those of
- * `refuses_empty`, and some that SCARD_MOST_ECHOES describes.
+ * This header is C and isn't proved, since a proved crate can't call functions of C. It does what proved calls tell it
+ * to: the calls of an end say what the end does with a block, and the calls scard_lent_line_ say when to send, how long
+ * to wait, and which octets are a burst. This header has no rule about octets, silences, echoes or the limits of an
+ * exchange. If you can't wait in a call, in an event loop for example, write your own loop over the same calls
+ * (docs/C.md).
  *
  * Begin a session at a reset of its card: a new terminal and a new card, never one without the other. If a card goes on
  * under a new terminal, it takes the first command for a repeat of the one before. It sends the old answer again, as if
@@ -36,9 +37,6 @@ enum scard_line_said {
 
 /* A waiting time without a limit. */
 #define SCARD_LINE_FOREVER UINT64_MAX
-
-/* After this many interrupts in a row, a line whose waiting time has a limit has failed. */
-#define SCARD_MOST_INTERRUPTS 1000000
 
 /* The line to the other end: three functions of the driver. The session passes `context`, which is the driver's own, to
  * each function.
@@ -191,289 +189,6 @@ static inline uint64_t scard_line_now(const struct scard_line *line)
     return line->now != NULL ? line->now(line->context) : 0;
 }
 
-/* Returns how long ago the line's clock said `began`, or 0 if there is no clock or if it went back. */
-static inline uint64_t scard_line_since(const struct scard_line *line, uint64_t began)
-{
-    uint64_t gone = scard_line_now(line) - began;
-    return line->now == NULL || gone > UINT64_MAX / 2 ? 0 : gone;
-}
-
-/* Calls `receive` of the line, and calls it again after each interrupt. Returns the number of octets that came, 0 on a
- * timeout, or SCARD_LINE_FAILED. Once the time is over by the line's clock, a last call takes what is there already.
- */
-static inline int scard_line_take(const struct scard_line *line, uint8_t *octets, size_t room, uint64_t microseconds)
-{
-    const uint64_t began = scard_line_now(line);
-    uint32_t interrupts = 0;
-    int got = line->receive(line->context, octets, room, microseconds);
-    while (got == SCARD_LINE_INTERRUPTED && interrupts < SCARD_MOST_INTERRUPTS) {
-        bool is_over = line->now != NULL && scard_line_since(line, began) >= microseconds;
-        got = line->receive(line->context, octets, room, is_over ? 0 : microseconds);
-        got = is_over && got == SCARD_LINE_INTERRUPTED ? 0 : got;
-        interrupts += microseconds != SCARD_LINE_FOREVER;
-    }
-    return got < 0 || (size_t)got > room ? SCARD_LINE_FAILED : got;
-}
-
-/* ---- bursts: how both ends use a line ---- */
-
-/* After this many octets without a silence, the session stops waiting for the line. */
-#define SCARD_BURST_MOST 65536
-
-/* The results of the calls on a wire, besides SCARD_LINE_FAILED. */
-enum scard_wire_said {
-    SCARD_WIRE_USED_UP = -3,   /* the time of the exchange is used up */
-    SCARD_WIRE_COLLISION = -4, /* the echo differs from what was sent, or is incomplete */
-    SCARD_WIRE_ECHO = -5       /* the line has an echo, and the setup doesn't say so */
-};
-
-/* When a burst began. */
-enum scard_wire_time {
-    SCARD_WIRE_UNKNOWN = 0,
-    SCARD_WIRE_EARLY = 1,  /* before the other end may have sent it */
-    SCARD_WIRE_IN_TIME = 2 /* later */
-};
-
-/* The state of the line of an end. The fields belong to the session. Times are in microseconds. */
-struct scard_wire {
-    const void *self; /* the session that this struct is in, once begun; a copy of the session isn't valid */
-    uint32_t mark;    /* which end the session is: SCARD_WIRE_TERMINAL or SCARD_WIRE_CARD */
-    uint32_t octet;   /* the time of a character, 12 etu */
-    uint64_t bgt;     /* the pause between a received block and the next one sent */
-    uint64_t after;   /* the silence that ends a whole block, or SCARD_SILENCE_NONE */
-    uint64_t owed;    /* the silence to wait for before the end sends again, counted from the last octet */
-    uint64_t most;    /* the current exchange: its time limit, its start, and the time that is known to be over */
-    uint64_t began;
-    uint64_t spent;
-    uint64_t sent;    /* by the line's clock: when `send` returned */
-    uint64_t late;    /* how much longer it took than the octets take */
-    bool is_quick;    /* it took less than half of that time */
-    uint8_t began_at; /* enum scard_wire_time: when the current burst began */
-    uint8_t echoes;   /* how many bursts in a row began with the block that was just sent */
-    struct scard_lent_framer framer; /* the current burst, or the last one */
-};
-
-#define SCARD_WIRE_TERMINAL UINT32_C(0x5CA2D701)
-#define SCARD_WIRE_CARD UINT32_C(0x5CA2D702)
-
-/* Returns true if a session was begun as this end, and isn't a copy. */
-static inline bool scard_wire_is(const struct scard_wire *wire, const void *session, uint32_t mark)
-{
-    return wire->self == session && wire->mark == mark;
-}
-
-/* Starts to measure the time of an exchange. */
-static inline void scard_wire_start(struct scard_wire *wire, const struct scard_line *line, uint64_t most)
-{
-    wire->most = most;
-    wire->spent = 0;
-    wire->echoes = 0;
-    wire->began = scard_line_now(line);
-}
-
-/* Adds to what is known to be over, if the line has no clock: the time that octets take on it. */
-static inline void scard_wire_spend(struct scard_wire *wire, size_t count)
-{
-    wire->spent += wire->after == SCARD_SILENCE_NONE ? 0 : (uint64_t)count * wire->octet;
-}
-
-/* Returns what is left of that time. */
-static inline uint64_t scard_wire_left(const struct scard_wire *wire, const struct scard_line *line)
-{
-    uint64_t gone;
-    if (wire->most == SCARD_LINE_FOREVER) {
-        return SCARD_LINE_FOREVER;
-    }
-    gone = line->now != NULL ? scard_line_since(line, wire->began) : wire->spent;
-    return gone < wire->most ? wire->most - gone : 0;
-}
-
-/* Receives octets as scard_line_take does, but waits no longer than what is left of the time. Once nothing is left, it
- * takes no further octets.
- */
-static inline int scard_wire_take(struct scard_wire *wire, const struct scard_line *line,
-                                  uint8_t octets[SCARD_BURST_ROOM], uint64_t microseconds)
-{
-    uint64_t left = scard_wire_left(wire, line);
-    uint64_t asked = microseconds < left ? microseconds : left;
-    int got = scard_line_take(line, octets, SCARD_BURST_ROOM, asked);
-    wire->spent += got == 0 ? asked : 0;
-    scard_wire_spend(wire, got > 0 ? (size_t)got : 0);
-    return asked < microseconds && (got == 0 || (got > 0 && left == 0)) ? SCARD_WIRE_USED_UP : got;
-}
-
-/* Discards octets until the line is silent for `silence`, and returns 0. A line that is never silent has failed. */
-static inline int scard_wire_drain(struct scard_wire *wire, const struct scard_line *line, uint64_t silence)
-{
-    uint8_t octets[SCARD_BURST_ROOM];
-    int got, left = SCARD_BURST_MOST;
-    do {
-        got = scard_wire_take(wire, line, octets, silence);
-        left -= got > 0 ? got : 0;
-    } while (got > 0 && left > 0);
-    if (got == 0 && wire->owed <= silence) {
-        wire->owed = 0;
-    }
-    return got > 0 ? SCARD_LINE_FAILED : got;
-}
-
-/* Waits until the end may send, and returns 0. */
-static inline int scard_wire_settle(struct scard_wire *wire, const struct scard_line *line)
-{
-    return wire->owed > 0 ? scard_wire_drain(wire, line, wire->owed) : 0;
-}
-
-/* Discards octets that came while the session didn't wait for any. If there were any, continues until the line is
- * silent for `silence`. Returns 0.
- */
-static inline int scard_wire_late(struct scard_wire *wire, const struct scard_line *line, uint64_t silence)
-{
-    uint8_t octets[SCARD_BURST_ROOM];
-    int got = scard_wire_take(wire, line, octets, 0);
-    return got > 0 ? scard_wire_drain(wire, line, silence) : got;
-}
-
-/* Reads the echo of what was just sent, each part within `microseconds`. Octets right after the echo begin the next
- * burst.
- */
-static inline int scard_wire_hear(struct scard_wire *wire, const struct scard_line *line, const uint8_t *sent,
-                                  size_t count, uint64_t microseconds)
-{
-    uint8_t heard[SCARD_BURST_ROOM];
-    size_t came = 0;
-    while (came < count) {
-        int got = scard_wire_take(wire, line, heard, microseconds);
-        size_t own = got > 0 && (size_t)got < count - came ? (size_t)got : count - came;
-        if (got < 0 || (got == 0 && came == 0)) { /* no octet at all: the line has no echo */
-            return got < 0 ? got : SCARD_LINE_FAILED;
-        }
-        if (got == 0 || memcmp(heard, sent + came, own) != 0) {
-            return SCARD_WIRE_COLLISION;
-        }
-        came += own;
-        scard_lent_framer_feed(&wire->framer, heard + own, (size_t)got - own);
-    }
-    return 0;
-}
-
-/* Returns the time after a block was sent within which no octet of the other end can be there: 20 etu. An end begins to
- * send at the earliest 22 etu after the beginning of the last character (BGT, clause 11.4.3), so 10 etu after its end.
- * An octet is there 10 etu after it began.
- */
-static inline uint64_t scard_wire_guard(const struct scard_wire *wire)
-{
-    return (uint64_t)wire->octet * 5 / 3;
-}
-
-/* Waits for the silence that is owed, sends a block, and begins a new burst. */
-static inline int scard_wire_send(struct scard_wire *wire, const struct scard_setup *setup, uint64_t cwt,
-                                  const uint8_t *octets, size_t count)
-{
-    const struct scard_line *line = &setup->line;
-    const uint64_t takes = (uint64_t)count * wire->octet;
-    uint64_t began;
-    int said = scard_wire_settle(wire, line);
-    if (said != 0) {
-        return said;
-    }
-    scard_lent_framer_begin(&wire->framer);
-    began = scard_line_now(line);
-    if (line->send(line->context, octets, count) != 0) {
-        return SCARD_LINE_FAILED;
-    }
-    scard_wire_spend(wire, setup->echo ? 0 : count); /* an echo takes the same time */
-    wire->sent = scard_line_now(line);
-    wire->is_quick = wire->sent - began < takes / 2;
-    wire->late = wire->sent - began > takes ? wire->sent - began - takes : 0;
-    return setup->echo ? scard_wire_hear(wire, line, octets, count, cwt + takes) : 0;
-}
-
-/* The number of echoes in a row that end an exchange.
- *
- * A line may return what is sent on it, and the setup doesn't say so. An end could then take its own block for one of
- * the other end. So the session compares each burst with the block that it has just sent. If the burst begins with that
- * block, it is an echo in these cases:
- *
- * - Its first octet came less than 20 etu after the block was sent, by the line's clock. The other end can't have sent
- *   it. Both ends may rightly send the same R-block one after the other, so an R-block also needs a `send` that took
- *   about as long as its octets take: the clock then isn't too coarse to tell.
- * - It is an S-block. No end answers with the S-block that it got.
- * - It is the fifth echo in a row. No end repeats a block as often.
- *
- * If the time of an I-block says nothing, the end gets it as a damaged block, and asks for it again by an R-block. A
- * card that rightly answers with the octets of the command sends them again. A line with an echo returns the R-block.
- * The time says nothing without a clock, on a line that delivers whole bursts, and if `send` returned so late that the
- * octets may be an echo, or may not.
- */
-#define SCARD_MOST_ECHOES 5
-
-/* Notes when the first octets of a burst came. */
-static inline void scard_wire_note(struct scard_wire *wire, const struct scard_line *line)
-{
-    const uint64_t gone = scard_line_since(line, wire->sent), guard = scard_wire_guard(wire);
-    wire->began_at = SCARD_WIRE_UNKNOWN;
-    if (line->now != NULL && wire->after != SCARD_SILENCE_NONE && (gone >= guard || wire->late < guard - gone)) {
-        wire->began_at = gone >= guard ? SCARD_WIRE_IN_TIME : SCARD_WIRE_EARLY;
-    }
-}
-
-/* Gives a burst that is a whole block a wrong check octet. The end has to wait after it as after each broken burst. */
-static inline void scard_wire_damage(struct scard_wire *wire, uint64_t broken)
-{
-    wire->framer.octets[scard_lent_framer_burst(&wire->framer) - 1] ^= 0xFF;
-    wire->owed = broken;
-}
-
-/* Looks at a burst of `burst` octets that came after a block of `count` octets was sent. Returns `burst` or
- * SCARD_WIRE_ECHO. A block that the end may not take is damaged.
- */
-static inline int scard_wire_judge(struct scard_wire *wire, const struct scard_setup *setup, int burst,
-                                   const uint8_t *sent, size_t count, uint64_t broken)
-{
-    const uint8_t *octets = wire->framer.octets;
-    bool is_i_block = octets[1] < 0x80, is_s_block = octets[1] >= 0xC0; /* by the PCB, clause 11.3.2.2 */
-    bool is_early = wire->began_at == SCARD_WIRE_EARLY && (is_i_block || !wire->is_quick);
-    bool is_echo = !setup->echo && count > 0 && (size_t)burst >= count && memcmp(octets, sent, count) == 0
-        && !(is_i_block && wire->began_at == SCARD_WIRE_IN_TIME);
-    wire->echoes = (uint8_t)(is_echo ? wire->echoes + 1 : 0);
-    if (is_echo && (is_early || is_s_block || wire->echoes == SCARD_MOST_ECHOES)) {
-        wire->echoes = 0;
-        return SCARD_WIRE_ECHO;
-    }
-    if (is_i_block && (is_echo || (setup->refuses_empty && burst == 4)) && scard_lent_framer_is_whole(&wire->framer)) {
-        scard_wire_damage(wire, broken);
-    }
-    return burst;
-}
-
-/* Receives the rest of a burst. Returns how many of its octets to pass to an end. On a timeout, if no octet came within
- * `first`, it returns 0. If the line fails, it ignores the octets before, since it didn't see the end of the burst. It
- * cuts a burst that never ends. Before the end sends again, the line has to be silent: for BGT after a whole block, for
- * `broken` after any other burst.
- */
-static inline int scard_wire_burst(struct scard_wire *wire, const struct scard_line *line, uint64_t first, uint64_t cwt,
-                                   uint64_t broken)
-{
-    struct scard_lent_framer *framer = &wire->framer;
-    uint8_t octets[SCARD_BURST_ROOM];
-    bool is_whole = framer->count > 0 && scard_lent_framer_is_whole(framer);
-    int got = 1;
-    while (got > 0 && framer->count < SCARD_BURST_MOST && !(is_whole && wire->after == SCARD_SILENCE_NONE)) {
-        got = scard_wire_take(wire, line, octets, scard_lent_framer_wait(framer, first, cwt, wire->after));
-        if (got > 0 && framer->count == 0) {
-            scard_wire_note(wire, line);
-        }
-        if (got > 0) {
-            scard_lent_framer_feed(framer, octets, (size_t)got);
-            is_whole = scard_lent_framer_is_whole(framer);
-        }
-    }
-    if (framer->count > 0) {
-        wire->owed = !is_whole ? broken : wire->after < wire->bgt ? wire->bgt : 0;
-    }
-    return got < 0 ? got : (int)scard_lent_framer_burst(framer);
-}
-
 /* Returns true if an end can begin with a setup: both functions are there, times can be computed from the clock and the
  * parameters, and the silence is at most CWT.
  */
@@ -487,24 +202,104 @@ static inline bool scard_setup_is(const struct scard_setup *setup)
     return cwt > 0 && (setup->silence <= cwt || setup->silence == SCARD_SILENCE_NONE);
 }
 
-/* Initializes the wire of an end from a valid setup, and computes its waiting times. It makes BWT at least 4/3 of CWT.
- * A card answers a broken block after three quarters of BWT, so that time is CWT or more.
+/* ---- the loop of both ends ---- */
+
+/* The line of an end. The fields belong to the session. */
+struct scard_session_wire {
+    const void *self; /* the session that this struct is in, once begun; a copy of the session isn't valid */
+    uint32_t mark;    /* which end the session is: SCARD_SESSION_TERMINAL or SCARD_SESSION_CARD */
+    struct scard_lent_line line;
+};
+
+#define SCARD_SESSION_TERMINAL UINT32_C(0x5CA2D701)
+#define SCARD_SESSION_CARD UINT32_C(0x5CA2D702)
+
+/* Returns true if a session was begun as this end, and isn't a copy. */
+static inline bool scard_session_is(const struct scard_session_wire *wire, const void *session, uint32_t mark)
+{
+    return wire->self == session && wire->mark == mark;
+}
+
+/* Returns the rules of the line of an end, with the waiting times of its session. */
+static inline struct scard_lent_line_rules scard_setup_rules(const struct scard_setup *setup, uint32_t mark,
+                                                             uint64_t bwt, uint64_t cwt)
+{
+    const uint64_t bgt = scard_clock_time(&setup->clock, (uint64_t)22 * setup->clock.fi);
+    const uint64_t most = setup->most_microseconds != 0 ? setup->most_microseconds : SCARD_MOST_MICROSECONDS;
+    struct scard_lent_line_rules rules;
+    memset(&rules, 0, sizeof rules);
+    rules.bwt = bwt;
+    rules.cwt = cwt;
+    rules.bgt = setup->silence == SCARD_SILENCE_NONE ? 0 : bgt;
+    rules.after = setup->silence == 0 ? bgt : setup->silence;
+    rules.octet = scard_clock_time(&setup->clock, (uint64_t)12 * setup->clock.fi);
+    rules.most_time = mark == SCARD_SESSION_CARD ? SCARD_LINE_FOREVER : most;
+    rules.most_blocks = setup->most_blocks != 0 ? setup->most_blocks : SCARD_MOST_BLOCKS;
+    rules.has_clock = setup->line.now != NULL;
+    rules.has_echo = setup->echo;
+    rules.refuses_empty = setup->refuses_empty;
+    rules.is_card = mark == SCARD_SESSION_CARD;
+    return rules;
+}
+
+/* Begins the line of a session with a valid setup, and computes its waiting times. It makes BWT at least 4/3 of CWT. A
+ * card answers a broken block after three quarters of BWT, so that time is CWT or more.
  */
-static inline void scard_wire_begin(struct scard_wire *wire, const struct scard_setup *setup, uint64_t *bwt,
-                                    uint64_t *cwt)
+static inline void scard_session_wire_begin(struct scard_session_wire *wire, const void *session, uint32_t mark,
+                                            const struct scard_setup *setup, uint64_t *bwt, uint64_t *cwt)
 {
     const struct scard_clock *clock = &setup->clock;
+    struct scard_lent_line_rules rules;
     uint64_t least;
-    memset(wire, 0, sizeof *wire);
-    wire->bgt = setup->silence == SCARD_SILENCE_NONE ? 0 : scard_clock_time(clock, (uint64_t)22 * clock->fi);
-    wire->after = setup->silence == 0 ? wire->bgt : setup->silence;
-    wire->owed = wire->bgt;
-    wire->octet = (uint32_t)scard_clock_time(clock, (uint64_t)12 * clock->fi);
-    wire->most = SCARD_LINE_FOREVER;
     *cwt = scard_clock_time(clock, (uint64_t)scard_t1_cwt(&setup->t1) * clock->fi);
     *bwt = scard_clock_time(clock, scard_t1_bwt(&setup->t1, clock->fi, clock->di));
     least = *cwt / 3 * 4 + 4;
     *bwt = *bwt < least ? least : *bwt;
+    rules = scard_setup_rules(setup, mark, *bwt, *cwt);
+    wire->self = session;
+    wire->mark = mark;
+    scard_lent_line_begin(&wire->line, &rules);
+}
+
+/* Sends the block or waits, as the line says, and tells the line what happened. Returns what the line says then. */
+static inline struct scard_line_next scard_session_step(struct scard_session_wire *wire,
+                                                        const struct scard_line *line, struct scard_line_next next,
+                                                        const uint8_t *block, size_t count)
+{
+    uint8_t octets[SCARD_BURST_ROOM], event;
+    int got = 0;
+    if (next.kind == SCARD_NEXT_SEND) {
+        event = line->send(line->context, block, count) == 0 ? SCARD_EVENT_SENT : SCARD_EVENT_FAILED;
+    } else {
+        got = line->receive(line->context, octets, sizeof octets, next.wait);
+        event = got == 0 ? SCARD_EVENT_SILENT : SCARD_EVENT_CAME;
+    }
+    if (got == SCARD_LINE_INTERRUPTED) {
+        got = 0;
+    } else if (got < 0 || got > (int)sizeof octets) {
+        event = SCARD_EVENT_FAILED;
+        got = 0;
+    }
+    return scard_lent_line_step(&wire->line, event, got > 0 ? octets : NULL, (size_t)got, scard_line_now(line), block,
+                                count);
+}
+
+/* Goes on until the line rests: a burst came, none came, or the exchange can't go on. */
+static inline struct scard_line_next scard_session_go(struct scard_session_wire *wire, const struct scard_line *line,
+                                                      struct scard_line_next next, const uint8_t *block, size_t count)
+{
+    while (next.kind == SCARD_NEXT_SEND || next.kind == SCARD_NEXT_WAIT) {
+        next = scard_session_step(wire, line, next, block, count);
+    }
+    return next;
+}
+
+/* Returns the turn of an end whose line rests without a burst. */
+static inline struct scard_turn scard_session_over(uint8_t kind)
+{
+    return scard_session_turn(kind == SCARD_NEXT_USED_UP ? SCARD_SESSION_USED_UP
+                              : kind == SCARD_NEXT_ECHO  ? SCARD_SESSION_ECHO
+                                                         : SCARD_SESSION_FAILED);
 }
 
 /* ---- the terminal ---- */
@@ -514,8 +309,7 @@ struct scard_session {
     struct scard_setup setup;
     uint64_t bwt; /* BWT and CWT in microseconds; a driver may lengthen them, but never shorten them */
     uint64_t cwt;
-    uint32_t blocks; /* the number of blocks sent in this exchange */
-    struct scard_wire wire;
+    struct scard_session_wire wire;
 };
 
 /* The state and the buffers of an end, as the first five arguments of its calls. */
@@ -538,80 +332,46 @@ static inline struct scard_verdict scard_session_begin(struct scard_session *ses
                                         setup->t1.cwi);
     if (verdict.status == SCARD_OK) {
         session->setup = *setup;
-        session->blocks = 0;
-        scard_wire_begin(&session->wire, setup, &session->bwt, &session->cwt);
-        session->wire.self = session;
-        session->wire.mark = SCARD_WIRE_TERMINAL;
+        scard_session_wire_begin(&session->wire, session, SCARD_SESSION_TERMINAL, setup, &session->bwt,
+                                 &session->cwt);
     }
     return verdict;
 }
 
-/* Sends a block, and receives the burst that comes within `times` times BWT. Returns as scard_wire_burst does. After a
- * broken burst the call discards all octets until the line is silent for that long. So no late rest of the burst passes
- * for a block, and no block of a card that is still working crosses the next one. If a rest comes even later, it is a
- * burst of its own.
- */
-static inline int scard_session_talk(struct scard_session *session, const uint8_t *octets, size_t count,
-                                     uint8_t times)
-{
-    struct scard_wire *wire = &session->wire;
-    const struct scard_line *line = &session->setup.line;
-    uint64_t first = session->bwt * times;
-    int said = scard_wire_send(wire, &session->setup, session->cwt, octets, count);
-    if (said == SCARD_WIRE_COLLISION) { /* it isn't known whether the card received it: as if no answer came */
-        return scard_wire_drain(wire, line, first);
-    }
-    if (said == 0) {
-        said = scard_wire_burst(wire, line, first, session->cwt, first);
-    }
-    return said > 0 ? scard_wire_judge(wire, &session->setup, said, octets, count, first) : said;
-}
-
-/* Returns the turn of a terminal whose wire says this, below 0. */
-static inline struct scard_turn scard_session_over(int said)
-{
-    return scard_session_turn(said == SCARD_WIRE_USED_UP ? SCARD_SESSION_USED_UP
-                              : said == SCARD_WIRE_ECHO  ? SCARD_SESSION_ECHO
-                                                         : SCARD_SESSION_FAILED);
-}
-
-/* Returns the terminal's turn after a burst of `count` octets, or after a timeout if `count` is 0. */
-static inline struct scard_turn scard_session_came(struct scard_session *session, size_t count,
+/* Returns the terminal's turn once its line rests. */
+static inline struct scard_turn scard_session_came(struct scard_session *session, struct scard_line_next next,
                                                    uint8_t out[SCARD_BLOCK_ROOM])
 {
     struct scard_lent_terminal *terminal = &session->terminal;
     const struct scard_setup *setup = &session->setup;
-    if (count == 0) {
+    switch (next.kind) {
+    case SCARD_NEXT_HEARD:
+        return scard_lent_terminal_received(SCARD_SESSION_END(terminal, setup), session->wire.line.framer.octets,
+                                            (size_t)next.count, out, SCARD_BLOCK_ROOM);
+    case SCARD_NEXT_QUIET:
         return scard_lent_terminal_quiet(SCARD_SESSION_END(terminal, setup), out, SCARD_BLOCK_ROOM);
+    default:
+        return scard_session_over(next.kind);
     }
-    return scard_lent_terminal_received(SCARD_SESSION_END(terminal, setup), session->wire.framer.octets, count, out,
-                                        SCARD_BLOCK_ROOM);
 }
 
 /* Sends the block of a turn, and continues until a turn has no block, or a limit of the exchange is reached. */
 static inline struct scard_turn scard_session_run(struct scard_session *session, struct scard_turn turn,
                                                   uint8_t out[SCARD_BLOCK_ROOM])
 {
-    const struct scard_setup *setup = &session->setup;
-    const uint32_t most = setup->most_blocks != 0 ? setup->most_blocks : SCARD_MOST_BLOCKS;
-    const uint64_t time = setup->most_microseconds != 0 ? setup->most_microseconds : SCARD_MOST_MICROSECONDS;
-    int said = 0;
-    if (turn.kind == SCARD_SEND) {
-        session->blocks = 0;
-        scard_wire_start(&session->wire, &setup->line, time);
-        said = scard_wire_late(&session->wire, &setup->line, session->bwt);
+    const struct scard_line *line = &session->setup.line;
+    struct scard_lent_line *state = &session->wire.line;
+    bool is_first = true;
+    state->rules = scard_setup_rules(&session->setup, SCARD_SESSION_TERMINAL, session->bwt, session->cwt);
+    while (turn.kind == SCARD_SEND) {
+        const uint64_t first = session->bwt * turn.wait, now = scard_line_now(line);
+        struct scard_line_next next =
+            is_first ? scard_lent_line_exchange(state, first, now) : scard_lent_line_talk(state, first, now);
+        next = scard_session_go(&session->wire, line, next, out, (size_t)turn.count);
+        turn = scard_session_came(session, next, out);
+        is_first = false;
     }
-    while (turn.kind == SCARD_SEND && said >= 0) {
-        if (session->blocks == most || scard_wire_left(&session->wire, &setup->line) == 0) {
-            return scard_session_turn(SCARD_SESSION_USED_UP);
-        }
-        session->blocks++;
-        said = scard_session_talk(session, out, (size_t)turn.count, turn.wait);
-        if (said >= 0) {
-            turn = scard_session_came(session, (size_t)said, out);
-        }
-    }
-    return said < 0 ? scard_session_over(said) : turn;
+    return turn;
 }
 
 /* Sends a command, and waits for its answer. The command may not overlap the buffers of the session. The results:
@@ -631,7 +391,7 @@ static inline struct scard_turn scard_session_exchange(struct scard_session *ses
 {
     uint8_t out[SCARD_BLOCK_ROOM];
     struct scard_turn turn;
-    if (!scard_wire_is(&session->wire, session, SCARD_WIRE_TERMINAL)) {
+    if (!scard_session_is(&session->wire, session, SCARD_SESSION_TERMINAL)) {
         return scard_session_turn(SCARD_NO_END);
     }
     turn = scard_lent_terminal_transmit(SCARD_SESSION_END(&session->terminal, &session->setup), command, count, out,
@@ -657,7 +417,7 @@ static inline struct scard_turn scard_session_ask_ifs(struct scard_session *sess
 {
     uint8_t out[SCARD_BLOCK_ROOM];
     struct scard_turn turn;
-    if (!scard_wire_is(&session->wire, session, SCARD_WIRE_TERMINAL)) {
+    if (!scard_session_is(&session->wire, session, SCARD_SESSION_TERMINAL)) {
         return scard_session_turn(SCARD_NO_END);
     }
     turn = scard_lent_terminal_ask_ifs(SCARD_SESSION_END(&session->terminal, &session->setup), size, out,
@@ -681,25 +441,33 @@ static inline struct scard_turn scard_session_ask_ifs(struct scard_session *sess
 SCARD_MUST_USE
 static inline struct scard_turn scard_session_resync(struct scard_session *session, const struct scard_setup *setup)
 {
+    struct scard_lent_line *state = &session->wire.line;
     uint8_t out[4], wanted[4];
     struct scard_verdict asks = scard_block_s_request(0, SCARD_S_RESYNCH, NULL, 0, out, sizeof out);
     struct scard_verdict answer = scard_block_s_response(0, SCARD_S_RESYNCH, NULL, 0, wanted, sizeof wanted);
-    int asked, got;
+    int asked;
     session->wire.mark = 0;
     if (asks.status != SCARD_OK || answer.status != SCARD_OK
         || scard_session_begin(session, setup).status != SCARD_OK) {
         return scard_session_turn(SCARD_NO_END);
     }
     session->wire.mark = 0;
-    got = scard_wire_drain(&session->wire, &setup->line, session->bwt);
-    for (asked = 0; asked < 3 && got >= 0; asked++) {
-        got = scard_session_talk(session, out, (size_t)asks.place, 1);
-        if (got == (int)answer.place && memcmp(session->wire.framer.octets, wanted, sizeof wanted) == 0) {
-            session->wire.mark = SCARD_WIRE_TERMINAL;
+    state->rules.most_time = SCARD_LINE_FOREVER;
+    state->rules.most_blocks = UINT32_MAX;
+    for (asked = 0; asked < 3; asked++) {
+        const uint64_t now = scard_line_now(&setup->line);
+        struct scard_line_next next = asked == 0 ? scard_lent_line_clear(state, session->bwt, now)
+                                                 : scard_lent_line_talk(state, session->bwt, now);
+        next = scard_session_go(&session->wire, &setup->line, next, out, sizeof out);
+        if (next.kind != SCARD_NEXT_HEARD && next.kind != SCARD_NEXT_QUIET) {
+            return scard_session_over(next.kind);
+        }
+        if (next.count == sizeof wanted && memcmp(state->framer.octets, wanted, sizeof wanted) == 0) {
+            session->wire.mark = SCARD_SESSION_TERMINAL;
             return scard_session_turn(SCARD_GIVEN_UP);
         }
     }
-    return got < 0 ? scard_session_over(got) : scard_session_turn(SCARD_DEAD);
+    return scard_session_turn(SCARD_DEAD);
 }
 
 /* ---- the card ---- */
@@ -737,7 +505,7 @@ struct scard_card_session {
     uint64_t cwt; /* in microseconds */
     size_t granted;
     uint64_t bwt; /* in microseconds; the terminal expects an answer within it */
-    struct scard_wire wire;
+    struct scard_session_wire wire;
 };
 
 /* Begins a session at a reset of the card. The session copies the setup and the host, and borrows the buffers of the
@@ -758,9 +526,7 @@ static inline struct scard_verdict scard_card_session_begin(struct scard_card_se
         session->setup = *setup;
         session->host = *host;
         session->granted = 0;
-        scard_wire_begin(&session->wire, setup, &session->bwt, &session->cwt);
-        session->wire.self = session;
-        session->wire.mark = SCARD_WIRE_CARD;
+        scard_session_wire_begin(&session->wire, session, SCARD_SESSION_CARD, setup, &session->bwt, &session->cwt);
     }
     return verdict;
 }
@@ -790,7 +556,6 @@ static inline struct scard_turn scard_card_session_host(struct scard_card_sessio
     host = scard_card_session_asks(session, (size_t)command.place);
     switch (host.kind) {
     case SCARD_HOST_REPLY:
-        session->granted = 0;
         return scard_lent_card_reply(SCARD_SESSION_END(&session->card, setup), host.octets, host.count, out,
                                      SCARD_BLOCK_ROOM);
     case SCARD_HOST_TIME:
@@ -802,37 +567,32 @@ static inline struct scard_turn scard_card_session_host(struct scard_card_sessio
     }
 }
 
-/* Calls the host, and discards octets that came during the call. */
-static inline struct scard_turn scard_card_session_ask(struct scard_card_session *session,
-                                                       uint8_t out[SCARD_BLOCK_ROOM])
+/* Passes a burst of `count` octets to the card, calls its host if the host has to reply, and sends the card's block.
+ * Returns the card's turn. If that is SCARD_SEND, *next is what the line says after the block.
+ */
+static inline struct scard_turn scard_card_session_answer(struct scard_card_session *session, size_t count,
+                                                          uint8_t out[SCARD_BLOCK_ROOM], struct scard_line_next *next)
 {
-    struct scard_turn turn = scard_card_session_host(session, out);
-    if (turn.kind == SCARD_SEND && scard_wire_late(&session->wire, &session->setup.line, session->wire.bgt) < 0) {
-        return scard_session_turn(SCARD_SESSION_FAILED);
+    const struct scard_setup *setup = &session->setup;
+    struct scard_lent_line *state = &session->wire.line;
+    struct scard_turn turn = scard_lent_card_received(SCARD_SESSION_END(&session->card, setup), state->framer.octets,
+                                                      count, out, SCARD_BLOCK_ROOM);
+    const bool is_asked = turn.kind == SCARD_DONE;
+    if (is_asked) {
+        turn = scard_card_session_host(session, out);
+    }
+    if (scard_lent_card_command(SCARD_SESSION_END(&session->card, setup)).status != SCARD_OK) {
+        session->granted = 0; /* the host no longer has to reply: a command that comes is a new one */
+    }
+    if (turn.kind == SCARD_SEND) {
+        const uint64_t now = scard_line_now(&setup->line);
+        state->rules.bwt = session->bwt;
+        state->rules.cwt = session->cwt;
+        *next = is_asked ? scard_lent_line_exchange(state, SCARD_LINE_FOREVER, now)
+                         : scard_lent_line_talk(state, SCARD_LINE_FOREVER, now);
+        *next = scard_session_go(&session->wire, &setup->line, *next, out, (size_t)turn.count);
     }
     return turn;
-}
-
-/* Returns the card's turn after a burst of `count` octets. If the card passes a command to its host, the turn is that
- * of the host.
- */
-static inline struct scard_turn scard_card_session_came(struct scard_card_session *session, size_t count,
-                                                        uint8_t out[SCARD_BLOCK_ROOM])
-{
-    struct scard_turn turn =
-        scard_lent_card_received(SCARD_SESSION_END(&session->card, &session->setup), session->wire.framer.octets,
-                                 count, out, SCARD_BLOCK_ROOM);
-    if (turn.kind == SCARD_SEND && out[1] == 0xE0) {
-        session->granted = 0; /* the card answers RESYNCH: its host no longer has to reply */
-    }
-    return turn.kind == SCARD_DONE ? scard_card_session_ask(session, out) : turn;
-}
-
-/* Returns the silence for which a card waits after a broken burst, in microseconds. */
-static inline uint64_t scard_card_session_pause(const struct scard_card_session *session)
-{
-    const uint64_t most = session->bwt / 4 * 3;
-    return most > session->cwt ? most : session->cwt;
 }
 
 /* Serves the terminal: answers its blocks without a time limit. The results:
@@ -852,36 +612,21 @@ static inline uint64_t scard_card_session_pause(const struct scard_card_session 
 SCARD_MUST_USE
 static inline struct scard_turn scard_card_session_serve(struct scard_card_session *session)
 {
-    struct scard_wire *wire = &session->wire;
     const struct scard_line *line = &session->setup.line;
-    uint8_t out[SCARD_BLOCK_ROOM]; /* the block that was sent last, of turn.count octets */
+    struct scard_lent_line *state = &session->wire.line;
+    uint8_t out[SCARD_BLOCK_ROOM] = {0};
     struct scard_turn turn = scard_session_turn(SCARD_SEND);
-    if (!scard_wire_is(wire, session, SCARD_WIRE_CARD)) {
+    struct scard_line_next next;
+    if (!scard_session_is(&session->wire, session, SCARD_SESSION_CARD)) {
         return scard_session_turn(SCARD_NO_END);
     }
-    if (wire->owed > wire->bgt && scard_wire_settle(wire, line) < 0) { /* the last call ended in a broken burst */
-        return scard_session_turn(SCARD_SESSION_FAILED);
+    state->rules.bwt = session->bwt;
+    state->rules.cwt = session->cwt;
+    next = scard_session_go(&session->wire, line, scard_lent_line_serve(state, scard_line_now(line)), out, 0);
+    while (turn.kind == SCARD_SEND && next.kind == SCARD_NEXT_HEARD) {
+        turn = scard_card_session_answer(session, (size_t)next.count, out, &next);
     }
-    scard_lent_framer_begin(&wire->framer);
-    while (turn.kind == SCARD_SEND) {
-        uint64_t broken = scard_card_session_pause(session);
-        int said = scard_wire_burst(wire, line, SCARD_LINE_FOREVER, session->cwt, broken);
-        said = said > 0 ? scard_wire_judge(wire, &session->setup, said, out, (size_t)turn.count, broken) : said;
-        if (said <= 0) {
-            return scard_session_over(said);
-        }
-        turn = scard_card_session_came(session, (size_t)said, out);
-        said = turn.kind != SCARD_SEND
-            ? 0 : scard_wire_send(wire, &session->setup, session->cwt, out, (size_t)turn.count);
-        if (said == SCARD_WIRE_COLLISION) { /* the terminal asks for the block again */
-            said = scard_wire_drain(wire, line, broken);
-            scard_lent_framer_begin(&wire->framer);
-        }
-        if (said < 0) {
-            return scard_session_turn(SCARD_SESSION_FAILED);
-        }
-    }
-    return turn;
+    return turn.kind == SCARD_SEND ? scard_session_over(next.kind) : turn;
 }
 
 #ifdef __cplusplus
