@@ -10,7 +10,7 @@ use crate::progress::{FOREVER, Progress, Rules, is_set};
 use line_core::Framer;
 
 /// A block with a wrong check octet. An end gets it in place of a burst that it may not take.
-const DAMAGED: &[u8] = &[0x00, 0x00, 0x00, 0x01];
+const DAMAGED: [u8; 4] = [0x00, 0x00, 0x00, 0x01];
 
 /// The line of one end: its rules, what the end has done on it, and the burst that came so far.
 #[repr(C)]
@@ -164,8 +164,9 @@ fn replace(framer: &mut Framer, is_spoiled: bool)
         → HasHeard framer.new (handed_over is_spoiled burst) }
 {
     if is_spoiled {
+        let damaged = DAMAGED;
         framer.restart();
-        framer.feed(DAMAGED);
+        framer.feed(&damaged);
     }
 }
 
