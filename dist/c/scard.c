@@ -61,15 +61,15 @@ static const unsigned char constants[7984] = {
     101, 32, 50, 46, 50, 0, 49, 49, 46, 54, 46, 50, 46, 51, 32, 114, 117, 108, 101, 32, 50, 46, 49, 44, 32, 49,
     49, 46, 54, 46, 51, 46, 50, 32, 114, 117, 108, 101, 32, 55, 46, 49, 0, 49, 49, 46, 51, 46, 50, 46, 49, 0, 49,
     49, 46, 54, 46, 50, 46, 51, 32, 114, 117, 108, 101, 32, 50, 46, 49, 0, 49, 49, 46, 54, 46, 50, 46, 51, 32,
-    114, 117, 108, 101, 32, 49, 0, 0, 0, 0, 1, 32, 111, 99, 116, 101, 116, 32, 97, 118, 97, 105, 108, 97, 98, 108,
-    101, 32, 111, 99, 116, 101, 116, 115, 32, 97, 118, 97, 105, 108, 97, 98, 108, 101, 119, 114, 111, 110, 103,
-    32, 76, 101, 58, 32, 116, 104, 101, 32, 99, 97, 114, 100, 32, 104, 97, 115, 32, 97, 32, 113, 117, 101, 114,
-    121, 32, 111, 102, 32, 32, 111, 99, 116, 101, 116, 115, 99, 111, 117, 110, 116, 101, 114, 32, 97, 116, 32, 44,
-    32, 115, 117, 99, 104, 32, 97, 115, 32, 116, 104, 101, 32, 116, 114, 105, 101, 115, 32, 108, 101, 102, 116, 0,
-    144, 0, 0, 0, 0, 0, 0, 0, 184, 8, 1, 0, 0, 0, 0, 0, 24, 0, 0, 0, 0, 0, 0, 0, 98, 0, 0, 0, 0, 0, 0, 0, 208, 8,
-    1, 0, 0, 0, 0, 0, 38, 0, 0, 0, 0, 0, 0, 0, 98, 129, 0, 0, 0, 0, 0, 0, 246, 8, 1, 0, 0, 0, 0, 0, 33, 0, 0, 0,
-    0, 0, 0, 0, 98, 130, 0, 0, 0, 0, 0, 0, 23, 9, 1, 0, 0, 0, 0, 0, 46, 0, 0, 0, 0, 0, 0, 0, 98, 131, 0, 0, 0, 0,
-    0, 0, 69, 9, 1, 0, 0, 0, 0, 0, 25, 0, 0, 0, 0, 0, 0, 0, 98, 132, 0, 0, 0, 0, 0, 0, 94, 9, 1, 0, 0, 0, 0, 0,
+    114, 117, 108, 101, 32, 49, 0, 32, 111, 99, 116, 101, 116, 32, 97, 118, 97, 105, 108, 97, 98, 108, 101, 32,
+    111, 99, 116, 101, 116, 115, 32, 97, 118, 97, 105, 108, 97, 98, 108, 101, 119, 114, 111, 110, 103, 32, 76,
+    101, 58, 32, 116, 104, 101, 32, 99, 97, 114, 100, 32, 104, 97, 115, 32, 97, 32, 113, 117, 101, 114, 121, 32,
+    111, 102, 32, 32, 111, 99, 116, 101, 116, 115, 99, 111, 117, 110, 116, 101, 114, 32, 97, 116, 32, 44, 32, 115,
+    117, 99, 104, 32, 97, 115, 32, 116, 104, 101, 32, 116, 114, 105, 101, 115, 32, 108, 101, 102, 116, 0, 0, 0, 0,
+    0, 144, 0, 0, 0, 0, 0, 0, 0, 184, 8, 1, 0, 0, 0, 0, 0, 24, 0, 0, 0, 0, 0, 0, 0, 98, 0, 0, 0, 0, 0, 0, 0, 208,
+    8, 1, 0, 0, 0, 0, 0, 38, 0, 0, 0, 0, 0, 0, 0, 98, 129, 0, 0, 0, 0, 0, 0, 246, 8, 1, 0, 0, 0, 0, 0, 33, 0, 0,
+    0, 0, 0, 0, 0, 98, 130, 0, 0, 0, 0, 0, 0, 23, 9, 1, 0, 0, 0, 0, 0, 46, 0, 0, 0, 0, 0, 0, 0, 98, 131, 0, 0, 0,
+    0, 0, 0, 69, 9, 1, 0, 0, 0, 0, 0, 25, 0, 0, 0, 0, 0, 0, 0, 98, 132, 0, 0, 0, 0, 0, 0, 94, 9, 1, 0, 0, 0, 0, 0,
     38, 0, 0, 0, 0, 0, 0, 0, 98, 133, 0, 0, 0, 0, 0, 0, 132, 9, 1, 0, 0, 0, 0, 0, 34, 0, 0, 0, 0, 0, 0, 0, 98,
     134, 0, 0, 0, 0, 0, 0, 166, 9, 1, 0, 0, 0, 0, 0, 34, 0, 0, 0, 0, 0, 0, 0, 99, 0, 0, 0, 0, 0, 0, 0, 200, 9, 1,
     0, 0, 0, 0, 0, 36, 0, 0, 0, 0, 0, 0, 0, 99, 129, 0, 0, 0, 0, 0, 0, 236, 9, 1, 0, 0, 0, 0, 0, 32, 0, 0, 0, 0,
@@ -19233,7 +19233,8 @@ static void rattle_export_scard_lent_line_step(struct call *m, u64 v0, u64 v1, u
     u32 v13 = 0;
     u64 w0 = 0;
     u8 *f15 = NULL;
-    u8 *p454 = NULL;
+    u8 *p373 = NULL;
+    u8 *p441 = NULL;
     v15 = m->g0 - 128ull;
     f15 = at(m, v15, 128);
     v8 = v15;
@@ -19246,38 +19247,38 @@ static void rattle_export_scard_lent_line_step(struct call *m, u64 v0, u64 v1, u
     v13 = 7u;
     v6 = 0ull;
     switch ((u32)(((u64)v2) & 255ull)) {
-        case 0: goto after13;
-        case 1: goto after12;
-        case 2: goto after11;
-        case 3: goto after10;
-        case 4: goto after8;
+        case 0: goto after11;
+        case 1: goto after10;
+        case 2: goto after9;
+        case 3: goto after8;
+        case 4: goto after6;
         default: goto after1;
     }
-after13:;
-    if (load8(m, v1 + 132ull, 0) != 4u) { goto after7; }
+after11:;
+    if (load8(m, v1 + 132ull, 0) != 4u) { goto after5; }
     session_core_progress_Progress_sent(m, v15, v12, v1, v3, v5, v10, v7);
     v12 = get64(f15 + 8);
     v13 = get8(f15);
-    goto after9;
-after12:;
+    goto after7;
+after10:;
     v2 = load8(m, v1 + 132ull, 0);
-    if (v2 == 0) { goto after7; }
-    if (v2 < 4u) { goto after14; }
-    if (v2 == 4u) { goto after7; }
-    if (v2 > 7u) { goto after7; }
-after14:;
+    if (v2 == 0) { goto after5; }
+    if (v2 < 4u) { goto after12; }
+    if (v2 == 4u) { goto after5; }
+    if (v2 > 7u) { goto after5; }
+after12:;
     v6 = 0ull;
-    if (v4 != 0ull) { goto after15; }
+    if (v4 != 0ull) { goto after13; }
     session_core_progress_Progress_interrupted(m, v15 + 16ull, v12, v1, v3, v5, v10, v7);
     v12 = get64(f15 + 24);
     v13 = get8(f15 + 16);
-    goto after9;
-after15:;
-    if (load64(m, v1 + 24ull, 0) == 0xFFFFFFFFFFFFFFFFull) { goto after16; }
+    goto after7;
+after13:;
+    if (load64(m, v1 + 24ull, 0) == 0xFFFFFFFFFFFFFFFFull) { goto after14; }
     v6 = load64(m, v1 + 32ull, 0);
     multi3(m, v15 + 48ull, v6, 0ull, v4, 0ull);
     v6 = (v6 == 0) ? 0ull : ((get64(f15 + 56) != 0ull) ? 0xFFFFFFFFFFFFFFFFull : (v6 * v4));
-after16:;
+after14:;
     v14 = v1 + 96ull;
     w0 = v14;
     v14 = v6 + load64(m, v14, 0);
@@ -19285,26 +19286,26 @@ after16:;
     session_core_progress_Progress_take_in(m, v15 + 32ull, v12, v1, v3, v11, v4, 0u, v5, v10, v7);
     v12 = get64(f15 + 40);
     v13 = get8(f15 + 32);
-    goto after9;
-after11:;
+    goto after7;
+after9:;
     v2 = load8(m, v1 + 132ull, 0);
-    if (v2 == 0) { goto after7; }
-    if (v2 < 4u) { goto after17; }
-    if (v2 == 4u) { goto after7; }
-    if (v2 > 7u) { goto after7; }
-after17:;
+    if (v2 == 0) { goto after5; }
+    if (v2 < 4u) { goto after15; }
+    if (v2 == 4u) { goto after5; }
+    if (v2 > 7u) { goto after5; }
+after15:;
     v6 = 0ull;
-    if (v4 != 0ull) { goto after18; }
+    if (v4 != 0ull) { goto after16; }
     session_core_progress_Progress_interrupted(m, v15 + 64ull, v12, v1, v3, v5, v10, v7);
     v12 = get64(f15 + 72);
     v13 = get8(f15 + 64);
-    goto after9;
-after18:;
-    if (load64(m, v1 + 24ull, 0) == 0xFFFFFFFFFFFFFFFFull) { goto after19; }
+    goto after7;
+after16:;
+    if (load64(m, v1 + 24ull, 0) == 0xFFFFFFFFFFFFFFFFull) { goto after17; }
     v6 = load64(m, v1 + 32ull, 0);
     multi3(m, v15 + 96ull, v6, 0ull, v4, 0ull);
     v6 = (v6 == 0) ? 0ull : ((get64(f15 + 104) != 0ull) ? 0xFFFFFFFFFFFFFFFFull : (v6 * v4));
-after19:;
+after17:;
     v14 = v1 + 96ull;
     w0 = v14;
     v14 = v6 + load64(m, v14, 0);
@@ -19312,62 +19313,57 @@ after19:;
     session_core_progress_Progress_take_in(m, v15 + 80ull, v12, v1, v3, v11, v4, 1u, v5, v10, v7);
     v12 = get64(f15 + 88);
     v13 = get8(f15 + 80);
-    goto after9;
-after10:;
+    goto after7;
+after8:;
     v2 = load8(m, v1 + 132ull, 0);
-    if (v2 == 0) { goto after7; }
-    if (v2 < 4u) { goto after20; }
-    if (v2 == 4u) { goto after7; }
-    if (v2 > 7u) { goto after7; }
-after20:;
+    if (v2 == 0) { goto after5; }
+    if (v2 < 4u) { goto after18; }
+    if (v2 == 4u) { goto after5; }
+    if (v2 > 7u) { goto after5; }
+after18:;
     session_core_progress_Progress_silent(m, v15 + 112ull, v12, v1, v3, v5, v10, v7);
     v12 = get64(f15 + 120);
     v13 = get8(f15 + 112);
-after9:;
+after7:;
     if ((v13 & 255u) != 2u) { goto after4; }
     if ((load8(m, v1 + 136ull, 0) & 255u) == 0) { goto after4; }
-    v1 = v1 + 152ull;
-    if ((v1 - 0x103F6ull) > 3ull) { goto after6; }
-    store32(m, v1, 0, 0x1000000u);
-    goto after5;
-after8:;
+    v3 = 4ull;
+    p373 = held(m, v1 + 144ull, 12);
+    put_held64(p373, 0, m, v1 + 144ull, 4ull);
+    put_held32(p373, 8, m, v1 + 144ull, 0x1000000u);
+    goto after2;
+after6:;
     v6 = v1 + 132ull;
-    if (((load8(m, v6, 0) + 0xFFFFFFF8u) & 255u) < 249u) { goto after7; }
+    if (((load8(m, v6, 0) + 0xFFFFFFF8u) & 255u) < 249u) { goto after5; }
     session_core_progress_Progress_leave(m, v12, v1, v3);
     store8(m, v6, 0, 0u);
     v13 = 4u;
-after7:;
+after5:;
     v6 = 0ull;
     goto after1;
-after6:;
-    store32(m, v1, 0, 0x1000000u);
-after5:;
-    v1 = 4ull;
-    store64(m, v3, 0, 4ull);
-    goto after2;
 after4:;
     v1 = load64(m, v3, 0);
-    v1 = (v1 < 259ull) ? v1 : 259ull;
+    v3 = (v1 < 259ull) ? v1 : 259ull;
     v6 = 0ull;
     switch ((u32)(((u64)v13) & 255ull)) {
-        case 1: goto after21;
+        case 1: goto after19;
         case 2: goto after2;
         default: goto after1;
     }
-after21:;
+after19:;
     v6 = 0ull;
     v9 = v12;
     goto after1;
 after2:;
     v13 = 2u;
-    v6 = v1;
+    v6 = v3;
 after1:;
-    p454 = held(m, v0, 24);
-    put_held32(p454, 1, m, v0, 0u);
-    put_held8(p454, 0, m, v0, v13);
-    put_held32(p454, 4, m, v0, 0u);
-    put_held64(p454, 16, m, v0, v9);
-    put_held64(p454, 8, m, v0, v6);
+    p441 = held(m, v0, 24);
+    put_held32(p441, 1, m, v0, 0u);
+    put_held8(p441, 0, m, v0, v13);
+    put_held32(p441, 4, m, v0, 0u);
+    put_held64(p441, 16, m, v0, v9);
+    put_held64(p441, 8, m, v0, v6);
     m->g0 = v15 + 128ull;
 }
 
@@ -19388,34 +19384,29 @@ static void rattle_export_scard_lent_line_talk(struct call *m, u64 v0, u64 v1, u
     u64 v4 = 0;
     u64 v5 = 0;
     u64 v7 = 0;
-    u64 v8 = 0;
     u32 v6 = 0;
-    u8 *f8 = NULL;
-    u8 *p104 = NULL;
-    v8 = m->g0 - 16ull;
-    f8 = at(m, v8, 16);
-    v4 = v8;
+    u8 *f7 = NULL;
+    u8 *p54 = NULL;
+    u8 *p91 = NULL;
+    v7 = m->g0 - 16ull;
+    f7 = at(m, v7, 16);
+    v4 = v7;
     m->g0 = v4;
     store64(m, v1 + 64ull, 0, v2);
     v2 = v1 + 144ull;
-    session_core_progress_Progress_talk(m, v8, v1 + 56ull, v1, v2, v3);
-    v5 = get64(f8 + 8);
-    v6 = get8(f8);
+    session_core_progress_Progress_talk(m, v7, v1 + 56ull, v1, v2, v3);
+    v5 = get64(f7 + 8);
+    v6 = get8(f7);
     if (v6 != 2u) { goto after5; }
     if ((load8(m, v1 + 136ull, 0) & 255u) == 0) { goto after5; }
-    v1 = v1 + 152ull;
-    if ((v1 - 0x103F6ull) > 3ull) { goto after7; }
-    store32(m, v1, 0, 0x1000000u);
-    goto after6;
-after7:;
-    store32(m, v1, 0, 0x1000000u);
-after6:;
-    v7 = 4ull;
-    store64(m, v2, 0, 4ull);
+    v2 = 4ull;
+    p54 = held(m, v1 + 144ull, 12);
+    put_held64(p54, 0, m, v1 + 144ull, 4ull);
+    put_held32(p54, 8, m, v1 + 144ull, 0x1000000u);
     goto after2;
 after5:;
     v1 = load64(m, v2, 0);
-    v7 = (v1 < 259ull) ? v1 : 259ull;
+    v2 = (v1 < 259ull) ? v1 : 259ull;
     v3 = 0ull;
     v1 = 0ull;
     switch (v6) {
@@ -19428,15 +19419,15 @@ after3:;
     goto after1;
 after2:;
     v1 = 0ull;
-    v3 = v7;
+    v3 = v2;
 after1:;
-    p104 = held(m, v0, 24);
-    put_held32(p104, 1, m, v0, 0u);
-    put_held8(p104, 0, m, v0, v6);
-    put_held32(p104, 4, m, v0, 0u);
-    put_held64(p104, 16, m, v0, v1);
-    put_held64(p104, 8, m, v0, v3);
-    m->g0 = v8 + 16ull;
+    p91 = held(m, v0, 24);
+    put_held32(p91, 1, m, v0, 0u);
+    put_held8(p91, 0, m, v0, v6);
+    put_held32(p91, 4, m, v0, 0u);
+    put_held64(p91, 16, m, v0, v1);
+    put_held64(p91, 8, m, v0, v3);
+    m->g0 = v7 + 16ull;
 }
 
 static void module_scard_lent_receiver_begin(struct call *m, u64 v0, u64 v1, u32 v2, u32 v3, u64 v4)
@@ -20369,28 +20360,28 @@ after35:;
     v1 = v2 & 255u;
     v8 = (u32)(v1 == 1u);
     v4 = v8 ? 16ull : 17ull;
-    v5 = v8 ? 0x103FAull : 0x1040Aull;
+    v5 = v8 ? 0x103F6ull : 0x10406ull;
     v8 = v1 ? v1 : 256u;
     v7 = 10ull;
-    v6 = 0x1041Bull;
+    v6 = 0x10417ull;
     goto after1;
 after34:;
     if (((v2 + 0xFFFFFFFEu) & 255u) > 126u) { goto after32; }
     v8 = v2 & 255u;
     v4 = 7ull;
-    v5 = 0x1043Dull;
+    v5 = 0x10439ull;
     v0 = 1u;
     v7 = 24ull;
-    v6 = 0x10425ull;
+    v6 = 0x10421ull;
     goto after1;
 after33:;
     if ((v2 & 240u) != 192u) { goto after32; }
     v8 = (v2 + 64u) & 255u;
     v4 = 24ull;
-    v5 = 0x1044Full;
+    v5 = 0x1044Bull;
     v0 = 1u;
     v7 = 11ull;
-    v6 = 0x10444ull;
+    v6 = 0x10440ull;
     goto after1;
 after32:;
     v6 = 0xFFFFFFFFFFFFFBB0ull;
@@ -20737,7 +20728,7 @@ after21:;
     v1 = v2 & 255u;
     v8 = (u32)(v1 == 1u);
     v4 = v8 ? 16ull : 17ull;
-    v5 = v8 ? 0x103FAull : 0x1040Aull;
+    v5 = v8 ? 0x103F6ull : 0x10406ull;
     v8 = v1 ? v1 : 256u;
     v6 = 0x10000ull;
     v7 = 0ull;
@@ -24021,7 +24012,6 @@ struct scard_line_next scard_lent_line_talk(struct scard_lent_line *line, uint64
     SHAPED_HERE
     struct scard_line_next result;
     begin(&m, stack, sizeof stack, shaped);
-    lend(&m, 0, constants, sizeof constants);
     LEND(&m, 2, line, 1, shape_of_lent_line(0));
     m.g0 -= 24;
     module_scard_lent_line_talk(&m, m.g0, ADDRESS(2), (u64)first, (u64)now);
@@ -24055,7 +24045,7 @@ struct scard_line_next scard_lent_line_step(struct scard_lent_line *line, uint8_
     SHAPED_HERE
     struct scard_line_next result;
     begin(&m, stack, sizeof stack, shaped);
-    lend(&m, 0, constants, sizeof constants);
+    lend(&m, 0, first_constants, sizeof first_constants);
     LEND(&m, 2, line, 1, shape_of_lent_line(0));
     lend(&m, 3, octets, count);
     lend(&m, 4, block, block_count);
