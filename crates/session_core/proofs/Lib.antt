@@ -1,2 +1,4 @@
 pub mod Parts
 pub mod Left
+pub mod Ends
+pub mod Times

@@ -6,7 +6,9 @@ use Rattle.session_core.specs.declared.event.Next.TheVariants.{Send, Wait, Heard
 use Rattle.session_core.specs.declared.progress.Rules.{Rules}
 use Rattle.session_core.specs.declared.lines.Line.{Line}
 use Rattle.session_core.specs.declared.lines.LineNext.{LineNext}
-use Rattle.session_core.specs.Wire.{Ruled, Doing, seen, Step, step_of, handed_over, on_sent, on_came, on_silent, on_failed}
+use Rattle.session_core.specs.declared.lines.Start.{Start}
+use Rattle.session_core.specs.declared.lines.Start.TheVariants.{Exchange, Clear, Talk}
+use Rattle.session_core.specs.Wire.{Ruled, Doing, seen, Step, step_of, handed_over, on_sent, on_came, on_silent, on_failed, begins, clears, talks}
 
 -- what the end has done, with the time that it waits for the first octet of a burst
 abbrev pub first_of : Line → ℕ → Doing
@@ -40,14 +42,23 @@ abbrev pub held_over : Next → Bool → List ℕ → List ℕ
 held_over Heard is_spoiled burst = handed_over is_spoiled burst
 held_over next is_spoiled burst = burst
 
--- What a call leaves. The rules stay. The number of octets that are handed over is that of the burst, at most 259.
-pub record IsLeft (p : Doing) (burst : List ℕ) (next : Next) (rules : Rules) (new : Line)
-    (told : LineNext) : Type 0 where
+-- The line after this step of the table. The rules stay.
+pub record IsMoved (step : Step) (rules : Rules) (new : Line) : Type 0 where
   pub rules_are : new.rules ≡ rules
-  pub progress : seen new.progress ≡ p
-  pub burst_is : HasHeard new.framer (held_over next p.is_spoiled burst)
-  pub told_is : told ≡ told_next next (min new.framer.count handed)
+  pub progress : seen new.progress ≡ step.progress
+  pub burst_is : HasHeard new.framer (held_over step.next step.progress.is_spoiled step.burst)
 
--- the line after this step of the table
+-- the line after this step, and what the end does next
+abbrev pub GoesTo : Step → Rules → Line → Next → Type 0
+GoesTo step rules new next = IsMoved step rules new × (next ≡ step.next)
+
+-- The line after this step, and what the end does next as plain numbers. The number of octets that are handed over is
+-- that of the burst, at most 259.
 abbrev pub IsTold : Step → Rules → Line → LineNext → Type 0
-IsTold step rules new told = IsLeft step.progress step.burst step.next rules new told
+IsTold step rules new told = IsMoved step rules new × (told ≡ told_next step.next (min new.framer.count handed))
+
+-- how an end begins to send a block
+abbrev pub started : Start → Ruled → Doing → List ℕ → ℕ → Step
+started Exchange r p burst now = begins r p burst now
+started Clear r p burst now = clears r p burst now
+started Talk r p burst now = talks r p burst now

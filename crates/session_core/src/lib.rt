@@ -8,17 +8,27 @@
 //! that was sent or received. Octets are passed once each, in the order in which they came. A block counts as sent
 //! once its last bit is on the line.
 //!
-//! [`Progress`] is what one end has done on its line so far: `specs/Wire.antt` is its table.
+//! - [`Progress`] is what one end has done on its line so far, and [`Line`] has its rules and its burst besides:
+//!   `specs/Wire.antt` is the table.
+//! - [`terminal`] and [`card`] are sessions: an end of t1_core over its line. `specs/Terminals.antt` and
+//!   `specs/Cards.antt` are their tables, and each call returns an [`Action`].
+//! - [`Setup`] has the numbers of a session, from which the rules of its line follow: `specs/Setup.antt`.
 #![tactic(auto)]
 
+pub mod action;
 pub mod bursting;
+pub mod card;
 pub mod event;
 pub mod limits;
 pub mod lines;
 pub mod progress;
 pub mod sending;
+pub mod setup;
 pub mod stepping;
+pub mod terminal;
 
+pub use action::Action;
 pub use event::{Event, Next};
-pub use lines::{Line, LineNext};
+pub use lines::{Line, LineNext, Start};
 pub use progress::{FOREVER, Moment, NO_SILENCE, Phase, Progress, Rules};
+pub use setup::{Limits, Setup};

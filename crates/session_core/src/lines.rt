@@ -3,7 +3,7 @@
 ghost use Rattle.std.specs.Prelude.{◌≡◌, List, [], ℕ};
 ghost use Rattle.line_core.specs.Bursts.{HasHeard};
 ghost use Rattle.session_core.specs.Wire.{ruled, seen, fresh, begins, clears, talks, serves, forever, handed_over, IsStep, step_of};
-ghost use Rattle.session_core.specs.Lines.{first_of, told_next, stepped, held_over, IsTold, IsLeft};
+ghost use Rattle.session_core.specs.Lines.{first_of, told_next, stepped, held_over, started, IsTold, GoesTo};
 
 use crate::event::Next;
 use crate::progress::{FOREVER, Progress, Rules, is_set};
@@ -41,6 +41,17 @@ pub struct LineNext {
     pub wait: u64,
 }
 
+/// How an end begins to send a block.
+#[derive(Clone, Copy)]
+pub enum Start {
+    /// It is the first block of an exchange. Octets that came late are dropped first.
+    Exchange,
+    /// It is the first block of an exchange. Octets are dropped until the line is silent.
+    Clear,
+    /// It is another block of the exchange.
+    Talk,
+}
+
 impl LineNext {
     /// Returns what an end does next. A burst that the end takes has so many octets.
     pub fn of(next: Next, count: usize) -> LineNext
@@ -72,6 +83,32 @@ impl Line {
         self.framer.restart();
     }
 
+    /// Begins to send a block, after which the end waits so long for the first octet.
+    pub(crate) fn start(&mut self, start: Start, first: u64, now: u64) -> Next
+        ensures { (burst : List ℕ) → HasHeard self.old.framer burst
+            → GoesTo (started start (ruled self.old.rules) (first_of self.old first) burst now) self.old.rules
+            self.new result }
+    {
+        self.progress.first = first;
+        let next = self.begun(start, now);
+        self.hand(next)
+    }
+
+    /// Begins to send a block.
+    #[tactic(auto, using(crate::proofs::Parts::is_step))]
+    fn begun(&mut self, start: Start, now: u64) -> Next
+        ensures rules { self.new.rules ≡ self.old.rules }
+        ensures step { (burst : List ℕ) → HasHeard self.old.framer burst
+            → IsStep (started start (ruled self.old.rules) (seen self.old.progress) burst now)
+            (seen self.new.progress) self.new.framer result }
+    {
+        match start {
+            Start::Exchange => self.progress.begin(&self.rules, now),
+            Start::Clear => self.progress.begin_silent(&self.rules, now),
+            Start::Talk => self.progress.talk(&self.rules, &mut self.framer, now),
+        }
+    }
+
     /// Begins an exchange: octets that came late are dropped first. After its first block the end waits so long for
     /// the first octet.
     pub fn exchange(&mut self, first: u64, now: u64) -> LineNext
@@ -79,9 +116,8 @@ impl Line {
             → IsTold (begins (ruled self.old.rules) (first_of self.old first) burst now) self.old.rules
             self.new result }
     {
-        self.progress.first = first;
-        let next = self.progress.begin(&self.rules, now);
-        self.put(next)
+        let next = self.start(Start::Exchange, first, now);
+        LineNext::of(next, self.framer.kept())
     }
 
     /// Begins an exchange with a silence: octets are dropped until then.
@@ -90,9 +126,8 @@ impl Line {
             → IsTold (clears (ruled self.old.rules) (first_of self.old first) burst now) self.old.rules
             self.new result }
     {
-        self.progress.first = first;
-        let next = self.progress.begin_silent(&self.rules, now);
-        self.put(next)
+        let next = self.start(Start::Clear, first, now);
+        LineNext::of(next, self.framer.kept())
     }
 
     /// Sends the next block of an exchange, after which the end waits so long for the first octet.
@@ -101,9 +136,8 @@ impl Line {
             → IsTold (talks (ruled self.old.rules) (first_of self.old first) burst now) self.old.rules
             self.new result }
     {
-        self.progress.first = first;
-        let next = self.progress.talk(&self.rules, &mut self.framer, now);
-        self.put(next)
+        let next = self.start(Start::Talk, first, now);
+        LineNext::of(next, self.framer.kept())
     }
 
     /// Begins to serve the terminal, or goes on after the line failed.
@@ -112,9 +146,19 @@ impl Line {
             → IsTold (serves (ruled self.old.rules) (first_of self.old forever) burst now) self.old.rules
             self.new result }
     {
+        let next = self.listen(now);
+        LineNext::of(next, self.framer.kept())
+    }
+
+    /// Begins to serve the terminal, or goes on after the line failed.
+    pub(crate) fn listen(&mut self, now: u64) -> Next
+        ensures { (burst : List ℕ) → HasHeard self.old.framer burst
+            → GoesTo (serves (ruled self.old.rules) (first_of self.old forever) burst now) self.old.rules
+            self.new result }
+    {
         self.progress.first = FOREVER;
         let next = self.progress.serve(&self.rules, &mut self.framer, now);
-        self.put(next)
+        self.hand(next)
     }
 
     /// Says what happened on the line: by its number, 0 sent, 1 came, 2 garbled, 3 silent and 4 failed. `octets` are
@@ -122,6 +166,16 @@ impl Line {
     pub fn step(&mut self, event: u8, octets: &[u8], now: u64, block: &[u8]) -> LineNext
         ensures { (burst : List ℕ) → HasHeard self.old.framer burst
             → IsTold (stepped event (ruled self.old.rules) (seen self.old.progress) burst octets.now now
+            block.now) self.old.rules self.new result }
+    {
+        let next = self.happen(event, octets, now, block);
+        LineNext::of(next, self.framer.kept())
+    }
+
+    /// Takes what happened on the line, by its number.
+    pub(crate) fn happen(&mut self, event: u8, octets: &[u8], now: u64, block: &[u8]) -> Next
+        ensures { (burst : List ℕ) → HasHeard self.old.framer burst
+            → GoesTo (stepped event (ruled self.old.rules) (seen self.old.progress) burst octets.now now
             block.now) self.old.rules self.new result }
     {
         let framer = &mut self.framer;
@@ -134,16 +188,16 @@ impl Line {
             now,
             block,
         );
-        self.put(next)
+        self.hand(next)
     }
 
     /// Returns what the end does next. If it may not take its burst, a damaged block is in place of that.
-    fn put(&mut self, next: Next) -> LineNext
+    fn hand(&mut self, next: Next) -> Next
         ensures { (burst : List ℕ) → HasHeard self.old.framer burst
-            → IsLeft (seen self.old.progress) burst next self.old.rules self.new result }
+            → GoesTo (step_of (seen self.old.progress) burst next) self.old.rules self.new result }
     {
         hand_over(&mut self.framer, next, is_set(self.progress.is_spoiled));
-        LineNext::of(next, self.framer.kept())
+        next
     }
 }
 

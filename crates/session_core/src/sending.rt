@@ -347,12 +347,21 @@ fn agrees(octets: &[u8], rest: &[u8]) -> bool
     }
 }
 
-/// Whether octets begin with the first ones. It is a function of its own, so that a library has it once.
+/// Whether octets begin with the first ones. It is a function of its own, so that a library has it once, and a plain
+/// loop, which is the shortest code.
 #[inline(never)]
 pub(crate) fn begin_with(octets: &[u8], first: &[u8]) -> bool
     ensures { result ≡ starts_with nat_eq octets.now first.now }
 {
-    octets.starts_with(first)
+    if octets.len() < first.len() {
+        return false;
+    }
+    for place in 0..first.len() {
+        if octets[place] != first[place] {
+            return false;
+        }
+    }
+    true
 }
 
 impl Rules {

@@ -1,0 +1,17 @@
+use Rattle.t1_core.specs.Terminal.{ask_ifs}
+use Rattle.t1_core.specs.Views.{terminal_held}
+use Rattle.session_core.specs.declared.lines.Start.TheVariants.{Exchange}
+use Rattle.session_core.specs.Wire.{seen}
+use Rattle.session_core.proofs.Ends.{turns-ok}
+use Rattle.session_core.proofs.terminal.ask_ifs.Goals as goal
+
+pub returns-clause-turn : goal.returns-clause-turn
+returns-clause-turn c = λ burst h.
+    turns-ok (terminal_held c.args.end.now c.args.command.now c.args.answer.now) (ask_ifs c.args.size) Exchange
+    c.args.limits
+    c.args.line.now.rules (seen c.args.line.now.progress) burst c.args.now
+    (terminal_held c.ask_ifs_into.new.self c.args.command.now c.args.answer.now) c.turn.new.self
+    c.args.own.now c.turn.new.own c.args.out.now c.ask_ifs_into.new.out c.in_ok-turn.turn c.answer_len.result
+    c.turn.result
+    c.in_ok-turn.ensures.turn c.in_ok-turn.ensures.state
+    (c.answer_len.ensures c.args.command.now) (c.turn.ensures burst h)
