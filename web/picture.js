@@ -114,7 +114,7 @@ async function ladder(ask, exchange, told) {
 async function judged(ask, { values, input }) {
   const { text } = await ask(wordsOf({ ...values, rules: "0", explain: "0", json: "0" }), input);
   const trace = (await new Blob([input]).text()).split("\n").map((it) => it.trim().split(/\s+/)).filter(([it]) => it);
-  const lines = trace.map((it) => (/^(reset|#)/.test(it[0]) ? ["note", ...it]
+  const lines = trace.map((it) => (/^(reset|begins|#)/.test(it[0]) ? ["note", ...it]
     : it.map((word, at) => (at % 2 ? word.toUpperCase() : word))).join(" "));
   const all = lines.filter((it) => /^[tc] /.test(it)).length;
   const others = all - Number(text.match(/(\d+) blocks?[,\n]/)?.[1] ?? all);

@@ -71,8 +71,14 @@ class Schema(unittest.TestCase):
             "card": 1, "unseen": 0, "told": [found],
         }
         self.assertTrue(self.validator.is_valid(judged))
-        for name, value in (("verdict", "ok"), ("deviations", 0), ("late", 0), ("told", {}), ("other", 1)):
+        for name, value in (
+            ("verdict", "ok"), ("verdict", "unsure"), ("deviations", 0), ("late", 0), ("card_damaged", 0), ("told", {}),
+            ("other", 1),
+        ):
             self.assertFalse(self.validator.is_valid({**judged, name: value}), name)
+        unsure = {"version": 1, "kind": "judge", "verdict": "unsure", "blocks": 2, "unseen": 1, "told": []}
+        self.assertTrue(self.validator.is_valid(unsure))
+        self.assertFalse(self.validator.is_valid({**unsure, "verdict": "ok"}))
         for name, value in (
             ("kind", "late"), ("block", 0), ("end", "reader"), ("rule", "no block at all"), ("due", "I-block 2"),
             ("clause", "2.1"), ("before", 1),

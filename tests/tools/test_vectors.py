@@ -165,6 +165,8 @@ class Answers(unittest.TestCase):
     def test_judgments(self):
         answer = {"verdict": "ok", "blocks": 1, "told": []}
         self.assertEqual(text_of(answer), "ok 1 block\n")
+        answer = {"verdict": "unsure", "blocks": 2, "unseen": 1, "card_damaged": 3, "told": []}
+        self.assertEqual(text_of(answer), "unsure 2 blocks, unseen 1, damaged terminal 0 card 3\n")
         answer = {"verdict": "refused", "blocks": 2, "deviations": 1, "terminal": 0, "card": 1, "unseen": 0, "told": [
             {"block": 2, "end": "card", "kind": "broken", "rule": "a rule", "due": "nothing", "clause": "11.6"}]}
         said = "block 2 card: a rule, due nothing  (11.6)\n2 blocks, 1 deviation: terminal 0, card 1, unseen 0\n"

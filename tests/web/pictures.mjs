@@ -132,6 +132,7 @@ function blocksOf(trace) {
   let isFirst = true;
   for (const [side, hex = ""] of trace.split("\n").map((it) => it.trim().split(/[ \t]+/))) {
     if (side === "reset") isFirst = true;
+    if (side === "begins") isFirst = false;
     if (!["t", "c"].includes(side) || (isFirst && hex.toUpperCase().startsWith("FF"))) continue;
     isFirst = false;
     found.push(hex.toUpperCase());

@@ -146,10 +146,13 @@ def finding_line(one):
 def judgment_lines(answer):
     """The lines of a judged trace."""
     text, blocks = "".join(map(finding_line, answer["told"])), counted(answer["blocks"], "block")
-    if answer["verdict"] == "ok":
-        return f"{text}ok {blocks}" + (line_of(answer, ", unseen {unseen}") if "unseen" in answer else "\n")
+    damage = [answer.get(name, 0) for name in ("terminal_damaged", "card_damaged")]
+    damaged = f", damaged terminal {damage[0]} card {damage[1]}" if any(damage) else ""
+    if answer["verdict"] in ("ok", "unsure"):
+        unseen = f", unseen {answer['unseen']}" if "unseen" in answer else ""
+        return f"{text}{answer['verdict']} {blocks}{unseen}{damaged}\n"
     ends = ": terminal {terminal}, card {card}, unseen {unseen}" + ", late {late}" * ("late" in answer)
-    return f"{text}{blocks}, {counted(answer['deviations'], 'deviation')}" + line_of(answer, ends)
+    return f"{text}{blocks}, {counted(answer['deviations'], 'deviation')}" + line_of(answer, ends + damaged)
 
 
 def text_of(answer):

@@ -80,7 +80,7 @@ module _ (offered : Offered) (judging : Judging) (file : List ℕ) where
       elim (some-judgment offered (scope_of judging) file) [
         | inl one ↦ (
           laid judging.layout (codes "judge") one.0.text,
-          judged_status one.0.deviates,
+          judged_status one.0.is_ok,
           judged one.0 one.1 refl refl,
         )
         | inr fault ↦ (file_fault_text fault.0, status.Fault, faulty fault.0 fault.2 fault.1 refl refl)

@@ -47,14 +47,14 @@ pub record IsOffer (atr : List ℕ) (offered : Offered) : Type 0 where
   pub rates : offered.rates ≡ rates_before parts
 
 abbrev pub judged_status : Bool → Status
-judged_status true = status.Refused
-judged_status false = status.Accepted
+judged_status true = status.Accepted
+judged_status false = status.Refused
 
 -- The answer about a text for a card that offers this: its judgment, or its first fault.
 pub data JudgesText (offered : Offered) (judging : Judging) (file text : List ℕ) (ended : Status) : Type 0 where
   judged : (judgment : Judgment) → Judges offered (scope_of judging) file (Ok judgment)
       → text ≡ laid judging.layout (codes "judge") judgment.text
-      → ended ≡ judged_status judgment.deviates → JudgesText offered judging file text ended
+      → ended ≡ judged_status judgment.is_ok → JudgesText offered judging file text ended
   faulty : (fault : ExchangeFault) → Judges offered (scope_of judging) file (Err fault) → fault ≢ Memory
       → text ≡ file_fault_text fault → ended ≡ status.Fault → JudgesText offered judging file text ended
 
@@ -77,7 +77,7 @@ pub data JudgesTrace (atr : List ℕ) (judging : Judging) (file text : List ℕ)
 -- what is expected in a line with wrong words
 abbrev pub expected_words : List ℕ
 expected_words =
-    codes "expected: t HEX or c HEX, with lost or as HEX after it or not, quiet, reset, or at N"
+    codes "expected: t HEX or c HEX, with lost or as HEX after it or not, quiet, reset, begins unknown, or at N"
 
 -- The note on a text: empty for a judgment, or on the line with its first fault.
 pub data IsTextNote (offered : Offered) (judging : Judging) (file note : List ℕ) : Type 0 where

@@ -28,7 +28,7 @@ use trace_judge::{Judgment, Offer, Scope, judge_trace, rates_before};
 
 /// What is expected in a line of a trace.
 const EXPECTED: &str =
-    "expected: t HEX or c HEX, with lost or as HEX after it or not, quiet, reset, or at N";
+    "expected: t HEX or c HEX, with lost or as HEX after it or not, quiet, reset, begins unknown, or at N";
 
 /// Returns what octets offer that are exactly one answer to reset with parameters of T=1.
 fn offer_of(octets: &[u8]) -> Result<Offer, AtrFault>
@@ -70,15 +70,15 @@ fn only_of(ends: Ends) -> Option<Side>
     }
 }
 
-/// Returns what a judgment says: its text, and the status by whether an end deviates.
+/// Returns what a judgment says: its text, and the status by whether each block is permitted as it was seen.
 fn answer_of(judgment: Judgment) -> Answer
     ensures text { result.text ≡ judgment.text }
-    ensures status { result.status ≡ judged_status judgment.deviates }
+    ensures status { result.status ≡ judged_status judgment.is_ok }
 {
-    let status = if judgment.deviates {
-        Status::Refused
-    } else {
+    let status = if judgment.is_ok {
         Status::Accepted
+    } else {
+        Status::Refused
     };
     Answer::of(judgment.text.into_inner(), status)
 }

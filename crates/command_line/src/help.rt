@@ -254,14 +254,15 @@ pub(crate) const JUDGE: Page<'static> = Page {
     about: "Report each block of a trace that the standard doesn't permit, and the end that sent it",
     usage: "scard judge <ATR> [--end <END>] [--clock <HZ>] [--rules] [--json]",
     after: "Standard input has a line for each block, in order of time:
-  t HEX         the terminal sends this block, in hexadecimal
-  c HEX         the card sends this block
-  t HEX lost    the block doesn't arrive; likewise c HEX lost
-  t HEX as HEX  the block arrives as the second HEX; likewise c HEX as HEX
-  quiet         the terminal's waiting time ended
-  reset         the card was reset
-  at N          the time is N microseconds; before a block, the block begins then
-  # REMARK      a remark, which changes nothing
+  t HEX           the terminal sends this block, in hexadecimal
+  c HEX           the card sends this block
+  t HEX lost      the block doesn't arrive; likewise c HEX lost
+  t HEX as HEX    the block arrives as the second HEX; likewise c HEX as HEX
+  quiet           the terminal's waiting time ended
+  reset           the card was reset
+  begins unknown  what follows comes in the midst of a session
+  at N            the time is N microseconds; before a block, the block begins then
+  # REMARK        a remark, which changes nothing
 Each block is judged by ISO/IEC 7816-3:2006, clause 11, and by what its sender may have received before. The report has
 a line for each deviation: the block, its sender, the broken rule, what was due, and the clause. A PPS exchange may come
 first. With --clock, a block of the card is late if it begins after the block waiting time. The answer to reset and the
@@ -269,8 +270,9 @@ last waiting time extension give that time. With --rules, a line for each rule s
 and a line for each state how often it was due from each end, or never. With --json, the report is a JSON object.
 
 Exit status:
-  0  ok N blocks: the standard permits all of them
-  1  a line for each deviation, and their number; or refused: NAME: the answer to reset gives no T=1 session
+  0  ok N blocks: the standard permits all of them, as they were seen
+  1  unsure N blocks, unseen K: it permits K of them only if a block was damaged or lost that the trace shows whole;
+     or a line for each deviation, and their number; or refused: NAME: the answer to reset gives no T=1 session
   2  a fault, such as fault: words, fault: hex or fault: line 3: Word
 
 Examples:

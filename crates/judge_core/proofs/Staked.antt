@@ -1,6 +1,6 @@
 -- What a block of a trace breaks was at stake.
 use Rattle.std.proofs.Common.{inl, inr, ◌≡◌, ◌&&◌, not, ℕ, List, refl, subst}
-use Rattle.std.specs.Prelude.{Bool, true, false, Option, Some, None, Ok, Err}
+use Rattle.std.specs.Prelude.{Bool, true, false, if◌then◌else◌, Option, Some, None, Ok, Err}
 use Rattle.octet_core.specs.declared.stop.Stop.{Stop}
 use Rattle.octet_core.specs.declared.stop.Stop.TheVariants.{At, Short}
 use Rattle.block_core.specs.Block.{Parts, Suits}
@@ -22,6 +22,7 @@ use Rattle.judge_core.specs.declared.courses.Heard.{Heard}
 use Rattle.judge_core.specs.declared.courses.Heard.TheVariants.{Beginning, Whole, Perhaps, Broken, Nothing}
 use Rattle.judge_core.specs.declared.courses.Verdict.{Verdict}
 use Rattle.judge_core.specs.declared.courses.Verdict.TheVariants.{Permitted, Unseen, Deviates}
+use Rattle.judge_core.specs.declared.courses.Judged.{Judged}
 use Rattle.judge_core.specs.declared.monitor.Watched.{Watched}
 use Rattle.judge_core.specs.declared.monitor.Monitor.{Monitor}
 use Rattle.judge_core.specs.declared.monitor.Said.{Said}
@@ -31,8 +32,8 @@ use Rattle.judge_core.specs.declared.exercise.Exercise.TheVariants.{Breaks}
 use Rattle.judge_core.specs.Sends.{Sent, sends}
 use Rattle.judge_core.specs.Ends.{after, hears, missed}
 use Rattle.judge_core.specs.Courses.{attempted, by_damage, chosen, first_course, got_none, got_whole, judges, uncounted, untaken}
-use Rattle.judge_core.specs.Monitored.{addressed_by, is_addressed, nad_of, refused_as, rule_at, said_of, IsSeen, Seen, whole, malformed, damage}
-use Rattle.judge_core.specs.Stakes.{at_stake, can_break, exercise_by, exercise_of, fitting, is_card, is_nothing, is_set, owed_breaks, sender, stakes_of}
+use Rattle.judge_core.specs.Monitored.{addressed_by, is_open, only_openly, openly, sent_openly, refused_as, rule_at, said_of, IsSeen, Seen, whole, malformed, damage}
+use Rattle.judge_core.specs.Stakes.{at_stake, can_break, exercise_by, exercise_of, fitting, is_card, is_nothing, owed_breaks, sender, stakes_of}
 use Rattle.judge_core.proofs.AtStake.{in-right, sends-known, IsKnown}
 
 -- ---- the rules that no end breaks by what it sends
@@ -65,8 +66,8 @@ ordinary s turn r h = by-turn (is_nothing s.heard) (can_break s.due.«end» s.du
 
 -- ---- the verdict on a block
 
-abbrev stakes : Bool → Heard → After → Stakes
-stakes addressed heard owing = record { addressed = addressed; heard = heard; due = owing }
+abbrev stakes : Heard → After → Stakes
+stakes heard owing = record { heard = heard; due = owing }
 
 abbrev IsStaked : Verdict → Stakes → Type 0
 IsStaked Permitted s = Unit {0}
@@ -80,27 +81,27 @@ damage-staked (Perhaps pcb octet) s = tt
 damage-staked Broken s = tt
 damage-staked Nothing s = tt
 
-module _ (addressed : Bool) (heard : Heard) (turn : is_nothing heard ≡ false) (pcb : Pcb) (octet : ℕ) where
+module _ (heard : Heard) (turn : is_nothing heard ≡ false) (pcb : Pcb) (octet : ℕ) where
   two-staked : (d f : After) (x y : Sent) → IsKnown (can_break d.«end» d.owed) x
       → IsStaked (chosen heard d pcb octet (Some x) (Some y)).verdict
-      (stakes addressed heard (fitting d (Some f) (Some x) (Some y)))
+      (stakes heard (fitting d (Some f) (Some x) (Some y)))
   two-staked d f (Ok e) y known = tt
-  two-staked d f (Err q) (Ok e) known = damage-staked heard (stakes addressed heard f)
-  two-staked d f (Err q) (Err r) known = ordinary (stakes addressed heard d) turn q known
+  two-staked d f (Err q) (Ok e) known = damage-staked heard (stakes heard f)
+  two-staked d f (Err q) (Err r) known = ordinary (stakes heard d) turn q known
 
   first-staked : (d : After) (x : Sent) → IsKnown (can_break d.«end» d.owed) x
       → IsStaked (chosen heard d pcb octet (Some x) None).verdict
-      (stakes addressed heard (fitting d None (Some x) None))
+      (stakes heard (fitting d None (Some x) None))
   first-staked d (Ok e) known = tt
-  first-staked d (Err q) known = ordinary (stakes addressed heard d) turn q known
+  first-staked d (Err q) known = ordinary (stakes heard d) turn q known
 
   second-staked : (d : After) (y : Sent) → IsKnown (can_break d.«end» d.owed) y
       → IsStaked (chosen heard d pcb octet None (Some y)).verdict
-      (stakes addressed heard (fitting d (Some d) None (Some y)))
-  second-staked d (Ok e) known = damage-staked heard (stakes addressed heard d)
-  second-staked d (Err q) known = ordinary (stakes addressed heard d) turn q known
+      (stakes heard (fitting d (Some d) None (Some y)))
+  second-staked d (Ok e) known = damage-staked heard (stakes heard d)
+  second-staked d (Err q) known = ordinary (stakes heard d) turn q known
 
-module _ (addressed : Bool) (e : End) (last : List ℕ) (pcb : Pcb) (inf : List ℕ) (suits : Suits 254 pcb inf) where
+module _ (e : End) (last : List ℕ) (pcb : Pcb) (inf : List ℕ) (suits : Suits 254 pcb inf) where
   abbrev sent : After → Sent
   sent d = sends d.«end» d.owed last pcb inf
 
@@ -110,21 +111,21 @@ module _ (addressed : Bool) (e : End) (last : List ℕ) (pcb : Pcb) (inf : List 
   two-courses : (heard : Heard) → is_nothing heard ≡ false → (d f : After)
       → IsStaked (chosen heard d pcb (carried inf) (attempted (Some d) last pcb inf)
       (attempted (Some f) last pcb inf)).verdict
-      (stakes addressed heard (fitting d (Some f) (attempted (Some d) last pcb inf) (attempted (Some f) last pcb inf)))
-  two-courses heard turn d f = two-staked addressed heard turn pcb (carried inf) d f (sent d) (sent f) (known d)
+      (stakes heard (fitting d (Some f) (attempted (Some d) last pcb inf) (attempted (Some f) last pcb inf)))
+  two-courses heard turn d f = two-staked heard turn pcb (carried inf) d f (sent d) (sent f) (known d)
 
   one-course : (heard : Heard) → is_nothing heard ≡ false → (d : After)
       → IsStaked (chosen heard d pcb (carried inf) (attempted (Some d) last pcb inf) None).verdict
-      (stakes addressed heard (fitting d None (attempted (Some d) last pcb inf) None))
-  one-course heard turn d = first-staked addressed heard turn pcb (carried inf) d (sent d) (known d)
+      (stakes heard (fitting d None (attempted (Some d) last pcb inf) None))
+  one-course heard turn d = first-staked heard turn pcb (carried inf) d (sent d) (known d)
 
   damaged-course : (heard : Heard) → is_nothing heard ≡ false → (d : After)
       → IsStaked (chosen heard d pcb (carried inf) None (attempted (Some d) last pcb inf)).verdict
-      (stakes addressed heard (fitting d (Some d) None (attempted (Some d) last pcb inf)))
-  damaged-course heard turn d = second-staked addressed heard turn pcb (carried inf) d (sent d) (known d)
+      (stakes heard (fitting d (Some d) None (attempted (Some d) last pcb inf)))
+  damaged-course heard turn d = second-staked heard turn pcb (carried inf) d (sent d) (known d)
 
   on-courses : (heard : Heard) → IsStaked (judges e heard last pcb inf).verdict
-      (stakes addressed heard (fitting (first_course e (got_whole e heard) (got_none e heard)) (got_none e heard)
+      (stakes heard (fitting (first_course e (got_whole e heard) (got_none e heard)) (got_none e heard)
       (attempted (got_whole e heard) last pcb inf) (attempted (got_none e heard) last pcb inf)))
   on-courses Beginning = one-course Beginning refl (after e NewMessage)
   on-courses (Whole (Info number more) octet) =
@@ -140,20 +141,37 @@ module _ (addressed : Bool) (e : End) (last : List ℕ) (pcb : Pcb) (inf : List 
   on-courses Broken = damaged-course Broken refl (after e (missed e))
   on-courses Nothing = in-right (is_card e.side) true refl
 
+-- a block that only an unknown last block permits breaks nothing
+opened-staked : (is_free : Bool) (judged : Judged) (v : Verdict) (s : Sent) (st : Stakes)
+    → (is_free && only_openly v s) ≡ true → IsStaked (openly judged s).verdict st
+opened-staked false judged v s st h = absurd (cc h)
+opened-staked true judged v (Ok e) st h = tt
+opened-staked true judged Permitted (Err q) st h = absurd (cc h)
+opened-staked true judged Unseen (Err q) st h = absurd (cc h)
+opened-staked true judged (Deviates broken owed) (Err q) st h = absurd (cc h)
+
+by-either : (heard : Heard) (b : Bool) (judged opened : Judged) (hidden due : After)
+    → (b ≡ true → IsStaked opened.verdict (stakes heard hidden)) → IsStaked judged.verdict (stakes heard due)
+    → IsStaked (if b then opened else judged).verdict (stakes heard (if b then hidden else due))
+by-either heard true judged opened hidden due k h = k refl
+by-either heard false judged opened hidden due k h = h
+
 -- ---- octets
 
 abbrev IsSaidStaked : Said → Stakes → Type 0
 IsSaidStaked Damage s = Unit {0}
 IsSaidStaked (Block verdict) s = IsStaked verdict s
 
-module _ (w : Watched) (block : Parts) (from : Side) where
-  addressed-staked : Suits 254 block.pcb block.inf → (nad : Option ℕ) (addressed : Bool)
-      → is_addressed nad (nad_of from block.nad) ≡ addressed
-      → IsSaidStaked (said_of w addressed (whole block)) (stakes_of nad w (whole block))
-  addressed-staked suits nad true h =
-      on-courses (is_set nad) w.«end» w.last.items block.pcb block.inf suits w.heard
-  addressed-staked suits None false h = absurd (cc h)
-  addressed-staked suits (Some number) false h = refl
+module _ (w : Watched) (block : Parts) where
+  addressed-staked : Suits 254 block.pcb block.inf → (addressed : Bool)
+      → IsSaidStaked (said_of w addressed (whole block)) (stakes_of w (whole block))
+  addressed-staked suits true =
+      let judged = judges w.«end» w.heard w.last.items block.pcb block.inf in
+      let sent = sent_openly w block in
+      by-either w.heard (is_open w.doubt && only_openly judged.verdict sent) judged (openly judged sent) _ _
+      (opened-staked (is_open w.doubt) judged judged.verdict sent _)
+      (on-courses w.«end» w.last.items block.pcb block.inf suits w.heard)
+  addressed-staked suits false = refl
 
 refused-staked : (s : Stakes) (right : Bool) (stop : Stop BlockReason) (broken : Rule)
     → malformed broken ≡ refused_as right (rule_at stop) → at_stake s broken ≡ true
@@ -170,12 +188,12 @@ refused-staked s true (At place BadIfs) broken h =
 refused-staked s true (At place BadLrc) broken h = absurd (cc h)
 
 seen-staked : (nad : Option ℕ) (w : Watched) (from : Side) (octets : List ℕ) (seen : Seen) → IsSeen octets seen
-    → IsSaidStaked (said_of w (addressed_by from nad seen) seen) (stakes_of nad w seen)
+    → IsSaidStaked (said_of w (addressed_by from nad seen) seen) (stakes_of w seen)
 seen-staked nad w from octets (whole block) is =
-    addressed-staked w block from is.1.proper.suits nad (is_addressed nad (nad_of from block.nad)) refl
+    addressed-staked w block is.1.proper.suits (addressed_by from nad (whole block))
 seen-staked nad w from octets (malformed broken) (inl other) = absurd (cc other.4)
 seen-staked nad w from octets (malformed broken) (inr (stop, refuses, e)) =
-    refused-staked (stakes_of nad w (malformed broken)) (is_whole octets) stop broken e
+    refused-staked (stakes_of w (malformed broken)) (is_whole octets) stop broken e
 seen-staked nad w from octets damage is = tt
 
 broken-staked : (s : Stakes) (said : Said) (broken : Rule) (state : Option State) → IsSaidStaked said s
@@ -188,8 +206,8 @@ broken-staked s (Block (Deviates r owing)) broken state h e =
 
 pub broken-at-stake : (m : Monitor) (from : Side) (octets : List ℕ) (seen : Seen) (broken : Rule) (state : Option State)
     → IsSeen octets seen → exercise_of m from seen ≡ Breaks broken state
-    → at_stake (stakes_of m.nad (sender m from) seen) broken ≡ true
+    → at_stake (stakes_of (sender m from) seen) broken ≡ true
 broken-at-stake m from octets seen broken state is e =
-    broken-staked (stakes_of m.nad (sender m from) seen)
+    broken-staked (stakes_of (sender m from) seen)
     (said_of (sender m from) (addressed_by from m.nad seen) seen) broken state
     (seen-staked m.nad (sender m from) from octets seen is) e

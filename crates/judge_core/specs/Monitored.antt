@@ -1,10 +1,12 @@
 -- What a monitor keeps of a trace, and its report on each block: as the block was on the line, and as it reached the
 -- other end if the trace says so. The clauses are those of ISO/IEC 7816-3:2006.
-use Rattle.std.specs.Prelude.{◌≡◌, ◌≢◌, ◌⊎◌, ℕ, ◌+◌, ◌*◌, ◌/◌, ◌%◌, ◌==◌, min, List, [], length, Bool, true, false, Option, Some, None}
+use Rattle.std.specs.Prelude.{◌≡◌, ◌≢◌, ◌⊎◌, ℕ, ◌+◌, ◌*◌, ◌/◌, ◌%◌, ◌==◌, ◌&&◌, ◌||◌, not, bit_and, min, List, [], length, Bool, true, false, if◌then◌else◌, Option, Some, None, Ok, Err}
 use Rattle.octet_core.specs.Grammar.{self_ended, Accepts, Refuses}
 use Rattle.octet_core.specs.declared.stop.Stop.{Stop}
 use Rattle.octet_core.specs.declared.stop.Stop.TheVariants.{At, Short}
 use Rattle.block_core.specs.Block.{Parts, IsBlock, IsReason}
+use Rattle.block_core.specs.declared.pcb.Pcb.{Pcb}
+use Rattle.block_core.specs.declared.pcb.Pcb.TheVariants.{Info, Ready, Request, Response}
 use Rattle.block_core.specs.declared.reason.BlockReason.{BlockReason}
 use Rattle.block_core.specs.declared.reason.BlockReason.TheVariants.{BadPcb, BadLen, OverIfs, BadIfs, BadLrc}
 use Rattle.line_core.specs.Bursts.{is_whole, most_counted}
@@ -19,7 +21,11 @@ use Rattle.judge_core.specs.declared.rule.Rule.{Rule}
 use Rattle.judge_core.specs.declared.rule.Rule.TheVariants.{NodeAddress, ControlOctet, Length, ReservedSize}
 use Rattle.judge_core.specs.declared.courses.Heard.{Heard}
 use Rattle.judge_core.specs.declared.courses.Heard.TheVariants.{Beginning, Whole, Perhaps, Broken, Nothing}
-use Rattle.judge_core.specs.declared.courses.Verdict.TheVariants.{Deviates}
+use Rattle.judge_core.specs.declared.courses.Verdict.{Verdict}
+use Rattle.judge_core.specs.declared.courses.Verdict.TheVariants.{Permitted, Unseen, Deviates}
+use Rattle.judge_core.specs.declared.courses.Judged.{Judged}
+use Rattle.judge_core.specs.declared.monitor.Doubt.{Doubt}
+use Rattle.judge_core.specs.declared.monitor.Doubt.TheVariants.{Clear, Refusable, Open}
 use Rattle.judge_core.specs.declared.monitor.Watched.{Watched}
 use Rattle.judge_core.specs.declared.monitor.Monitor.{Monitor}
 use Rattle.judge_core.specs.declared.monitor.Silence.{Silence}
@@ -31,7 +37,12 @@ use Rattle.judge_core.specs.declared.monitor.Said.TheVariants.{Damage, Block}
 use Rattle.judge_core.specs.declared.monitor.Report.{Report}
 use Rattle.judge_core.specs.Ends.{hears_unknown, new_end}
 use Rattle.judge_core.specs.Followed.{last_after}
-use Rattle.judge_core.specs.Courses.{got_whole, got_none, first_course, judges}
+use Rattle.judge_core.specs.Sends.{Sent, sends}
+use Rattle.judge_core.specs.Courses.{got_whole, got_none, first_course, judges, judgment}
+
+-- the most octets that a field can have (11.3.2.3)
+abbrev pub most_size : ℕ
+most_size = 254
 
 -- ---- octets on the line
 
@@ -73,6 +84,10 @@ IsSeen octets seen =
 -- the node address with its halves swapped: an answer goes back to the sender of the block (11.3.2.1)
 abbrev pub swapped : ℕ → ℕ
 swapped nad = (nad % 16) * 16 + nad / 16
+
+-- Bits 4 and 8 of a node address are 0, and both addresses in it differ, unless both are 0 (11.3.2.1).
+abbrev pub is_address : ℕ → Bool
+is_address nad = (bit_and nad 0x88 == 0) && (nad == 0 || not (nad / 16 == nad % 16))
 
 -- the node address of the terminal's blocks, from the node address of a block of this end
 abbrev pub nad_of : Side → ℕ → ℕ
@@ -123,6 +138,7 @@ new_watched side room heard = record {
   heard = heard;
   last = record { items = [] };
   number = 0;
+  doubt = Clear;
 }
 
 -- The monitor at a reset of a card that takes fields of so many octets. The terminal sends first (rule 1 of 11.6.2.3).
@@ -138,11 +154,46 @@ new_monitor ifsc = record {
 abbrev pub due : Watched → After
 due w = first_course w.«end» (got_whole w.«end» w.heard) (got_none w.«end» w.heard)
 
+-- ---- an end that may have sent another block than the one that was seen
+
+abbrev pub is_open : Doubt → Bool
+is_open Clear = false
+is_open Refusable = false
+is_open Open = true
+
+-- the end as if nobody knew its last block
+abbrev pub unknown_end : End → End
+unknown_end e = record e { known = false; before = AnyBlock }
+
+-- whether only an unknown last block permits the block
+abbrev pub only_openly : Verdict → Sent → Bool
+only_openly Permitted sent = false
+only_openly Unseen sent = false
+only_openly (Deviates broken owed) (Ok e) = true
+only_openly (Deviates broken owed) (Err q) = false
+
+abbrev pub openly : Judged → Sent → Judged
+openly judged (Ok e) = judgment Permitted e
+openly judged (Err q) = judged
+
+abbrev pub or_openly : Bool → Judged → Sent → Judged
+or_openly is_free judged sent = if is_free && only_openly judged.verdict sent then openly judged sent else judged
+
+-- the block as one of an end whose last block nobody knows
+abbrev pub sent_openly : Watched → Parts → Sent
+sent_openly w block = sends (unknown_end w.«end») AnyBlock w.last.items block.pcb block.inf
+
+-- The verdict on a block. If no course permits it, and its sender may have sent a block that the tap didn't see, or may
+-- correct its own, then it may be any block.
+abbrev pub judged_of : Watched → Parts → Judged
+judged_of w block = or_openly (is_open w.doubt) (judges w.«end» w.heard w.last.items block.pcb block.inf)
+    (sent_openly w block)
+
 -- What the monitor says about octets of this end. Damage is nobody's deviation.
 abbrev pub said_of : Watched → Bool → Seen → Said
 said_of w addressed damage = Damage
 said_of w addressed (malformed broken) = Block (Deviates broken (due w))
-said_of w true (whole block) = Block (judges w.«end» w.heard w.last.items block.pcb block.inf).verdict
+said_of w true (whole block) = Block (judged_of w block).verdict
 said_of w false (whole block) = Block (Deviates NodeAddress (due w))
 
 -- the end as if it took the I-block that it heard; if it sends an I-block next, it did
@@ -156,17 +207,35 @@ presumed e Nothing = e
 -- an end whose last block nobody knows: it was damaged, wasn't a block, or had another address
 abbrev pub unknown_after : Watched → ℕ → Watched
 unknown_after w number = record w {
-  «end» = record (presumed w.«end» w.heard) { known = false; before = AnyBlock };
+  «end» = unknown_end (presumed w.«end» w.heard);
   heard = after_silence w.«end».side;
   number = number;
+  doubt = Clear;
 }
+
+-- An end that may have sent a block which the tap didn't see shows by its next I-block where it is. An R-block or an
+-- S-block doesn't show that.
+abbrev pub still_open : Doubt → Pcb → Doubt
+still_open Clear pcb = Clear
+still_open Refusable pcb = Clear
+still_open Open (Info number more) = Clear
+still_open Open (Ready number fault) = Open
+still_open Open (Request s) = Open
+still_open Open (Response s) = Open
+
+-- the other end may refuse a block that breaks a rule
+abbrev pub doubt_after : Doubt → Pcb → Verdict → Doubt
+doubt_after doubt pcb Permitted = still_open doubt pcb
+doubt_after doubt pcb Unseen = still_open doubt pcb
+doubt_after doubt pcb (Deviates broken owed) = Refusable
 
 abbrev pub known_after : Watched → Parts → ℕ → Watched
 known_after w block number = record w {
-  «end» = (judges w.«end» w.heard w.last.items block.pcb block.inf).«end»;
+  «end» = (judged_of w block).«end»;
   heard = after_silence w.«end».side;
   last = record { items = last_after w.last.items block.pcb block.inf };
   number = number;
+  doubt = doubt_after w.doubt block.pcb (judged_of w block).verdict;
 }
 
 abbrev pub sender_after : Watched → Bool → Seen → ℕ → Watched
@@ -178,6 +247,61 @@ sender_after w false (whole block) number = unknown_after w number
 abbrev pub listens : Watched → Heard → Watched
 listens w heard = record w { heard = heard }
 
+-- ---- what the tap didn't see
+
+-- whether it was this end's turn: it heard a block, or may have, or begins
+abbrev pub is_turn : Heard → Bool
+is_turn Beginning = true
+is_turn (Whole pcb octet) = true
+is_turn (Perhaps pcb octet) = true
+is_turn Broken = false
+is_turn Nothing = false
+
+-- what is kept of a block that the end heard, or may have, if nobody knows the end's own last block: its number
+abbrev pub overlooked : End → Heard → End
+overlooked e heard = if e.known then e else presumed e heard
+
+-- An end whose turn passed without a block. It may have sent one that was lost before the tap, or that came late (rules
+-- 1 and 7 of 11.6). So it may send any block next, and its silence is said once.
+abbrev pub passed_over : Watched → Watched
+passed_over w = if is_turn w.heard then record w { «end» = overlooked w.«end» w.heard; doubt = Open } else w
+
+-- whether these octets may say that their sender refused the block before: an R-block (rule 7.1), or no block
+abbrev pub may_refuse : Pcb → Bool
+may_refuse (Info number more) = false
+may_refuse (Ready number fault) = true
+may_refuse (Request s) = false
+may_refuse (Response s) = false
+
+abbrev pub is_refusing : Seen → Bool
+is_refusing (whole block) = may_refuse block.pcb
+is_refusing (malformed broken) = true
+is_refusing damage = true
+
+-- An end after octets of the other end that may refuse its block. If that block broke a rule, what it sends next may
+-- correct it.
+abbrev pub refused_doubt : Doubt → Doubt
+refused_doubt Clear = Clear
+refused_doubt Refusable = Open
+refused_doubt Open = Open
+
+abbrev pub corrected : Watched → Bool → Watched
+corrected w refused = if refused then record w { doubt = refused_doubt w.doubt } else w
+
+-- What an end heard of a block that breaks a rule, whatever the trace says of its arrival: the end may take it or refuse
+-- it.
+abbrev pub in_doubt : Heard → Heard
+in_doubt Beginning = Beginning
+in_doubt (Whole pcb octet) = Perhaps pcb octet
+in_doubt (Perhaps pcb octet) = Perhaps pcb octet
+in_doubt Broken = Broken
+in_doubt Nothing = Nothing
+
+abbrev pub doubted_by : Doubt → Heard → Heard
+doubted_by Clear heard = heard
+doubted_by Refusable heard = in_doubt heard
+doubted_by Open heard = heard
+
 -- the silence of a card that heard a block, or may have, and sent none
 abbrev pub silence_of : Heard → ℕ → Silence
 silence_of Beginning number = No
@@ -186,18 +310,19 @@ silence_of (Perhaps pcb octet) number = Possible number
 silence_of Broken number = No
 silence_of Nothing number = No
 
--- whether the octets have the right node address; the first whole block sets the addresses
+-- whether the octets have the right node address; the first whole block with an address sets the addresses
 abbrev pub addressed_by : Side → Option ℕ → Seen → Bool
-addressed_by from nad (whole block) = is_addressed nad (nad_of from block.nad)
+addressed_by from nad (whole block) = is_address block.nad && is_addressed nad (nad_of from block.nad)
 addressed_by from nad (malformed broken) = true
 addressed_by from nad damage = true
 
-abbrev pub nad_set : Option ℕ → ℕ → Option ℕ
-nad_set None nad = Some nad
-nad_set (Some first) nad = Some first
+abbrev pub nad_set : Bool → Option ℕ → ℕ → Option ℕ
+nad_set true None nad = Some nad
+nad_set false None nad = None
+nad_set known (Some first) nad = Some first
 
 abbrev pub nad_after : Side → Option ℕ → Seen → Option ℕ
-nad_after from nad (whole block) = nad_set nad (nad_of from block.nad)
+nad_after from nad (whole block) = nad_set (is_address block.nad) nad (nad_of from block.nad)
 nad_after from nad (malformed broken) = nad
 nad_after from nad damage = nad
 
@@ -210,18 +335,27 @@ came_by from nad (came seen) = addressed_by from nad seen
 abbrev pub number_after : ℕ → ℕ
 number_after blocks = min (blocks + 1) most_counted
 
+-- each end after octets of its own
+abbrev pub terminal_after : Monitor → Seen → Watched
+terminal_after m seen = sender_after m.terminal (addressed_by Terminal m.nad seen) seen (number_after m.blocks)
+
+abbrev pub card_after : Monitor → Seen → Watched
+card_after m seen = sender_after m.card (addressed_by Card m.nad seen) seen (number_after m.blocks)
+
 abbrev pub monitor_after : Monitor → Side → Seen → Reaching → Monitor
 monitor_after m Terminal seen reaching = record {
-  terminal = sender_after m.terminal (addressed_by Terminal m.nad seen) seen (number_after m.blocks);
-  card = listens m.card (heard_of Card (addressed_by Terminal m.nad seen)
-      (came_by Terminal (nad_after Terminal m.nad seen) reaching) seen reaching);
+  terminal = terminal_after m seen;
+  card = listens (corrected (passed_over m.card) (is_refusing seen)) (doubted_by (terminal_after m seen).doubt
+      (heard_of Card (addressed_by Terminal m.nad seen)
+      (came_by Terminal (nad_after Terminal m.nad seen) reaching) seen reaching));
   nad = nad_after Terminal m.nad seen;
   blocks = number_after m.blocks;
 }
 monitor_after m Card seen reaching = record {
-  terminal = listens m.terminal (heard_of Terminal (addressed_by Card m.nad seen)
-      (came_by Card (nad_after Card m.nad seen) reaching) seen reaching);
-  card = sender_after m.card (addressed_by Card m.nad seen) seen (number_after m.blocks);
+  terminal = listens (corrected m.terminal (is_refusing seen)) (doubted_by (card_after m seen).doubt
+      (heard_of Terminal (addressed_by Card m.nad seen)
+      (came_by Card (nad_after Card m.nad seen) reaching) seen reaching));
+  card = card_after m seen;
   nad = nad_after Card m.nad seen;
   blocks = number_after m.blocks;
 }
@@ -254,19 +388,43 @@ pub record Takes (m : Monitor) (from : Side) (octets : List ℕ) (arrival : Arri
   pub after : m' ≡ monitor_after m from seen reaching
   pub reports : report ≡ report_of m from seen
 
--- What a terminal heard if its waiting time ended: nothing, whatever the card sent. A card that owed a block sent none.
+-- A card that sent nothing in time may send its block late. One that received nothing sends none.
 abbrev pub heard_in_time : Heard → Heard
-heard_in_time Beginning = Beginning
+heard_in_time Beginning = Broken
 heard_in_time (Whole pcb octet) = Broken
 heard_in_time (Perhaps pcb octet) = Broken
 heard_in_time Broken = Broken
-heard_in_time Nothing = Broken
+heard_in_time Nothing = Nothing
+
+-- The terminal's waiting time ended: it heard nothing, whatever the card sent. A terminal waits only after a block of its
+-- own. So if it was its turn, or if another waiting time ended since its last block, it sent a block that the tap didn't
+-- see.
+abbrev pub waited_doubt : Bool → Doubt → Doubt
+waited_doubt true doubt = Open
+waited_doubt false Clear = Refusable
+waited_doubt false Refusable = Open
+waited_doubt false Open = Open
+
+abbrev pub waited : Watched → Watched
+waited w = record w {
+  «end» = overlooked w.«end» w.heard;
+  heard = Broken;
+  doubt = waited_doubt (is_turn w.heard) w.doubt;
+}
 
 abbrev pub quiet_after : Monitor → Monitor
 quiet_after m = record m {
-  terminal = listens m.terminal (heard_in_time m.terminal.heard);
-  card = listens m.card Nothing;
+  terminal = waited m.terminal;
+  card = listens (corrected (passed_over m.card) true) (heard_in_time m.card.heard);
 }
+
+-- The monitor of a trace that begins in the midst of a session: nobody knows the state of the ends, the sizes that hold
+-- or the addresses, and either end may send first. Blocks are counted on.
+abbrev pub met : Side → Watched
+met side = record (new_watched side most_size Broken) { «end» = unknown_end (new_end side most_size) }
+
+abbrev pub midway_after : Monitor → Monitor
+midway_after m = record { terminal = met Terminal; card = met Card; nad = None; blocks = m.blocks }
 
 -- The monitor after a reset of the card: both ends begin again, and blocks are counted on.
 abbrev pub reset_after : Monitor → ℕ → Monitor

@@ -332,16 +332,22 @@ suggested e (Request s) n =
     if is_foreign e.side (Request s) then record e { known = false } else asking e NewMessage s n
 suggested e (Response s) n = responded (record e { asked = None; before = NewMessage; known = true }) s n
 
--- Whether an end that the line hid is known again: it has sent an I-block since, and this one has the next number.
-abbrev pub is_next : Owed → Bool → Bool
-is_next AnyBlock next = false
-is_next owed next = next
+-- Whether an end that the line hid is known again: it has sent an I-block since, it heard one after that, and this one
+-- has the next number.
+abbrev pub is_next : Owed → Pending → Bool → Bool
+is_next AnyBlock pending next = false
+is_next owed Settled next = next
+is_next owed Chain next = false
+is_next owed Last next = false
 
 -- Any block of an end whose last block nobody knows. It is known again after a second I-block, or after RESYNCH.
 abbrev pub any_block : End → Pcb → List ℕ → Sent
 any_block e (Info number more) inf =
     if nat_le (length inf) e.room
-    then Ok (record (informed e number more) { known = is_next e.before (same number e.next); before = NewMessage })
+    then Ok (record (informed e number more) {
+      known = is_next e.before e.pending (same number e.next);
+      before = NewMessage;
+    })
     else Err rule.FieldSize
 any_block e (Ready number fault) inf = Ok (record e { expects = number; asked = None; known = false })
 any_block e (Request s) inf = Ok (asking e AnyBlock s (carried inf))

@@ -30,8 +30,9 @@ use Rattle.judge_core.specs.declared.stakes.Stakes.{Stakes}
 use Rattle.judge_core.specs.declared.exercise.Exercise.{Exercise}
 use Rattle.judge_core.specs.declared.exercise.Exercise.TheVariants as exercise
 use Rattle.judge_core.specs.Sends.{Sent, is_between, is_within, is_waiting, least_repeats, most_asked, sends}
-use Rattle.judge_core.specs.Courses.{attempted, got_none, got_whole}
-use Rattle.judge_core.specs.Monitored.{addressed_by, due, said_of, IsSeen, Seen, whole, malformed, damage}
+use Rattle.judge_core.specs.Courses.{attempted, got_none, got_whole, judges}
+use Rattle.judge_core.specs.Monitored.{addressed_by, due, is_open, only_openly, said_of, sent_openly, unknown_end, IsSeen, Seen, whole, malformed, damage}
+use Rattle.judge_core.specs.Ends.{after}
 use Rattle.judge_core.specs.States.{state_of}
 
 abbrev pub is_terminal : Side → Bool
@@ -222,7 +223,7 @@ is_whole Nothing = false
 -- Whether an end that sends a block keeps or breaks the rule. A card can send out of turn, and it owes a block if it
 -- received one.
 abbrev pub at_stake : Stakes → Rule → Bool
-at_stake s rule.NodeAddress = s.addressed
+at_stake s rule.NodeAddress = true
 at_stake s rule.ControlOctet = true
 at_stake s rule.Length = true
 at_stake s rule.ReservedSize = true
@@ -232,25 +233,26 @@ at_stake s r = not (is_nothing s.heard) && can_break s.due.«end» s.due.owed r
 
 -- ---- what a block did
 
--- The course on which a block is judged: the first, unless only the other course permits the block.
+-- The course on which a block is judged: the first, unless only the other course permits the block, or only an unknown
+-- last block of its sender.
 abbrev pub fitting : After → Option After → Option Sent → Option Sent → After
 fitting first second (Some (Ok e)) other = first
 fitting first (Some second) course (Some (Ok e)) = second
 fitting first second course other = first
 
 abbrev pub course_of : Watched → Seen → After
-course_of w (whole block) = fitting (due w) (got_none w.«end» w.heard)
+course_of w (whole block) =
+    if is_open w.doubt && only_openly (judges w.«end» w.heard w.last.items block.pcb block.inf).verdict
+    (sent_openly w block)
+    then after (unknown_end w.«end») AnyBlock
+    else fitting (due w) (got_none w.«end» w.heard)
     (attempted (got_whole w.«end» w.heard) w.last.items block.pcb block.inf)
     (attempted (got_none w.«end» w.heard) w.last.items block.pcb block.inf)
 course_of w (malformed broken) = due w
 course_of w damage = due w
 
-abbrev pub is_set : Option ℕ → Bool
-is_set None = false
-is_set (Some nad) = true
-
-abbrev pub stakes_of : Option ℕ → Watched → Seen → Stakes
-stakes_of nad w seen = record { addressed = is_set nad; heard = w.heard; due = course_of w seen }
+abbrev pub stakes_of : Watched → Seen → Stakes
+stakes_of w seen = record { heard = w.heard; due = course_of w seen }
 
 -- what was due from an end, if it was its turn
 abbrev pub came_in : Stakes → Option State
@@ -269,7 +271,7 @@ sender m Card = m.card
 
 -- what octets of an end exercise, before the monitor takes them
 abbrev pub exercise_of : Monitor → Side → Seen → Exercise
-exercise_of m from seen = exercise_by (stakes_of m.nad (sender m from) seen)
+exercise_of m from seen = exercise_by (stakes_of (sender m from) seen)
     (said_of (sender m from) (addressed_by from m.nad seen) seen)
 
 abbrev pub Exercises : Monitor → Side → List ℕ → Exercise → Type 0

@@ -7,8 +7,8 @@ ghost use Rattle.judge_core.specs.Stakes.{course_of, exercise_by, exercise_of, f
 
 use crate::class::{Class, class_of};
 use crate::courses::{Attempt, Verdict, attempted};
-use crate::end::After;
-use crate::monitor::{Monitor, Said, Watched, addressed_by};
+use crate::end::{After, Owed};
+use crate::monitor::{Monitor, Said, Watched, addressed_by, unknown_end};
 use crate::rule::Rule;
 use crate::stakes::Stakes;
 use crate::state::State;
@@ -39,19 +39,18 @@ impl Monitor {
     {
         let addressed = addressed_by(from, self.nad, class);
         match from {
-            Side::Terminal => self.terminal.exercise(self.nad, addressed, class),
-            Side::Card => self.card.exercise(self.nad, addressed, class),
+            Side::Terminal => self.terminal.exercise(addressed, class),
+            Side::Card => self.card.exercise(addressed, class),
         }
     }
 }
 
 impl Watched {
-    fn exercise(&self, nad: Option<u8>, addressed: bool, class: &Class<'_>) -> Exercise
-        ensures { result ≡ exercise_by (stakes_of nad self.now (seen_of class.now))
+    fn exercise(&self, addressed: bool, class: &Class<'_>) -> Exercise
+        ensures { result ≡ exercise_by (stakes_of self.now (seen_of class.now))
             (said_of self.now addressed (seen_of class.now)) }
     {
         let stakes = Stakes {
-            addressed: nad.is_some(),
             heard: self.heard,
             due: self.course(class),
         };
@@ -69,6 +68,9 @@ impl Watched {
         let Class::Whole(block) = class else {
             return self.due();
         };
+        if self.is_only_open(block) {
+            return unknown_end(self.end).owes(Owed::AnyBlock);
+        }
         let last = self.last.as_slice();
         let whole = self.end.got_whole(self.heard);
         let none = self.end.got_none(self.heard);
@@ -82,11 +84,7 @@ impl Watched {
         ensures { result ≡ said_of self.now addressed (seen_of class.now) }
     {
         match class {
-            Class::Whole(block) if addressed => {
-                let last = self.last.as_slice();
-                let judged = self.end.judges(self.heard, last, block.pcb(), block.inf());
-                Said::Block(judged.verdict)
-            }
+            Class::Whole(block) if addressed => { Said::Block(self.judged(block).verdict) }
             Class::Whole(_) => Said::Block(Verdict::Deviates(Rule::NodeAddress, self.due())),
             Class::Malformed(broken) => Said::Block(Verdict::Deviates(*broken, self.due())),
             Class::Damage => Said::Damage,

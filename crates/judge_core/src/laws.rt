@@ -54,7 +54,7 @@ pub fn nobody_is_accused()
 pub fn broken_was_at_stake()
     ensures { (m : Monitor) (from : Side) (octets : List ℕ) (seen : Seen) (broken : Rule)
         (state : Option State) → IsSeen octets seen → exercise_of m from seen ≡ Breaks broken state
-        → at_stake (stakes_of m.nad (sender m from) seen) broken ≡ true }
+        → at_stake (stakes_of (sender m from) seen) broken ≡ true }
 {}
 
 /// The stakes name no rule without reason. If an end that owes this can break a rule, as they say, then some block

@@ -26,7 +26,7 @@ pub use block_core::Side;
 pub use courses::{Heard, Verdict};
 pub use end::{After, Asked, End, Owed, Pending, Row};
 pub use exercise::Exercise;
-pub use monitor::{Arrival, Monitor, Report, Said, Silence, Watched};
+pub use monitor::{Arrival, Doubt, Monitor, Report, Said, Silence, Watched};
 pub use rule::{RULES, Rule};
 pub use stakes::Stakes;
 pub use state::{STATES, State};

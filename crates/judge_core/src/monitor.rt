@@ -1,21 +1,34 @@
 //! Each block of a trace, judged as it comes.
 
-ghost use Rattle.std.specs.Prelude.{◌≡◌, true};
+ghost use Rattle.std.specs.Prelude.{◌≡◌, ◌&&◌, true};
 ghost use Rattle.block_core.specs.Block.{Parts};
 ghost use Rattle.judge_core.specs.Classes.{reaching_of, seen_of};
+ghost use Rattle.judge_core.specs.Courses.{judges};
 ghost use Rattle.judge_core.specs.Followed.{last_after};
 ghost use Rattle.judge_core.specs.Monitored as seen;
-ghost use Rattle.judge_core.specs.Monitored.{addressed_by, after_silence, came_by, due, heard_in_time, heard_of, is_addressed, known_after, listens, monitor_after, nad_after, nad_of, nad_set, new_monitor, new_watched, number_after, perhaps_heard, presumed, quiet_after, report_of, reset_after, said_of, sender_after, silence_of, surely_heard, unknown_after, IsReaching, Takes};
+ghost use Rattle.judge_core.specs.Monitored.{addressed_by, after_silence, came_by, corrected, doubt_after, doubted_by, due, heard_in_time, heard_of, is_address, is_addressed, is_open, is_refusing, is_turn, judged_of, known_after, listens, met, midway_after, monitor_after, nad_after, nad_of, nad_set, new_monitor, new_watched, number_after, only_openly, overlooked, passed_over, perhaps_heard, presumed, quiet_after, report_of, refused_doubt, reset_after, said_of, sender_after, sent_openly, silence_of, still_open, surely_heard, unknown_after, unknown_end, waited, waited_doubt, IsReaching, Takes};
 
 use crate::class::{Class, class_of};
-use crate::courses::{Heard, Verdict, first_course};
+use crate::courses::{Heard, Judged, Verdict, first_course};
 use crate::end::{After, End, Owed};
 use crate::rule::Rule;
 use crate::sending::carried;
+use crate::step::Sent;
 use arrayvec::ArrayVec;
 use block_core::{BlockRef, LONGEST_INF, Pcb, Side};
 use std::fmt::{self, Debug, Formatter, Write};
 use t1_core::FIRST_IFSD;
+
+/// Whether an end may have sent another block than the last one that was seen.
+#[derive(Clone, Copy, Debug)]
+pub enum Doubt {
+    /// It sent no other.
+    Clear,
+    /// Its block broke a rule, and the other end may refuse it. Or a terminal's waiting time ended once since then.
+    Refusable,
+    /// It may have sent one that wasn't seen, or may correct its own. So any block may come next.
+    Open,
+}
 
 /// An end of the line that the monitor watches.
 #[derive(Drop)]
@@ -26,6 +39,8 @@ pub struct Watched {
     pub last: ArrayVec<u8, LONGEST_INF>,
     /// The number of its last block, from 1, or 0 before its first.
     pub number: u64,
+    /// Whether its last block may be another one than the one that was seen.
+    pub doubt: Doubt,
 }
 
 /// Judges each block of a trace as it comes. It allocates nothing, and keeps of each end what decides what it may send.
@@ -115,7 +130,17 @@ impl Watched {
             heard,
             last: ArrayVec::new(),
             number: 0,
+            doubt: Doubt::Clear,
         }
+    }
+
+    /// Returns the end of a trace that begins in the midst of a session. It may send any block.
+    fn met(side: Side) -> Watched
+        ensures { result ≡ met side }
+    {
+        let mut watched = Watched::new(side, LONGEST_INF as u8, Heard::Broken);
+        watched.end = unknown_end(watched.end);
+        watched
     }
 
     /// Returns what the end owes on the first course that it has.
@@ -147,12 +172,11 @@ impl Watched {
         ensures said { result ≡ said_of self.old true (seen.whole block.now) }
         ensures after { self.new ≡ known_after self.old block.now number }
     {
-        let judged = self
-            .end
-            .judges(self.heard, self.last.as_slice(), block.pcb(), block.inf());
+        let judged = self.judged(block);
         self.heard = after_silence(self.end.side);
         self.end = judged.end;
         self.number = number;
+        self.doubt = doubt_after(self.doubt, block.pcb(), judged.verdict);
         self.keep(block);
         Said::Block(judged.verdict)
     }
@@ -181,13 +205,73 @@ impl Watched {
     fn sent_unknown(&mut self, number: u64)
         ensures { self.new ≡ unknown_after self.old number }
     {
-        self.end = End {
-            known: false,
-            before: Owed::AnyBlock,
-            ..presumed(self.end, self.heard)
-        };
+        self.end = unknown_end(presumed(self.end, self.heard));
         self.heard = after_silence(self.end.side);
         self.number = number;
+        self.doubt = Doubt::Clear;
+    }
+
+    /// Judges a block of the end.
+    pub(crate) fn judged(&self, block: &BlockRef<'_>) -> Judged
+        ensures { result ≡ judged_of self.now block.now }
+    {
+        let last = self.last.as_slice();
+        let judged = self.end.judges(self.heard, last, block.pcb(), block.inf());
+        let sent = self.sent_openly(block);
+        match sent {
+            Ok(end) if is_open(self.doubt) && only_openly(judged.verdict, sent) => Judged {
+                verdict: Verdict::Permitted,
+                end,
+            },
+            _ => judged,
+        }
+    }
+
+    /// Whether only an unknown last block permits the block.
+    pub(crate) fn is_only_open(&self, block: &BlockRef<'_>) -> bool
+        ensures { result ≡ (is_open self.now.doubt && only_openly
+            (judges self.now.«end» self.now.heard self.now.last.items block.now.pcb
+            block.now.inf).verdict (sent_openly self.now block.now)) }
+    {
+        let last = self.last.as_slice();
+        let judged = self.end.judges(self.heard, last, block.pcb(), block.inf());
+        is_open(self.doubt) && only_openly(judged.verdict, self.sent_openly(block))
+    }
+
+    /// Returns the end after a block, as one of an end whose last block nobody knows.
+    fn sent_openly(&self, block: &BlockRef<'_>) -> Sent
+        ensures { result ≡ sent_openly self.now block.now }
+    {
+        let last = self.last.as_slice();
+        unknown_end(self.end).sends(Owed::AnyBlock, last, block.pcb(), block.inf())
+    }
+
+    /// Takes it that the end sent no block that was seen, if it was its turn.
+    fn pass_over(&mut self)
+        ensures { self.new ≡ passed_over self.old }
+    {
+        if is_turn(self.heard) {
+            self.end = overlooked(self.end, self.heard);
+            self.doubt = Doubt::Open;
+        }
+    }
+
+    /// Takes the end of a terminal's waiting time.
+    fn wait(&mut self)
+        ensures { self.new ≡ waited self.old }
+    {
+        self.end = overlooked(self.end, self.heard);
+        self.doubt = waited_doubt(is_turn(self.heard), self.doubt);
+        self.heard = Heard::Broken;
+    }
+
+    /// Takes it that the other end may have refused the end's last block.
+    fn correct(&mut self, refused: bool)
+        ensures { self.new ≡ corrected self.old refused }
+    {
+        if refused {
+            self.doubt = refused_doubt(self.doubt);
+        }
     }
 }
 
@@ -226,27 +310,28 @@ impl Monitor {
         match from {
             Side::Terminal => {
                 let silence = silence_of(self.card.heard, self.terminal.number);
-                self.card.heard = heard_of(Side::Card, addressed, came_addressed, class, reached);
+                let before = self.card.number;
                 let said = self.terminal.sent(addressed, class, self.blocks);
+                let heard = heard_of(Side::Card, addressed, came_addressed, class, reached);
+                self.card.pass_over();
+                self.card.correct(is_refusing(class));
+                self.card.heard = doubted_by(self.terminal.doubt, heard);
                 Report {
                     silence,
                     said,
-                    before: self.card.number,
+                    before,
                 }
             }
             Side::Card => {
-                self.terminal.heard = heard_of(
-                    Side::Terminal,
-                    addressed,
-                    came_addressed,
-                    class,
-                    reached,
-                );
+                let before = self.terminal.number;
                 let said = self.card.sent(addressed, class, self.blocks);
+                let heard = heard_of(Side::Terminal, addressed, came_addressed, class, reached);
+                self.terminal.correct(is_refusing(class));
+                self.terminal.heard = doubted_by(self.card.doubt, heard);
                 Report {
                     silence: Silence::No,
                     said,
-                    before: self.terminal.number,
+                    before,
                 }
             }
         }
@@ -258,8 +343,10 @@ impl Monitor {
         ensures silence { result ≡ silence_of self.old.card.heard self.old.terminal.number }
     {
         let silence = self.silence();
-        self.terminal.heard = heard_in_time(self.terminal.heard);
-        self.card.heard = Heard::Nothing;
+        self.terminal.wait();
+        self.card.pass_over();
+        self.card.correct(true);
+        self.card.heard = heard_in_time(self.card.heard);
         silence
     }
 
@@ -270,6 +357,19 @@ impl Monitor {
         *self = Monitor {
             blocks: self.blocks,
             ..Monitor::new(ifsc)
+        };
+    }
+
+    /// Says to the monitor that the next block comes in the midst of a session of which nothing is known. Blocks are
+    /// counted on.
+    pub fn begins_midway(&mut self)
+        ensures { self.new ≡ midway_after self.old }
+    {
+        *self = Monitor {
+            terminal: Watched::met(Side::Terminal),
+            card: Watched::met(Side::Card),
+            nad: None,
+            blocks: self.blocks,
         };
     }
 
@@ -299,6 +399,13 @@ fn presumed(end: End, heard: Heard) -> End
         Heard::Whole(pcb, _) | Heard::Perhaps(pcb, _) => end.hears_unknown(pcb).end,
         Heard::Beginning | Heard::Broken | Heard::Nothing => end,
     }
+}
+
+/// Returns the end with the number of the block that it heard, if nobody knows its own last block.
+fn overlooked(end: End, heard: Heard) -> End
+    ensures { result ≡ overlooked end heard }
+{
+    if end.known { end } else { presumed(end, heard) }
 }
 
 /// Returns what an end has heard after a block of the other end.
@@ -356,13 +463,108 @@ fn after_silence(side: Side) -> Heard
     }
 }
 
+/// Returns what a card has heard if the terminal's waiting time ended. It may still send its block.
 fn heard_in_time(heard: Heard) -> Heard
     ensures { result ≡ heard_in_time heard }
 {
     match heard {
-        Heard::Beginning => Heard::Beginning,
-        Heard::Whole(..) | Heard::Perhaps(..) | Heard::Broken | Heard::Nothing => Heard::Broken,
+        Heard::Beginning | Heard::Whole(..) | Heard::Perhaps(..) | Heard::Broken => Heard::Broken,
+        Heard::Nothing => Heard::Nothing,
     }
+}
+
+/// Whether it is the turn of an end that heard this.
+fn is_turn(heard: Heard) -> bool
+    ensures { result ≡ is_turn heard }
+{
+    match heard {
+        Heard::Beginning | Heard::Whole(..) | Heard::Perhaps(..) => true,
+        Heard::Broken | Heard::Nothing => false,
+    }
+}
+
+/// Whether octets may say that their sender refused the block before.
+fn is_refusing(class: &Class<'_>) -> bool
+    ensures { result ≡ is_refusing (seen_of class.now) }
+{
+    match class {
+        Class::Whole(block) => matches!(block.pcb(), Pcb::Ready { .. }),
+        Class::Malformed(_) | Class::Damage => true,
+    }
+}
+
+/// Returns what an end heard of a block, which it may refuse if the block broke a rule.
+fn doubted_by(doubt: Doubt, heard: Heard) -> Heard
+    ensures { result ≡ doubted_by doubt heard }
+{
+    match (doubt, heard) {
+        (Doubt::Refusable, Heard::Whole(pcb, octet)) => Heard::Perhaps(pcb, octet),
+        _ => heard,
+    }
+}
+
+/// Returns what is doubtful about an end that was in this doubt, after a block with this verdict.
+fn doubt_after(doubt: Doubt, pcb: Pcb, verdict: Verdict) -> Doubt
+    ensures { result ≡ doubt_after doubt pcb verdict }
+{
+    match verdict {
+        Verdict::Permitted | Verdict::Unseen => still_open(doubt, pcb),
+        Verdict::Deviates(..) => Doubt::Refusable,
+    }
+}
+
+/// Returns what is doubtful about an end after a permitted block: an I-block shows where the end is.
+fn still_open(doubt: Doubt, pcb: Pcb) -> Doubt
+    ensures { result ≡ still_open doubt pcb }
+{
+    match (doubt, pcb) {
+        (Doubt::Clear | Doubt::Refusable, _) | (Doubt::Open, Pcb::Info { .. }) => Doubt::Clear,
+        (Doubt::Open, Pcb::Ready { .. } | Pcb::Request(_) | Pcb::Response(_)) => Doubt::Open,
+    }
+}
+
+/// Returns what is doubtful about a block that the other end may have refused.
+fn refused_doubt(doubt: Doubt) -> Doubt
+    ensures { result ≡ refused_doubt doubt }
+{
+    match doubt {
+        Doubt::Clear => Doubt::Clear,
+        Doubt::Refusable | Doubt::Open => Doubt::Open,
+    }
+}
+
+/// Returns what is doubtful about a terminal's block after its waiting time. `is_turn` says whether it had to send.
+fn waited_doubt(is_turn: bool, doubt: Doubt) -> Doubt
+    ensures { result ≡ waited_doubt is_turn doubt }
+{
+    match doubt {
+        Doubt::Clear if !is_turn => Doubt::Refusable,
+        Doubt::Clear | Doubt::Refusable | Doubt::Open => Doubt::Open,
+    }
+}
+
+fn is_open(doubt: Doubt) -> bool
+    ensures { result ≡ is_open doubt }
+{
+    matches!(doubt, Doubt::Open)
+}
+
+/// Returns the end as if nobody knew its last block.
+pub(crate) fn unknown_end(end: End) -> End
+    ensures { result ≡ unknown_end end }
+{
+    End {
+        known: false,
+        before: Owed::AnyBlock,
+        ..end
+    }
+}
+
+/// Whether a block is a deviation that an unknown last block permits.
+fn only_openly(verdict: Verdict, sent: Sent) -> bool
+    ensures { result ≡ only_openly verdict sent }
+{
+    matches!((verdict, sent), (Verdict::Deviates(..), Ok(_)))
 }
 
 fn silence_of(heard: Heard, number: u64) -> Silence
@@ -380,8 +582,11 @@ pub(crate) fn addressed_by(from: Side, nad: Option<u8>, class: &Class<'_>) -> bo
     ensures { result ≡ addressed_by from nad (seen_of class.now) }
 {
     match (class, nad) {
-        (Class::Whole(block), Some(first)) => nad_of(from, block.nad()) == first,
-        _ => true,
+        (Class::Whole(block), Some(first)) => {
+            is_address(block.nad()) && nad_of(from, block.nad()) == first
+        }
+        (Class::Whole(block), None) => is_address(block.nad()),
+        (Class::Malformed(_) | Class::Damage, _) => true,
     }
 }
 
@@ -389,9 +594,16 @@ fn nad_after(from: Side, nad: Option<u8>, class: &Class<'_>) -> Option<u8>
     ensures { result ≡ nad_after from nad (seen_of class.now) }
 {
     match (class, nad) {
-        (Class::Whole(block), None) => Some(nad_of(from, block.nad())),
+        (Class::Whole(block), None) if is_address(block.nad()) => Some(nad_of(from, block.nad())),
         _ => nad,
     }
+}
+
+/// Whether both addresses in a node address differ or are 0, and bits 4 and 8 are 0 (11.3.2.1).
+fn is_address(nad: u8) -> bool
+    ensures { result ≡ is_address nad }
+{
+    nad & 0x88 == 0 && (nad == 0 || nad / 16 != nad % 16)
 }
 
 /// Returns the node address of the terminal's blocks, from that of a block of this end. An answer has its halves

@@ -5,7 +5,7 @@ ghost use Rattle.t1_core.specs.Came.{carried};
 ghost use Rattle.judge_core.specs.Sends.{acknowledges, any_block, asks_again, begins_or_corrects, corrects, either, is_next, is_refusal, messages, or_refuses, refuses, repeats, responds, same_subject, sends};
 
 use crate::asking::is_foreign;
-use crate::end::{End, Owed};
+use crate::end::{End, Owed, Pending};
 use crate::hearing::same;
 use crate::rule::Rule;
 use crate::step::Sent;
@@ -180,7 +180,7 @@ impl End {
         match pcb {
             Pcb::Info { .. } if inf.len() > usize::from(self.room) => Err(Rule::FieldSize),
             Pcb::Info { number, more } => Ok(End {
-                known: is_next(self.before, same(number, self.next)),
+                known: is_next(self.before, self.pending, same(number, self.next)),
                 before: Owed::NewMessage,
                 ..self.informed(number, more)
             }),
@@ -202,12 +202,12 @@ pub(crate) fn carried(inf: &[u8]) -> u8
 }
 
 /// Whether an end that the line hid is known again after an I-block. `next` says whether that has the next number.
-fn is_next(owed: Owed, next: bool) -> bool
-    ensures { result ≡ is_next owed next }
+fn is_next(owed: Owed, pending: Pending, next: bool) -> bool
+    ensures { result ≡ is_next owed pending next }
 {
-    match owed {
-        Owed::AnyBlock => false,
-        _ => next,
+    match (owed, pending) {
+        (Owed::AnyBlock, _) | (_, Pending::Chain | Pending::Last) => false,
+        (_, Pending::Settled) => next,
     }
 }
 

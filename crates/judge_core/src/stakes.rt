@@ -14,8 +14,6 @@ use t1_core::MOST_REPEATS;
 /// What an end can keep or break with a block.
 #[derive(Clone, Copy, Debug)]
 pub struct Stakes {
-    /// Whether an earlier block set the node addresses.
-    pub addressed: bool,
     /// What the end heard since its last block.
     pub heard: Heard,
     /// The end and what was due from it, on the course on which the block is judged. That is the course without damage,
@@ -30,8 +28,7 @@ impl Stakes {
     {
         let end = self.due.end;
         match rule {
-            Rule::NodeAddress => self.addressed,
-            Rule::ControlOctet | Rule::Length | Rule::ReservedSize => true,
+            Rule::NodeAddress | Rule::ControlOctet | Rule::Length | Rule::ReservedSize => true,
             Rule::Turn => is_card(end.side) || is_nothing(self.heard),
             Rule::Silence => is_card(end.side) && is_whole(self.heard),
             _ => !is_nothing(self.heard) && end.can_break(self.due.owed, rule),

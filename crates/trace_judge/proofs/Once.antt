@@ -21,14 +21,14 @@ use Rattle.judge_core.specs.declared.exercise.Exercise.TheVariants.{Unknown}
 use Rattle.judge_core.specs.Monitored.{monitor_after, report_of}
 use Rattle.judge_core.specs.Stakes.{exercise_of}
 use Rattle.trace_judge.specs.declared.entry.Entry.{Entry}
-use Rattle.trace_judge.specs.declared.entry.Entry.TheVariants.{Nothing, Block, Quiet, Reset, Moment}
+use Rattle.trace_judge.specs.declared.entry.Entry.TheVariants.{Nothing, Block, Quiet, Reset, Midway, Moment}
 use Rattle.trace_judge.specs.declared.entry.Reach.{Reach}
 use Rattle.trace_judge.specs.declared.entry.Reach.TheVariants.{Unsaid, Lost}
 use Rattle.trace_judge.specs.declared.standing.Judgment.{Judgment}
 use Rattle.trace_judge.specs.declared.standing.Scope.{Scope}
 use Rattle.trace_judge.specs.Waiting.{Offered}
-use Rattle.trace_judge.specs.Reading.{◌>>=◌, block_said, entry_said, hex_said, is_empty, moment_by, named_said, octets_by, reach_said, words_of, Words}
-use Rattle.trace_judge.specs.Judging.{at_moment, deviations, ended, is_before, is_line_end, judged_text, start, told_before, told_block, Concludes, ExercisesIf, Fails, IsBlockTold, IsEntered, IsFalling, IsTold, Judges, JudgesLine, JudgesLines, Standing}
+use Rattle.trace_judge.specs.Reading.{◌>>=◌, block_said, entry_said, hex_said, is_empty, moment_by, named_said, octets_by, reach_said, words_of, Words, is_unknown}
+use Rattle.trace_judge.specs.Judging.{at_moment, is_before, is_ok, is_line_end, judged_text, start, told_before, told_block, Concludes, ExercisesIf, Fails, IsBlockTold, IsEntered, IsFalling, IsTold, Judges, JudgesLine, JudgesLines, Standing}
 use Rattle.trace_judge.proofs.SeenOnce.{one-seen, one-taking, some-arrival, some-seen, IsOfOctets}
 
 -- ---- what a line says
@@ -43,6 +43,7 @@ HasOctets (Block from octets reach) = AreOctets octets × IsOfOctets reach
 HasOctets Nothing = Unit {0}
 HasOctets Quiet = Unit {0}
 HasOctets Reset = Unit {0}
+HasOctets Midway = Unit {0}
 HasOctets (Moment moment) = Unit {0}
 
 either : {A : Type 0} (Holds : A → Type 0) (b : Bool) (x y : Result A ExchangeFault) → IsRead Holds x → IsRead Holds y
@@ -87,8 +88,9 @@ named-read number w =
     (either HasOctets (bytes_eq w.first (name_text name.FromCard)) _ _ (block-read number side.Card w)
     (either HasOctets (bytes_eq w.first (name_text name.Quiet) && is_empty w.second) (Ok Quiet) _ tt
     (either HasOctets (bytes_eq w.first (codes "reset") && is_empty w.second) (Ok Reset) _ tt
+    (either HasOctets (bytes_eq w.first (codes "begins") && is_unknown w) (Ok Midway) _ tt
     (either HasOctets (bytes_eq w.first (name_text name.Moment)) _ (Err (Word number))
-    (moment-read number (is_empty w.third) (decimal_number w.second)) (λ same. cc same)))))
+    (moment-read number (is_empty w.third) (decimal_number w.second)) (λ same. cc same))))))
 
 entry-read : (number : ℕ) (w : Words) → IsRead HasOctets (entry_said number w)
 entry-read number w = either HasOctets _ (Ok Nothing) (named_said number w) tt (named-read number w)
@@ -130,6 +132,7 @@ one-entered : (s : Standing) (entry : Entry) → HasOctets entry → (t u : Stan
 one-entered s Nothing octets t u h g = h ∙ sym g
 one-entered s Quiet octets t u h g = h ∙ sym g
 one-entered s Reset octets t u h g = h ∙ sym g
+one-entered s Midway octets t u h g = h ∙ sym g
 one-entered s (Moment moment) octets t u h g = h.1 ∙ sym g.1
 one-entered s (Block from b reach) octets t u h g =
     one-block (is_before s b) s from b octets.0 reach octets.1 t u h g
@@ -174,6 +177,7 @@ some-entered : (s : Standing) (entry : Entry) → HasOctets entry → ((t : Stan
 some-entered s Nothing octets = inl (_, refl)
 some-entered s Quiet octets = inl (_, refl)
 some-entered s Reset octets = inl (_, refl)
+some-entered s Midway octets = inl (_, refl)
 some-entered s (Moment moment) octets = some-moment s moment (cases_lt moment s.least)
 some-entered s (Block from b reach) octets = inl (some-block (is_before s b) s from b octets.0 reach octets.1)
 
@@ -181,6 +185,7 @@ not-both : (s : Standing) (entry : Entry) (t : Standing) → IsEntered s entry t
 not-both s Nothing t h g = absurd g
 not-both s Quiet t h g = absurd g
 not-both s Reset t h g = absurd g
+not-both s Midway t h g = absurd g
 not-both s (Moment moment) t h g = omega (arith, h.0, g)
 not-both s (Block from b reach) t h g = absurd g
 
@@ -275,8 +280,8 @@ fault-of-lines (line ∷ lines) s fault (inr (other, fails, e)) = λ same. fault
 -- ---- a text
 
 same-end : (all : Result Standing ExchangeFault) (a b : Judgment) → Concludes all (Ok a) → Concludes all (Ok b)
-    → (a.text ≡ b.text) × (a.deviates ≡ b.deviates)
-same-end (Ok s) a b h g = (h.text ∙ sym g.text, h.deviates ∙ sym g.deviates)
+    → (a.text ≡ b.text) × (a.is_ok ≡ b.is_ok)
+same-end (Ok s) a b h g = (h.text ∙ sym g.text, h.is_ok ∙ sym g.is_ok)
 same-end (Err fault) a b h g = absurd (cc h)
 
 same-fault : (all : Result Standing ExchangeFault) (x y : ExchangeFault) → Concludes all (Err x)
@@ -308,7 +313,7 @@ module _ (offered : Offered) (scope : Scope) (text : List ℕ) where
 
   -- it has one judgment
   pub one-judgment : (a b : Judgment) → Judges offered scope text (Ok a) → Judges offered scope text (Ok b)
-      → (a.text ≡ b.text) × (a.deviates ≡ b.deviates)
+      → (a.text ≡ b.text) × (a.is_ok ≡ b.is_ok)
   one-judgment a b h g =
       let first = judged-lines a h in
       let second = judged-lines b g in
@@ -338,10 +343,10 @@ module _ (offered : Offered) (scope : Scope) (text : List ℕ) where
       ⊎ ((x : ExchangeFault) × (x ≢ Memory) × Judges offered scope text (Err x))
   some-concluded (Ok s) h =
       let judgment : Judgment = record {
-        text = judged_text (ended s);
-        deviates = not (deviations (ended s).tally == 0);
+        text = judged_text s;
+        is_ok = is_ok s.tally;
       } in
-      inl (judgment, inr (Ok s, h, record { text = refl; deviates = refl }))
+      inl (judgment, inr (Ok s, h, record { text = refl; is_ok = refl }))
   some-concluded (Err fault) h = inr (
     fault,
     fault-of-lines (slice_split is_line_end text) (start offered scope) fault h,

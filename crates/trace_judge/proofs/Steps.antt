@@ -1,6 +1,5 @@
 -- What calls tell of a block, and at the end.
-use Rattle.std.proofs.Common.{◌≡◌, ◌∙◌, ◌==◌, ℕ, List, true, Option, not, nat_lt, ap, arith, sym}
-use Rattle.std.proofs.lemmas.Bool.Decides.{nat_tests}
+use Rattle.std.proofs.Common.{◌≡◌, ◌∙◌, ℕ, List, true, Option, ap, sym}
 use Rattle.block_core.specs.declared.side.Side.{Side}
 use Rattle.judge_core.specs.declared.monitor.Monitor.{Monitor}
 use Rattle.judge_core.specs.declared.monitor.Report.{Report}
@@ -8,7 +7,7 @@ use Rattle.judge_core.specs.declared.exercise.Exercise.{Exercise}
 use Rattle.trace_judge.specs.declared.standing.Judgment.{Judgment}
 use Rattle.trace_judge.specs.declared.timing.Late.{Late}
 use Rattle.trace_judge.specs.declared.timing.Timing.{Timing}
-use Rattle.trace_judge.specs.Judging.{deviations, ended, judged_text, late_from, told_block, told_exercise, told_late, told_report, with_summary, IsConcluded, Standing}
+use Rattle.trace_judge.specs.Judging.{is_ok, judged_text, late_from, told_block, told_exercise, told_late, told_report, with_summary, IsConcluded, Standing}
 use Rattle.trace_judge.specs.Coverage.{with_coverage}
 use Rattle.trace_judge.specs.Waiting.{timed}
 
@@ -30,16 +29,12 @@ told-by s old counted told after monitor from octets exercise report timing late
     (record s { monitor = monitor; begun = true; timing = timed s.timing from octets }) from exercise) from report)
     number) (is ∙ ap (λ (m : Standing). late_from m from) (sym same))
 
--- some are counted
-some-counted : (n : ℕ) → nat_lt 0 n ≡ not (n == 0)
-some-counted n = grind (arith, nat_tests)
-
 -- the end: what is said of rules and states, and then the counts
-pub concluded-by : (s m : Standing) (judgment : Judgment) (covered : List ℕ) → m ≡ ended s
+pub concluded-by : (s m : Standing) (judgment : Judgment) (covered : List ℕ) → m ≡ s
     → covered ≡ with_coverage m.scope.layout m.scope.rules m.text m.coverage
     → judgment.text ≡ with_summary m.scope.layout covered m.monitor.blocks m.tally
-    → judgment.deviates ≡ nat_lt 0 (deviations m.tally) → IsConcluded s judgment
-concluded-by s m judgment covered is counts text deviates = record {
+    → judgment.is_ok ≡ is_ok m.tally → IsConcluded s judgment
+concluded-by s m judgment covered is counts text ok = record {
   text = text ∙ ap (λ (t : List ℕ). with_summary m.scope.layout t m.monitor.blocks m.tally) counts ∙ ap judged_text is;
-  deviates = deviates ∙ some-counted (deviations m.tally) ∙ ap (λ (e : Standing). not (deviations e.tally == 0)) is;
+  is_ok = ok ∙ ap (λ (e : Standing). is_ok e.tally) is;
 }

@@ -27,9 +27,9 @@ use Rattle.judge_core.specs.declared.rule.Rule.TheVariants.{Silence as SilenceRu
 use Rattle.judge_core.specs.declared.exercise.Exercise.{Exercise}
 use Rattle.judge_core.specs.declared.exercise.Exercise.TheVariants.{Unknown, Breaks}
 use Rattle.judge_core.specs.Stakes.{Exercises}
-use Rattle.judge_core.specs.Monitored.{Takes, new_monitor, number_after, quiet_after, reset_after, silence_of}
+use Rattle.judge_core.specs.Monitored.{Takes, midway_after, new_monitor, number_after, quiet_after, reset_after, silence_of}
 use Rattle.trace_judge.specs.declared.entry.Entry.{Entry}
-use Rattle.trace_judge.specs.declared.entry.Entry.TheVariants.{Nothing, Block, Quiet, Reset, Moment}
+use Rattle.trace_judge.specs.declared.entry.Entry.TheVariants.{Nothing, Block, Quiet, Reset, Midway, Moment}
 use Rattle.trace_judge.specs.declared.entry.Reach.{Reach}
 use Rattle.trace_judge.specs.declared.entry.Reach.TheVariants.{Unsaid, Lost, Came}
 use denote.Ref.{Bor}
@@ -65,7 +65,7 @@ pub record Standing : Type 0 where
   pub text : List ℕ
 
 abbrev pub nothing_told : Tally
-nothing_told = record { terminal = 0; card = 0; unseen = 0; late = 0 }
+nothing_told = record { terminal = 0; card = 0; unseen = 0; late = 0; terminal_damaged = 0; card_damaged = 0 }
 
 abbrev pub start : Offered → Scope → Standing
 start offered scope = record {
@@ -99,6 +99,11 @@ unseen_in tally = record tally { unseen = number_after tally.unseen }
 abbrev pub late_in : Tally → Tally
 late_in tally = record tally { late = number_after tally.late }
 
+-- the tally with one more damaged block of an end
+abbrev pub damaged_of : Side → Tally → Tally
+damaged_of Terminal tally = record tally { terminal_damaged = number_after tally.terminal_damaged }
+damaged_of Card tally = record tally { card_damaged = number_after tally.card_damaged }
+
 -- the standing with this text and this tally, if this end is judged
 abbrev pub tells : Standing → Side → Tally → List ℕ → Standing
 tells s side tally text =
@@ -128,7 +133,7 @@ told_verdict s from before (Deviates broken due) =
     (with_deviation s.scope.layout s.text s.monitor.blocks from broken due)
 
 abbrev pub told_said : Standing → Side → ℕ → Said → Standing
-told_said s from before Damage = s
+told_said s from before Damage = tells s from (damaged_of from s.tally) s.text
 told_said s from before (Judged verdict) = told_verdict s from before verdict
 
 abbrev pub told_report : Standing → Side → Report → Standing
@@ -235,6 +240,14 @@ renewed s = record s {
   timing = new_timing s.offered.rates;
 }
 
+-- the standing at a place where the trace begins in the midst of a session
+abbrev pub midway : Standing → Standing
+midway s = record s {
+  monitor = midway_after s.monitor;
+  begun = true;
+  timing = record s.timing { now = None; sent = None };
+}
+
 abbrev pub at_moment : Standing → ℕ → Standing
 at_moment s moment = record s { least = moment; timing = record s.timing { now = Some moment } }
 
@@ -242,6 +255,7 @@ abbrev pub IsEntered : Standing → Entry → Standing → Type 0
 IsEntered s Nothing s' = s' ≡ s
 IsEntered s Quiet s' = s' ≡ quietened s
 IsEntered s Reset s' = s' ≡ renewed s
+IsEntered s Midway s' = s' ≡ midway s
 IsEntered s (Moment moment) s' = (s.least ≤ moment) × (s' ≡ at_moment s moment)
 IsEntered s (Block from octets reach) s' = IsBlockTold (is_before s octets) s from octets reach s'
 
@@ -249,6 +263,7 @@ abbrev pub IsFalling : Standing → Entry → Type 0
 IsFalling s Nothing = ⊥
 IsFalling s Quiet = ⊥
 IsFalling s Reset = ⊥
+IsFalling s Midway = ⊥
 IsFalling s (Moment moment) = moment < s.least
 IsFalling s (Block from octets reach) = ⊥
 
@@ -280,17 +295,41 @@ unseen_part unseen = codes ", unseen " ++ decimal unseen
 abbrev pub late_part : ℕ → List ℕ
 late_part late = if late == 0 then [] else codes ", late " ++ decimal late
 
+-- how many blocks of each end were damaged on the line
+unfoldable pub damaged_terminal : ℕ → List ℕ
+damaged_terminal damaged = codes ", damaged terminal " ++ decimal damaged
+
+unfoldable pub damaged_card : ℕ → List ℕ
+damaged_card damaged = codes " card " ++ decimal damaged
+
+abbrev pub damaged_text : Tally → List ℕ
+damaged_text tally = damaged_terminal tally.terminal_damaged ++ damaged_card tally.card_damaged
+
+abbrev pub is_undamaged : Tally → Bool
+is_undamaged tally = (tally.terminal_damaged == 0) && (tally.card_damaged == 0)
+
+abbrev pub damaged_part : Tally → List ℕ
+damaged_part tally = if is_undamaged tally then [] else damaged_text tally
+
+-- each block is permitted, and none needs damage that nobody saw
+abbrev pub is_ok : Tally → Bool
+is_ok tally = (deviations tally == 0) && (tally.unseen == 0)
+
 -- a number with the name of what it counts
 abbrev pub counted : ℕ → List ℕ → List ℕ
 counted number name = decimal number ++ (name ++ (if number == 1 then [] else codes "s"))
 
-abbrev pub ok_text : ℕ → ℕ → List ℕ
-ok_text blocks unseen = codes "ok " ++ (counted blocks (codes " block")
-    ++ ((if unseen == 0 then [] else unseen_part unseen) ++ codes "\n"))
+-- A trace without a deviation is `ok`, or `unsure` if some block needs damage that nobody saw.
+abbrev pub verdict_name : ℕ → List ℕ
+verdict_name unseen = if unseen == 0 then codes "ok" else codes "unsure"
+
+abbrev pub ok_text : ℕ → Tally → List ℕ
+ok_text blocks tally = verdict_name tally.unseen ++ (codes " " ++ (counted blocks (codes " block")
+    ++ ((if tally.unseen == 0 then [] else unseen_part tally.unseen) ++ (damaged_part tally ++ codes "\n"))))
 
 abbrev pub ends_text : Tally → List ℕ
 ends_text tally = decimal tally.terminal ++ (codes ", card " ++ (decimal tally.card
-    ++ (unseen_part tally.unseen ++ (late_part tally.late ++ codes "\n"))))
+    ++ (unseen_part tally.unseen ++ (late_part tally.late ++ (damaged_part tally ++ codes "\n")))))
 
 abbrev pub deviations_text : ℕ → Tally → List ℕ
 deviations_text blocks tally = counted blocks (codes " block") ++ (codes ", "
@@ -298,24 +337,33 @@ deviations_text blocks tally = counted blocks (codes " block") ++ (codes ", "
 
 abbrev pub summary : ℕ → Tally → List ℕ
 summary blocks tally =
-    if deviations tally == 0 then ok_text blocks tally.unseen else deviations_text blocks tally
+    if deviations tally == 0 then ok_text blocks tally else deviations_text blocks tally
 
 -- a member with a number, unless that is 0
-abbrev pub with_unless_zero : List ℕ → List ℕ → ℕ → List ℕ
+unfoldable pub with_unless_zero : List ℕ → List ℕ → ℕ → List ℕ
 with_unless_zero members name n = if n == 0 then members else with_number members name n
 
+-- the members for the counts of the blocks, if no end deviates
+unfoldable pub ok_counts : ℕ → Tally → List ℕ
+ok_counts blocks tally = with_unless_zero (with_unless_zero (with_number [] (codes "blocks") blocks)
+    (codes "card_damaged") tally.card_damaged) (codes "terminal_damaged") tally.terminal_damaged
+
 -- the members of an object if no end deviates, with an array of these items
-abbrev pub ok_members : ℕ → ℕ → List ℕ → List ℕ
-ok_members blocks unseen items = with_string
-    (with_unless_zero (with_array (with_number [] (codes "blocks") blocks) (codes "told") items)
-    (codes "unseen") unseen)
-    (codes "verdict") (codes "ok")
+abbrev pub ok_members : ℕ → Tally → List ℕ → List ℕ
+ok_members blocks tally items = with_string
+    (with_unless_zero (with_array (ok_counts blocks tally) (codes "told") items) (codes "unseen") tally.unseen)
+    (codes "verdict") (verdict_name tally.unseen)
+
+-- the members for the counts of the blocks and of what the card sent
+unfoldable pub card_counts : ℕ → Tally → List ℕ
+card_counts blocks tally = with_unless_zero (with_number (with_number [] (codes "blocks") blocks)
+    (codes "card") tally.card) (codes "card_damaged") tally.card_damaged
 
 -- the members for the counts of the blocks and the deviations
-abbrev pub deviation_counts : ℕ → Tally → List ℕ
-deviation_counts blocks tally = with_number (with_unless_zero (with_number (with_number
-    (with_number [] (codes "blocks") blocks) (codes "card") tally.card) (codes "deviations") (deviations tally))
-    (codes "late") tally.late) (codes "terminal") tally.terminal
+unfoldable pub deviation_counts : ℕ → Tally → List ℕ
+deviation_counts blocks tally = with_unless_zero (with_number (with_unless_zero (with_number (card_counts blocks tally)
+    (codes "deviations") (deviations tally)) (codes "late") tally.late) (codes "terminal") tally.terminal)
+    (codes "terminal_damaged") tally.terminal_damaged
 
 -- the members of an object if an end deviates, with an array of these items
 abbrev pub deviations_members : ℕ → Tally → List ℕ → List ℕ
@@ -325,25 +373,22 @@ deviations_members blocks tally items = with_string (with_number
 
 abbrev pub summary_members : ℕ → Tally → List ℕ → List ℕ
 summary_members blocks tally items =
-    if deviations tally == 0 then ok_members blocks tally.unseen items else deviations_members blocks tally items
+    if deviations tally == 0 then ok_members blocks tally items else deviations_members blocks tally items
 
 -- the text about a trace with its summary: its lines and a last one, or the members of an object
 abbrev pub with_summary : Layout → List ℕ → ℕ → Tally → List ℕ
 with_summary Lines text blocks tally = text ++ summary blocks tally
 with_summary Json items blocks tally = summary_members blocks tally items
 
--- the standing at the end of the trace, where the card may owe a block
-abbrev pub ended : Standing → Standing
-ended s = told_silence s (silence_of s.monitor.card.heard s.monitor.terminal.number)
-
--- the whole text of a standing at the end
+-- The whole text of a standing at the end. That a card sent nothing is said after the terminal's waiting time or at its
+-- next block, and not at the end: no time passes there.
 abbrev pub judged_text : Standing → List ℕ
 judged_text s = with_summary s.scope.layout (with_coverage s.scope.layout s.scope.rules s.text s.coverage)
     s.monitor.blocks s.tally
 
 pub record IsConcluded (s : Standing) (judgment : Judgment) : Type 0 where
-  pub text : judgment.text ≡ judged_text (ended s)
-  pub deviates : judgment.deviates ≡ not (deviations (ended s).tally == 0)
+  pub text : judgment.text ≡ judged_text s
+  pub is_ok : judgment.is_ok ≡ is_ok s.tally
 
 abbrev pub Concludes : Result Standing ExchangeFault → Result Judgment ExchangeFault → Type 0
 Concludes (Ok s) result = MatchResult result (IsConcluded s) (λ fault. ⊥)

@@ -12,7 +12,7 @@ use Rattle.exchange_text.specs.declared.fault.ExchangeFault.TheVariants.{Word, H
 use Rattle.block_core.specs.declared.side.Side.{Side}
 use Rattle.block_core.specs.declared.side.Side.TheVariants.{Terminal, Card}
 use Rattle.trace_judge.specs.declared.entry.Entry.{Entry}
-use Rattle.trace_judge.specs.declared.entry.Entry.TheVariants.{Nothing, Block, Quiet, Reset, Moment}
+use Rattle.trace_judge.specs.declared.entry.Entry.TheVariants.{Nothing, Block, Quiet, Reset, Midway, Moment}
 use Rattle.trace_judge.specs.declared.entry.Reach.{Reach}
 use Rattle.trace_judge.specs.declared.entry.Reach.TheVariants.{Unsaid, Lost, Came}
 
@@ -72,6 +72,10 @@ moment_by number true (Some moment) = Ok (Moment moment)
 moment_by number false (Some moment) = Err (Word number)
 moment_by number alone None = Err (Word number)
 
+-- whether the second word is the last one and says that nothing is known
+abbrev pub is_unknown : Words → Bool
+is_unknown w = bytes_eq w.second (codes "unknown") && is_empty w.third
+
 -- what the words of a line say; the first word names the line, and a number sign begins a remark
 abbrev pub named_said : ℕ → Words → Result Entry ExchangeFault
 named_said number w =
@@ -79,9 +83,10 @@ named_said number w =
     else (if bytes_eq w.first (name_text name.FromCard) then block_said number Card w
     else (if bytes_eq w.first (name_text name.Quiet) && is_empty w.second then Ok Quiet
     else (if bytes_eq w.first (codes "reset") && is_empty w.second then Ok Reset
+    else (if bytes_eq w.first (codes "begins") && is_unknown w then Ok Midway
     else (if bytes_eq w.first (name_text name.Moment)
     then moment_by number (is_empty w.third) (decimal_number w.second)
-    else Err (Word number)))))
+    else Err (Word number))))))
 
 -- what a line says; 35 is the number sign
 abbrev pub entry_said : ℕ → Words → Result Entry ExchangeFault

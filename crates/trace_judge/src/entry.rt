@@ -1,7 +1,7 @@
 //! What a line of a trace says.
 
 ghost use Rattle.std.specs.Prelude.{◌≡◌};
-ghost use Rattle.trace_judge.specs.Reading.{block_said, entry_said, hex_said, moment_by, named_said, reach_said, is_empty, UnlessMemory};
+ghost use Rattle.trace_judge.specs.Reading.{block_said, entry_said, hex_said, moment_by, named_said, reach_said, is_empty, is_unknown, UnlessMemory};
 ghost use Rattle.trace_judge.specs.Judging.{IsArrival};
 ghost use Rattle.octet_core.specs.Decimal.{decimal_number};
 
@@ -20,6 +20,11 @@ const AS: &[u8] = b"as";
 
 /// The word for a reset of the card.
 const RESET: &[u8] = b"reset";
+
+/// The words for a trace that begins in the midst of a session.
+const BEGINS: &[u8] = b"begins";
+
+const UNKNOWN: &[u8] = b"unknown";
 
 /// How a block reached the other end.
 #[derive(Drop)]
@@ -60,6 +65,8 @@ pub(crate) enum Entry {
     Quiet,
     /// The card was reset.
     Reset,
+    /// What follows comes in the midst of a session of which nothing is known.
+    Midway,
     /// So many microseconds after some start.
     Moment(u64),
 }
@@ -92,11 +99,20 @@ fn named_said(alloc: Global, number: usize, words: &LineWords<'_>) -> Result<Ent
         Ok(Entry::Quiet)
     } else if word == RESET && words.second.is_empty() {
         Ok(Entry::Reset)
+    } else if word == BEGINS && is_unknown(words) {
+        Ok(Entry::Midway)
     } else if word == Name::Moment.word().as_bytes() {
         moment_by(number, words.third.is_empty(), decimal_of(words.second))
     } else {
         Err(ExchangeFault::Word { line: number })
     }
+}
+
+/// Whether the second word is the last one and says that nothing is known.
+fn is_unknown(words: &LineWords<'_>) -> bool
+    ensures { result ≡ is_unknown words.now }
+{
+    words.second == UNKNOWN && words.third.is_empty()
 }
 
 /// Returns the block of this end in these words.

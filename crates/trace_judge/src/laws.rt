@@ -16,7 +16,7 @@ pub fn one_judgment()
     ensures one { (offered : Offered) (scope : AnyScope) (text : List ℕ)
         (judgment other : AnyJudgment)
         → Judges offered scope text (Ok judgment) → Judges offered scope text (Ok other)
-        → (judgment.text ≡ other.text) × (judgment.deviates ≡ other.deviates) }
+        → (judgment.text ≡ other.text) × (judgment.is_ok ≡ other.is_ok) }
     ensures fault { (offered : Offered) (scope : AnyScope) (text : List ℕ) (fault other : AnyFault)
         → fault ≢ Memory → other ≢ Memory → Judges offered scope text (Err fault)
         → Judges offered scope text (Err other) → fault ≡ other }

@@ -3,7 +3,7 @@
 ghost use Rattle.std.specs.Prelude.{◌≡◌, ◌⊎◌, ◌++◌, ◌+◌, ◌<◌, ◌^◌, IfErr, MatchResult, OnOk, string_bytes};
 ghost use Rattle.exchange_text.specs.declared.fault.ExchangeFault.TheVariants.{Falls, Memory};
 ghost use Rattle.trace_judge.specs.declared.entry.Entry.TheVariants.{Moment};
-ghost use Rattle.trace_judge.specs.Judging.{is_before, is_judged, late_from, pps_timed, quietened, renewed, start, told_before, told_exercise, told_late, told_report, told_silence, told_verdict, ExercisesIf, Fails, IsBlockTold, IsConcluded, IsEntered, IsFalling, IsTold, JudgesLine, Judges};
+ghost use Rattle.trace_judge.specs.Judging.{is_before, is_judged, late_from, pps_timed, quietened, renewed, start, told_before, told_exercise, told_late, told_report, told_said, told_silence, told_verdict, midway, ExercisesIf, Fails, IsBlockTold, IsConcluded, IsEntered, IsFalling, IsTold, JudgesLine, Judges};
 
 use crate::coverage::Coverage;
 use crate::entry::{Entry, Reach, entry_said};
@@ -41,8 +41,8 @@ pub struct Judgment {
     /// counts. Or the same as the members of a JSON object, with commas between them: an array of objects, the counts
     /// and the verdict.
     pub text: Text,
-    /// Whether there was a deviation.
-    pub deviates: bool,
+    /// Whether each block is permitted, and none needs damage that nobody saw.
+    pub is_ok: bool,
 }
 
 /// Judges the text of a trace for a card that offers this: both ends, or one end alone.
@@ -54,6 +54,7 @@ pub struct Judgment {
 /// - `t HEX as HEX`, `c HEX as HEX`: they reached the other end as the second octets.
 /// - `quiet`: the terminal's waiting time ended.
 /// - `reset`: the card was reset.
+/// - `begins unknown`: what follows comes in the midst of a session of which nothing is known.
 /// - `at N`: microseconds, 1 to 15 digits, never below an earlier moment.
 /// - A line without a word, or whose first word begins with a number sign, says nothing.
 ///
@@ -161,6 +162,10 @@ impl Standing {
                 self.reset();
                 Ok(())
             }
+            Entry::Midway => {
+                self.begins_midway();
+                Ok(())
+            }
             Entry::Moment(moment) => self.moment(moment),
             Entry::Block {
                 from,
@@ -177,6 +182,16 @@ impl Standing {
         self.monitor.reset(self.offer.params.ifsc());
         self.begun = false;
         self.timing = Timing::new(self.offer.rates);
+    }
+
+    /// Takes it that what follows comes in the midst of a session.
+    fn begins_midway(&mut self)
+        ensures { self.new ≡ midway self.old }
+    {
+        self.monitor.begins_midway();
+        self.begun = true;
+        self.timing.now = None;
+        self.timing.sent = None;
     }
 
     fn moment(&mut self, moment: u64) -> Result<(), ExchangeFault>
@@ -286,9 +301,28 @@ impl Standing {
         ensures number { OnOk result (self.new.number ≡ self.old.number) }
     {
         self.silence(alloc, report.silence)?;
-        match report.said {
-            Said::Damage => Ok(()),
-            Said::Block(verdict) => self.verdict(alloc, from, report.before, &verdict),
+        self.said(alloc, from, report.before, &report.said)
+    }
+
+    /// Reports octets of this end.
+    fn said(
+        &mut self,
+        alloc: Global,
+        from: Side,
+        before: u64,
+        said: &Said,
+    ) -> Result<(), AllocError>
+        ensures said { OnOk result (self.new ≡ told_said self.old from before said.now) }
+        ensures number { OnOk result (self.new.number ≡ self.old.number) }
+    {
+        match said {
+            Said::Damage => {
+                if self.is_judged(from) {
+                    self.tally.damaged_of(from);
+                }
+                Ok(())
+            }
+            Said::Block(verdict) => self.verdict(alloc, from, before, verdict),
         }
     }
 
@@ -387,8 +421,6 @@ impl Standing {
     fn conclude(mut self, alloc: Global) -> Result<Judgment, ExchangeFault>
         ensures { MatchResult result (IsConcluded self) (λ fault. fault ≡ Memory) }
     {
-        let silence = self.monitor.silence();
-        self.silence(alloc, silence)?;
         let Scope { layout, rules, .. } = self.scope;
         self.coverage.push_if(alloc, &mut self.text, layout, rules)?;
         let tally = self.tally;
@@ -396,7 +428,7 @@ impl Standing {
         let text = tally.with_summary(alloc, self.text, layout, blocks)?;
         Ok(Judgment {
             text: Text::of(text),
-            deviates: tally.deviations() > 0,
+            is_ok: tally.is_ok(),
         })
     }
 }

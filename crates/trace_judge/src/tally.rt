@@ -1,20 +1,23 @@
 //! How many deviations a trace has.
 
-ghost use Rattle.std.specs.Prelude.{◌≡◌, ◌++◌, [], IfOk, OnOk, codes, string_bytes};
-ghost use Rattle.trace_judge.specs.Judging.{counted, deviation_counts, deviation_of, deviations, deviations_members, deviations_text, ends_text, late_in, late_part, nothing_told, ok_members, ok_text, summary, summary_members, unseen_in, unseen_part, with_summary, with_unless_zero};
+ghost use Rattle.std.specs.Prelude.{◌≡◌, ◌++◌, [], IfOk, OnOk, codes, decimal, string_bytes};
+ghost use Rattle.trace_judge.specs.Judging.{card_counts, counted, damaged_card, damaged_of, damaged_part, damaged_terminal, damaged_text, deviation_counts, deviation_of, deviations, deviations_members, deviations_text, ends_text, is_ok, is_undamaged, late_in, late_part, nothing_told, ok_counts, ok_members, ok_text, summary, summary_members, unseen_in, unseen_part, verdict_name, with_summary, with_unless_zero};
 
 use crate::saying::push_number;
 use judge_core::Side;
 use layouts::{Layout, Members};
 use std::alloc::{AllocError, Global};
 
-/// How many deviations each end has, and the card in time, and how many blocks must have been damaged or lost unseen.
+/// How many deviations each end has, and the card in time, how many blocks must have been damaged or lost unseen, and
+/// how many blocks of each end were damaged on the line.
 #[derive(Clone, Copy)]
 pub(crate) struct Tally {
     pub(crate) terminal: u64,
     pub(crate) card: u64,
     pub(crate) unseen: u64,
     pub(crate) late: u64,
+    pub(crate) terminal_damaged: u64,
+    pub(crate) card_damaged: u64,
 }
 
 impl Tally {
@@ -27,6 +30,8 @@ impl Tally {
             card: 0,
             unseen: 0,
             late: 0,
+            terminal_damaged: 0,
+            card_damaged: 0,
         }
     }
 
@@ -52,6 +57,30 @@ impl Tally {
         ensures { self.new ≡ unseen_in self.old }
     {
         self.unseen = self.unseen.saturating_add(1);
+    }
+
+    /// Counts one more damaged block of this end.
+    pub(crate) fn damaged_of(&mut self, side: Side)
+        ensures { self.new ≡ damaged_of side self.old }
+    {
+        match side {
+            Side::Terminal => self.terminal_damaged = self.terminal_damaged.saturating_add(1),
+            Side::Card => self.card_damaged = self.card_damaged.saturating_add(1),
+        }
+    }
+
+    /// Returns whether each block is permitted, and none needs damage that nobody saw.
+    pub(crate) fn is_ok(&self) -> bool
+        ensures { result ≡ is_ok self.now }
+    {
+        self.deviations() == 0 && self.unseen == 0
+    }
+
+    /// Returns the word for a trace without a deviation.
+    fn verdict_name(&self) -> &'static str
+        ensures { result.now ≡ verdict_name self.now.unseen }
+    {
+        if self.unseen == 0 { "ok" } else { "unsure" }
     }
 
     /// Returns the number of deviations of both ends, with those in time.
@@ -106,13 +135,29 @@ impl Tally {
 
     /// Returns the members of an object if no end deviates, with an array of these items.
     fn ok_members(&self, alloc: Global, items: &str, blocks: u64) -> Result<Members, AllocError>
-        ensures { IfOk result (λ members. members ≡ ok_members blocks self.now.unseen items.now) }
+        ensures { IfOk result (λ members. members ≡ ok_members blocks self.now items.now) }
+    {
+        let mut members = self.ok_counts(alloc, blocks)?;
+        members.array(alloc, "told", items)?;
+        push_unless_zero(alloc, &mut members, "unseen", self.unseen)?;
+        members.string(alloc, "verdict", self.verdict_name())?;
+        Ok(members)
+    }
+
+    /// Returns the members for the counts of the blocks, if no end deviates.
+    #[tactic(auto, unfolding(crate::specs::Judging::ok_counts))]
+    fn ok_counts(&self, alloc: Global, blocks: u64) -> Result<Members, AllocError>
+        ensures { IfOk result (λ members. members ≡ ok_counts blocks self.now) }
     {
         let mut members = Members::new(alloc);
         members.number(alloc, "blocks", blocks)?;
-        members.array(alloc, "told", items)?;
-        push_unless_zero(alloc, &mut members, "unseen", self.unseen)?;
-        members.string(alloc, "verdict", "ok")?;
+        push_unless_zero(alloc, &mut members, "card_damaged", self.card_damaged)?;
+        push_unless_zero(
+            alloc,
+            &mut members,
+            "terminal_damaged",
+            self.terminal_damaged,
+        )?;
         Ok(members)
     }
 
@@ -134,15 +179,32 @@ impl Tally {
     }
 
     /// Returns the members for the counts of the blocks and the deviations.
+    #[tactic(auto, unfolding(crate::specs::Judging::deviation_counts))]
     fn counts(&self, alloc: Global, blocks: u64) -> Result<Members, AllocError>
         ensures { IfOk result (λ members. members ≡ deviation_counts blocks self.now) }
+    {
+        let mut members = self.card_counts(alloc, blocks)?;
+        members.number(alloc, "deviations", self.deviations())?;
+        push_unless_zero(alloc, &mut members, "late", self.late)?;
+        members.number(alloc, "terminal", self.terminal)?;
+        push_unless_zero(
+            alloc,
+            &mut members,
+            "terminal_damaged",
+            self.terminal_damaged,
+        )?;
+        Ok(members)
+    }
+
+    /// Returns the members for the counts of the blocks and of what the card sent.
+    #[tactic(auto, unfolding(crate::specs::Judging::card_counts))]
+    fn card_counts(&self, alloc: Global, blocks: u64) -> Result<Members, AllocError>
+        ensures { IfOk result (λ members. members ≡ card_counts blocks self.now) }
     {
         let mut members = Members::new(alloc);
         members.number(alloc, "blocks", blocks)?;
         members.number(alloc, "card", self.card)?;
-        members.number(alloc, "deviations", self.deviations())?;
-        push_unless_zero(alloc, &mut members, "late", self.late)?;
-        members.number(alloc, "terminal", self.terminal)?;
+        push_unless_zero(alloc, &mut members, "card_damaged", self.card_damaged)?;
         Ok(members)
     }
 
@@ -160,13 +222,15 @@ impl Tally {
 
     fn push_ok(&self, alloc: Global, text: &mut String, blocks: u64) -> Result<(), AllocError>
         ensures { OnOk result (string_bytes text.new
-            ≡ string_bytes text.old ++ ok_text blocks self.now.unseen) }
+            ≡ string_bytes text.old ++ ok_text blocks self.now) }
     {
-        text.push_str("ok ")?;
+        text.push_str(self.verdict_name())?;
+        text.push_str(" ")?;
         push_counted(alloc, text, blocks, " block")?;
         if self.unseen > 0 {
             self.push_unseen_part(alloc, text)?;
         }
+        self.push_damaged_part(alloc, text)?;
         text.push_str("\n")
     }
 
@@ -195,7 +259,32 @@ impl Tally {
         push_number(alloc, text, self.card)?;
         self.push_unseen_part(alloc, text)?;
         self.push_late_part(alloc, text)?;
+        self.push_damaged_part(alloc, text)?;
         text.push_str("\n")
+    }
+
+    fn push_damaged_part(&self, alloc: Global, text: &mut String) -> Result<(), AllocError>
+        ensures { OnOk result (string_bytes text.new
+            ≡ string_bytes text.old ++ damaged_part self.now) }
+    {
+        if self.is_undamaged() {
+            return Ok(());
+        }
+        self.push_damaged(alloc, text)
+    }
+
+    fn is_undamaged(&self) -> bool
+        ensures { result ≡ is_undamaged self.now }
+    {
+        self.terminal_damaged == 0 && self.card_damaged == 0
+    }
+
+    fn push_damaged(&self, alloc: Global, text: &mut String) -> Result<(), AllocError>
+        ensures { OnOk result (string_bytes text.new
+            ≡ string_bytes text.old ++ damaged_text self.now) }
+    {
+        push_damaged_terminal(alloc, text, self.terminal_damaged)?;
+        push_damaged_card(alloc, text, self.card_damaged)
     }
 
     fn push_late_part(&self, alloc: Global, text: &mut String) -> Result<(), AllocError>
@@ -219,6 +308,7 @@ impl Tally {
 }
 
 /// Appends a member with a number, unless that is 0.
+#[tactic(auto, unfolding(crate::specs::Judging::with_unless_zero))]
 fn push_unless_zero(
     alloc: Global,
     members: &mut Members,
@@ -231,6 +321,32 @@ fn push_unless_zero(
         return Ok(());
     }
     members.number(alloc, name, number)
+}
+
+/// Appends how many blocks of the terminal were damaged.
+#[tactic(auto, unfolding(crate::specs::Judging::damaged_terminal))]
+fn push_damaged_terminal(alloc: Global, text: &mut String, damaged: u64) -> Result<(), AllocError>
+    ensures { OnOk result (string_bytes text.new ≡ string_bytes text.old
+        ++ damaged_terminal damaged) }
+{
+    push_named(alloc, text, ", damaged terminal ", damaged)
+}
+
+/// Appends how many blocks of the card were damaged.
+#[tactic(auto, unfolding(crate::specs::Judging::damaged_card))]
+fn push_damaged_card(alloc: Global, text: &mut String, damaged: u64) -> Result<(), AllocError>
+    ensures { OnOk result (string_bytes text.new ≡ string_bytes text.old ++ damaged_card damaged) }
+{
+    push_named(alloc, text, " card ", damaged)
+}
+
+/// Appends a number after its name.
+fn push_named(alloc: Global, text: &mut String, name: &str, number: u64) -> Result<(), AllocError>
+    ensures { OnOk result (string_bytes text.new
+        ≡ string_bytes text.old ++ (name.now ++ decimal number)) }
+{
+    text.push_str(name)?;
+    push_number(alloc, text, number)
 }
 
 /// Appends a number with the name of what it counts.

@@ -1,0 +1,193 @@
+"""The ends of sessions of T=1 that the standard permits, for tools/gate/try-legal.
+
+The ends are written from the clauses of ISO/IEC 7816-3:2006, 11.3 to 11.6. They share no line with the definitions of
+the crate judge_core and none with t1_rules.py, and choose at random among the blocks that the clauses permit. Each end
+knows what it received, which a tap on the line doesn't.
+"""
+
+import functools
+import operator
+
+TERMINAL, CARD = "t", "c"
+# what an end receives if no block comes whole: octets with an error, or nothing before its waiting time ends
+BROKEN, SILENCE = "broken", "silence"
+RESYNCH, IFS, ABORT, WTX = 0xC0, 0xC1, 0xC2, 0xC3
+RESPONSE = 0x20
+# the field that a card of drawn.ATR takes, and that each card may send first (11.4.2)
+USUAL_SIZE = 32
+MOST_RESYNCHS = 3
+
+
+class GivesUp(Exception):
+    """The terminal ends the session, or resets the card (rule 6.4)."""
+
+
+def encoded(nad, pcb, field):
+    """The octets of a block (11.3)."""
+    octets = bytes([nad, pcb, len(field)]) + field
+    return octets + bytes([functools.reduce(operator.xor, octets)])
+
+
+def swapped(nad):
+    """The node address of an answer (11.3.2.1)."""
+    return (nad & 0x0F) << 4 | nad >> 4
+
+
+class End:
+    """An end of the line. `due` is the kind of the block that it sends next, for those who change one."""
+
+    def __init__(self, side, rng, wishes):
+        self.side, self.rng, self.wishes = side, rng, wishes
+        self.room = self.first_room = USUAL_SIZE
+        self.most = rng.choice((2, 3))
+        self.resynchs = 0
+        self.due = None
+        self.begins()
+
+    def begins(self):
+        """After a reset, or after RESYNCH (rule 6): numbers and chains begin again, the sizes perhaps."""
+        self.next = self.expects = self.fails = self.earlier = self.tries = 0
+        self.pending = self.asked = self.before = self.refusable = None
+        self.is_aborted = self.has_refused = False
+        self.room = self.rng.choice((self.room, self.first_room))
+
+    # ---- what it sends
+
+    def sends(self, due, pcb, field=b""):
+        """A block of this kind."""
+        self.due = due
+        return pcb, field
+
+    def informs(self, due):
+        """An I-block with the next number (rule 2.1), of a message that may go on (rule 5)."""
+        size = self.rng.choice((0, 1, 5, self.room)) if self.rng.random() < 0.4 else self.rng.randint(1, 8)
+        field = self.rng.randbytes(min(size, self.room))
+        pcb = self.next << 6 | (0x20 if self.rng.random() < self.wishes.chain else 0)
+        self.pending, self.next = (pcb, field), self.next ^ 1
+        self.fails, self.is_aborted, self.has_refused = 0, False, False
+        return self.sends(due, pcb, field)
+
+    def acts(self, due):
+        """The block that is due in order, or a request or a refusal in place of it (rules 3, 4, 6 and 9)."""
+        refusable, self.refusable = self.refusable, None
+        if refusable is not None and not self.has_refused and self.rng.random() < self.wishes.refusal:
+            self.expects, self.has_refused, self.fails = refusable, True, self.earlier + 1
+            return self.sends("refusal", 0x82 | self.expects << 4)
+        subject = self.wish(due)
+        if subject is not None:
+            return self.asks(due, subject)
+        if due == "acknowledgment" or due == "either" and self.rng.random() < 0.5:
+            return self.sends(due, 0x80 | self.expects << 4)
+        return self.informs(due)
+
+    def wish(self, due):
+        """A request that may come in place of what is due, if it wishes one."""
+        if self.rng.random() >= self.wishes.request:
+            return None
+        subjects = [IFS] + [WTX] * (self.side == CARD)
+        if due in ("next", "acknowledgment"):
+            subjects += [ABORT]
+        if self.side == TERMINAL and due == "message":
+            subjects += [RESYNCH]
+        return self.rng.choice(subjects)
+
+    def asks(self, before, subject):
+        """A first request."""
+        octet = {IFS: self.rng.randint(1, 254), WTX: self.rng.randint(1, 255)}.get(subject)
+        self.before, self.tries = before, 0
+        self.asked = subject, b"" if octet is None else bytes([octet])
+        return self.sends("request", *self.asked)
+
+    def asks_again(self):
+        """The same request (rule 7.3), or RESYNCH after some tries."""
+        self.tries += 1
+        if self.side == TERMINAL and self.tries > (self.most if self.asked[0] != RESYNCH else MOST_RESYNCHS - 1):
+            return self.begins_again()
+        return self.sends("request again", *self.asked)
+
+    def begins_again(self):
+        """RESYNCH of a terminal (rule 6)."""
+        self.resynchs += 1
+        if self.asked and self.asked[0] == RESYNCH:
+            raise GivesUp
+        self.begins()
+        self.asked, self.before = (RESYNCH, b""), "message"
+        return self.sends("RESYNCH", RESYNCH)
+
+    def repeats(self):
+        """One more failure of a terminal, which asks for RESYNCH after some (rule 7.4)."""
+        self.fails += 1
+        return self.side == TERMINAL and self.fails > self.most
+
+    def corrects(self):
+        """An R-block with the number of the I-block that it expects (rules 7.1 and 7.2)."""
+        if self.repeats():
+            return self.begins_again()
+        return self.sends("correction", 0x80 | self.rng.choice((0, 1, 2)) | self.expects << 4)
+
+    # ---- what it receives
+
+    def hears(self, came):
+        """The block that it sends after it received this."""
+        self.refusable = None
+        if self.side == CARD and came == (RESYNCH, b""):
+            self.begins()
+            return self.sends("response", RESYNCH | RESPONSE)
+        if self.asked:
+            return self.hears_asking(came)
+        if came in (BROKEN, SILENCE):
+            return self.corrects()
+        pcb, field = came
+        if pcb < 0x80:
+            return self.hears_information(pcb >> 6 & 1, bool(pcb & 0x20))
+        if pcb < 0xC0:
+            return self.hears_receipt(pcb >> 4 & 1)
+        return self.corrects() if pcb & RESPONSE else self.hears_request(pcb, field)
+
+    def hears_asking(self, came):
+        """The response to its request, or anything else (rule 7.3)."""
+        subject, field = self.asked
+        if came != (subject | RESPONSE, field):
+            return self.asks_again()
+        self.asked, self.fails = None, 0
+        if subject == RESYNCH:
+            self.begins()
+            return self.acts("message")
+        if subject == ABORT:
+            self.pending = None
+            return self.acts("either")
+        return self.acts(self.before)
+
+    def hears_information(self, number, more):
+        """An I-block acknowledges the last one of a message (rules 2.1 and 5)."""
+        if self.in_chain() or number != self.expects:
+            return self.corrects()
+        self.expects ^= 1
+        self.refusable = number if self.side == CARD or self.fails < self.most else None
+        self.pending, self.earlier, self.fails, self.is_aborted = None, self.fails, 0, False
+        return self.acts("acknowledgment" if more else "message")
+
+    def in_chain(self):
+        """Whether its last I-block waits for the acknowledgment within a chain."""
+        return self.pending is not None and bool(self.pending[0] & 0x20)
+
+    def hears_receipt(self, number):
+        """An R-block asks for the last I-block again, or for the next one (rules 2.2 and 7.1)."""
+        if self.pending and number != self.next:
+            if self.repeats():
+                return self.begins_again()
+            return self.sends("repeat", *self.pending)
+        if self.in_chain():
+            self.pending, self.fails = None, 0
+            return self.acts("next")
+        if self.is_aborted and number == self.next and self.rng.random() < 0.5:
+            return self.informs("either")
+        return self.corrects()
+
+    def hears_request(self, subject, field):
+        """A request, which it answers with the same octet (rules 3, 4 and 9)."""
+        if subject == IFS:
+            self.room = field[0]
+        if subject == ABORT:
+            self.pending, self.is_aborted = None, True
+        return self.sends("response", subject | RESPONSE, field)
