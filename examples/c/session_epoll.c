@@ -1,8 +1,9 @@
-/* Sessions in an event loop: two terminals and two cards in one thread, with the steps of scard_lent_line. Each line is
- * a pair of sockets, on which an octet takes its time. It needs Linux, for epoll. docs/WIRING.md has the events.
+/* Sessions in an event loop: two terminals and two cards in one thread, by the steps of scard_lent_session and
+ * scard_lent_card_session. Each line is a pair of sockets, on which an octet takes its time. It needs Linux, for epoll.
+ * docs/WIRING.md has the events.
  */
 #define _POSIX_C_SOURCE 200809L
-#include "scard_session.h"
+#include "scard.h"
 
 #include <fcntl.h>
 #include <stdio.h>
@@ -12,21 +13,25 @@
 #include <time.h>
 #include <unistd.h>
 
-enum { PAIRS = 2, ENDS = 2 * PAIRS, MESSAGE = 80, EXCHANGES = 5 };
+/* OCTET is the time of an octet in microseconds, 12 etu at 9,600 bits a second. */
+enum { PAIRS = 2, ENDS = 2 * PAIRS, MESSAGE = 80, EXCHANGES = 5, OCTET = 1250 };
 
-/* One end: its side of T=1, its line, and the one thing that it does now. */
+/* One end: its session, its buffers, and the one thing that it does now. */
 struct end {
     bool is_card, is_over;
     int descriptor;
-    struct scard_lent_terminal terminal;
-    struct scard_lent_card card;
-    struct scard_lent_line line;
+    struct scard_lent_session terminal;
+    struct scard_lent_card_session card;
     uint8_t command[MESSAGE], answer[MESSAGE], block[SCARD_BLOCK_ROOM];
-    size_t count, put; /* of the block: its octets, and how many of them are on the line */
-    struct scard_line_next next;
+    size_t put; /* how many octets of the block are on the line */
+    struct scard_session_next next;
     uint64_t last, due; /* when the last octet was sent or received; when the timer rings */
     unsigned done, right;
 };
+
+/* The state and the buffers of an end, as the first five arguments of its steps. */
+#define TERMINAL(end) SCARD_LENT((end)->terminal, (end)->command, (end)->answer)
+#define CARD(end) SCARD_LENT((end)->card, (end)->command, (end)->answer)
 
 static uint64_t now(void)
 {
@@ -35,93 +40,28 @@ static uint64_t now(void)
     return (uint64_t)time.tv_sec * 1000000 + (uint64_t)time.tv_nsec / 1000;
 }
 
-/* The rules of both ends: 9,600 bits a second, BWI 3 and CWI 10. A busy machine may delay an octet. */
-static const struct scard_t1 t1 = {32, 3, 10};
-static const struct scard_clock clock_of_card = {372, 1, 3571200};
-
-static struct scard_lent_line_rules rules_of(bool is_card)
+/* The setup of both ends: 9,600 bits a second, BWI 3 and CWI 10. A busy machine may delay an octet. */
+static struct scard_lent_setup setup_of_both(void)
 {
-    struct scard_lent_line_rules rules;
-    memset(&rules, 0, sizeof rules);
-    rules.bwt = scard_clock_time(&clock_of_card, scard_t1_bwt(&t1, clock_of_card.fi, clock_of_card.di));
-    rules.cwt = scard_clock_time(&clock_of_card, (uint64_t)scard_t1_cwt(&t1) * clock_of_card.fi);
-    rules.bgt = scard_clock_time(&clock_of_card, (uint64_t)22 * clock_of_card.fi);
-    rules.octet = scard_clock_time(&clock_of_card, (uint64_t)12 * clock_of_card.fi);
-    rules.after = rules.bgt;
-    rules.most_time = is_card ? UINT64_MAX : SCARD_MOST_MICROSECONDS;
-    rules.most_blocks = SCARD_MOST_BLOCKS;
-    rules.has_clock = 1;
-    rules.is_card = is_card;
-    return rules;
+    struct scard_lent_setup setup;
+    memset(&setup, 0, sizeof setup);
+    setup.fi = 372;
+    setup.di = 1;
+    setup.hertz = 3571200;
+    setup.ifsc = 32;
+    setup.bwi = 3;
+    setup.cwi = 10;
+    setup.has_clock = 1;
+    return setup;
 }
 
-static void take_turn(struct end *end, struct scard_turn turn, bool is_first);
-
-/* The host of a card: it replies with the command and 9000. */
-static struct scard_turn host(struct end *end)
+/* The host of a card: it replies with the command of `count` octets and 9000. */
+static struct scard_session_next host(struct end *end, size_t count)
 {
-    struct scard_verdict command = scard_lent_card_command(SCARD_LENT(end->card, end->command, end->answer));
     uint8_t reply[MESSAGE + 2];
-    memcpy(reply, end->command, (size_t)command.place);
-    memcpy(reply + command.place, "\x90\x00", 2);
-    return scard_lent_card_reply(SCARD_LENT(end->card, end->command, end->answer), reply, (size_t)command.place + 2,
-                                 end->block, sizeof end->block);
-}
-
-/* The line of a card rests: a burst has ended, or the line failed. */
-static void card_goes_on(struct end *end)
-{
-    struct scard_turn turn;
-    if (end->next.kind != SCARD_NEXT_HEARD) {
-        end->is_over = true;
-        return;
-    }
-    turn = scard_lent_card_received(SCARD_LENT(end->card, end->command, end->answer), end->line.framer.octets,
-                                    (size_t)end->next.count, end->block, sizeof end->block);
-    if (turn.kind == SCARD_DONE) {
-        take_turn(end, host(end), true);
-    } else {
-        take_turn(end, turn, false);
-    }
-}
-
-/* The line of a terminal rests. */
-static void terminal_goes_on(struct end *end)
-{
-    if (end->next.kind == SCARD_NEXT_HEARD) {
-        take_turn(end, scard_lent_terminal_received(SCARD_LENT(end->terminal, end->command, end->answer),
-                                                    end->line.framer.octets, (size_t)end->next.count, end->block,
-                                                    sizeof end->block), false);
-    } else if (end->next.kind == SCARD_NEXT_QUIET) {
-        take_turn(end, scard_lent_terminal_quiet(SCARD_LENT(end->terminal, end->command, end->answer), end->block,
-                                                 sizeof end->block), false);
-    } else {
-        end->is_over = true;
-    }
-}
-
-/* Begins what the line says, and sets the timer. The timer of a wait counts from the last octet. */
-static void does(struct end *end, struct scard_line_next next)
-{
-    end->next = next;
-    if (next.kind == SCARD_NEXT_SEND) {
-        end->put = 0;
-        end->due = now();
-    } else if (next.kind == SCARD_NEXT_WAIT) {
-        end->due = next.wait == UINT64_MAX ? UINT64_MAX : end->last + next.wait;
-    } else {
-        end->due = UINT64_MAX;
-        if (end->is_card) {
-            card_goes_on(end);
-        } else {
-            terminal_goes_on(end);
-        }
-    }
-}
-
-static void happens(struct end *end, uint8_t event, const uint8_t *octets, size_t count)
-{
-    does(end, scard_lent_line_step(&end->line, event, octets, count, now(), end->block, end->count));
+    memcpy(reply, end->command, count);
+    memcpy(reply + count, "\x90\x00", 2);
+    return scard_lent_card_session_reply(CARD(end), reply, count + 2, now(), end->block, sizeof end->block);
 }
 
 /* The application of a terminal: it sends the next command, which is longer each time. */
@@ -132,49 +72,63 @@ static size_t command_of(const struct end *end, uint8_t *command)
     return count;
 }
 
-static void next_command(struct end *end)
+static struct scard_session_next next_command(struct end *end)
 {
     uint8_t command[MESSAGE];
-    size_t count = command_of(end, command);
-    if (end->done == EXCHANGES) {
-        end->is_over = true;
-        return;
-    }
-    take_turn(end, scard_lent_terminal_transmit(SCARD_LENT(end->terminal, end->command, end->answer), command, count,
-                                                end->block, sizeof end->block), true);
+    const size_t count = command_of(end, command);
+    return scard_lent_session_exchange(TERMINAL(end), command, count, now(), end->block, sizeof end->block);
 }
 
-static void takes_answer(struct end *end)
+static void takes_answer(struct end *end, size_t answered)
 {
     uint8_t command[MESSAGE];
-    size_t count = command_of(end, command);
-    struct scard_verdict answer = scard_lent_terminal_answer(SCARD_LENT(end->terminal, end->command, end->answer));
-    end->right += answer.status == SCARD_OK && answer.place == count + 2
-        && memcmp(end->answer, command, count) == 0 && end->answer[count] == 0x90;
+    const size_t count = command_of(end, command);
+    end->right += answered == count + 2 && memcmp(end->answer, command, count) == 0 && end->answer[count] == 0x90;
     end->done++;
-    next_command(end);
 }
 
-/* Goes on by the turn of an end. `is_first` is true for a block after a call of the host or of the application. */
-static void take_turn(struct end *end, struct scard_turn turn, bool is_first)
+/* Passes what the session has to the host or to the application. Returns what the session does then. */
+static struct scard_session_next passes(struct end *end, struct scard_session_next next)
 {
-    const uint64_t first = end->is_card ? UINT64_MAX : end->line.rules.bwt * turn.wait;
-    if (turn.kind == SCARD_SEND) {
-        end->count = (size_t)turn.count;
-        does(end, is_first ? scard_lent_line_exchange(&end->line, first, now())
-                           : scard_lent_line_talk(&end->line, first, now()));
-    } else if (turn.kind == SCARD_DONE) {
-        takes_answer(end);
-    } else {
-        end->is_over = true;
+    if (next.kind != SCARD_DONE) {
+        return next;
     }
+    if (end->is_card) {
+        return host(end, (size_t)next.count);
+    }
+    takes_answer(end, (size_t)next.count);
+    return end->done < EXCHANGES ? next_command(end) : next;
+}
+
+/* Begins what the session says, and sets the timer. The timer of a wait counts from the last octet. */
+static void does(struct end *end, struct scard_session_next said)
+{
+    const struct scard_session_next next = passes(end, said);
+    end->next = next;
+    end->put = 0;
+    end->due = UINT64_MAX;
+    if (next.kind == SCARD_SEND) {
+        end->due = now();
+    } else if (next.kind != SCARD_SESSION_WAIT) {
+        end->is_over = true;
+    } else if (next.wait != UINT64_MAX) {
+        end->due = end->last + next.wait;
+    }
+}
+
+static void happens(struct end *end, uint8_t event, const uint8_t *octets, size_t count)
+{
+    does(end, end->is_card ? scard_lent_card_session_step(CARD(end), event, octets, count, now(), end->block,
+                                                          sizeof end->block)
+                           : scard_lent_session_step(TERMINAL(end), event, octets, count, now(), end->block,
+                                                     sizeof end->block));
 }
 
 /* Passes octets that came, if the end waits for any. Returns false if there are none. */
 static bool reads(struct end *end)
 {
     uint8_t octets[SCARD_BURST_ROOM];
-    ssize_t got = end->next.kind == SCARD_NEXT_WAIT ? read(end->descriptor, octets, sizeof octets) : -1;
+    ssize_t got = end->next.kind == SCARD_SESSION_WAIT ? read(end->descriptor, octets, sizeof octets) : -1;
     if (got == 0) {
         happens(end, SCARD_EVENT_FAILED, NULL, 0);
     } else if (got > 0) {
@@ -187,18 +141,18 @@ static bool reads(struct end *end)
 /* The timer rang: the next octet is due, or the wait is over. */
 static void rings(struct end *end)
 {
-    if (end->next.kind == SCARD_NEXT_WAIT) {
+    if (end->next.kind == SCARD_SESSION_WAIT) {
         if (!reads(end)) {
             happens(end, SCARD_EVENT_SILENT, NULL, 0);
         }
         return;
     }
     end->last = now();
-    if (end->put == end->count) {
+    if (end->put == end->next.count) {
         happens(end, SCARD_EVENT_SENT, NULL, 0);
     } else if (write(end->descriptor, end->block + end->put, 1) == 1) {
         end->put++;
-        end->due = end->last + end->line.rules.octet;
+        end->due = end->last + OCTET;
     } else {
         happens(end, SCARD_EVENT_FAILED, NULL, 0);
     }
@@ -206,7 +160,7 @@ static void rings(struct end *end)
 
 static bool begins(struct end *end, int events, int descriptor, bool is_card)
 {
-    const struct scard_lent_line_rules rules = rules_of(is_card);
+    const struct scard_lent_setup setup = setup_of_both();
     struct epoll_event wanted;
     struct scard_verdict begun;
     memset(end, 0, sizeof *end);
@@ -216,10 +170,8 @@ static bool begins(struct end *end, int events, int descriptor, bool is_card)
     end->is_card = is_card;
     end->descriptor = descriptor;
     end->last = now();
-    begun = is_card ? scard_lent_card_begin(SCARD_LENT(end->card, end->command, end->answer), t1.ifsc, t1.bwi, t1.cwi)
-                    : scard_lent_terminal_begin(SCARD_LENT(end->terminal, end->command, end->answer), t1.ifsc, t1.bwi,
-                                                t1.cwi);
-    scard_lent_line_begin(&end->line, &rules);
+    begun = is_card ? scard_lent_card_session_begin(CARD(end), &setup)
+                    : scard_lent_session_begin(TERMINAL(end), &setup);
     return begun.status == SCARD_OK && fcntl(descriptor, F_SETFL, O_NONBLOCK) == 0
         && epoll_ctl(events, EPOLL_CTL_ADD, descriptor, &wanted) == 0;
 }
@@ -261,8 +213,8 @@ int main(void)
             || !begins(card, events, lines[1], true)) {
             return 1;
         }
-        does(card, scard_lent_line_serve(&card->line, now()));
-        next_command(terminal);
+        does(card, scard_lent_card_session_serve(CARD(card), now()));
+        does(terminal, next_command(terminal));
     }
     while (!ends[0].is_over || !ends[2].is_over) {
         turns(ends, events);

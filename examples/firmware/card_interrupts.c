@@ -2,67 +2,55 @@
 #include "interrupts.h"
 #include "trial_card.h"
 
-static struct scard_lent_card card;
+static struct scard_lent_card_session session;
 static struct wire wire;
-static size_t granted; /* how often the terminal granted more time for the command */
 
-/* The state and the buffers of the card, as the first five arguments of its calls. */
-#define CARD &card, kept_command, sizeof kept_command, kept_answer, sizeof kept_answer
+/* The state and the buffers of the session, as the first five arguments of its calls, and the last two arguments. */
+#define SESSION SCARD_LENT(session, kept_command, kept_answer)
+#define BLOCK wire.block, sizeof wire.block
 
-/* Asks the host about the command. Returns the card's turn. */
-static struct scard_turn turn_of_host(void)
+/* Asks the host about the command. */
+static void ask_host(void)
 {
-    const struct scard_verdict asked = scard_lent_card_command(CARD);
-    const struct scard_host_turn host = serve(NULL, kept_command, (size_t)asked.place, granted++);
-    if (host.kind == SCARD_HOST_TIME) {
-        return scard_lent_card_more_time(CARD, host.number, wire.block, sizeof wire.block);
-    }
-    return scard_lent_card_reply(CARD, host.octets, host.count, wire.block, sizeof wire.block);
+    const struct scard_host_turn host = serve(NULL, kept_command, (size_t)wire.next.count, (size_t)session.granted);
+    const uint64_t now = board_now();
+    wire_begins(&wire, host.kind == SCARD_HOST_TIME
+                           ? scard_lent_card_session_more_time(SESSION, host.number, now, BLOCK)
+                           : scard_lent_card_session_reply(SESSION, host.octets, host.count, now, BLOCK));
 }
 
-/* Passes the burst to the card, and sends its answer. */
-static void answer(void)
+static void step(const struct wire_came *came)
 {
-    struct scard_turn turn = scard_lent_card_received(CARD, wire.line.framer.octets, (size_t)wire.next.count,
-                                                      wire.block, sizeof wire.block);
-    const bool is_asked = turn.kind == SCARD_DONE;
-    uint64_t now;
-    if (is_asked) {
-        turn = turn_of_host();
-    }
-    if (scard_lent_card_command(CARD).status != SCARD_OK) {
-        granted = 0; /* the host no longer has to reply: a command that comes is a new one */
-    }
-    wire.count = (size_t)turn.count;
-    now = board_now();
-    wire_begins(&wire, is_asked ? scard_lent_line_exchange(&wire.line, UINT64_MAX, now)
-                                : scard_lent_line_talk(&wire.line, UINT64_MAX, now));
+    wire_begins(&wire,
+                scard_lent_card_session_step(SESSION, came->event, came->octets, came->count, board_now(), BLOCK));
 }
 
-/* The line rests. */
-static void heard(void)
+/* The session rests: the host owes a reply, or the line failed. */
+static void rests(void)
 {
-    if (wire.next.kind == SCARD_NEXT_HEARD) {
-        answer();
+    if (wire.next.kind == SCARD_DONE) {
+        ask_host();
     } else {
-        wire_begins(&wire, scard_lent_line_serve(&wire.line, board_now()));
+        wire_begins(&wire, scard_lent_card_session_serve(SESSION, board_now()));
     }
 }
 
 int main(void)
 {
-    const struct scard_setup setup = trial_setup();
-    const struct scard_lent_line_rules rules = trial_rules(SCARD_SESSION_CARD);
+    const struct scard_lent_setup numbers = trial_numbers();
+    struct wire_came came;
     board_begin();
-    if (scard_lent_card_begin(CARD, setup.t1.ifsc, setup.t1.bwi, setup.t1.cwi).status != SCARD_OK) {
+    if (scard_lent_card_session_begin(SESSION, &numbers).status != SCARD_OK) {
         return 2;
     }
-    wire_begin(&wire, &rules, IN_MILLION, 2);
-    wire_begins(&wire, scard_lent_line_serve(&wire.line, board_now()));
-    while (wire.next.kind != SCARD_NEXT_ECHO) {
+    wire_begin(&wire, IN_MILLION, 2);
+    wire_begins(&wire, scard_lent_card_session_serve(SESSION, board_now()));
+    while (wire.next.kind != SCARD_SESSION_ECHO) {
         if (wire_rests(&wire)) {
-            heard();
-        } else if (!wire_step(&wire)) {
+            rests();
+        } else if (wire_takes(&wire, &came)) {
+            step(&came);
+        } else {
             wire_sleep(&wire);
         }
     }

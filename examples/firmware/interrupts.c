@@ -5,12 +5,12 @@
 /* ---- what the interrupts and the main loop share ---- */
 
 /* The octets that came, each with a mark if it is damaged. Only the interrupt writes `came` and the octets before it.
- * Only the main loop writes `taken`. Both numbers wrap at 256, a multiple of STORE.
+ * Only the main loop writes `taken`. Both numbers wrap at 256, a multiple of WIRE_STORE.
  */
-enum { STORE = 64, DAMAGED = 0x100 };
+enum { DAMAGED = 0x100 };
 
 static struct {
-    volatile uint16_t octets[STORE];
+    volatile uint16_t octets[WIRE_STORE];
     volatile uint8_t came;
     volatile uint8_t taken;
     bool is_lost; /* an octet was lost before the next one */
@@ -31,9 +31,9 @@ static volatile bool is_awake;         /* an interrupt came since the main loop 
 static void store(uint8_t octet)
 {
     bool is_damaged = in.is_lost || board_any(&hears.die) % 1000000u < hears.in_million;
-    in.is_lost = (uint8_t)(in.came - in.taken) == STORE;
+    in.is_lost = (uint8_t)(in.came - in.taken) == WIRE_STORE;
     if (!in.is_lost) {
-        in.octets[in.came % STORE] = (uint16_t)(octet | (is_damaged ? DAMAGED : 0));
+        in.octets[in.came % WIRE_STORE] = (uint16_t)(octet | (is_damaged ? DAMAGED : 0));
         in.came++;
     }
 }
@@ -81,28 +81,25 @@ void board_alarm(void)
 
 /* ---- the main loop ---- */
 
-enum { NOTHING = -1 };
-
-void wire_begin(struct wire *wire, const struct scard_lent_line_rules *rules, uint32_t in_million, uint32_t die)
+void wire_begin(struct wire *wire, uint32_t in_million, uint32_t die)
 {
     sends.in_million = hears.in_million = in_million;
     sends.die = die;
     hears.die = ~die;
     memset(wire, 0, sizeof *wire);
-    scard_lent_line_begin(&wire->line, rules);
     wire->last = board_now();
     UART->control = TX_ON | RX_ON | TX_INTERRUPTS | RX_INTERRUPTS;
     board_octet_came(); /* an octet that came before this has no interrupt */
     INTERRUPTS_ON = 1u << RX_NUMBER | 1u << TX_NUMBER | 1u << ALARM_NUMBER;
 }
 
-void wire_begins(struct wire *wire, struct scard_line_next next)
+void wire_begins(struct wire *wire, struct scard_session_next next)
 {
     wire->next = next;
     wire->due = UINT64_MAX;
-    if (next.kind == SCARD_NEXT_SEND) {
+    if (next.kind == SCARD_SEND) {
         out.octets = wire->block;
-        out.left = wire->count;
+        out.left = (size_t)next.count;
         out.is_done = false;
         send_next();
     } else if (next.wait < UINT64_MAX - wire->last) {
@@ -112,54 +109,47 @@ void wire_begins(struct wire *wire, struct scard_line_next next)
 
 bool wire_rests(const struct wire *wire)
 {
-    return wire->next.kind != SCARD_NEXT_SEND && wire->next.kind != SCARD_NEXT_WAIT;
+    return wire->next.kind != SCARD_SEND && wire->next.kind != SCARD_SESSION_WAIT;
 }
 
-/* Takes the octets that came. Returns their number. */
-static size_t take(uint8_t octets[STORE], bool *is_damaged)
+/* Takes the octets that came. Returns false if there are none. */
+static bool take(struct wire *wire, struct wire_came *came)
 {
-    size_t count = 0;
-    while (count < STORE && in.taken != in.came) {
-        uint16_t octet = in.octets[in.taken % STORE];
-        octets[count++] = (uint8_t)octet;
-        *is_damaged = *is_damaged || (octet & DAMAGED);
+    came->event = SCARD_EVENT_CAME;
+    while (came->count < WIRE_STORE && in.taken != in.came) {
+        const uint16_t octet = in.octets[in.taken % WIRE_STORE];
+        came->octets[came->count++] = (uint8_t)octet;
+        came->event = octet & DAMAGED ? SCARD_EVENT_GARBLED : came->event;
         in.taken++;
     }
-    return count;
+    wire->last = came->count > 0 ? board_now() : wire->last;
+    return came->count > 0;
 }
 
-/* Returns SENT once the last bit is on the line. The transmitter reports that it is free a character earlier. */
-static int sent(struct wire *wire, uint64_t now)
+/* Returns true once the last bit is on the line. The transmitter reports that it is free a character earlier. */
+static bool is_sent(struct wire *wire, uint64_t now)
 {
     if (out.is_done) {
         out.is_done = false;
         wire->last = wire->due = now + BOARD_CHARACTER;
     }
-    return now >= wire->due ? SCARD_EVENT_SENT : NOTHING;
+    return now >= wire->due;
 }
 
-bool wire_step(struct wire *wire)
+bool wire_takes(struct wire *wire, struct wire_came *came)
 {
     const uint64_t now = board_now(); /* before the look at the octets: no octet that came by now is missed */
-    uint8_t octets[STORE] = {0};
-    bool is_damaged = false;
-    size_t count = 0;
-    int event;
     is_awake = false;
-    if (wire->next.kind == SCARD_NEXT_SEND) {
-        event = sent(wire, now);
-    } else if ((count = take(octets, &is_damaged)) > 0) {
-        event = is_damaged ? SCARD_EVENT_GARBLED : SCARD_EVENT_CAME;
-        wire->last = board_now();
-    } else {
-        event = now >= wire->due ? SCARD_EVENT_SILENT : NOTHING;
+    came->count = 0;
+    if (wire->next.kind == SCARD_SEND) {
+        came->event = SCARD_EVENT_SENT;
+        return is_sent(wire, now);
     }
-    if (event == NOTHING) {
-        return false;
+    if (take(wire, came)) {
+        return true;
     }
-    wire_begins(wire, scard_lent_line_step(&wire->line, (uint8_t)event, octets, count, board_now(), wire->block,
-                                           wire->count));
-    return true;
+    came->event = SCARD_EVENT_SILENT;
+    return now >= wire->due;
 }
 
 /* Sets the alarm, but for a minute at most: the program has to read the clock before that wraps. */

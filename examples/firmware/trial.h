@@ -43,18 +43,13 @@ static inline struct scard_setup trial_setup(void)
     return setup;
 }
 
-/* Returns the rules of a line that interrupts drive, of a terminal or a card (SCARD_SESSION_TERMINAL or _CARD). If BWT
- * were less than 4/3 of CWT, it would have to be made longer: a card answers a broken block after three quarters of it.
- */
-static inline struct scard_lent_line_rules trial_rules(uint32_t end)
+/* Returns the numbers of this setup, for a session that interrupts drive. It has the clock of the board. */
+static inline struct scard_lent_setup trial_numbers(void)
 {
     const struct scard_setup setup = trial_setup();
-    const struct scard_clock *clock = &setup.clock;
-    const uint64_t cwt = scard_clock_time(clock, (uint64_t)scard_t1_cwt(&setup.t1) * clock->fi);
-    const uint64_t bwt = scard_clock_time(clock, scard_t1_bwt(&setup.t1, clock->fi, clock->di));
-    struct scard_lent_line_rules rules = scard_setup_rules(&setup, end, bwt, cwt);
-    rules.has_clock = 1;
-    return rules;
+    struct scard_lent_setup numbers = scard_setup_numbers(&setup);
+    numbers.has_clock = 1;
+    return numbers;
 }
 
 #endif

@@ -43,11 +43,15 @@ static void sizes(void)
     SIZE(SCARD_STRUCT_LENT_LINE_PROGRESS, scard_lent_line_progress);
     SIZE(SCARD_STRUCT_LENT_LINE, scard_lent_line);
     SIZE(SCARD_STRUCT_LINE_NEXT, scard_line_next);
+    SIZE(SCARD_STRUCT_LENT_SETUP, scard_lent_setup);
+    SIZE(SCARD_STRUCT_LENT_SESSION, scard_lent_session);
+    SIZE(SCARD_STRUCT_LENT_CARD_SESSION, scard_lent_card_session);
+    SIZE(SCARD_STRUCT_SESSION_NEXT, scard_session_next);
     CHECK(sizeof(struct scard_lent_terminal) < 128 && sizeof(struct scard_lent_card) < 128);
     CHECK(sizeof(struct scard_lent_check) == 92 && sizeof(struct scard_lent_check) < 128);
     CHECK(sizeof(struct scard_lent_receiver) == 32 && sizeof(struct scard_lent_judge) == 592);
     CHECK(sizeof(struct scard_lent_block_reader) == 264 && sizeof(struct scard_lent_atr_reader) == 40);
-    CHECK(scard_struct_size(0) == 0 && scard_struct_size(36) == 0 && scard_struct_size(255) == 0);
+    CHECK(scard_struct_size(0) == 0 && scard_struct_size(40) == 0 && scard_struct_size(255) == 0);
 }
 
 static void places(void)
@@ -146,8 +150,9 @@ static void places(void)
     PLACE(scard_lent_heard, octet, 4);
     PLACE(scard_lent_watched, sender, 8);
     PLACE(scard_lent_watched, heard, 23);
-    PLACE(scard_lent_watched, last_len, 28);
-    PLACE(scard_lent_watched, last, 29);
+    PLACE(scard_lent_watched, doubt, 28);
+    PLACE(scard_lent_watched, last_len, 29);
+    PLACE(scard_lent_watched, last, 30);
     PLACE(scard_lent_judge, card, 288);
     PLACE(scard_lent_judge, blocks, 576);
     PLACE(scard_lent_judge, nad, 585);

@@ -150,6 +150,10 @@ static void deviations(void)
          {'t', COMMAND, NULL, "no R-block, due 5 10 0 00"}, LAST_ROW},
         {{'t', "00C10140", NULL, "permitted"}, {'q', NULL, NULL, "possible silence after 1"},
          {'t', "008200", NULL, "no repeated request, due 7 00 1 00"}, LAST_ROW},
+        {{'t', COMMAND, NULL, "permitted"}, {'q', NULL, NULL, "possible silence after 1"},
+         {'t', "008000", NULL, "permitted"}, {'c', "0000029000", NULL, "permitted"}, LAST_ROW},
+        {{'t', COMMAND, NULL, "permitted"}, {'c', "0040029000", NULL, "sequence number, due 1 01 0 00"},
+         {'t', "008200", NULL, "permitted"}, {'c', "0000029000", NULL, "permitted"}, LAST_ROW},
     };
     size_t row;
     for (row = 0; row < sizeof rows / sizeof rows[0]; row++) {

@@ -114,9 +114,10 @@ static void given_up(void)
     last_acted = 0;
     asks = 1;
     wired_put(&wired, &wired.to_card, (const uint8_t *)"\x00\x00\x09\x00\xCB\x3F\xFF\x00\x00\x00\x00\x01\x03", 13);
-    CHECK(scard_card_session_serve(&wired.card).kind == SCARD_SESSION_FAILED && wired.card.granted == 1);
+    CHECK(scard_card_session_serve(&wired.card).kind == SCARD_SESSION_FAILED && last_acted == 1);
     wired.to_terminal.count = 0;
-    CHECK(scard_session_resync(&wired.terminal, &wired.setups[0]).kind == SCARD_GIVEN_UP && wired.card.granted == 0);
+    CHECK(scard_session_resync(&wired.terminal, &wired.setups[0]).kind == SCARD_GIVEN_UP);
+    CHECK(wired.card.lent.granted == 0 && last_acted == 1);
     CHECK(is_answer(exchange(2, 30), 2, 30) && wrong == 0);
 }
 

@@ -156,7 +156,8 @@ static void begins(void)
     t1.cwi = time[1];
     rough.setups[0] = rough_setup(0, t1, 0);
     if (rough_throw(3) == 0) {
-        silence = scard_clock_time(&rough.setups[0].clock, (uint64_t)scard_t1_cwt(&t1) * 372);
+        CHECK(scard_session_begin(&rough.terminal, &rough.setups[0]).status == SCARD_OK);
+        silence = rough.terminal.cwt;
     }
     rough.setups[0].silence = silence;
     rough.setups[1] = rough_setup(1, t1, silence);

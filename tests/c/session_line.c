@@ -1,6 +1,6 @@
 /* How a session takes bursts from its line: pieces, silence, interrupted calls and false lengths. Also its clocks. */
 #include "check.h"
-#include "scard_session.h"
+#include "lined.h"
 
 /* What the line delivers, one word for each call: "" silence, "!" a failure, "?" an interrupted call, "+" more octets
  * than there is room for, or else octets in hexadecimal. A call takes as many of the octets as it has room for. */
@@ -44,14 +44,14 @@ static int send(void *context, const uint8_t *octets, size_t count)
 
 static struct script script;
 static struct scard_line line;
-static struct scard_session_wire wire;
+static struct scard_lent_line state;
 
 /* A terminal waits as long after a broken burst as for the first octet. */
 enum { FIRST = 1000, CWT = 70, AFTER = 20, BGT = 30, BROKEN = FIRST };
 
 static void begins(struct scard_lent_line_rules rules)
 {
-    scard_lent_line_begin(&wire.line, &rules);
+    scard_lent_line_begin(&state, &rules);
 }
 
 static void says(const char *const *words)
@@ -76,19 +76,19 @@ static void says(const char *const *words)
 static struct scard_line_next sends(void)
 {
     static const uint8_t block[] = {0x00, 0xC1, 0x01, 0xFE, 0x3E};
-    return scard_session_go(&wire, &line, scard_lent_line_talk(&wire.line, FIRST, 0), block, sizeof block);
+    return lined_go(&state, &line, scard_lent_line_talk(&state, FIRST, 0), block, sizeof block);
 }
 
 /* The same for a line that owes no silence. */
 static struct scard_line_next next(void)
 {
-    wire.line.progress.owed = 0;
+    state.progress.owed = 0;
     return sends();
 }
 
 static int ends(uint8_t kind, uint64_t owed)
 {
-    return next().kind == kind && wire.line.progress.owed == owed;
+    return next().kind == kind && state.progress.owed == owed;
 }
 
 /* Returns whether the next burst is these octets. The silence that is owed after it says whether it is a whole
@@ -96,8 +96,8 @@ static int ends(uint8_t kind, uint64_t owed)
 static int gives(const char *text, uint64_t owed)
 {
     struct scard_line_next said = next();
-    return said.kind == SCARD_NEXT_HEARD && wire.line.progress.owed == owed
-        && is_hex(wire.line.framer.octets, (size_t)said.count, text);
+    return said.kind == SCARD_NEXT_HEARD && state.progress.owed == owed
+        && is_hex(state.framer.octets, (size_t)said.count, text);
 }
 
 static void whole(void)
@@ -108,7 +108,7 @@ static void whole(void)
     CHECK(gives("00000500A4040000A5", BGT) && script.waited == AFTER && script.calls == 6);
     CHECK(gives("00800080", BGT) && gives("000002900092", BGT) && gives("00000000", BGT));
     CHECK(ends(SCARD_NEXT_QUIET, 0) && script.waited == FIRST);
-    wire.line.rules.after = BGT;
+    state.rules.after = BGT;
     script.words = words;
     CHECK(gives("00000500A4040000A5", 0) && script.waited == BGT);
 }
@@ -155,8 +155,8 @@ static void packets(void)
 {
     static const char *const words[] = {"00800080", "00", "800080", "0000029000926A82EF", "", "00800080", NULL};
     says(words);
-    wire.line.rules.after = SCARD_SILENCE_NONE;
-    wire.line.rules.bgt = 0;
+    state.rules.after = SCARD_SILENCE_NONE;
+    state.rules.bgt = 0;
     CHECK(gives("00800080", 0) && script.calls == 1);
     CHECK(gives("00800080", 0) && script.calls == 3 && script.waited == CWT);
     CHECK(gives("0000029000926A82EF", BROKEN) && script.waited == CWT);
@@ -170,8 +170,8 @@ static void long_ones(void)
     const char *words[] = {text, "", "00800080", "", NULL};
     memset(text, '1', 2 * 300);
     says(words);
-    CHECK(next().count == SCARD_BURST_ROOM && wire.line.framer.count == 300 && wire.line.progress.owed == BROKEN);
-    CHECK(wire.line.framer.octets[0] == 0x11 && wire.line.framer.octets[SCARD_BLOCK_ROOM] == 0x11);
+    CHECK(next().count == SCARD_BURST_ROOM && state.framer.count == 300 && state.progress.owed == BROKEN);
+    CHECK(state.framer.octets[0] == 0x11 && state.framer.octets[SCARD_BLOCK_ROOM] == 0x11);
     CHECK(gives("00800080", BGT));
 }
 
@@ -191,37 +191,37 @@ static void babbles(void)
     line.context = &said;
     line.receive = babble;
     CHECK(next().count == SCARD_BURST_ROOM && said >= SCARD_BURST_MOST && said < 70000);
-    CHECK(wire.line.progress.owed == BROKEN);
+    CHECK(state.progress.owed == BROKEN);
     said = 0;
-    CHECK(sends().kind == SCARD_NEXT_FAILED && wire.line.progress.owed == BROKEN && said < 70000);
+    CHECK(sends().kind == SCARD_NEXT_FAILED && state.progress.owed == BROKEN && said < 70000);
 }
 
 /* Takes what comes until the line says to send, or rests. Returns what it says then. */
 static uint8_t until_sent(struct scard_line_next next)
 {
     while (next.kind == SCARD_NEXT_WAIT) {
-        next = scard_session_step(&wire, &line, next, NULL, 0);
+        next = lined_step(&state, &line, next, NULL, 0);
     }
     return next.kind;
 }
 
 static uint8_t late(void)
 {
-    return until_sent(scard_lent_line_exchange(&wire.line, SCARD_LINE_FOREVER, 0));
+    return until_sent(scard_lent_line_exchange(&state, SCARD_LINE_FOREVER, 0));
 }
 
 static uint8_t settled(void)
 {
-    return until_sent(scard_lent_line_talk(&wire.line, SCARD_LINE_FOREVER, 0));
+    return until_sent(scard_lent_line_talk(&state, SCARD_LINE_FOREVER, 0));
 }
 
 /* Octets that nobody waited for are dropped, and the line has to be silent before the next block of a card. */
 static void drops(void)
 {
     static const char *const words[] = {"00E000E0", "?", "00800080", "", "", "00", "", "!", "", "00", "01", "", NULL};
-    struct scard_lent_line_progress *progress = &wire.line.progress;
+    struct scard_lent_line_progress *progress = &state.progress;
     says(words);
-    wire.line.rules.is_card = 1;
+    state.rules.is_card = 1;
     progress->owed = 0;
     CHECK(settled() == SCARD_NEXT_SEND && script.calls == 0);
     progress->owed = BGT;
@@ -230,7 +230,7 @@ static void drops(void)
     progress->owed = BROKEN;
     CHECK(late() == SCARD_NEXT_FAILED && script.waited == BROKEN && progress->owed == BROKEN && script.calls == 8);
     CHECK(settled() == SCARD_NEXT_SEND && script.waited == BROKEN && progress->owed == 0 && script.calls == 9);
-    wire.line.rules.bgt = 0;
+    state.rules.bgt = 0;
     CHECK(late() == SCARD_NEXT_SEND && script.waited == 0 && script.calls == 12);
 }
 
@@ -238,10 +238,10 @@ static void drops(void)
 static void times_out(void)
 {
     static const char *const words[] = {"", "", "00800080", "", "", NULL};
-    const struct scard_lent_line_progress *progress = &wire.line.progress;
+    const struct scard_lent_line_progress *progress = &state.progress;
     says(words);
-    wire.line.rules.most_time = FIRST + AFTER + 10;
-    wire.line.progress.owed = 0;
+    state.rules.most_time = FIRST + AFTER + 10;
+    state.progress.owed = 0;
     CHECK(late() == SCARD_NEXT_SEND);
     CHECK(ends(SCARD_NEXT_QUIET, 0) && progress->spent == FIRST);
     CHECK(gives("00800080", BGT) && script.waited == AFTER && progress->spent == FIRST + AFTER);
@@ -255,25 +255,25 @@ static void garbled(void)
     static const uint8_t block[] = {0x00, 0x80, 0x00, 0x80};
     struct scard_line_next said;
     says(NULL);
-    wire.line.progress.owed = 0;
-    CHECK(scard_lent_line_talk(&wire.line, FIRST, 0).kind == SCARD_NEXT_SEND);
-    said = scard_lent_line_step(&wire.line, SCARD_EVENT_SENT, NULL, 0, 0, block, sizeof block);
+    state.progress.owed = 0;
+    CHECK(scard_lent_line_talk(&state, FIRST, 0).kind == SCARD_NEXT_SEND);
+    said = scard_lent_line_step(&state, SCARD_EVENT_SENT, NULL, 0, 0, block, sizeof block);
     CHECK(said.kind == SCARD_NEXT_WAIT && said.wait == FIRST && said.count == 0);
-    said = scard_lent_line_step(&wire.line, SCARD_EVENT_GARBLED, block, 2, 0, block, sizeof block);
+    said = scard_lent_line_step(&state, SCARD_EVENT_GARBLED, block, 2, 0, block, sizeof block);
     CHECK(said.kind == SCARD_NEXT_WAIT && said.wait == CWT);
-    said = scard_lent_line_step(&wire.line, SCARD_EVENT_CAME, block + 2, 2, 0, block, sizeof block);
+    said = scard_lent_line_step(&state, SCARD_EVENT_CAME, block + 2, 2, 0, block, sizeof block);
     CHECK(said.kind == SCARD_NEXT_WAIT && said.wait == CWT);
-    said = scard_lent_line_step(&wire.line, SCARD_EVENT_SILENT, NULL, 0, 0, NULL, 0);
-    CHECK(said.kind == SCARD_NEXT_HEARD && is_hex(wire.line.framer.octets, (size_t)said.count, "00000001"));
-    CHECK(wire.line.progress.owed == BROKEN);
+    said = scard_lent_line_step(&state, SCARD_EVENT_SILENT, NULL, 0, 0, NULL, 0);
+    CHECK(said.kind == SCARD_NEXT_HEARD && is_hex(state.framer.octets, (size_t)said.count, "00000001"));
+    CHECK(state.progress.owed == BROKEN);
 }
 
 /* Returns what the line says to an event without octets, and whether that changed nothing. */
 static uint8_t refuses(uint8_t event)
 {
-    const struct scard_lent_line before = wire.line;
-    uint8_t kind = scard_lent_line_step(&wire.line, event, NULL, 0, 0, NULL, 0).kind;
-    CHECK(memcmp(&before, &wire.line, sizeof before) == 0);
+    const struct scard_lent_line before = state;
+    uint8_t kind = scard_lent_line_step(&state, event, NULL, 0, 0, NULL, 0).kind;
+    CHECK(memcmp(&before, &state, sizeof before) == 0);
     return kind;
 }
 
@@ -283,24 +283,24 @@ static void unfit(void)
     struct scard_lent_line_rules rules;
     uint8_t event;
     says(NULL);
-    rules = wire.line.rules;
+    rules = state.rules;
     for (event = SCARD_EVENT_SENT; event <= SCARD_EVENT_FAILED; event++) {
         CHECK(refuses(event) == SCARD_NEXT_ORDER);
     }
     CHECK(refuses(SCARD_EVENT_FAILED + 1) == SCARD_NEXT_ORDER);
-    CHECK(scard_lent_line_exchange(&wire.line, FIRST, 0).kind == SCARD_NEXT_WAIT);
+    CHECK(scard_lent_line_exchange(&state, FIRST, 0).kind == SCARD_NEXT_WAIT);
     CHECK(refuses(SCARD_EVENT_SENT) == SCARD_NEXT_ORDER);
-    wire.line.progress.owed = 0;
-    CHECK(scard_lent_line_step(&wire.line, SCARD_EVENT_SILENT, NULL, 0, 0, NULL, 0).kind == SCARD_NEXT_SEND);
+    state.progress.owed = 0;
+    CHECK(scard_lent_line_step(&state, SCARD_EVENT_SILENT, NULL, 0, 0, NULL, 0).kind == SCARD_NEXT_SEND);
     CHECK(refuses(SCARD_EVENT_CAME) == SCARD_NEXT_ORDER && refuses(SCARD_EVENT_SILENT) == SCARD_NEXT_ORDER);
-    memset(&wire.line.progress, 0xA5, sizeof wire.line.progress);
+    memset(&state.progress, 0xA5, sizeof state.progress);
     CHECK(refuses(SCARD_EVENT_SILENT) == SCARD_NEXT_ORDER);
-    CHECK(scard_lent_line_serve(&wire.line, 0).kind == SCARD_NEXT_WAIT);
+    CHECK(scard_lent_line_serve(&state, 0).kind == SCARD_NEXT_WAIT);
     rules.has_echo = 2;
     begins(rules);
-    wire.line.progress.owed = 0;
-    CHECK(scard_lent_line_talk(&wire.line, FIRST, 0).kind == SCARD_NEXT_SEND);
-    CHECK(scard_lent_line_step(&wire.line, SCARD_EVENT_SENT, NULL, 0, 0, NULL, 0).wait == CWT);
+    state.progress.owed = 0;
+    CHECK(scard_lent_line_talk(&state, FIRST, 0).kind == SCARD_NEXT_SEND);
+    CHECK(scard_lent_line_step(&state, SCARD_EVENT_SENT, NULL, 0, 0, NULL, 0).wait == CWT);
 }
 
 static struct scard_session session;
@@ -327,7 +327,7 @@ static struct scard_setup plain(void)
 static void clocks(void)
 {
     static const struct scard_clock fast = {512, 8, 4000000};
-    const struct scard_lent_line_rules *rules = &session.wire.line.rules;
+    const struct scard_lent_line_rules *rules = &session.lent.line.rules;
     struct scard_setup setup = plain();
     CHECK(scard_session_begin(&session, &setup).status == SCARD_OK);
     CHECK(session.bwt == 1601146 && session.cwt == 4480 && rules->bgt == 2292 && rules->after == 2292);
@@ -363,8 +363,73 @@ static void refused(void)
     other.silence = session.cwt + 1;
     CHECK(scard_session_begin(&session, &other).status == SCARD_ARGUMENT);
     other.silence--;
-    CHECK(session.wire.line.rules.after == 2292 && scard_session_begin(&session, &other).status == SCARD_OK);
-    CHECK(session.cwt == 4480 && session.wire.line.rules.after == 4480);
+    CHECK(session.lent.line.rules.after == 2292 && scard_session_begin(&session, &other).status == SCARD_OK);
+    CHECK(session.cwt == 4480 && session.lent.line.rules.after == 4480);
+}
+
+static struct scard_host_turn never(void *context, const uint8_t *octets, size_t count, size_t granted)
+{
+    struct scard_host_turn turn = {SCARD_HOST_END, 0, NULL, 0};
+    (void)context, (void)octets, (void)count, (void)granted;
+    return turn;
+}
+
+/* A driver may lengthen the waiting times between two calls, here by 1,000 microseconds for BWT and by 500 for CWT.
+ * Returns how long a session then waits for the last word of a script.
+ */
+static uint64_t waits(const char *const *words, bool is_card)
+{
+    static const uint8_t octets[] = {0x00, 0xB0, 0x00, 0x00, 0x02};
+    static struct scard_card_session card;
+    const struct scard_host host = {NULL, never};
+    struct scard_setup setup = plain();
+    says(words);
+    setup.line = line;
+    CHECK(scard_session_begin(&session, &setup).status == SCARD_OK);
+    CHECK(scard_card_session_begin(&card, &setup, &host).status == SCARD_OK);
+    session.bwt = card.bwt += 1000;
+    session.cwt = card.cwt += 500;
+    if (is_card) {
+        CHECK(scard_card_session_serve(&card).kind == SCARD_SESSION_FAILED);
+    } else {
+        CHECK(scard_session_exchange(&session, octets, sizeof octets).kind == SCARD_SESSION_FAILED);
+    }
+    return script.waited;
+}
+
+/* A program may change the limits of an exchange between two calls. */
+static void limited(void)
+{
+    static const uint8_t octets[] = {0x00, 0xB0, 0x00, 0x00, 0x02};
+    static const char *const words[] = {"", "", "", NULL};
+    struct scard_setup setup = plain();
+    says(words);
+    setup.line = line;
+    CHECK(scard_session_begin(&session, &setup).status == SCARD_OK);
+    session.setup.most_microseconds = 500000;
+    CHECK(scard_session_exchange(&session, octets, sizeof octets).kind == SCARD_SESSION_USED_UP);
+    CHECK(script.waited > 400000 && script.waited < 500000 && script.calls == 3);
+}
+
+/* An I-block without information is an answer of no octets, or a damaged block if the setup says so. */
+static uint8_t empty(bool refuses)
+{
+    static const uint8_t octets[] = {0x00, 0xB0, 0x00, 0x00, 0x02};
+    static const char *const words[] = {"", "", "00000000", "", "!", NULL};
+    struct scard_setup setup = plain();
+    says(words);
+    setup.line = line;
+    setup.refuses_empty = refuses;
+    CHECK(scard_session_begin(&session, &setup).status == SCARD_OK);
+    return scard_session_exchange(&session, octets, sizeof octets).kind;
+}
+
+static void lengthened(void)
+{
+    static const char *const first[] = {"", "", "!", NULL}, *const inside[] = {"", "", "00", "!", NULL};
+    static const char *const part[] = {"00", "!", NULL}, *const broken[] = {"00", "", "!", NULL};
+    CHECK(waits(first, false) == 1601146 + 1000 && waits(inside, false) == 4480 + 500);
+    CHECK(waits(part, true) == 4480 + 500 && waits(broken, true) == (1601146 + 1000) / 4 * 3);
 }
 
 int main(void)
@@ -382,5 +447,8 @@ int main(void)
     unfit();
     clocks();
     refused();
+    lengthened();
+    limited();
+    CHECK(empty(false) == SCARD_SESSION_NO_STATUS && empty(true) == SCARD_SESSION_FAILED);
     return verdict_of_checks("session_line");
 }

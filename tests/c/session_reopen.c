@@ -54,10 +54,10 @@ static void resynced(void)
         unsigned before;
         CHECK(answers(number, number));
         CHECK(number % 2 == 0 || scard_session_ask_ifs(&wired.terminal, 100).kind == SCARD_IFS_SET);
-        CHECK(wired.terminal.terminal.ifsd == (number % 2 == 0 ? 32 : 100));
+        CHECK(wired.terminal.lent.terminal.ifsd == (number % 2 == 0 ? 32 : 100));
         before = wired.sent;
         CHECK(scard_session_resync(&wired.terminal, &wired.setups[0]).kind == SCARD_GIVEN_UP);
-        CHECK(wired.sent == before + 1 && wired.last[1] == 0xC0 && wired.terminal.terminal.ifsd == 32);
+        CHECK(wired.sent == before + 1 && wired.last[1] == 0xC0 && wired.terminal.lent.terminal.ifsd == 32);
     }
     CHECK(acted == 6 && answers(7, 7) && acted == 7);
 }
@@ -72,7 +72,7 @@ static void left(void)
     CHECK(scard_session_resync(&wired.terminal, &wired.setups[0]).kind == SCARD_GIVEN_UP && answers(1, 1));
     wired_put(&wired, &wired.to_card, (const uint8_t *)"\x00\x40\x05\x00\x10\x00\x42\x01\x16", 9);
     CHECK(scard_session_resync(&wired.terminal, &wired.setups[0]).kind == SCARD_GIVEN_UP);
-    CHECK(wired.card.granted == 0 && answers(2, 2));
+    CHECK(wired.card.lent.granted == 0 && answers(2, 2));
     CHECK(scard_session_exchange(&wired.terminal, command, sizeof command).kind == SCARD_DONE);
     CHECK(wired.answers[0][0] == 0x42 && answers(3, 3));
 }
@@ -85,7 +85,7 @@ static void silent(void)
     wired.sent = 0;
     CHECK(scard_session_resync(&wired.terminal, &wired.setups[0]).kind == SCARD_DEAD);
     CHECK(wired.sent == 3 && is_hex(wired.last, 4, "00C000C0") && wired.waited == 1601146);
-    CHECK(scard_session_ask_ifs(&wired.terminal, 100).kind == SCARD_NO_END && wired.sent == 3);
+    CHECK(scard_session_ask_ifs(&wired.terminal, 100).kind == SCARD_REFUSED_DEAD && wired.sent == 3);
     wired.setups[0].t1.ifsc = 0;
     CHECK(scard_session_resync(&wired.terminal, &wired.setups[0]).kind == SCARD_NO_END && wired.sent == 3);
 }

@@ -230,7 +230,7 @@ static void others(void)
     setup = session.setup;
     CHECK(scard_session_exchange(&session, command, command_count).kind == SCARD_REFUSED_BUSY);
     CHECK(scard_session_resync(&session, &setup).kind == SCARD_SESSION_ECHO && line.blocks == 2);
-    CHECK(scard_session_exchange(&session, command, command_count).kind == SCARD_NO_END);
+    CHECK(scard_session_exchange(&session, command, command_count).kind == SCARD_REFUSED_BUSY);
     CHECK(scard_session_begin(&session, &setup).status == SCARD_OK);
     CHECK(scard_session_ask_ifs(&session, 254).kind == SCARD_SESSION_ECHO && line.blocks == 3);
     setup.line.now = NULL;

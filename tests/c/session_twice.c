@@ -2,6 +2,7 @@
  * isn't silence, and no octets stay on the line after a wrong length. */
 #include "check.h"
 #include "line.h"
+#include "lined.h"
 
 #include <signal.h>
 #include <string.h>
@@ -75,7 +76,7 @@ static void exchanges(int sockets, uint64_t silence, int most)
     CHECK(waitpid(card, &status, 0) == card && status == 0);
 }
 
-static struct scard_session_wire wire;
+static struct scard_lent_line state;
 
 /* Takes the next burst, within 100 milliseconds. A silence of 5 milliseconds ends a burst. */
 static struct scard_line_next takes(const struct scard_line *line)
@@ -87,18 +88,18 @@ static struct scard_line_next takes(const struct scard_line *line)
     rules.most_time = SCARD_LINE_FOREVER;
     rules.most_blocks = 1;
     rules.has_clock = 1;
-    scard_lent_line_begin(&wire.line, &rules);
-    CHECK(scard_lent_line_talk(&wire.line, 100000, scard_line_now(line)).kind == SCARD_NEXT_SEND);
-    next = scard_lent_line_step(&wire.line, SCARD_EVENT_SENT, NULL, 0, scard_line_now(line), NULL, 0);
-    return scard_session_go(&wire, line, next, NULL, 0);
+    scard_lent_line_begin(&state, &rules);
+    CHECK(scard_lent_line_talk(&state, 100000, scard_line_now(line)).kind == SCARD_NEXT_SEND);
+    next = scard_lent_line_step(&state, SCARD_EVENT_SENT, NULL, 0, scard_line_now(line), NULL, 0);
+    return lined_go(&state, line, next, NULL, 0);
 }
 
 /* Returns whether the next burst is these octets. */
 static int comes(const struct scard_line *line, const uint8_t *octets, size_t count)
 {
     struct scard_line_next next = takes(line);
-    return next.kind == SCARD_NEXT_HEARD && next.count == count && wire.line.framer.count == count
-        && memcmp(wire.line.framer.octets, octets, count) == 0;
+    return next.kind == SCARD_NEXT_HEARD && next.count == count && state.framer.count == count
+        && memcmp(state.framer.octets, octets, count) == 0;
 }
 
 /* Checks the line alone. */

@@ -183,14 +183,14 @@ static void terminal(void)
         longest = 0;
         turn = which % 8 == 7 ? scard_session_ask_ifs(&session, take(&input))
              : which % 8 == 6 ? scard_session_resync(&session, &setup) : exchange(&session);
-        SHOULD(*scard_session_turn_name(turn.kind) != 0);
+        SHOULD(*scard_session_turn_name(turn.kind) != 0 && turn.kind != SCARD_NO_END);
         SHOULD(which % 8 == 6 ? sent <= 3 : sent <= setup.most_blocks);
         if (clock_kind == STEADY && which % 8 != 6) { /* the send and the receive that were in progress */
             SHOULD(passed - began <= setup.most_microseconds + 3 * longest);
         }
         if (!goes_on(turn.kind)) {
             turn = scard_session_exchange(&session, command, 0);
-            SHOULD(turn.kind == SCARD_REFUSED_BUSY || turn.kind == SCARD_REFUSED_DEAD || turn.kind == SCARD_NO_END);
+            SHOULD(turn.kind == SCARD_REFUSED_BUSY || turn.kind == SCARD_REFUSED_DEAD);
         }
     }
 }
@@ -212,7 +212,7 @@ static void card(void)
     }
     for (call = 0; call < MOST_CALLS; call++) {
         struct scard_turn turn = scard_card_session_serve(&session);
-        SHOULD(turn.kind == SCARD_SESSION_FAILED || turn.kind == SCARD_SESSION_ECHO || turn.kind == SCARD_NO_END
+        SHOULD(turn.kind == SCARD_SESSION_FAILED || turn.kind == SCARD_SESSION_ECHO
                || (turn.kind == SCARD_REFUSED_ORDER && owes) || ends(turn.kind));
         owes = owes || ends(turn.kind);
     }

@@ -24,6 +24,7 @@ PARTS = {
         "a block and an answer to reset in pieces, without an allocator": "scard_lent_readers",
         "framing": "scard_lent_framer",
         "the line of an end, without an allocator": "scard_lent_line",
+        "a session above its line, without an allocator": "scard_lent_session",
         "a judge of the blocks on a line, without an allocator": "scard_lent_judge",
         "sizes of the structs": "scard_sizes",
     },

@@ -5,5 +5,6 @@ pub mod InPieces
 pub mod Lending
 pub mod Puts
 pub mod Reading
+pub mod Sessions
 pub mod Told
 pub mod Turns

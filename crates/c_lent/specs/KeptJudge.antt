@@ -20,6 +20,8 @@ use Rattle.judge_core.specs.declared.end.Owed.TheVariants.{NewMessage, NextBlock
 use Rattle.judge_core.specs.declared.end.End.{End}
 use Rattle.judge_core.specs.declared.courses.Heard.{Heard}
 use Rattle.judge_core.specs.declared.courses.Heard.TheVariants.{Beginning, Whole, Perhaps, Broken, Nothing}
+use Rattle.judge_core.specs.declared.monitor.Doubt.{Doubt}
+use Rattle.judge_core.specs.declared.monitor.Doubt.TheVariants.{Clear, Refusable, Open}
 use Rattle.judge_core.specs.declared.monitor.Watched.{Watched}
 use Rattle.judge_core.specs.declared.monitor.Monitor.{Monitor}
 use Rattle.c_lent.specs.Number.{number_of, fault_of, subject_of}
@@ -49,6 +51,9 @@ side_of n = if n == 0 then Some Terminal else (if n == 1 then Some Card else Non
 
 abbrev pub side_in : ℕ → Side
 side_in n = unwrap_or (side_of n) Card
+
+abbrev pub doubt_in : ℕ → Doubt
+doubt_in n = if n == 0 then Clear else (if n == 1 then Refusable else Open)
 
 abbrev pub pending_in : ℕ → Pending
 pending_in n = if n == 0 then Settled else (if n == 1 then Chain else Last)
@@ -146,6 +151,7 @@ watched_of c = record {
   heard = heard_of c.heard;
   last = record { items = take c.last_len c.last };
   number = c.number;
+  doubt = doubt_in c.doubt;
 }
 
 abbrev pub nad_in : Bool → ℕ → Option ℕ

@@ -22,7 +22,7 @@ abbrev pub lent : {C : Type 0} → C → List ℕ → List ℕ → Lent C
 lent state command answer = record { state = state; command = command; answer = answer }
 
 -- nothing changes, and the turn is this
-pub record IsLeft {C : Type 0} (told : CTurn) (old new : Lent C) (out out_after : List ℕ) (turn : CTurn) : Type 0 where
+pub record IsLeft {C T : Type 0} (told : T) (old new : Lent C) (out out_after : List ℕ) (turn : T) : Type 0 where
   pub turn_is : turn ≡ told
   pub stays : new ≡ old
   pub buffer : out_after ≡ out

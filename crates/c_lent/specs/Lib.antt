@@ -25,3 +25,5 @@ pub mod LentReaders
 pub mod Names
 pub mod Notes
 pub mod Version
+pub mod SessionNext
+pub mod Session

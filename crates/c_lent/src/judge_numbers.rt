@@ -4,12 +4,12 @@ ghost use Rattle.std.specs.Prelude.{◌≡◌};
 ghost use Rattle.block_core.specs.Block.{number_bit};
 ghost use Rattle.c_lent.specs.Kept.{mark_of};
 ghost use Rattle.c_lent.specs.Number.{number_of, fault_of, subject_of};
-ghost use Rattle.c_lent.specs.KeptJudge.{mark_in, number_in, asked_told, owed_told, fault_in, subject_in, side_of, side_in, pending_in, asked_in, owed_in, pcb_in, heard_as, nad_in};
+ghost use Rattle.c_lent.specs.KeptJudge.{mark_in, number_in, asked_told, owed_told, fault_in, subject_in, side_of, side_in, doubt_in, pending_in, asked_in, owed_in, pcb_in, heard_as, nad_in};
 
 use crate::kept::{mark, mark_of};
 use crate::number::{fault_of, number_of, subject_of};
 use block_core::{Fault, Number, Pcb, S};
-use judge_core::{Asked, Heard, Owed, Pending, Side};
+use judge_core::{Asked, Doubt, Heard, Owed, Pending, Side};
 
 /// A control octet as three numbers: the kind of block; its number or subject; whether more blocks follow, or its
 /// fault.
@@ -114,6 +114,26 @@ pub(crate) fn pending(pending: Pending) -> u8
         Pending::Settled => 0,
         Pending::Chain => 1,
         Pending::Last => 2,
+    }
+}
+
+pub(crate) fn doubt_in(doubt: u8) -> Doubt
+    ensures { result ≡ doubt_in doubt }
+{
+    match doubt {
+        0 => Doubt::Clear,
+        1 => Doubt::Refusable,
+        _ => Doubt::Open,
+    }
+}
+
+pub(crate) fn doubt(doubt: Doubt) -> u8
+    ensures { doubt_in result ≡ doubt }
+{
+    match doubt {
+        Doubt::Clear => 0,
+        Doubt::Refusable => 1,
+        Doubt::Open => 2,
     }
 }
 

@@ -1,11 +1,11 @@
 //! The state of a judge of a line, which the caller keeps. Nothing is allocated.
 
 ghost use Rattle.std.specs.Prelude.{◌≡◌};
-ghost use Rattle.c_lent.specs.KeptJudge.{end_of, heard_as, heard_of, monitor_of, pcb_in, watched_of};
+ghost use Rattle.c_lent.specs.KeptJudge.{doubt_in, end_of, heard_as, heard_of, monitor_of, pcb_in, watched_of};
 
 use crate::judge_numbers::{
-    Spelled, asked, asked_in, heard_as, mark_in, nad_in, nad_kept, number, number_in, owed,
-    owed_in, pcb, pcb_in, pending, pending_in, side, side_in,
+    Spelled, asked, asked_in, doubt, doubt_in, heard_as, mark_in, nad_in, nad_kept, number,
+    number_in, owed, owed_in, pcb, pcb_in, pending, pending_in, side, side_in,
 };
 use crate::kept::mark;
 use arrayvec::ArrayVec;
@@ -51,6 +51,7 @@ pub struct CWatched {
     pub number: u64,
     pub end: CEnd,
     pub heard: CHeard,
+    pub doubt: u8,
     pub last_len: u8,
     pub last: [u8; 254],
 }
@@ -159,6 +160,7 @@ impl CWatched {
             number: watched.number,
             end: CEnd::of(watched.end),
             heard: CHeard::of(watched.heard),
+            doubt: doubt(watched.doubt),
             last_len: octets.len() as u8,
             last,
         }
@@ -172,6 +174,7 @@ impl CWatched {
             heard: self.heard.heard(),
             last: self.field(),
             number: self.number,
+            doubt: doubt_in(self.doubt),
         }
     }
 

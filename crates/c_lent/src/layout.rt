@@ -6,6 +6,7 @@ ghost use Rattle.c_lent.specs.Layout.{size_of_struct};
 use crate::apdu::{CCommand, CResponse};
 use crate::atr::{CAtr, CIndicated, CInterface, CRates, CT1};
 use crate::block::CBlock;
+use crate::card_session::CCardSession;
 use crate::dol::CEntry;
 use crate::kept::{CCard, CTerminal};
 use crate::kept_check::{CCheck, CHeader};
@@ -16,10 +17,12 @@ use crate::lent_readers::{CAtrReader, CBlockReader};
 use crate::names::CText;
 use crate::note::CNote;
 use crate::parts::{CKnown, CPart, CTag};
+use crate::session::CSession;
+use crate::session_next::CSessionNext;
 use crate::turn::CTurn;
 use crate::verdict::Verdict;
 use line_core::Framer;
-use session_core::{Line, LineNext, Progress, Rules};
+use session_core::{Line, LineNext, Progress, Rules, Setup};
 use std::mem::size_of;
 
 /// A handle as C has it: a pointer and a mark. Only the library with memory knows what the handle holds.
@@ -69,6 +72,10 @@ pub fn struct_size(number: u8) -> usize
         33 => size_of::<Progress>(),
         34 => size_of::<Line>(),
         35 => size_of::<LineNext>(),
+        36 => size_of::<Setup>(),
+        37 => size_of::<CSession>(),
+        38 => size_of::<CCardSession>(),
+        39 => size_of::<CSessionNext>(),
         _ => 0,
     }
 }

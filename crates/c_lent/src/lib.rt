@@ -1,7 +1,7 @@
 //! The calls of the library for C that need no memory:
 //!
 //! - the codecs, the objects of a forest and the entries of a list
-//! - both ends of T=1, a check of a forest, a receiver of a chain, and readers of a block and of an answer to reset,
+//! - both ends of T=1 and of a session, a check of a forest, a receiver of a chain, and readers of a block and of an answer to reset,
 //!   over a state and buffers of the caller
 //! - the names of all numbers in results
 //!
@@ -12,6 +12,7 @@ pub mod apdu;
 pub mod atr;
 pub mod block;
 pub mod call;
+pub mod card_session;
 pub mod chain;
 pub mod dol;
 pub mod filling;
@@ -34,6 +35,8 @@ pub mod octets;
 pub mod output;
 pub mod parts;
 pub mod reader_laws;
+pub mod session;
+pub mod session_next;
 pub mod timing;
 pub mod tlv;
 pub mod turn;

@@ -5,6 +5,7 @@
 pub mod apdu;
 pub mod atr;
 pub mod block;
+pub mod card_session;
 pub mod chain;
 pub mod dol;
 pub mod filling;
@@ -21,6 +22,7 @@ pub mod names;
 pub mod note;
 pub mod octets;
 pub mod parts;
+pub mod session;
 pub mod timing;
 pub mod tlv;
 pub mod version;
