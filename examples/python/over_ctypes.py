@@ -1,6 +1,6 @@
 """scard from Python: answers to reset, commands, forests, and a terminal, over a shared library with ctypes.
 
-    python3 scard.py atr 3B858131FE458073800140BC      (or: command 00A4040000, tlv 6F048402A000)
+    python3 over_ctypes.py atr 3B858131FE458073800140BC      (or: command 00A4040000, tlv 6F048402A000)
 
 The library is libscard.so.1, or the file that SCARD_LIBRARY names. The example makes only calls that take no memory, so
 that file may also be dist/c/scard.c as a shared library: cc -shared -fPIC -O2 -Idist/c dist/c/scard.c -o scard.so

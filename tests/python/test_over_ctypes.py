@@ -7,7 +7,7 @@ import unittest
 
 sys.dont_write_bytecode = True
 sys.path.insert(0, str(pathlib.Path(__file__).resolve().parents[2] / "examples/python"))
-import scard  # noqa: E402
+import over_ctypes as scard  # noqa: E402
 
 NUMBERS = ("number", "expected", "has_saved", "saved_size", "ifsc", "ifsd", "first_ifsc", "wait", "size")
 SIZES = ("saved_place", "place", "most_command", "most_reply", "command_len", "reply_len")

@@ -1,0 +1,140 @@
+#!/usr/bin/env python3
+"""Builds the package scard with a C compiler alone: the functions of PEP 517 that pip calls, and a command.
+
+usage: python3 backend.py DIR        writes the package into DIR, from where Python can import it
+
+The library is scard.c and scard.h, in a folder c beside this file, as an archive of the sources has them, or else in
+../dist/c. CC names the compiler, and CFLAGS and LDFLAGS are added to its words. From Python 3.11 on the module keeps to
+the stable ABI of 3.11, so one wheel serves all later versions.
+"""
+import base64
+import hashlib
+import io
+import os
+import pathlib
+import re
+import shlex
+import subprocess
+import sys
+import sysconfig
+import tarfile
+import tempfile
+import zipfile
+
+HERE = pathlib.Path(__file__).resolve().parent
+LIBRARY = next((it for it in (HERE / "c", HERE.parent / "dist/c") if (it / "scard.c").exists()), HERE / "c")
+IS_STABLE = sys.version_info >= (3, 11) and not sysconfig.get_config_var("Py_GIL_DISABLED")
+FLAGS = ["-std=c99", "-O2", "-fPIC", "-fvisibility=hidden"]
+SOURCES = ("pyproject.toml", "README.md", "backend.py")
+WHEEL_FORM = "Wheel-Version: 1.0\nGenerator: scard\nRoot-Is-Purelib: false\nTag: "
+
+
+def version():
+    """The version of the library, by its header."""
+    return re.search(r'SCARD_VERSION_TEXT "([\d.]+)"', (LIBRARY / "scard.h").read_text())[1]
+
+
+def metadata():
+    """What the installed package says of itself."""
+    project = (HERE / "pyproject.toml").read_text()
+    summary = re.search(r'^description = "(.*)"$', project, re.M)[1]
+    python = re.search(r'^requires-python = "(.*)"$', project, re.M)[1]
+    return (f"Metadata-Version: 2.1\nName: scard\nVersion: {version()}\nSummary: {summary}\n"
+            f"Requires-Python: {python}\nDescription-Content-Type: text/markdown\n\n{(HERE / 'README.md').read_text()}")
+
+
+def tag():
+    """The tag of the wheel: of which Python, which ABI and which machine."""
+    number = f"cp{sys.version_info[0]}{sys.version_info[1]}"
+    machine = re.sub(r"[-. ]", "_", sysconfig.get_platform())
+    return f"cp311-abi3-{machine}" if IS_STABLE else f"{number}-{number}-{machine}"
+
+
+def module_name():
+    """The file name of the compiled module."""
+    return "_scard.abi3.so" if IS_STABLE else "_scard" + sysconfig.get_config_var("EXT_SUFFIX")
+
+
+def compiled(place):
+    """Compiles the module into a folder."""
+    words = {name: shlex.split(os.environ.get(name, "")) for name in ("CC", "CFLAGS", "LDFLAGS")}
+    linker = shlex.split(sysconfig.get_config_var("LDSHARED") or "cc -shared")
+    compiler = words["CC"] or ["cc"]
+    stable = ["-DPy_LIMITED_API=0x030B0000"] if IS_STABLE else []
+    sources = [*sorted((HERE / "src").glob("*.c")), LIBRARY / "scard.c"]
+    includes = [f"-I{it}" for it in (LIBRARY, sysconfig.get_path("include"))]
+    subprocess.run([*compiler, *linker[1:], *FLAGS, *words["CFLAGS"], *stable, *includes, *map(str, sources),
+                    "-o", str(pathlib.Path(place) / module_name()), *words["LDFLAGS"]], check=True)
+
+
+def modules():
+    """The package's files of Python, with their names in the wheel."""
+    return [(f"scard/{it.name}", it.read_bytes()) for it in sorted((HERE / "scard").iterdir())
+            if it.suffix in (".py", ".pyi", ".typed")]
+
+
+def build_into(place):
+    """Writes the package into a folder."""
+    package = pathlib.Path(place) / "scard"
+    package.mkdir(parents=True, exist_ok=True)
+    for name, octets in modules():
+        (package.parent / name).write_bytes(octets)
+    compiled(package)
+
+
+def row_of(name, octets):
+    """The line of a file in the list of a wheel's files."""
+    digest = base64.urlsafe_b64encode(hashlib.sha256(octets).digest()).rstrip(b"=").decode()
+    return f"{name},sha256={digest},{len(octets)}\n"
+
+
+def prepare_metadata_for_build_wheel(metadata_directory, config_settings=None):
+    """Writes what the installed package says of itself, so that pip needn't compile to know it."""
+    folder = f"scard-{version()}.dist-info"
+    place = pathlib.Path(metadata_directory) / folder
+    place.mkdir()
+    (place / "METADATA").write_text(metadata())
+    (place / "WHEEL").write_text(f"{WHEEL_FORM}{tag()}\n")
+    return folder
+
+
+def build_wheel(wheel_directory, config_settings=None, metadata_directory=None):
+    """Writes the wheel into a folder, and returns its name."""
+    folder = f"scard-{version()}.dist-info"
+    with tempfile.TemporaryDirectory() as work:
+        compiled(work)
+        module = (pathlib.Path(work) / module_name()).read_bytes()
+    files = [*modules(), (f"scard/{module_name()}", module), (f"{folder}/METADATA", metadata().encode()),
+             (f"{folder}/WHEEL", f"{WHEEL_FORM}{tag()}\n".encode())]
+    rows = "".join(row_of(*it) for it in files) + f"{folder}/RECORD,,\n"
+    name = f"scard-{version()}-{tag()}.whl"
+    with zipfile.ZipFile(pathlib.Path(wheel_directory) / name, "w", zipfile.ZIP_DEFLATED) as wheel:
+        for path, octets in [*files, (f"{folder}/RECORD", rows.encode())]:
+            wheel.writestr(path, octets)
+    return name
+
+
+def sources():
+    """The files of the archive of sources, with their names there."""
+    yield from ((name, HERE / name) for name in SOURCES)
+    yield from ((f"scard/{name.split('/')[1]}", HERE / name) for name, _ in modules())
+    yield from ((f"src/{it.name}", it) for it in sorted((HERE / "src").glob("*.[ch]")))
+    yield from ((f"c/{name}", LIBRARY / name) for name in ("scard.c", "scard.h"))
+
+
+def build_sdist(sdist_directory, config_settings=None):
+    """Writes the archive of sources into a folder, and returns its name. It has the library too."""
+    folder = f"scard-{version()}"
+    with tarfile.open(pathlib.Path(sdist_directory) / f"{folder}.tar.gz", "w:gz") as archive:
+        for name, path in sources():
+            archive.add(path, f"{folder}/{name}")
+        entry = tarfile.TarInfo(f"{folder}/PKG-INFO")
+        entry.size = len(metadata().encode())
+        archive.addfile(entry, io.BytesIO(metadata().encode()))
+    return f"{folder}.tar.gz"
+
+
+if __name__ == "__main__":
+    if len(sys.argv) != 2 or sys.argv[1].startswith("-"):
+        sys.exit(__doc__)
+    build_into(sys.argv[1])

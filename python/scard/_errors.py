@@ -1,0 +1,83 @@
+"""The exceptions of the package. Those of one kind can be caught by their class, and all by Error."""
+from __future__ import annotations
+
+from ._names import Codec, T1Fault, TurnKind
+
+
+class Error(Exception):
+    """What every exception of this package is."""
+
+
+class Refused(Error, ValueError):
+    """Octets are invalid. `place` is the first octet after which no encoding can continue, and `reason` the library's
+    name of the reason. `codec` says what the octets were decoded as."""
+
+    def __init__(self, place: int, reason: str, codec: int) -> None:
+        super().__init__(place, reason, codec)
+        self.place = place
+        self.reason = reason
+        self.codec = Codec(codec)
+
+    def __str__(self) -> str:
+        return f"refused at {self.place}: {self.reason}"
+
+
+class Short(Error, ValueError):
+    """Octets end too early: there are `place` of them, and more could still complete a value."""
+
+    def __init__(self, place: int, codec: int) -> None:
+        super().__init__(place, codec)
+        self.place = place
+        self.codec = Codec(codec)
+
+    def __str__(self) -> str:
+        return f"short at {self.place}"
+
+
+class Argument(Error, ValueError):
+    """The library takes no such argument, or no octets encode such a value."""
+
+
+class Duplicate(Error, ValueError):
+    """Two known values of a data object list have the same tag."""
+
+
+class Closed(Error, ValueError):
+    """The object was closed before the call."""
+
+    def __str__(self) -> str:
+        return f"the {self.args[0]} is closed"
+
+
+class InUse(Error, RuntimeError):
+    """Another call uses the object at the same time."""
+
+
+class NoT1(Error, ValueError):
+    """An answer to reset has no parameters of T=1 that this stack can use."""
+
+    def __init__(self, fault: int) -> None:
+        super().__init__(fault)
+        self.fault = T1Fault(fault)
+
+    def __str__(self) -> str:
+        return self.fault.name
+
+
+class TurnError(Error):
+    """An end or a session has no answer. `kind` says why."""
+
+    def __init__(self, kind: TurnKind) -> None:
+        super().__init__(kind)
+        self.kind = kind
+
+    def __str__(self) -> str:
+        return TurnKind(self.kind).label
+
+
+class CallRefused(TurnError):
+    """An end or a session refused the call, and nothing changed."""
+
+
+class NoAnswer(TurnError):
+    """An exchange ended without an answer."""
