@@ -20,7 +20,7 @@
 
 #define FIRST 65536u
 
-static const unsigned char constants[7984] = {
+static const unsigned char constants[8016] = {
     48, 49, 50, 51, 52, 53, 54, 55, 56, 57, 65, 66, 67, 68, 69, 70, 82, 69, 83, 89, 78, 67, 72, 32, 116, 111, 111,
     32, 101, 97, 114, 108, 121, 0, 114, 101, 115, 112, 111, 110, 115, 101, 32, 116, 111, 32, 110, 111, 32, 114,
     101, 113, 117, 101, 115, 116, 0, 110, 111, 32, 114, 101, 112, 101, 97, 116, 101, 100, 32, 114, 101, 113, 117,
@@ -300,7 +300,8 @@ static const unsigned char constants[7984] = {
     0, 0, 0, 16, 0, 0, 0, 0, 0, 0, 0, 5, 0, 0, 0, 0, 0, 0, 0, 40, 0, 0, 0, 0, 0, 0, 0, 16, 1, 0, 0, 0, 0, 0, 0, 8,
     1, 0, 0, 0, 0, 0, 0, 40, 0, 0, 0, 0, 0, 0, 0, 15, 0, 0, 0, 0, 0, 0, 0, 5, 0, 0, 0, 0, 0, 0, 0, 32, 1, 0, 0, 0,
     0, 0, 0, 80, 2, 0, 0, 0, 0, 0, 0, 5, 0, 0, 0, 0, 0, 0, 0, 32, 0, 0, 0, 0, 0, 0, 0, 56, 0, 0, 0, 0, 0, 0, 0,
-    88, 0, 0, 0, 0, 0, 0, 0, 160, 1, 0, 0, 0, 0, 0, 0, 24, 0, 0, 0, 0, 0, 0, 0
+    88, 0, 0, 0, 0, 0, 0, 0, 160, 1, 0, 0, 0, 0, 0, 0, 24, 0, 0, 0, 0, 0, 0, 0, 40, 0, 0, 0, 0, 0, 0, 0, 240, 1,
+    0, 0, 0, 0, 0, 0, 248, 1, 0, 0, 0, 0, 0, 0, 24, 0, 0, 0, 0, 0, 0, 0
 };
 
 static const unsigned char first_constants[95] = {
@@ -1020,49 +1021,65 @@ static void c_lent_filling_put_parts(struct call *m, u64 v0, u64 v1, u64 v2, u64
 static void c_lent_lent_card_turn(struct call *m, u64 v0, u64 v1, u64 v2, u64 v3, u64 v4, u64 v5, u64 v6, u64 v7, u64
     v8);
 static void c_lent_kept_CCard_fitting(struct call *m, u64 v0, u64 v1, u64 v2, u64 v3);
+static void t1_core_lent_LentCard_received_into(struct call *m, u64 v0, u64 v1, u64 v2, u64 v3, u64 v4, u64 v5, u64
+    v6);
+static void c_lent_card_session_host_turn(struct call *m, u64 v0, u64 v1, u64 v2, u64 v3, u64 v4, u64 v5, u64 v6, u64
+    v7, u64 v8);
+static void session_core_progress_Progress_wait(struct call *m, u64 v0, u64 v1, u64 v2, u64 v3, u64 v4);
+static void session_core_card_reply(struct call *m, u64 v0, u64 v1, u64 v2, u64 v3, u64 v4, u64 v5, u64 v6, u64 v7,
+    u64 v8);
+static u64 session_core_progress_Progress_left(struct call *m, u64 v0, u64 v1, u64 v2);
+static void session_core_progress_Progress_drop_octets(struct call *m, u64 v0, u64 v1, u64 v2, u32 v3, u64 v4);
+static void session_core_progress_Progress_wait_silent(struct call *m, u64 v0, u64 v1, u64 v2, u64 v3);
+static void session_core_progress_Progress_talk(struct call *m, u64 v0, u64 v1, u64 v2, u64 v3, u64 v4);
+static void session_core_progress_Progress_settle(struct call *m, u64 v0, u64 v1, u64 v2, u64 v3, u64 v4);
+static void session_core_setup_Setup_rules(struct call *m, u64 v0, u64 v1, u64 v2, u32 v3);
+static void session_core_progress_Progress_await_block(struct call *m, u64 v0, u64 v1, u64 v2, u64 v3, u64 v4);
+static void session_core_lines_Line_happen(struct call *m, u64 v0, u64 v1, u32 v2, u64 v3, u64 v4, u64 v5, u64 v6, u64
+    v7);
+static void session_core_progress_Progress_sent(struct call *m, u64 v0, u64 v1, u64 v2, u64 v3, u64 v4, u64 v5, u64
+    v6);
+static void session_core_progress_Progress_interrupted(struct call *m, u64 v0, u64 v1, u64 v2, u64 v3, u64 v4, u64 v5,
+    u64 v6);
+static void session_core_progress_Progress_take_in(struct call *m, u64 v0, u64 v1, u64 v2, u64 v3, u64 v4, u64 v5, u32
+    v6, u64 v7, u64 v8, u64 v9);
+static void session_core_progress_Progress_silent(struct call *m, u64 v0, u64 v1, u64 v2, u64 v3, u64 v4, u64 v5, u64
+    v6);
+static void session_core_progress_Progress_leave(struct call *m, u64 v0, u64 v1, u64 v2);
+static void session_core_progress_Progress_go_on(struct call *m, u64 v0, u64 v1, u64 v2, u64 v3, u64 v4, u64 v5, u64
+    v6);
+static u32 session_core_progress_Progress_judge(struct call *m, u64 v0, u64 v1, u64 v2, u64 v3, u64 v4);
+static u32 session_core_sending_begin_with(struct call *m, u64 v0, u64 v1, u64 v2, u64 v3);
+static u64 session_core_progress_Progress_owed_after(struct call *m, u64 v0, u64 v1, u64 v2);
+static void session_core_progress_Progress_miss(struct call *m, u64 v0, u64 v1, u64 v2, u64 v3);
+static void session_core_progress_Progress_echoed(struct call *m, u64 v0, u64 v1, u64 v2, u64 v3, u64 v4, u64 v5, u64
+    v6, u64 v7, u64 v8);
+static void session_core_progress_Progress_hear(struct call *m, u64 v0, u64 v1, u64 v2, u64 v3, u64 v4, u64 v5, u32
+    v6, u64 v7, u64 v8, u64 v9);
+static u32 line_core_framing_sum_of(struct call *m, u64 v0, u64 v1);
 static void c_lent_kept_check_CCheck_fitting(struct call *m, u64 v0, u64 v1);
 static void tlv_core_progress_Progress_next(struct call *m, u64 v0, u64 v1, u32 v2);
 static void tlv_core_checking_Checking_feed(struct call *m, u64 v0, u64 v1, u64 v2, u64 v3);
 static void tlv_core_progress_Progress_skip(struct call *m, u64 v0, u64 v1);
 static void tlv_core_progress_Progress_take(struct call *m, u64 v0, u64 v1, u32 v2);
 static void tlv_core_short_header_of_few(struct call *m, u64 v0, u64 v1, u64 v2);
-static u32 line_core_framing_sum_of(struct call *m, u64 v0, u64 v1);
 static void c_lent_kept_judge_CWatched_of(struct call *m, u64 v0, u64 v1);
 static void c_lent_kept_judge_CWatched_watched(struct call *m, u64 v0, u64 v1);
 static void judge_core_class_class_of(struct call *m, u64 v0, u64 v1, u64 v2);
 static void judge_core_monitor_Watched_sent(struct call *m, u64 v0, u64 v1, u32 v2, u64 v3, u64 v4);
 static void judge_core_end_End_got_whole(struct call *m, u64 v0, u64 v1, u64 v2);
+static void judge_core_end_End_sends(struct call *m, u64 v0, u64 v1, u64 v2, u64 v3, u64 v4, u64 v5, u64 v6, u64 v7);
 static void judge_core_monitor_Watched_sent_other(struct call *m, u64 v0, u64 v1, u32 v2, u64 v3);
-static void judge_core_courses_attempted(struct call *m, u64 v0, u64 v1, u64 v2, u64 v3, u64 v4, u64 v5, u64 v6);
 static void judge_core_end_End_repeats_request(struct call *m, u64 v0, u64 v1, u32 v2, u32 v3, u32 v4);
-static void session_core_progress_Progress_drop_octets(struct call *m, u64 v0, u64 v1, u64 v2, u32 v3, u64 v4);
-static void session_core_progress_Progress_wait_silent(struct call *m, u64 v0, u64 v1, u64 v2, u64 v3);
-static void session_core_progress_Progress_wait(struct call *m, u64 v0, u64 v1, u64 v2, u64 v3, u64 v4);
-static u64 session_core_progress_Progress_left(struct call *m, u64 v0, u64 v1, u64 v2);
-static void session_core_progress_Progress_await_block(struct call *m, u64 v0, u64 v1, u64 v2, u64 v3, u64 v4);
-static void session_core_progress_Progress_sent(struct call *m, u64 v0, u64 v1, u64 v2, u64 v3, u64 v4, u64 v5, u64
-    v6);
-static void session_core_progress_Progress_go_on(struct call *m, u64 v0, u64 v1, u64 v2, u64 v3, u64 v4, u64 v5, u64
-    v6);
-static u32 session_core_progress_Progress_judge(struct call *m, u64 v0, u64 v1, u64 v2, u64 v3, u64 v4);
-static u32 session_core_sending_begin_with(struct call *m, u64 v0, u64 v1, u64 v2, u64 v3);
-static u64 session_core_progress_Progress_owed_after(struct call *m, u64 v0, u64 v1, u64 v2);
-static void session_core_progress_Progress_interrupted(struct call *m, u64 v0, u64 v1, u64 v2, u64 v3, u64 v4, u64 v5,
-    u64 v6);
-static void session_core_progress_Progress_silent(struct call *m, u64 v0, u64 v1, u64 v2, u64 v3, u64 v4, u64 v5, u64
-    v6);
-static void session_core_progress_Progress_leave(struct call *m, u64 v0, u64 v1, u64 v2);
-static void session_core_progress_Progress_talk(struct call *m, u64 v0, u64 v1, u64 v2, u64 v3, u64 v4);
-static void session_core_progress_Progress_miss(struct call *m, u64 v0, u64 v1, u64 v2, u64 v3);
-static void session_core_progress_Progress_settle(struct call *m, u64 v0, u64 v1, u64 v2, u64 v3, u64 v4);
-static void session_core_progress_Progress_take_in(struct call *m, u64 v0, u64 v1, u64 v2, u64 v3, u64 v4, u64 v5, u32
-    v6, u64 v7, u64 v8, u64 v9);
-static void session_core_progress_Progress_echoed(struct call *m, u64 v0, u64 v1, u64 v2, u64 v3, u64 v4, u64 v5, u64
-    v6, u64 v7, u64 v8);
-static void session_core_progress_Progress_hear(struct call *m, u64 v0, u64 v1, u64 v2, u64 v3, u64 v4, u64 v5, u32
-    v6, u64 v7, u64 v8, u64 v9);
 static void c_lent_kept_receiver_CReceiver_fitting(struct call *m, u64 v0, u64 v1, u64 v2);
+static void c_lent_session_session_turn(struct call *m, u64 v0, u64 v1, u64 v2, u64 v3, u64 v4, u64 v5, u64 v6, u64
+    v7, u64 v8);
 static void c_lent_kept_CTerminal_fitting(struct call *m, u64 v0, u64 v1, u64 v2, u64 v3);
+static void session_core_lines_Line_turn(struct call *m, u64 v0, u64 v1, u64 v2, u32 v3, u64 v4, u32 v5, u64 v6, u64
+    v7, u64 v8);
+static void t1_core_lent_LentTerminal_quiet_into(struct call *m, u64 v0, u64 v1, u64 v2);
+static void t1_core_lent_LentTerminal_received_into(struct call *m, u64 v0, u64 v1, u64 v2, u64 v3, u64 v4, u64 v5,
+    u64 v6);
 static void c_lent_lent_terminal_turn(struct call *m, u64 v0, u64 v1, u64 v2, u64 v3, u64 v4, u64 v5, u64 v6, u64 v7,
     u64 v8);
 static void tlv_core_part_walk_next_part(struct call *m, u64 v0, u64 v1, u64 v2, u64 v3);
@@ -1156,6 +1173,29 @@ static void module_scard_lent_card_reply(struct call *m, u64 v0, u64 v1, u64 v2,
     v7, u64 v8, u64 v9);
 static void rattle_export_scard_lent_card_reply(struct call *m, u64 v0, u64 v1, u64 v2, u64 v3, u64 v4, u64 v5, u64
     v6, u64 v7, u64 v8, u64 v9);
+static void module_scard_lent_card_session_ask_ifs(struct call *m, u64 v0, u64 v1, u64 v2, u64 v3, u64 v4, u64 v5, u32
+    v6, u64 v7, u64 v8, u64 v9);
+static void rattle_export_scard_lent_card_session_ask_ifs(struct call *m, u64 v0, u64 v1, u64 v2, u64 v3, u64 v4, u32
+    v5, u64 v6, u64 v7, u64 v8);
+static void module_scard_lent_card_session_begin(struct call *m, u64 v0, u64 v1, u64 v2, u64 v3, u64 v4, u64 v5, u64
+    v6);
+static void rattle_export_scard_lent_card_session_begin(struct call *m, u64 v0, u64 v1, u64 v2, u64 v3, u64 v4, u64
+    v5, u64 v6);
+static void module_scard_lent_card_session_more_time(struct call *m, u64 v0, u64 v1, u64 v2, u64 v3, u64 v4, u64 v5,
+    u32 v6, u64 v7, u64 v8, u64 v9);
+static void rattle_export_scard_lent_card_session_more_time(struct call *m, u64 v0, u64 v1, u64 v2, u64 v3, u64 v4,
+    u32 v5, u64 v6, u64 v7, u64 v8);
+static void module_scard_lent_card_session_reply(struct call *m, u64 v0, u64 v1, u64 v2, u64 v3, u64 v4, u64 v5, u64
+    v6, u64 v7, u64 v8, u64 v9, u64 v10);
+static void rattle_export_scard_lent_card_session_reply(struct call *m, u64 v0, u64 v1, u64 v2, u64 v3, u64 v4, u64
+    v5, u64 v6, u64 v7, u64 v8, u64 v9);
+static void module_scard_lent_card_session_serve(struct call *m, u64 v0, u64 v1, u64 v2, u64 v3, u64 v4, u64 v5, u64
+    v6);
+static void rattle_export_scard_lent_card_session_serve(struct call *m, u64 v0, u64 v1, u64 v2, u64 v3, u64 v4);
+static void module_scard_lent_card_session_step(struct call *m, u64 v0, u64 v1, u64 v2, u64 v3, u64 v4, u64 v5, u32
+    v6, u64 v7, u64 v8, u64 v9, u64 v10, u64 v11);
+static void rattle_export_scard_lent_card_session_step(struct call *m, u64 v0, u64 v1, u64 v2, u64 v3, u64 v4, u64 v5,
+    u32 v6, u64 v7, u64 v8, u64 v9, u64 v10, u64 v11);
 static void module_scard_lent_check_begin(struct call *m, u64 v0, u64 v1, u64 v2);
 static void rattle_export_scard_lent_check_begin(struct call *m, u64 v0, u64 v1, u64 v2);
 static void module_scard_lent_check_feed(struct call *m, u64 v0, u64 v1, u64 v2, u64 v3);
@@ -1204,6 +1244,25 @@ static void module_scard_lent_receiver_finish(struct call *m, u64 v0, u64 v1, u6
 static void rattle_export_scard_lent_receiver_finish(struct call *m, u64 v0, u64 v1, u64 v2);
 static void module_scard_lent_receiver_message(struct call *m, u64 v0, u64 v1, u64 v2, u64 v3);
 static void rattle_export_scard_lent_receiver_message(struct call *m, u64 v0, u64 v1, u64 v2);
+static void module_scard_lent_session_ask_ifs(struct call *m, u64 v0, u64 v1, u64 v2, u64 v3, u64 v4, u64 v5, u32 v6,
+    u64 v7, u64 v8, u64 v9);
+static void rattle_export_scard_lent_session_ask_ifs(struct call *m, u64 v0, u64 v1, u64 v2, u64 v3, u64 v4, u32 v5,
+    u64 v6, u64 v7, u64 v8);
+static void module_scard_lent_session_begin(struct call *m, u64 v0, u64 v1, u64 v2, u64 v3, u64 v4, u64 v5, u64 v6);
+static void rattle_export_scard_lent_session_begin(struct call *m, u64 v0, u64 v1, u64 v2, u64 v3, u64 v4, u64 v5, u64
+    v6);
+static void module_scard_lent_session_exchange(struct call *m, u64 v0, u64 v1, u64 v2, u64 v3, u64 v4, u64 v5, u64 v6,
+    u64 v7, u64 v8, u64 v9, u64 v10);
+static void rattle_export_scard_lent_session_exchange(struct call *m, u64 v0, u64 v1, u64 v2, u64 v3, u64 v4, u64 v5,
+    u64 v6, u64 v7, u64 v8, u64 v9);
+static void module_scard_lent_session_resync(struct call *m, u64 v0, u64 v1, u64 v2, u64 v3, u64 v4, u64 v5, u64 v6,
+    u64 v7, u64 v8, u64 v9);
+static void rattle_export_scard_lent_session_resync(struct call *m, u64 v0, u64 v1, u64 v2, u64 v3, u64 v4, u64 v5,
+    u64 v6, u64 v7, u64 v8, u64 v9);
+static void module_scard_lent_session_step(struct call *m, u64 v0, u64 v1, u64 v2, u64 v3, u64 v4, u64 v5, u32 v6, u64
+    v7, u64 v8, u64 v9, u64 v10, u64 v11);
+static void rattle_export_scard_lent_session_step(struct call *m, u64 v0, u64 v1, u64 v2, u64 v3, u64 v4, u64 v5, u32
+    v6, u64 v7, u64 v8, u64 v9, u64 v10, u64 v11);
 static void module_scard_lent_terminal_answer(struct call *m, u64 v0, u64 v1, u64 v2, u64 v3, u64 v4, u64 v5);
 static void rattle_export_scard_lent_terminal_answer(struct call *m, u64 v0, u64 v1, u64 v2, u64 v3);
 static void module_scard_lent_terminal_ask_ifs(struct call *m, u64 v0, u64 v1, u64 v2, u64 v3, u64 v4, u64 v5, u32 v6,
@@ -3480,7 +3539,7 @@ again11:;
     v3 = v3 + 32ull;
     v5 = v5 + 32ull;
     v7 = v7 + 0xFFFFFFFFFFFFFFE0ull;
-    if (v7 > 31ull) { goto again11; }
+    if (v7 >= 32ull) { goto again11; }
     goto after9;
 after10:;
     if (v7 > 31ull) { goto after1; }
@@ -3922,804 +3981,294 @@ static void c_lent_lent_card_turn(struct call *m, u64 v0, u64 v1, u64 v2, u64 v3
     u64 v9 = 0;
     u64 v10 = 0;
     u64 v11 = 0;
-    u64 v16 = 0;
-    u64 v18 = 0;
-    u64 v19 = 0;
-    u64 v20 = 0;
-    u64 v21 = 0;
-    u64 v22 = 0;
-    u64 v28 = 0;
-    u64 v37 = 0;
+    u64 v15 = 0;
     u32 v12 = 0;
     u32 v13 = 0;
     u32 v14 = 0;
-    u32 v15 = 0;
-    u32 v17 = 0;
-    u32 v23 = 0;
-    u32 v24 = 0;
-    u32 v25 = 0;
-    u32 v26 = 0;
-    u32 v27 = 0;
-    u32 v29 = 0;
-    u32 v30 = 0;
-    u32 v31 = 0;
-    u32 v32 = 0;
-    u32 v33 = 0;
-    u32 v34 = 0;
-    u32 v35 = 0;
-    u32 v36 = 0;
-    u32 t0 = 0;
     u32 t1 = 0;
-    u32 t2 = 0;
-    u8 *f37 = NULL;
-    u8 *p23 = NULL;
-    u8 *p57 = NULL;
-    u8 *p329 = NULL;
-    u8 *p330 = NULL;
-    u8 *p437 = NULL;
-    u8 *p493 = NULL;
-    u8 *p494 = NULL;
-    u8 *p631 = NULL;
-    u8 *p706 = NULL;
-    u8 *p755 = NULL;
-    u8 *p997 = NULL;
-    u8 *p998 = NULL;
-    u8 *p1344 = NULL;
-    u8 *p1644 = NULL;
-    u8 *p1761 = NULL;
-    u8 *p1813 = NULL;
-    u8 *p1814 = NULL;
-    u8 *p1946 = NULL;
-    u8 *p2044 = NULL;
-    v37 = m->g0 - 144ull;
-    f37 = at(m, v37, 144);
-    v9 = v37;
+    u8 *f15 = NULL;
+    u8 *p14 = NULL;
+    u8 *p43 = NULL;
+    u8 *p190 = NULL;
+    u8 *p191 = NULL;
+    u8 *p339 = NULL;
+    u8 *p394 = NULL;
+    u8 *p395 = NULL;
+    u8 *p514 = NULL;
+    u8 *p592 = NULL;
+    u8 *p650 = NULL;
+    u8 *p688 = NULL;
+    u8 *p795 = NULL;
+    v15 = m->g0 - 240ull;
+    f15 = at(m, v15, 240);
+    v9 = v15;
     m->g0 = v9;
-    p23 = held(m, v6, 24);
-    v10 = held64(p23, 16, m, v6);
-    v11 = held64(p23, 8, m, v6);
-    v12 = held8(p23, 1, m, v6);
-    v13 = held8(p23, 0, m, v6);
-    memset(f37 + 8, (int)(0u & 255u), 104);
-    put16(f37 + 4, 0u);
-    put32(f37, 0u);
-    if (v8 >= 258ull) { goto after11; }
-    p57 = held(m, v0, 16);
-    put_held32(p57, 1, m, v0, 0u);
-    put_held8(p57, 0, m, v0, 33u);
-    put_held32(p57, 4, m, v0, 0u);
-    put_held64(p57, 8, m, v0, 258ull);
-    goto after1;
-after11:;
-    c_lent_kept_CCard_fitting(m, v37 + 8ull, v1, v3, v5);
-    if (get8(f37 + 8) != 1u) { goto after17; }
-    v14 = get8(f37 + 72);
-    v15 = get8(f37 + 49);
-    v16 = ((u64)v15) & 255ull;
-    v17 = get8(f37 + 40);
-    v18 = get64(f37 + 104);
-    v19 = get64(f37 + 96);
-    v20 = get64(f37 + 88);
-    v21 = get64(f37 + 80);
-    v22 = get64(f37 + 64);
-    v23 = get8(f37 + 58);
-    v24 = get8(f37 + 57);
-    v25 = get8(f37 + 56);
-    v26 = get8(f37 + 50);
-    v27 = get8(f37 + 48);
-    v28 = get64(f37 + 32);
-    v29 = get8(f37 + 24);
-    v30 = get8(f37 + 17);
-    v31 = get8(f37 + 16);
+    p14 = held(m, v6, 24);
+    v10 = held64(p14, 16, m, v6);
+    v11 = held64(p14, 8, m, v6);
+    v12 = held8(p14, 1, m, v6);
+    v13 = held8(p14, 0, m, v6);
+    memset(f15 + 8, (int)(0u & 255u), 104);
+    if (v8 >= 258ull) { goto after3; }
+    p43 = held(m, v0, 16);
+    put_held32(p43, 1, m, v0, 0u);
+    put_held8(p43, 0, m, v0, 33u);
+    put_held32(p43, 4, m, v0, 0u);
+    put_held64(p43, 8, m, v0, 258ull);
+    goto after2;
+after3:;
+    c_lent_kept_CCard_fitting(m, v15 + 8ull, v1, v3, v5);
+    if (get8(f15 + 8) != 1u) { goto after11; }
+    copy(m, v15 + 112ull, v15 + 16ull, 96ull);
+    v6 = 0ull;
+    put64(f15 + 224, 0ull);
+    put64(f15 + 216, 0ull);
+    put64(f15 + 208, 0ull);
     switch (v13) {
-        case 1: goto after22;
-        case 2: goto after21;
-        case 3: goto after20;
-        default: goto after23;
+        case 1: goto after17;
+        case 2: goto after16;
+        case 3: goto after14;
+        default: goto after18;
     }
-after23:;
-    put64(f37 + 136, 0ull);
-    put64(f37 + 128, 0ull);
-    put64(f37 + 120, 0ull);
-    put64(f37 + 112, 0ull);
-    block_core_block_ref_pcb_in(m, v37 + 112ull, v11, v10);
-    if (get8(f37 + 112)) { goto after24; }
-    v13 = 2u;
-    if (v10 < 3ull) { goto after14; }
-    v32 = get8(f37 + 114);
-    v33 = get8(f37 + 115);
-    v12 = load8(m, v11, 2);
-    v34 = 0u;
-    v35 = get8(f37 + 113);
-    switch (v35) {
-        case 1: goto after25;
-        case 2: goto after26;
-        case 3: goto after26;
-        default: goto after27;
-    }
-after27:;
-    v34 = v12 & 255u;
-    if (v34 == 255u) { goto after14; }
-    if ((v27 & 255u) >= v34) { goto after15; }
-    goto after14;
-after26:;
-    v34 = 0x1000100u >> ((v32 << 3) & 31);
-after25:;
-    if ((v12 & 255u) != (v34 & 255u)) { goto after14; }
-    switch (v35 + 0xFFFFFFFFu) {
-        case 1: goto after28;
-        case 2: goto after29;
-        default: goto after15;
-    }
-after29:;
-    if (v32 != 1u) { goto after15; }
-    goto after16;
-after28:;
-    if (v32 == 1u) { goto after16; }
+after18:;
+    t1_core_lent_LentCard_received_into(m, v15 + 208ull, v15 + 112ull, v2, v4, v11, v10, v7);
+    v13 = (u32)(get8(f15 + 216) != 0u);
+    v6 = get64(f15 + 224);
+    v14 = get8(f15 + 209);
+    v12 = get8(f15 + 208);
+    goto after12;
+after17:;
+    if (get8(f15 + 152) == 2u) { goto after19; }
+    v12 = 1u;
     goto after15;
-after24:;
-    v13 = (get8(f37 + 120) == 1u) ? (((get8(f37 + 136) & 255u) == 4u) ? 1u : 2u) : 2u;
-    goto after14;
-after22:;
-    if (v25 == 2u) { goto after30; }
-    put16(f37 + 116, 0u);
-    put32(f37 + 112, 0u);
-    v13 = 21u;
-    goto after3;
-after30:;
-    if (v20 >= v10) { goto after31; }
-    put16(f37 + 116, 0u);
-    put32(f37 + 112, 0u);
-    v13 = 18u;
-    goto after3;
-after31:;
-    if ((v4 - v11) >= v10) { goto after33; }
+after19:;
+    if (get64(f15 + 184) >= v10) { goto after20; }
+    v14 = 1u;
+    v13 = 0u;
+    v12 = 1u;
+    goto after12;
+after20:;
+    if ((v4 - v11) >= v10) { goto after22; }
     v3 = v10 & 3ull;
     v8 = 0ull;
-    if (v10 < 4ull) { goto after34; }
+    if (v10 < 4ull) { goto after23; }
     v2 = v10 & 0xFFFFFFFFFFFFFFFCull;
     v8 = 0ull;
-again35:;
+again24:;
     v6 = v4 + v8;
     v5 = v11 + v8;
-    p329 = held(m, v5, 4);
-    p330 = held(m, v6, 4);
-    put_held8(p330, 0, m, v6, held8(p329, 0, m, v5));
-    put_held8(p330, 1, m, v6, held8(p329, 1, m, v5));
-    put_held8(p330, 2, m, v6, held8(p329, 2, m, v5));
-    put_held8(p330, 3, m, v6, held8(p329, 3, m, v5));
+    p190 = held(m, v5, 4);
+    p191 = held(m, v6, 4);
+    put_held8(p191, 0, m, v6, held8(p190, 0, m, v5));
+    put_held8(p191, 1, m, v6, held8(p190, 1, m, v5));
+    put_held8(p191, 2, m, v6, held8(p190, 2, m, v5));
+    put_held8(p191, 3, m, v6, held8(p190, 3, m, v5));
     v8 = v8 + 4ull;
-    if (v2 != v8) { goto again35; }
-    if (v3 == 0) { goto after32; }
-after34:;
+    if (v2 != v8) { goto again24; }
+    if (v3 == 0) { goto after21; }
+after23:;
     v6 = v4 + v8;
     v8 = v11 + v8;
-again36:;
+again25:;
     store8(m, v6, 0, load8(m, v8, 0));
     v6 = v6 + 1ull;
     v8 = v8 + 1ull;
     v3 = v3 + 0xFFFFFFFFFFFFFFFFull;
-    if (v3 != 0ull) { goto again36; }
-    goto after32;
-after33:;
-    if (v10 == 0) { goto after32; }
+    if (v3 != 0ull) { goto again25; }
+    goto after21;
+after22:;
+    if (v10 == 0) { goto after21; }
     copy(m, v4, v11, v10);
-after32:;
-    v11 = (v16 < v10) ? v16 : v10;
-    v29 = (u32)(v10 <= v16);
-    if (v29) { goto after38; }
-    v13 = 32u;
-    if (v11 == 255ull) { goto after10; }
-    goto after37;
-after38:;
-    v13 = 0u;
-    if (v11 == 255ull) { goto after10; }
-after37:;
-    p437 = held(m, v7, 3);
-    put_held8(p437, 0, m, v7, 0u);
-    v12 = (u32)v11;
-    put_held8(p437, 2, m, v7, v12);
-    v13 = v13 | ((v31 & 255u) ? 64u : 0u);
-    put_held8(p437, 1, m, v7, v13);
+after21:;
+    put64(f15 + 160, 0ull);
+    put64(f15 + 128, 0ull);
+    v12 = get8(f15 + 145);
+    put64(f15 + 200, v10);
+    v14 = 0u;
+    put16(f15 + 153, 0u);
+    v6 = ((u64)v12) & 255ull;
+    v13 = (u32)(v10 <= v6);
+    put8(f15 + 168, v13 ? 0u : v12);
+    put8(f15 + 152, v13 ? 0u : 3u);
+    put8(f15 + 136, v13 ? v12 : 0u);
+    put64(f15 + 120, (u64)v13);
+    v11 = (v6 < v10) ? v6 : v10;
+    if (v13) { goto after27; }
+    v14 = 32u;
+    if (v11 != 255ull) { goto after26; }
+    goto after1;
+after27:;
+    if (v11 == 255ull) { goto after1; }
+after26:;
+    p339 = held(m, v7, 3);
+    put_held8(p339, 0, m, v7, 0u);
+    v13 = (u32)v11;
+    put_held8(p339, 2, m, v7, v13);
+    v12 = ((get8(f15 + 112)) ? 64u : 0u) | v14;
+    put_held8(p339, 1, m, v7, v12);
     v6 = v7 + 3ull;
-    if ((v6 - v4) >= v11) { goto after40; }
+    if ((v6 - v4) >= v11) { goto after29; }
     v3 = v11 & 3ull;
     v8 = 0ull;
-    if (v11 < 4ull) { goto after41; }
-    v2 = v11 & 252ull;
+    if (v11 < 4ull) { goto after30; }
+    v10 = v11 & 252ull;
     v8 = 0ull;
-again42:;
+again31:;
     v6 = v7 + v8;
     v5 = v4 + v8;
-    p493 = held(m, v5, 4);
-    p494 = held(m, v6 + 3ull, 4);
-    put_held8(p494, 0, m, v6 + 3ull, held8(p493, 0, m, v5));
-    put_held8(p494, 1, m, v6 + 3ull, held8(p493, 1, m, v5));
-    put_held8(p494, 2, m, v6 + 3ull, held8(p493, 2, m, v5));
-    put_held8(p494, 3, m, v6 + 3ull, held8(p493, 3, m, v5));
+    p394 = held(m, v5, 4);
+    p395 = held(m, v6 + 3ull, 4);
+    put_held8(p395, 0, m, v6 + 3ull, held8(p394, 0, m, v5));
+    put_held8(p395, 1, m, v6 + 3ull, held8(p394, 1, m, v5));
+    put_held8(p395, 2, m, v6 + 3ull, held8(p394, 2, m, v5));
+    put_held8(p395, 3, m, v6 + 3ull, held8(p394, 3, m, v5));
     v8 = v8 + 4ull;
-    if (v2 != v8) { goto again42; }
-    if (v3 == 0) { goto after39; }
-after41:;
+    if (v10 != v8) { goto again31; }
+    if (v3 == 0) { goto after28; }
+after30:;
     v6 = v4 + v8;
     v8 = (v8 + v7) + 3ull;
-again43:;
+again32:;
     store8(m, v8, 0, load8(m, v6, 0));
     v8 = v8 + 1ull;
     v6 = v6 + 1ull;
     v3 = v3 + 0xFFFFFFFFFFFFFFFFull;
-    if (v3 != 0ull) { goto again43; }
-    goto after39;
-after40:;
-    if (v11 == 0) { goto after39; }
+    if (v3 != 0ull) { goto again32; }
+    goto after28;
+after29:;
+    if (v11 == 0) { goto after28; }
     copy(m, v6, v4, v11);
-after39:;
-    v25 = v29 ? 0u : 3u;
-    v14 = v29 ? 0u : v15;
-    v17 = v29 ? v15 : 0u;
+after28:;
     t1 = block_core_block_ref_sum_of(m, v4, v11);
-    store8(m, (v7 + v11) + 3ull, 0, (t1 ^ v12) ^ v13);
-    v8 = v11 + 4ull;
-    v22 = 0ull;
-    v13 = 0u;
-    v23 = 0u;
-    v24 = 0u;
-    v28 = 0ull;
-    goto after6;
-after21:;
-    if (v25 == 2u) { goto after44; }
-    v8 = 0ull;
-    if (1u) { goto after5; }
-    goto after19;
-after44:;
-    v24 = 1u;
-    p631 = held(m, v7, 5);
-    put_held8(p631, 2, m, v7, 1u);
-    put_held16(p631, 0, m, v7, 49920u);
-    put_held8(p631, 3, m, v7, v12);
-    put8(f37 + 117, v12);
-    put8(f37 + 116, 1u);
-    put32(f37 + 112, 0x30202u);
-    v8 = 5ull;
-    t1 = block_core_block_ref_sum_of(m, (v37 + 112ull) + 5ull, 1ull);
-    put_held8(p631, 4, m, v7, t1 ^ 194u);
-    v25 = 4u;
-    v23 = v12;
-    goto after19;
-after20:;
-    if (v25 == 2u) { goto after46; }
-    v13 = 21u;
-    goto after45;
-after46:;
-    if (((v12 + 1u) & 255u) > 1u) { goto after18; }
-    v13 = 19u;
-after45:;
-    if (1u) { goto after4; }
-    v8 = 0ull;
-after19:;
-    v13 = 0u;
-    v10 = v18;
-    goto after6;
-after18:;
-    p706 = held(m, v7, 5);
-    put_held8(p706, 2, m, v7, 1u);
-    put_held16(p706, 0, m, v7, 49408u);
-    put_held8(p706, 3, m, v7, v12);
-    put8(f37 + 117, v12);
-    put8(f37 + 116, 1u);
-    put32(f37 + 112, 0x10202u);
-    v8 = 5ull;
-    t1 = block_core_block_ref_sum_of(m, (v37 + 112ull) + 5ull, 1ull);
-    put_held8(p706, 4, m, v7, t1 ^ 192u);
-    v24 = 0u;
-    v25 = 4u;
-    v13 = 0u;
-    v10 = v18;
-    v23 = v12;
-    goto after6;
-after17:;
-    p755 = held(m, v0, 16);
-    put_held64(p755, 1, m, v0, 0ull);
-    put_held8(p755, 0, m, v0, 32u);
-    put_held64(p755, 8, m, v0, 0ull);
-    goto after1;
+    store8(m, (v7 + v11) + 3ull, 0, (t1 ^ v13) ^ v12);
+    v6 = v11 + 4ull;
+    goto after13;
 after16:;
-    if (v10 == 3ull) { goto after14; }
-    v32 = 1u;
-    v13 = 2u;
-    if (((load8(m, v11, 3) + 1u) & 255u) < 2u) { goto after14; }
-after15:;
-    v13 = 2u;
-    v5 = ((u64)v12) & 255ull;
-    if (v10 <= (v5 + 3ull)) { goto after14; }
-    v13 = 1u;
-    v8 = v5 + 4ull;
-    t0 = block_core_block_ref_sum_of(m, v11, v8);
-    if (t0 & 255u) { goto after14; }
-    v13 = 2u;
+    if (get8(f15 + 152) == 2u) { goto after33; }
     v6 = 0ull;
+    v12 = 1u;
+    goto after15;
+after33:;
+    put8(f15 + 154, v12);
+    put16(f15 + 152, 260u);
+    p514 = held(m, v7, 5);
+    put_held8(p514, 3, m, v7, v12);
+    put_held8(p514, 2, m, v7, 1u);
+    put_held16(p514, 0, m, v7, 49920u);
+    put8(f15 + 239, v12);
+    put8(f15 + 238, 1u);
+    put32(f15 + 234, 0x30202u);
+    v6 = 5ull;
+    t1 = block_core_block_ref_sum_of(m, (v15 + 234ull) + 5ull, 1ull);
+    put_held8(p514, 4, m, v7, t1 ^ 194u);
     v12 = 0u;
-    if (v8 != v10) { goto after13; }
-    v34 = 0u;
-    v36 = 0u;
-    v8 = 0ull;
-    if (load8(m, v11, 0) & 255u) { goto after12; }
-    v6 = v11 + 3ull;
+after15:;
     v13 = 0u;
-    v12 = v35;
-    v34 = v32;
-    v36 = v33;
-    v8 = v5;
+    v14 = 0u;
     goto after12;
 after14:;
+    v13 = 0u;
+    v14 = 0u;
+    if (get8(f15 + 152) != 2u) { goto after35; }
+    v14 = 2u;
+    if (((v12 + 1u) & 255u) > 1u) { goto after34; }
+after35:;
     v6 = 0ull;
-    v12 = 0u;
+    v12 = 1u;
+    goto after12;
+after34:;
+    put8(f15 + 154, v12);
+    put16(f15 + 152, 4u);
+    p592 = held(m, v7, 5);
+    put_held8(p592, 3, m, v7, v12);
+    put_held8(p592, 2, m, v7, 1u);
+    put_held16(p592, 0, m, v7, 49408u);
+    put8(f15 + 239, v12);
+    put8(f15 + 238, 1u);
+    put32(f15 + 234, 0x10202u);
+    v6 = 5ull;
+    t1 = block_core_block_ref_sum_of(m, (v15 + 234ull) + 5ull, 1ull);
+    put_held8(p592, 4, m, v7, t1 ^ 192u);
 after13:;
-    v34 = 0u;
-    v36 = 0u;
-    v8 = 0ull;
-after12:;
-    switch (v25) {
-        case 2: goto after63;
-        case 3: goto after68;
-        case 4: goto after67;
-        default: goto after69;
-    }
-after69:;
-    if (v13) { goto after70; }
-    switch (v12) {
-        case 1: goto after72;
-        case 2: goto after71;
-        case 3: goto after55;
-        default: goto after73;
-    }
-after73:;
-    if (v25 != 1u) { goto after77; }
-    if (v34 != v30) { goto after76; }
-    if ((v8 + v19) > v21) { goto after76; }
-    v16 = v19;
-    goto after74;
-after77:;
-    if (v34 != v30) { goto after76; }
-    if (v8 <= v21) { goto after75; }
-after76:;
-    put16(f37 + 112, 258u);
-    put32(f37 + 114, v30 | 512u);
-    v13 = 2u;
-    v12 = v30;
-    goto after53;
-after75:;
-    v16 = 0ull;
-    if (v19 == 0) { goto after74; }
-    v5 = v19 + 0xFFFFFFFFFFFFFFFFull;
-    v13 = (u32)(v5 == 0);
-    if (v13) { goto after78; }
-    if (v13) { goto after78; }
-    fill(m, v2, 0u, v5);
-after78:;
-    store8(m, v2 + v5, 0, 0u);
-after74:;
-    v11 = v2 + v16;
-    if ((v11 - v6) >= v8) { goto after80; }
-    v4 = v8 & 3ull;
-    v5 = 0ull;
-    if (v8 < 4ull) { goto after81; }
-    v19 = v8 & 252ull;
-    v5 = 0ull;
-again82:;
-    v3 = v11 + v5;
-    v10 = v6 + v5;
-    p997 = held(m, v10, 4);
-    p998 = held(m, v3, 4);
-    put_held8(p998, 0, m, v3, held8(p997, 0, m, v10));
-    put_held8(p998, 1, m, v3, held8(p997, 1, m, v10));
-    put_held8(p998, 2, m, v3, held8(p997, 2, m, v10));
-    put_held8(p998, 3, m, v3, held8(p997, 3, m, v10));
-    v5 = v5 + 4ull;
-    if (v19 != v5) { goto again82; }
-    if (v4 == 0) { goto after79; }
-after81:;
-    v6 = v6 + v5;
-    v5 = v2 + (v16 + v5);
-again83:;
-    store8(m, v5, 0, load8(m, v6, 0));
-    v5 = v5 + 1ull;
-    v6 = v6 + 1ull;
-    v4 = v4 + 0xFFFFFFFFFFFFFFFFull;
-    if (v4 != 0ull) { goto again83; }
-    goto after79;
-after80:;
-    if (v8 == 0) { goto after79; }
-    copy(m, v11, v6, v8);
-after79:;
-    v13 = 1u;
-    v31 = ((v29 & 255u) == 1u) ? ((u32)((v31 & 255u) == 0)) : v31;
-    v19 = v16 + v8;
-    v12 = (u32)(v30 == 0);
-    if ((v36 & 1u) == 0) { goto after62; }
-    put16(f37 + 112, 258u);
-    put32(f37 + 114, (u32)(v30 == 0));
-    v22 = 0ull;
-    v25 = 1u;
-    v29 = 0u;
-    v30 = v12;
-    v24 = 0u;
-    v23 = 0u;
-    v14 = 0u;
     v13 = 0u;
-    goto after53;
-after72:;
-    if ((v29 & 255u) == 1u) { goto after84; }
-    v12 = v30;
-    goto after54;
-after84:;
-    v12 = v30;
-    if (v34 != (v31 & 255u)) { goto after54; }
-    v16 = ((u64)v17) & 255ull;
-    put32(f37 + 114, 0u);
-    put16(f37 + 112, 1u);
-    v6 = v18 - v28;
-    v8 = v28;
-    v5 = v22;
-    goto after48;
-after71:;
-    switch (v34) {
-        case 0: goto after85;
-        case 1: goto after57;
-        default: goto after55;
-    }
-after85:;
-    if (v19 == 0) { goto after66; }
-    v6 = v19 + 0xFFFFFFFFFFFFFFFFull;
-    v13 = (u32)(v6 == 0);
-    if (v13) { goto after86; }
-    if (v13) { goto after86; }
-    fill(m, v2, 0u, v6);
-after86:;
-    store8(m, v2 + v6, 0, 0u);
-    goto after66;
-after70:;
-    v12 = (v13 << 8) | v30;
-    goto after54;
-after68:;
-    if (v13) { goto after87; }
-    switch (v12) {
-        case 1: goto after90;
-        case 2: goto after89;
-        default: goto after88;
-    }
-after90:;
-    v8 = ((u64)v14) & 255ull;
-    v13 = v31 & 255u;
-    if (v34 != v13) { goto after61; }
-    put16(f37 + 116, 0u);
-    put32(f37 + 112, 0u);
-    v6 = v18 - v22;
-    v16 = v8;
-    v25 = v29;
-    v5 = v28;
-    v34 = v17;
-    v36 = v24;
-    v32 = v23;
-    v8 = v22;
-    v35 = v14;
-    goto after60;
-after89:;
-    if (v34) { goto after88; }
-    if (v19 == 0) { goto after66; }
-    v6 = v19 + 0xFFFFFFFFFFFFFFFFull;
-    v13 = (u32)(v6 == 0);
-    if (v13) { goto after91; }
-    if (v13) { goto after91; }
-    fill(m, v2, 0u, v6);
-after91:;
-    store8(m, v2 + v6, 0, 0u);
-    goto after66;
-after88:;
-    if (v12 != 2u) { goto after92; }
-    if (v34 != 1u) { goto after92; }
-    if (v8 == 0) { goto after10; }
-    goto after56;
-after92:;
-    v12 = v30 | 512u;
-    goto after54;
-after87:;
-    v12 = (v13 << 8) | v30;
-    goto after54;
-after67:;
-    if (v13) { goto after59; }
-    switch (v12) {
-        case 2: goto after93;
-        case 3: goto after65;
-        default: goto after64;
-    }
-after93:;
-    if (v34) { goto after64; }
-    if (v19 == 0) { goto after66; }
-    v6 = v19 + 0xFFFFFFFFFFFFFFFFull;
-    v13 = (u32)(v6 == 0);
-    if (v13) { goto after94; }
-    if (v13) { goto after94; }
-    fill(m, v2, 0u, v6);
-after94:;
-    store8(m, v2 + v6, 0, 0u);
-after66:;
-    v31 = 0u;
-    p1344 = held(m, v7, 3);
-    put_held8(p1344, 2, m, v7, 0u);
-    put_held16(p1344, 0, m, v7, 57344u);
-    put32(f37 + 114, 0u);
-    put16(f37 + 112, 770u);
-    v4 = v7 + 3ull;
-    v3 = 0x10000ull;
-    v13 = 224u;
-    v15 = 32u;
-    v28 = 0ull;
-    v30 = 0u;
-    v29 = 0u;
-    v17 = 0u;
-    v27 = v26;
-    v25 = 0u;
-    v24 = 0u;
-    v23 = 0u;
-    v22 = 0ull;
     v14 = 0u;
-    v19 = 0ull;
-    v34 = 0u;
-    v11 = 0ull;
-    goto after8;
-after65:;
-    if (v24 & 255u) { goto after95; }
-    if (v34 != 1u) { goto after64; }
-    if (load8(m, v6, 0) != v23) { goto after64; }
-    v27 = v23;
-    goto after49;
-after95:;
-    if (v34 != 3u) { goto after64; }
-    if (load8(m, v6, 0) == v23) { goto after49; }
-after64:;
-    v13 = (v23 << 24) | ((v24 & 255u) ? 0x10003u : 0x10001u);
-    goto after58;
-after63:;
-    if (1u) { goto after5; }
-    v8 = 0ull;
-    v13 = 0u;
-    v25 = 2u;
-    v10 = v18;
-    goto after6;
-after62:;
-    v14 = 0u;
-    v8 = 0ull;
-    v25 = 2u;
-    v10 = v18;
-    v22 = 0ull;
-    v23 = 0u;
-    v24 = 0u;
-    v29 = 0u;
-    v30 = v12;
-    goto after6;
-after61:;
-    v25 = 0u;
-    put32(f37 + 114, 0u);
-    put8(f37 + 113, 0u);
-    v8 = v22 + v8;
-    v6 = v18 - v8;
-    v12 = (u32)(v6 <= v16);
-    put8(f37 + 112, v12);
-    v31 = (u32)(v13 == 0);
-    v5 = 0ull;
-    v34 = 0u;
-    v36 = 0u;
-    v32 = 0u;
-    v35 = v15;
-    v17 = v15;
-    v24 = 0u;
-    v23 = 0u;
-    v14 = 0u;
-    if (v12) { goto after48; }
-after60:;
-    v11 = (v16 < v6) ? v16 : v6;
-    if (v11 == 255ull) { goto after10; }
-    v13 = 32u;
-    v12 = 3u;
-    v29 = v25;
-    v28 = v5;
-    v17 = v34;
-    v24 = v36;
-    v23 = v32;
-    v22 = v8;
-    v14 = v35;
-    goto after47;
-after59:;
-    v13 = (v23 << 24) | ((v24 & 255u) ? 0x10003u : 0x10001u);
-after58:;
-    put16(f37 + 112, 514u);
-    put32(f37 + 114, v13);
-    v12 = v13 & 0xFF0000u;
-    switch ((u32)(((u64)v13) & 255ull)) {
-        case 1: goto after96;
-        case 3: goto after52;
-        default: goto after51;
-    }
-after96:;
-    if (v12 != 0x10000u) { goto after10; }
-    if ((((v13 >> 24) + 0xFFFFFFFFu) & 255u) < 254u) { goto after50; }
-    goto after10;
-after57:;
-    if (v8 == 0) { goto after10; }
-after56:;
-    v15 = load8(m, v6, 0);
-    put16(f37 + 112, 770u);
-    put32(f37 + 114, (v15 << 24) | 0x10001u);
-    if (((v15 + 0xFFFFFFFFu) & 255u) >= 254u) { goto after10; }
-    v3 = v37 + 117ull;
-    v13 = 225u;
-    v11 = 1ull;
-    v12 = v25;
-    goto after9;
-after55:;
-    v12 = v30 | 512u;
-after54:;
-    put32(f37 + 114, v12);
-    put16(f37 + 112, 258u);
-    v13 = v12 >> 8;
-after53:;
-    v34 = 0u;
-    p1644 = held(m, v7, 3);
-    put_held8(p1644, 2, m, v7, 0u);
-    put_held8(p1644, 0, m, v7, 0u);
-    v13 = ((v12 & 255u) ? 0xFFFFFF90u : 0xFFFFFF80u) | v13;
-    put_held8(p1644, 1, m, v7, v13);
-    v4 = v7 + 3ull;
-    v11 = 0ull;
-    v3 = 0x10000ull;
-    goto after8;
-after52:;
-    if (v12 != 0x10000u) { goto after10; }
-    goto after50;
-after51:;
-    if (v12 == 0x10000u) { goto after10; }
-after50:;
-    v12 = (u32)(v12 == 0x10000u);
-    v3 = v12 ? (v37 + 117ull) : 0x10000ull;
-    v13 = v13 | 0xFFFFFFC0u;
-    v11 = (u64)v12;
-    v12 = 4u;
-    goto after9;
-after49:;
-    v14 = 0u;
-    v13 = 1u;
-    v8 = 0ull;
-    v25 = 2u;
-    v10 = v18;
-    v22 = 0ull;
-    v23 = 0u;
-    v24 = 0u;
-    goto after6;
-after48:;
-    v11 = (v16 < v6) ? v16 : v6;
-    if (v11 == 255ull) { goto after10; }
-    v13 = 0u;
-    v29 = 1u;
-    v28 = v8;
-    v12 = v25;
-    v22 = v5;
-after47:;
-    v3 = v4 + v8;
-    v13 = v13 | ((v31 & 255u) ? 64u : 0u);
-    goto after9;
-after10:;
-    UNREACHABLE;
-after9:;
-    p1761 = held(m, v7, 3);
-    put_held8(p1761, 1, m, v7, v13);
-    put_held8(p1761, 0, m, v7, 0u);
-    v34 = (u32)v11;
-    put_held8(p1761, 2, m, v7, v34);
-    v4 = v7 + 3ull;
-    if ((v4 - v3) < v11) { goto after97; }
-    v25 = v12;
-    goto after8;
-after97:;
-    v10 = v11 & 3ull;
-    v6 = 0ull;
-    if (v11 < 4ull) { goto after99; }
-    v2 = v11 & 0xFFFFFFFFFFFFFFFCull;
-    v6 = 0ull;
-again100:;
-    v8 = v7 + v6;
-    v5 = v3 + v6;
-    p1813 = held(m, v5, 4);
-    p1814 = held(m, v8 + 3ull, 4);
-    put_held8(p1814, 0, m, v8 + 3ull, held8(p1813, 0, m, v5));
-    put_held8(p1814, 1, m, v8 + 3ull, held8(p1813, 1, m, v5));
-    put_held8(p1814, 2, m, v8 + 3ull, held8(p1813, 2, m, v5));
-    put_held8(p1814, 3, m, v8 + 3ull, held8(p1813, 3, m, v5));
-    v6 = v6 + 4ull;
-    if (v2 != v6) { goto again100; }
-    if (v10 == 0) { goto after98; }
-after99:;
-again101:;
-    store8(m, v4 + v6, 0, load8(m, v3 + v6, 0));
-    v6 = v6 + 1ull;
-    v10 = v10 + 0xFFFFFFFFFFFFFFFFull;
-    if (v10 != 0ull) { goto again101; }
-after98:;
-    v25 = v12;
-    goto after7;
-after8:;
-    if (v11 == 0) { goto after7; }
-    copy(m, v4, v3, v11);
-after7:;
-    t2 = block_core_block_ref_sum_of(m, v3, v11);
-    store8(m, (v7 + v11) + 3ull, 0, (v13 ^ v34) ^ t2);
-    v13 = 0u;
-    v8 = v11 + 4ull;
-    v10 = v18;
-after6:;
-    v12 = v25;
-    v6 = 0ull;
-    switch (v25) {
-        case 1: goto after106;
-        case 2: goto after106;
-        case 3: goto after105;
-        case 4: goto after104;
-        default: goto after102;
-    }
-after106:;
     v12 = 0u;
-    goto after103;
-after105:;
-    v12 = v14;
-    v6 = v22;
-    goto after102;
-after104:;
-    v25 = (v24 & 255u) ? 5u : 4u;
-    v12 = v23;
-after103:;
-    v6 = 0ull;
-after102:;
-    p1946 = held(m, v1, 64);
-    put_held32(p1946, 9, m, v1, 0u);
-    put_held8(p1946, 8, m, v1, v12);
-    put_held8(p1946, 7, m, v1, v25);
-    put_held8(p1946, 6, m, v1, v26);
-    put_held8(p1946, 5, m, v1, v15);
-    put_held8(p1946, 4, m, v1, v27);
-    put_held8(p1946, 1, m, v1, v30);
-    put_held8(p1946, 0, m, v1, v31);
-    put_held32(p1946, 12, m, v1, 0u);
-    put_held64(p1946, 56, m, v1, v10);
-    put_held64(p1946, 48, m, v1, v19);
-    put_held64(p1946, 40, m, v1, v20);
-    put_held64(p1946, 32, m, v1, v21);
-    put_held64(p1946, 24, m, v1, v6);
-    put_held8(p1946, 2, m, v1, v29 & 1u);
-    v12 = (u32)((v29 & 255u) == 1u);
-    put_held8(p1946, 3, m, v1, v12 ? v17 : 0u);
-    put_held64(p1946, 16, m, v1, v12 ? v28 : 0ull);
-    put32(f37, 0u);
-    put16(f37 + 4, 0u);
-    v6 = v13 ? 0ull : v8;
+after12:;
+    if (v12 & 255u) { goto after5; }
+    v12 = get8(f15 + 152);
+    v14 = v12;
+    v8 = 0ull;
+    switch ((u32)(((u64)v12) & 255ull)) {
+        case 1: goto after10;
+        case 2: goto after10;
+        case 3: goto after9;
+        case 4: goto after8;
+        default: goto after6;
+    }
+after11:;
+    p650 = held(m, v0, 16);
+    put_held64(p650, 1, m, v0, 0ull);
+    put_held8(p650, 0, m, v0, 32u);
+    put_held64(p650, 8, m, v0, 0ull);
     goto after2;
+after10:;
+    v14 = 0u;
+    goto after7;
+after9:;
+    v12 = 3u;
+    v8 = get64(f15 + 160);
+    v14 = get8(f15 + 168);
+    goto after6;
+after8:;
+    v12 = (get8(f15 + 153)) ? 5u : 4u;
+    v14 = get8(f15 + 154);
+after7:;
+    v8 = 0ull;
+after6:;
+    p688 = held(m, v1, 64);
+    put_held8(p688, 8, m, v1, v14);
+    put_held8(p688, 7, m, v1, v12);
+    put_held8(p688, 6, m, v1, get8(f15 + 146));
+    put_held16(p688, 4, m, v1, get16(f15 + 144));
+    put_held16(p688, 0, m, v1, get16(f15 + 112));
+    v12 = get8(f15 + 120);
+    put_held8(p688, 2, m, v1, v12 & 1u);
+    v12 = (u32)(v12 == 1u);
+    put_held8(p688, 3, m, v1, v12 ? get8(f15 + 136) : 0u);
+    v5 = get64(f15 + 200);
+    v3 = get64(f15 + 192);
+    v7 = get64(f15 + 184);
+    v4 = get64(f15 + 176);
+    v11 = get64(f15 + 128);
+    put_held32(p688, 12, m, v1, 0u);
+    put_held32(p688, 9, m, v1, 0u);
+    put_held64(p688, 16, m, v1, v12 ? v11 : 0ull);
+    put_held64(p688, 24, m, v1, v8);
+    put_held64(p688, 32, m, v1, v4);
+    put_held64(p688, 40, m, v1, v7);
+    put_held64(p688, 48, m, v1, v3);
+    put_held64(p688, 56, m, v1, v5);
+    put32(f15, 0u);
+    put16(f15 + 4, 0u);
+    v6 = v13 ? 0ull : v6;
+    goto after4;
 after5:;
-    v13 = 21u;
-after4:;
-    put16(f37 + 116, 0u);
-    put32(f37 + 112, 0u);
-after3:;
-    put16(f37 + 4, get16(f37 + 116));
-    put32(f37, get32(f37 + 112));
+    put16(f15 + 4, 0u);
+    put32(f15, 0u);
+    v13 = 0x131215u >> (((v14 & 255u) << 3) & 31);
     v6 = 0ull;
+after4:;
+    p795 = held(m, v0, 16);
+    put_held8(p795, 1, m, v0, 0u);
+    put_held8(p795, 0, m, v0, v13);
+    put_held32(p795, 2, m, v0, get32(f15));
+    put_held16(p795, 6, m, v0, get16(f15 + 4));
+    put_held64(p795, 8, m, v0, v6);
 after2:;
-    p2044 = held(m, v0, 16);
-    put_held8(p2044, 1, m, v0, 0u);
-    put_held8(p2044, 0, m, v0, v13);
-    put_held32(p2044, 2, m, v0, get32(f37));
-    put_held16(p2044, 6, m, v0, get16(f37 + 4));
-    put_held64(p2044, 8, m, v0, v6);
+    m->g0 = v15 + 240ull;
+    return;
 after1:;
-    m->g0 = v37 + 144ull;
+    UNREACHABLE;
 }
 
 static void c_lent_kept_CCard_fitting(struct call *m, u64 v0, u64 v1, u64 v2, u64 v3)
@@ -5045,6 +4594,2256 @@ after1:;
     put_held32(p586, 51, m, v0, get32(f37 + 16));
     put_held32(p586, 65, m, v0, get32(f37 + 8));
     put_held32(p586, 68, m, v0, get32(f37 + 11));
+}
+
+static void t1_core_lent_LentCard_received_into(struct call *m, u64 v0, u64 v1, u64 v2, u64 v3, u64 v4, u64 v5, u64
+    v6)
+{
+    u64 v7 = 0;
+    u64 v15 = 0;
+    u64 v16 = 0;
+    u64 v17 = 0;
+    u64 v19 = 0;
+    u64 v20 = 0;
+    u64 v21 = 0;
+    u64 v22 = 0;
+    u32 v8 = 0;
+    u32 v9 = 0;
+    u32 v10 = 0;
+    u32 v11 = 0;
+    u32 v12 = 0;
+    u32 v13 = 0;
+    u32 v14 = 0;
+    u32 v18 = 0;
+    u32 t0 = 0;
+    u32 t1 = 0;
+    u64 w0 = 0;
+    u8 *f22 = NULL;
+    u8 *p289 = NULL;
+    u8 *p399 = NULL;
+    u8 *p400 = NULL;
+    u8 *p484 = NULL;
+    u8 *p501 = NULL;
+    u8 *p513 = NULL;
+    u8 *p583 = NULL;
+    u8 *p646 = NULL;
+    u8 *p714 = NULL;
+    u8 *p777 = NULL;
+    u8 *p842 = NULL;
+    u8 *p859 = NULL;
+    u8 *p922 = NULL;
+    u8 *p975 = NULL;
+    u8 *p1011 = NULL;
+    u8 *p1072 = NULL;
+    u8 *p1116 = NULL;
+    u8 *p1181 = NULL;
+    u8 *p1316 = NULL;
+    u8 *p1390 = NULL;
+    u8 *p1430 = NULL;
+    u8 *p1476 = NULL;
+    u8 *p1477 = NULL;
+    u8 *p1570 = NULL;
+    v22 = m->g0 - 32ull;
+    f22 = at(m, v22, 32);
+    v7 = v22;
+    m->g0 = v7;
+    v8 = load8(m, v1 + 32ull, 0);
+    put64(f22 + 24, 0ull);
+    put64(f22 + 16, 0ull);
+    put64(f22 + 8, 0ull);
+    put64(f22, 0ull);
+    block_core_block_ref_pcb_in(m, v22, v4, v5);
+    if (get8(f22)) { goto after13; }
+    v9 = 2u;
+    if (v5 < 3ull) { goto after10; }
+    v10 = get8(f22 + 2);
+    v11 = get8(f22 + 3);
+    v12 = load8(m, v4, 2);
+    v13 = 0u;
+    v14 = get8(f22 + 1);
+    switch (v14) {
+        case 1: goto after14;
+        case 2: goto after15;
+        case 3: goto after15;
+        default: goto after16;
+    }
+after16:;
+    v13 = v12 & 255u;
+    if (v13 == 255u) { goto after10; }
+    if ((v8 & 255u) >= v13) { goto after11; }
+    goto after10;
+after15:;
+    v13 = 0x1000100u >> ((v10 << 3) & 31);
+after14:;
+    if ((v12 & 255u) != (v13 & 255u)) { goto after10; }
+    switch (v14 + 0xFFFFFFFFu) {
+        case 1: goto after17;
+        case 2: goto after18;
+        default: goto after11;
+    }
+after18:;
+    if (v10 != 1u) { goto after11; }
+    goto after12;
+after17:;
+    if (v10 == 1u) { goto after12; }
+    goto after11;
+after13:;
+    v9 = (get8(f22 + 8) == 1u) ? (((get8(f22 + 24) & 255u) == 4u) ? 1u : 2u) : 2u;
+    goto after10;
+after12:;
+    if (v5 == 3ull) { goto after10; }
+    v10 = 1u;
+    v9 = 2u;
+    if (((load8(m, v4, 3) + 1u) & 255u) < 2u) { goto after10; }
+after11:;
+    v9 = 2u;
+    v15 = ((u64)v12) & 255ull;
+    if (v5 <= (v15 + 3ull)) { goto after10; }
+    v9 = 1u;
+    v16 = v15 + 4ull;
+    t0 = block_core_block_ref_sum_of(m, v4, v16);
+    if (t0 & 255u) { goto after10; }
+    v9 = 2u;
+    v17 = 0ull;
+    v8 = 0u;
+    if (v16 != v5) { goto after9; }
+    v12 = 0u;
+    v18 = 0u;
+    v5 = 0ull;
+    if (load8(m, v4, 0) & 255u) { goto after8; }
+    v17 = v4 + 3ull;
+    v9 = 0u;
+    v8 = v14;
+    v12 = v10;
+    v18 = v11;
+    v5 = v15;
+    goto after8;
+after10:;
+    v17 = 0ull;
+    v8 = 0u;
+after9:;
+    v12 = 0u;
+    v18 = 0u;
+    v5 = 0ull;
+after8:;
+    v13 = load8(m, v1 + 40ull, 0);
+    switch ((u32)(((u64)v13) & 255ull)) {
+        case 2: goto after33;
+        case 3: goto after38;
+        case 4: goto after37;
+        default: goto after39;
+    }
+after39:;
+    if (v9) { goto after40; }
+    switch (v8) {
+        case 1: goto after43;
+        case 2: goto after42;
+        case 3: goto after41;
+        default: goto after44;
+    }
+after44:;
+    v4 = 0ull;
+    if ((v13 & 255u) != 1u) { goto after45; }
+    v4 = load64(m, v1 + 80ull, 0);
+after45:;
+    p289 = held(m, v1 + 1ull, 71);
+    v9 = held8(p289, 0, m, v1 + 1ull);
+    if ((v4 + v5) > held64(p289, 63, m, v1 + 1ull)) { goto after47; }
+    if (v12 == v9) { goto after46; }
+after47:;
+    put16(f22, 258u);
+    put32(f22 + 2, v9 | 512u);
+    v12 = 2u;
+    goto after23;
+after46:;
+    v4 = load64(m, v1 + 80ull, 0);
+    if ((v13 & 255u) != 1u) { goto after49; }
+    v19 = v4;
+    goto after48;
+after49:;
+    v19 = 0ull;
+    if (v4 == 0) { goto after48; }
+    v4 = v4 + 0xFFFFFFFFFFFFFFFFull;
+    v9 = (u32)(v4 == 0);
+    if (v9) { goto after50; }
+    if (v9) { goto after50; }
+    fill(m, v2, 0u, v4);
+after50:;
+    store8(m, v2 + v4, 0, 0u);
+after48:;
+    v20 = v2 + v19;
+    if ((v20 - v17) >= v5) { goto after52; }
+    v16 = v5 & 3ull;
+    v15 = 0ull;
+    if (v5 < 4ull) { goto after53; }
+    v21 = v5 & 252ull;
+    v15 = 0ull;
+again54:;
+    v4 = v20 + v15;
+    v3 = v17 + v15;
+    p399 = held(m, v3, 4);
+    p400 = held(m, v4, 4);
+    put_held8(p400, 0, m, v4, held8(p399, 0, m, v3));
+    put_held8(p400, 1, m, v4, held8(p399, 1, m, v3));
+    put_held8(p400, 2, m, v4, held8(p399, 2, m, v3));
+    put_held8(p400, 3, m, v4, held8(p399, 3, m, v3));
+    v15 = v15 + 4ull;
+    if (v21 != v15) { goto again54; }
+    if (v16 == 0) { goto after51; }
+after53:;
+    v4 = v17 + v15;
+    v17 = v2 + (v19 + v15);
+again55:;
+    store8(m, v17, 0, load8(m, v4, 0));
+    v17 = v17 + 1ull;
+    v4 = v4 + 1ull;
+    v16 = v16 + 0xFFFFFFFFFFFFFFFFull;
+    if (v16 != 0ull) { goto again55; }
+    goto after51;
+after52:;
+    if (v5 == 0) { goto after51; }
+    copy(m, v20, v17, v5);
+after51:;
+    p484 = held(m, v1, 88);
+    put_held64(p484, 80, m, v1, v19 + v5);
+    v5 = 0ull;
+    put_held64(p289, 47, m, v1 + 1ull, 0ull);
+    put_held64(p289, 55, m, v1 + 1ull, 0ull);
+    v4 = v1 + 8ull;
+    p501 = held(m, v4, 8);
+    v8 = held8(p501, 0, m, v4);
+    put_held64(p501, 0, m, v4, 0ull);
+    v4 = 1ull;
+    v17 = v1 + 1ull;
+    p513 = held(m, v17, 1);
+    v13 = held8(p513, 0, m, v17);
+    v9 = (u32)(v13 == 0);
+    put_held8(p513, 0, m, v17, v9);
+    v12 = held8(p484, 0, m, v1);
+    put_held8(p484, 0, m, v1, (v8 == 1u) ? ((u32)(v12 == 0)) : v12);
+    if ((v18 & 1u) == 0) { goto after32; }
+    v12 = 0u;
+    put_held8(p289, 41, m, v1 + 1ull, 0u);
+    put_held16(p289, 39, m, v1 + 1ull, 1u);
+    put32(f22 + 2, (u32)(v13 == 0));
+    put16(f22, 258u);
+    goto after23;
+after43:;
+    if (v12 != load8(m, v1, 0)) { goto after25; }
+    if ((load8(m, v1 + 8ull, 0) & 255u) != 1u) { goto after25; }
+    put32(f22 + 2, 0u);
+    put16(f22, 1u);
+    goto after19;
+after42:;
+    switch (v12) {
+        case 0: goto after56;
+        case 1: goto after27;
+        default: goto after41;
+    }
+after56:;
+    p583 = held(m, v1, 35);
+    put_held16(p583, 0, m, v1, 0u);
+    put_held64(p583, 8, m, v1, 0ull);
+    put_held64(p583, 16, m, v1, 0ull);
+    put_held64(p583, 24, m, v1, 0ull);
+    put_held8(p583, 33, m, v1, 32u);
+    put_held8(p583, 32, m, v1, held8(p583, 34, m, v1));
+    v5 = v1 + 80ull;
+    v4 = load64(m, v5, 0);
+    if (v4 == 0) { goto after57; }
+    v4 = v4 + 0xFFFFFFFFFFFFFFFFull;
+    v9 = (u32)(v4 == 0);
+    if (v9) { goto after58; }
+    if (v9) { goto after58; }
+    fill(m, v2, 0u, v4);
+after58:;
+    store8(m, v2 + v4, 0, 0u);
+after57:;
+    p646 = held(m, v1 + 40ull, 24);
+    put_held64(p646, 8, m, v1 + 40ull, 0ull);
+    put_held8(p646, 2, m, v1 + 40ull, 0u);
+    put_held16(p646, 0, m, v1 + 40ull, 0u);
+    store64(m, v5, 0, 0ull);
+    put_held64(p646, 16, m, v1 + 40ull, 0ull);
+    goto after36;
+after41:;
+    v9 = load8(m, v1 + 1ull, 0) | 512u;
+    goto after24;
+after40:;
+    v9 = (v9 << 8) | load8(m, v1 + 1ull, 0);
+    goto after24;
+after38:;
+    if (v9) { goto after59; }
+    switch (v8) {
+        case 1: goto after62;
+        case 2: goto after61;
+        default: goto after60;
+    }
+after62:;
+    v9 = load8(m, v1, 0);
+    if (v12 != v9) { goto after31; }
+    put16(f22 + 4, 0u);
+    put32(f22, 0u);
+    goto after30;
+after61:;
+    if (v12) { goto after60; }
+    p714 = held(m, v1, 35);
+    put_held16(p714, 0, m, v1, 0u);
+    put_held64(p714, 8, m, v1, 0ull);
+    put_held64(p714, 16, m, v1, 0ull);
+    put_held64(p714, 24, m, v1, 0ull);
+    put_held8(p714, 33, m, v1, 32u);
+    put_held8(p714, 32, m, v1, held8(p714, 34, m, v1));
+    v5 = v1 + 80ull;
+    v4 = load64(m, v5, 0);
+    if (v4 == 0) { goto after63; }
+    v4 = v4 + 0xFFFFFFFFFFFFFFFFull;
+    v9 = (u32)(v4 == 0);
+    if (v9) { goto after64; }
+    if (v9) { goto after64; }
+    fill(m, v2, 0u, v4);
+after64:;
+    store8(m, v2 + v4, 0, 0u);
+after63:;
+    p777 = held(m, v1 + 40ull, 24);
+    put_held64(p777, 8, m, v1 + 40ull, 0ull);
+    put_held8(p777, 2, m, v1 + 40ull, 0u);
+    put_held16(p777, 0, m, v1 + 40ull, 0u);
+    store64(m, v5, 0, 0ull);
+    put_held64(p777, 16, m, v1 + 40ull, 0ull);
+    goto after36;
+after60:;
+    if (v8 != 2u) { goto after65; }
+    if (v12 != 1u) { goto after65; }
+    v9 = load8(m, v17, 0);
+    store8(m, v1 + 33ull, 0, v9);
+    if (v5 == 0) { goto after7; }
+    goto after26;
+after65:;
+    v9 = load8(m, v1 + 1ull, 0) | 512u;
+    goto after24;
+after59:;
+    v9 = (v9 << 8) | load8(m, v1 + 1ull, 0);
+    goto after24;
+after37:;
+    p842 = held(m, v1 + 41ull, 2);
+    v18 = held8(p842, 1, m, v1 + 41ull);
+    v13 = held8(p842, 0, m, v1 + 41ull);
+    if (v9) { goto after34; }
+    switch (v8) {
+        case 2: goto after66;
+        case 3: goto after35;
+        default: goto after29;
+    }
+after66:;
+    if (v12) { goto after29; }
+    p859 = held(m, v1, 35);
+    put_held16(p859, 0, m, v1, 0u);
+    put_held64(p859, 8, m, v1, 0ull);
+    put_held64(p859, 16, m, v1, 0ull);
+    put_held64(p859, 24, m, v1, 0ull);
+    put_held8(p859, 33, m, v1, 32u);
+    put_held8(p859, 32, m, v1, held8(p859, 34, m, v1));
+    v5 = v1 + 80ull;
+    v4 = load64(m, v5, 0);
+    if (v4 == 0) { goto after67; }
+    v4 = v4 + 0xFFFFFFFFFFFFFFFFull;
+    v9 = (u32)(v4 == 0);
+    if (v9) { goto after68; }
+    if (v9) { goto after68; }
+    fill(m, v2, 0u, v4);
+after68:;
+    store8(m, v2 + v4, 0, 0u);
+after67:;
+    p922 = held(m, v1 + 40ull, 24);
+    put_held64(p922, 8, m, v1 + 40ull, 0ull);
+    put_held8(p842, 1, m, v1 + 41ull, 0u);
+    put_held16(p922, 0, m, v1 + 40ull, 0u);
+    store64(m, v5, 0, 0ull);
+    put_held64(p922, 16, m, v1 + 40ull, 0ull);
+after36:;
+    put32(f22 + 2, 0u);
+    put16(f22, 770u);
+    v9 = 224u;
+    v17 = 0x10000ull;
+    v15 = 0ull;
+    goto after5;
+after35:;
+    if (v13 & 255u) { goto after70; }
+    if (v12 != 1u) { goto after29; }
+    if (load8(m, v17, 0) != v18) { goto after29; }
+    p975 = held(m, v1 + 32ull, 32);
+    put_held64(p975, 16, m, v1 + 32ull, 0ull);
+    put_held8(p842, 1, m, v1 + 41ull, 0u);
+    put_held16(p975, 8, m, v1 + 32ull, 2u);
+    put_held8(p975, 0, m, v1 + 32ull, v18);
+    put_held64(p975, 24, m, v1 + 32ull, 0ull);
+    goto after69;
+after70:;
+    if (v12 != 3u) { goto after29; }
+    if (load8(m, v17, 0) != v18) { goto after29; }
+    p1011 = held(m, v1 + 40ull, 24);
+    put_held64(p1011, 8, m, v1 + 40ull, 0ull);
+    put_held8(p1011, 2, m, v1 + 40ull, 0u);
+    put_held16(p1011, 0, m, v1 + 40ull, 2u);
+    put_held64(p1011, 16, m, v1 + 40ull, 0ull);
+after69:;
+    v5 = 0ull;
+    v4 = 1ull;
+    goto after2;
+after34:;
+    v9 = (v18 << 24) | ((v13 & 255u) ? 0x10003u : 0x10001u);
+    goto after28;
+after33:;
+    v4 = 0ull;
+    v9 = 1u;
+    v5 = 0ull;
+    goto after1;
+after32:;
+    v9 = 0u;
+    put_held8(p289, 41, m, v1 + 1ull, 0u);
+    put_held16(p289, 39, m, v1 + 1ull, 2u);
+    goto after1;
+after31:;
+    p1072 = held(m, v1, 96);
+    put_held8(p1072, 0, m, v1, (u32)(v9 == 0));
+    put_held32(p1072, 57, m, v1, 0u);
+    put_held16(p1072, 41, m, v1, 0u);
+    put_held32(p1072, 60, m, v1, 0u);
+    put_held32(p1072, 25, m, v1, 0u);
+    put_held32(p1072, 28, m, v1, 0u);
+    v5 = v1 + 56ull;
+    v8 = held8(p1072, 33, m, v1);
+    v4 = v1 + 48ull;
+    p1116 = held(m, v4, 8);
+    w0 = v5;
+    v5 = held64(p1116, 0, m, v4) + (u64)load8(m, v5, 0);
+    v9 = (u32)((held64(p1072, 88, m, v1) - v5) <= (((u64)v8) & 255ull));
+    store8(m, w0, 0, v9 ? 0u : v8);
+    put_held64(p1116, 0, m, v4, v9 ? 0ull : v5);
+    put_held8(p1072, 40, m, v1, v9 ? 0u : 3u);
+    put_held8(p1072, 24, m, v1, v9 ? v8 : 0u);
+    put_held64(p1072, 16, m, v1, v9 ? v5 : 0ull);
+    put_held64(p1072, 8, m, v1, (u64)v9);
+    put32(f22 + 2, 0u);
+    put8(f22 + 1, 0u);
+    put8(f22, v9);
+    if (v9) { goto after19; }
+after30:;
+    p1181 = held(m, v1 + 48ull, 48);
+    v5 = (u64)held8(p1181, 8, m, v1 + 48ull);
+    v17 = held64(p1181, 0, m, v1 + 48ull);
+    v4 = held64(p1181, 40, m, v1 + 48ull) - v17;
+    v15 = (v5 < v4) ? v5 : v4;
+    if (v15 == 255ull) { goto after7; }
+    v17 = v3 + v17;
+    v9 = 32u;
+    goto after6;
+after29:;
+    v9 = (v18 << 24) | ((v13 & 255u) ? 0x10003u : 0x10001u);
+after28:;
+    put16(f22, 514u);
+    put32(f22 + 2, v9);
+    v8 = v9 & 0xFF0000u;
+    switch ((u32)(((u64)v9) & 255ull)) {
+        case 1: goto after71;
+        case 3: goto after22;
+        default: goto after21;
+    }
+after71:;
+    if (v8 != 0x10000u) { goto after7; }
+    if ((((v9 >> 24) + 0xFFFFFFFFu) & 255u) < 254u) { goto after20; }
+    goto after7;
+after27:;
+    v9 = load8(m, v17, 0);
+    store8(m, v1 + 33ull, 0, v9);
+    if (v5 == 0) { goto after7; }
+after26:;
+    put16(f22, 770u);
+    put32(f22 + 2, (v9 << 24) | 0x10001u);
+    if (((v9 + 0xFFFFFFFFu) & 255u) >= 254u) { goto after7; }
+    v17 = v22 + 5ull;
+    v9 = 225u;
+    v15 = 1ull;
+    goto after5;
+after25:;
+    v9 = load8(m, v1 + 1ull, 0);
+after24:;
+    put32(f22 + 2, v9);
+    put16(f22, 258u);
+    v12 = v9 >> 8;
+after23:;
+    v8 = 0u;
+    p1316 = held(m, v6, 3);
+    put_held8(p1316, 2, m, v6, 0u);
+    put_held8(p1316, 0, m, v6, 0u);
+    v9 = ((v9 & 255u) ? 0xFFFFFF90u : 0xFFFFFF80u) | v12;
+    put_held8(p1316, 1, m, v6, v9);
+    v3 = v6 + 3ull;
+    v15 = 0ull;
+    v17 = 0x10000ull;
+    goto after4;
+after22:;
+    if (v8 != 0x10000u) { goto after7; }
+    goto after20;
+after21:;
+    if (v8 == 0x10000u) { goto after7; }
+after20:;
+    v8 = (u32)(v8 == 0x10000u);
+    v17 = v8 ? (v22 + 5ull) : 0x10000ull;
+    v9 = v9 | 0xFFFFFFC0u;
+    v15 = (u64)v8;
+    goto after5;
+after19:;
+    v9 = 0u;
+    if (load8(m, v1 + 8ull, 0) == 1u) { goto after72; }
+    v17 = 0x10000ull;
+    v15 = 0ull;
+    goto after6;
+after72:;
+    p1390 = held(m, v1 + 16ull, 80);
+    v5 = (u64)held8(p1390, 8, m, v1 + 16ull);
+    v17 = held64(p1390, 0, m, v1 + 16ull);
+    v4 = held64(p1390, 72, m, v1 + 16ull) - v17;
+    v15 = (v5 < v4) ? v5 : v4;
+    if (v15 == 255ull) { goto after7; }
+    v17 = v3 + v17;
+    goto after6;
+after7:;
+    UNREACHABLE;
+after6:;
+    v9 = ((load8(m, v1, 0)) ? 64u : 0u) | v9;
+after5:;
+    p1430 = held(m, v6, 3);
+    put_held8(p1430, 1, m, v6, v9);
+    put_held8(p1430, 0, m, v6, 0u);
+    v8 = (u32)v15;
+    put_held8(p1430, 2, m, v6, v8);
+    v3 = v6 + 3ull;
+    if ((v3 - v17) >= v15) { goto after4; }
+    v2 = v15 & 3ull;
+    v1 = 0ull;
+    if (v15 < 4ull) { goto after73; }
+    v16 = v15 & 0xFFFFFFFFFFFFFFFCull;
+    v1 = 0ull;
+again74:;
+    v5 = v6 + v1;
+    v4 = v17 + v1;
+    p1476 = held(m, v4, 4);
+    p1477 = held(m, v5 + 3ull, 4);
+    put_held8(p1477, 0, m, v5 + 3ull, held8(p1476, 0, m, v4));
+    put_held8(p1477, 1, m, v5 + 3ull, held8(p1476, 1, m, v4));
+    put_held8(p1477, 2, m, v5 + 3ull, held8(p1476, 2, m, v4));
+    put_held8(p1477, 3, m, v5 + 3ull, held8(p1476, 3, m, v4));
+    v1 = v1 + 4ull;
+    if (v16 != v1) { goto again74; }
+    if (v2 == 0) { goto after3; }
+after73:;
+again75:;
+    store8(m, v3 + v1, 0, load8(m, v17 + v1, 0));
+    v1 = v1 + 1ull;
+    v2 = v2 + 0xFFFFFFFFFFFFFFFFull;
+    if (v2 != 0ull) { goto again75; }
+    goto after3;
+after4:;
+    if (v15 == 0) { goto after3; }
+    copy(m, v3, v17, v15);
+after3:;
+    t1 = block_core_block_ref_sum_of(m, v17, v15);
+    store8(m, (v6 + v15) + 3ull, 0, (t1 ^ v8) ^ v9);
+    v5 = v15 + 4ull;
+    v4 = 0ull;
+after2:;
+    v9 = 0u;
+after1:;
+    p1570 = held(m, v0, 24);
+    put_held8(p1570, 0, m, v0, v9);
+    put_held64(p1570, 16, m, v0, v5);
+    put_held64(p1570, 8, m, v0, v4);
+    put_held8(p1570, 1, m, v0, 0u);
+    m->g0 = v22 + 32ull;
+}
+
+static void c_lent_card_session_host_turn(struct call *m, u64 v0, u64 v1, u64 v2, u64 v3, u64 v4, u64 v5, u64 v6, u64
+    v7, u64 v8)
+{
+    u64 v9 = 0;
+    u64 v10 = 0;
+    u64 v11 = 0;
+    u64 v15 = 0;
+    u32 v12 = 0;
+    u32 v13 = 0;
+    u32 v14 = 0;
+    u32 t1 = 0;
+    u8 *f15 = NULL;
+    u8 *p18 = NULL;
+    u8 *p46 = NULL;
+    u8 *p144 = NULL;
+    u8 *p177 = NULL;
+    u8 *p233 = NULL;
+    u8 *p266 = NULL;
+    u8 *p359 = NULL;
+    u8 *p422 = NULL;
+    u8 *p589 = NULL;
+    v15 = m->g0 - 272ull;
+    f15 = at(m, v15, 272);
+    v9 = v15;
+    m->g0 = v9;
+    p18 = held(m, v5, 24);
+    v10 = held64(p18, 16, m, v5);
+    v11 = held64(p18, 8, m, v5);
+    v12 = held8(p18, 1, m, v5);
+    v13 = held8(p18, 0, m, v5);
+    memset(f15 + 40, (int)(0u & 255u), 104);
+    if (v8 >= 258ull) { goto after6; }
+    p46 = held(m, v0, 24);
+    put_held32(p46, 1, m, v0, 0u);
+    put_held8(p46, 0, m, v0, 33u);
+    put_held32(p46, 4, m, v0, 0u);
+    put_held64(p46, 16, m, v0, 0ull);
+    put_held64(p46, 8, m, v0, 258ull);
+    goto after1;
+after6:;
+    c_lent_kept_CCard_fitting(m, v15 + 40ull, v1, v2, v4);
+    if (get8(f15 + 40) != 1u) { goto after8; }
+    copy(m, v15 + 144ull, v15 + 48ull, 96ull);
+    put64(f15 + 256, 0ull);
+    put64(f15 + 248, 0ull);
+    put64(f15 + 240, 0ull);
+    v5 = v1 + 64ull;
+    switch (v13) {
+        case 1: goto after14;
+        case 2: goto after13;
+        default: goto after10;
+    }
+after14:;
+    if (get8(f15 + 184) == 2u) { goto after12; }
+    v13 = 0u;
+    goto after9;
+after13:;
+    v13 = 2u;
+    if (get8(f15 + 184) == 2u) { goto after15; }
+    v13 = 0u;
+    goto after9;
+after15:;
+    if (((v12 + 1u) & 255u) < 2u) { goto after9; }
+    put8(f15 + 186, v12);
+    put8(f15 + 185, 0u);
+    p144 = held(m, v7, 5);
+    put_held8(p144, 3, m, v7, v12);
+    put_held8(p144, 2, m, v7, 1u);
+    put_held16(p144, 0, m, v7, 49408u);
+    put8(f15 + 271, v12);
+    put8(f15 + 270, 1u);
+    put32(f15 + 266, 0x10202u);
+    t1 = block_core_block_ref_sum_of(m, (v15 + 266ull) + 5ull, 1ull);
+    put_held8(p144, 4, m, v7, t1 ^ 192u);
+    p177 = held(m, v1 + 128ull, 360);
+    put_held32(p177, 60, m, v1 + 128ull, 0u);
+    put_held64(p177, 0, m, v1 + 128ull, 0xFFFFFFFFFFFFFFFFull);
+    put_held64(p177, 352, m, v1 + 128ull, 5ull);
+    put_held8(p177, 74, m, v1 + 128ull, 0u);
+    put_held64(p177, 32, m, v1 + 128ull, 0ull);
+    put_held8(p177, 68, m, v1 + 128ull, 1u);
+    put_held64(p177, 24, m, v1 + 128ull, v6);
+    session_core_progress_Progress_wait(m, v15 + 16ull, v1 + 120ull, v5, 0ull, v6);
+    v5 = get64(f15 + 24);
+    goto after11;
+after12:;
+    put8(f15 + 186, v12);
+    put8(f15 + 185, 1u);
+    p233 = held(m, v7, 5);
+    put_held8(p233, 3, m, v7, v12);
+    put_held8(p233, 2, m, v7, 1u);
+    put_held16(p233, 0, m, v7, 49920u);
+    put8(f15 + 271, v12);
+    put8(f15 + 270, 1u);
+    put32(f15 + 266, 0x30202u);
+    t1 = block_core_block_ref_sum_of(m, (v15 + 266ull) + 5ull, 1ull);
+    put_held8(p233, 4, m, v7, t1 ^ 194u);
+    p266 = held(m, v1 + 128ull, 360);
+    put_held32(p266, 60, m, v1 + 128ull, 0u);
+    put_held64(p266, 0, m, v1 + 128ull, 0xFFFFFFFFFFFFFFFFull);
+    put_held64(p266, 352, m, v1 + 128ull, 5ull);
+    put_held8(p266, 74, m, v1 + 128ull, 0u);
+    put_held64(p266, 32, m, v1 + 128ull, 0ull);
+    put_held8(p266, 68, m, v1 + 128ull, 1u);
+    put_held64(p266, 24, m, v1 + 128ull, v6);
+    session_core_progress_Progress_wait(m, v15, v1 + 120ull, v5, 0ull, v6);
+    v5 = get64(f15 + 8);
+after11:;
+    v14 = 1u;
+    goto after4;
+after10:;
+    session_core_card_reply(m, v15 + 240ull, v15 + 144ull, v5, v1 + 480ull, v3, v11, v10, v6, v7);
+    if (get8(f15 + 240) == 0) { goto after7; }
+    v13 = get8(f15 + 241);
+after9:;
+    put32(f15 + 35, 0u);
+    put32(f15 + 32, 0u);
+    v13 = 0x131215u >> (((v13 & 255u) << 3) & 31);
+    v8 = 0ull;
+    v5 = 0ull;
+    goto after2;
+after8:;
+    p359 = held(m, v0, 24);
+    put_held64(p359, 1, m, v0, 0ull);
+    put_held8(p359, 0, m, v0, 32u);
+    put_held64(p359, 9, m, v0, 0ull);
+    put_held64(p359, 16, m, v0, 0ull);
+    goto after1;
+after7:;
+    v5 = get64(f15 + 256);
+    v14 = get8(f15 + 248);
+    v4 = 0ull;
+    v13 = get8(f15 + 184);
+    v12 = v13;
+    switch ((u32)(((u64)v13) & 255ull)) {
+        case 1: goto after17;
+        case 2: goto after17;
+        case 3: goto after16;
+        case 4: goto after4;
+        default: goto after3;
+    }
+after17:;
+    v12 = 0u;
+    goto after3;
+after16:;
+    v13 = 3u;
+    v4 = get64(f15 + 192);
+    v12 = get8(f15 + 200);
+    goto after3;
+after4:;
+    v13 = (get8(f15 + 185)) ? 5u : 4u;
+    v4 = 0ull;
+    v12 = get8(f15 + 186);
+after3:;
+    p422 = held(m, v1, 64);
+    put_held8(p422, 8, m, v1, v12);
+    put_held8(p422, 7, m, v1, v13);
+    put_held8(p422, 6, m, v1, get8(f15 + 178));
+    put_held16(p422, 4, m, v1, get16(f15 + 176));
+    put_held16(p422, 0, m, v1, get16(f15 + 144));
+    v13 = get8(f15 + 152);
+    put_held8(p422, 2, m, v1, v13 & 1u);
+    v13 = (u32)(v13 == 1u);
+    put_held8(p422, 3, m, v1, v13 ? get8(f15 + 168) : 0u);
+    v2 = get64(f15 + 232);
+    v7 = get64(f15 + 224);
+    v6 = get64(f15 + 216);
+    v3 = get64(f15 + 208);
+    v10 = get64(f15 + 160);
+    put_held32(p422, 12, m, v1, 0u);
+    put_held32(p422, 9, m, v1, 0u);
+    v8 = 0ull;
+    put_held64(p422, 16, m, v1, v13 ? v10 : 0ull);
+    put_held64(p422, 24, m, v1, v4);
+    put_held64(p422, 32, m, v1, v3);
+    put_held64(p422, 40, m, v1, v6);
+    put_held64(p422, 48, m, v1, v7);
+    put_held64(p422, 56, m, v1, v2);
+    v13 = 68u;
+    switch ((u32)(((u64)v14) & 255ull)) {
+        case 1: goto after18;
+        case 2: goto after21;
+        case 3: goto after23;
+        case 4: goto after29;
+        case 5: goto after28;
+        case 6: goto after27;
+        case 7: goto after21;
+        case 8: goto after25;
+        case 9: goto after24;
+        case 10: goto after22;
+        case 11: goto after26;
+        default: goto after30;
+    }
+after30:;
+    v13 = 0u;
+    goto after20;
+after29:;
+    v8 = 0ull;
+    v13 = 2u;
+    goto after19;
+after28:;
+    v8 = 0ull;
+    v13 = 3u;
+    goto after19;
+after27:;
+    v8 = 0ull;
+    v13 = 4u;
+    goto after19;
+after26:;
+    v8 = 0ull;
+    v13 = 21u;
+    goto after19;
+after25:;
+    v8 = 0ull;
+    v13 = 64u;
+    goto after19;
+after24:;
+    v8 = 0ull;
+    v13 = 65u;
+    goto after19;
+after23:;
+    v13 = 66u;
+    goto after20;
+after22:;
+    v8 = 0ull;
+    v13 = 67u;
+    goto after19;
+after21:;
+    v13 = 1u;
+after20:;
+    v8 = v5;
+after19:;
+    v5 = 0ull;
+after18:;
+    put32(f15 + 35, 0u);
+    put32(f15 + 32, 0u);
+after2:;
+    p589 = held(m, v0, 24);
+    put_held8(p589, 0, m, v0, v13);
+    put_held32(p589, 1, m, v0, get32(f15 + 32));
+    put_held32(p589, 4, m, v0, get32(f15 + 35));
+    put_held64(p589, 16, m, v0, v5);
+    put_held64(p589, 8, m, v0, v8);
+after1:;
+    m->g0 = v15 + 272ull;
+}
+
+static void session_core_progress_Progress_wait(struct call *m, u64 v0, u64 v1, u64 v2, u64 v3, u64 v4)
+{
+    u64 v5 = 0;
+    u32 v6 = 0;
+    u64 w0 = 0;
+    u8 *p15 = NULL;
+    u8 *p40 = NULL;
+    v5 = m->g0;
+    if ((v5 ^ 0x8000000000000000ull) < (16ull ^ 0x8000000000000000ull)) { goto after1; }
+    w0 = session_core_progress_Progress_left(m, v1, v2, v4);
+    v2 = w0;
+    p15 = held(m, v1 + 24ull, 54);
+    put_held32(p15, 40, m, v1 + 24ull, 0u);
+    put_held64(p15, 0, m, v1 + 24ull, v4);
+    v6 = (u32)(v2 < v3);
+    put_held8(p15, 53, m, v1 + 24ull, v6);
+    w0 = v1 + 16ull;
+    v1 = v6 ? v2 : v3;
+    store64(m, w0, 0, v1);
+    p40 = held(m, v0, 16);
+    put_held64(p40, 8, m, v0, v1);
+    put_held8(p40, 0, m, v0, 1u);
+    m->g0 = v5;
+    return;
+after1:;
+    UNREACHABLE;
+}
+
+static void session_core_card_reply(struct call *m, u64 v0, u64 v1, u64 v2, u64 v3, u64 v4, u64 v5, u64 v6, u64 v7,
+    u64 v8)
+{
+    u64 v9 = 0;
+    u64 v10 = 0;
+    u64 v12 = 0;
+    u64 v13 = 0;
+    u64 v14 = 0;
+    u64 v15 = 0;
+    u64 v18 = 0;
+    u32 v11 = 0;
+    u32 v16 = 0;
+    u32 v17 = 0;
+    u32 t1 = 0;
+    u8 *f10 = NULL;
+    u8 *p39 = NULL;
+    u8 *p91 = NULL;
+    u8 *p92 = NULL;
+    u8 *p172 = NULL;
+    u8 *p282 = NULL;
+    u8 *p334 = NULL;
+    u8 *p335 = NULL;
+    u8 *p435 = NULL;
+    u8 *p474 = NULL;
+    v18 = m->g0 - 16ull;
+    v9 = v18;
+    m->g0 = v9;
+    v10 = v18;
+    f10 = at(m, v10, 16);
+    if (load8(m, v1 + 40ull, 0) == 2u) { goto after5; }
+    v11 = 0u;
+    goto after4;
+after5:;
+    if (load64(m, v1 + 72ull, 0) >= v6) { goto after3; }
+    v11 = 1u;
+after4:;
+    p39 = held(m, v0, 24);
+    put_held8(p39, 0, m, v0, 1u);
+    put_held64(p39, 8, m, v0, 0ull);
+    put_held8(p39, 1, m, v0, v11);
+    put_held64(p39, 16, m, v0, 0ull);
+    goto after2;
+after3:;
+    if ((v4 - v5) >= v6) { goto after7; }
+    v12 = v6 & 3ull;
+    v13 = 0ull;
+    if (v6 < 4ull) { goto after8; }
+    v14 = v6 & 0xFFFFFFFFFFFFFFFCull;
+    v13 = 0ull;
+again9:;
+    v9 = v4 + v13;
+    v15 = v5 + v13;
+    p91 = held(m, v15, 4);
+    p92 = held(m, v9, 4);
+    put_held8(p92, 0, m, v9, held8(p91, 0, m, v15));
+    put_held8(p92, 1, m, v9, held8(p91, 1, m, v15));
+    put_held8(p92, 2, m, v9, held8(p91, 2, m, v15));
+    put_held8(p92, 3, m, v9, held8(p91, 3, m, v15));
+    v13 = v13 + 4ull;
+    if (v14 != v13) { goto again9; }
+    if (v12 == 0) { goto after6; }
+after8:;
+    v9 = v4 + v13;
+    v13 = v5 + v13;
+again10:;
+    store8(m, v9, 0, load8(m, v13, 0));
+    v9 = v9 + 1ull;
+    v13 = v13 + 1ull;
+    v12 = v12 + 0xFFFFFFFFFFFFFFFFull;
+    if (v12 != 0ull) { goto again10; }
+    goto after6;
+after7:;
+    if (v6 == 0) { goto after6; }
+    copy(m, v4, v5, v6);
+after6:;
+    p172 = held(m, v1 + 8ull, 88);
+    put_held64(p172, 80, m, v1 + 8ull, v6);
+    v16 = 0u;
+    put_held32(p172, 49, m, v1 + 8ull, 0u);
+    put_held64(p172, 40, m, v1 + 8ull, 0ull);
+    put_held16(p172, 33, m, v1 + 8ull, 0u);
+    put_held32(p172, 52, m, v1 + 8ull, 0u);
+    put_held32(p172, 17, m, v1 + 8ull, 0u);
+    put_held64(p172, 8, m, v1 + 8ull, 0ull);
+    put_held32(p172, 20, m, v1 + 8ull, 0u);
+    v17 = held8(p172, 25, m, v1 + 8ull);
+    v9 = ((u64)v17) & 255ull;
+    v11 = (u32)(v6 <= v9);
+    put_held8(p172, 48, m, v1 + 8ull, v11 ? 0u : v17);
+    put_held8(p172, 32, m, v1 + 8ull, v11 ? 0u : 3u);
+    put_held8(p172, 16, m, v1 + 8ull, v11 ? v17 : 0u);
+    put_held64(p172, 0, m, v1 + 8ull, (u64)v11);
+    v5 = (v9 < v6) ? v9 : v6;
+    if (v11) { goto after12; }
+    v16 = 32u;
+    if (v5 != 255ull) { goto after11; }
+    goto after1;
+after12:;
+    if (v5 == 255ull) { goto after1; }
+after11:;
+    v11 = load8(m, v1, 0);
+    v17 = (u32)v5;
+    p282 = held(m, v8, 3);
+    put_held8(p282, 2, m, v8, v17);
+    put_held8(p282, 0, m, v8, 0u);
+    v11 = (v11 ? 64u : 0u) | v16;
+    put_held8(p282, 1, m, v8, v11);
+    v9 = v8 + 3ull;
+    if ((v9 - v4) >= v5) { goto after14; }
+    v12 = v5 & 3ull;
+    v13 = 0ull;
+    if (v5 < 4ull) { goto after15; }
+    v1 = v5 & 252ull;
+    v13 = 0ull;
+again16:;
+    v9 = v8 + v13;
+    v15 = v4 + v13;
+    p334 = held(m, v15, 4);
+    p335 = held(m, v9 + 3ull, 4);
+    put_held8(p335, 0, m, v9 + 3ull, held8(p334, 0, m, v15));
+    put_held8(p335, 1, m, v9 + 3ull, held8(p334, 1, m, v15));
+    put_held8(p335, 2, m, v9 + 3ull, held8(p334, 2, m, v15));
+    put_held8(p335, 3, m, v9 + 3ull, held8(p334, 3, m, v15));
+    v13 = v13 + 4ull;
+    if (v1 != v13) { goto again16; }
+    if (v12 == 0) { goto after13; }
+after15:;
+    v9 = v4 + v13;
+    v13 = (v13 + v8) + 3ull;
+again17:;
+    store8(m, v13, 0, load8(m, v9, 0));
+    v13 = v13 + 1ull;
+    v9 = v9 + 1ull;
+    v12 = v12 + 0xFFFFFFFFFFFFFFFFull;
+    if (v12 != 0ull) { goto again17; }
+    goto after13;
+after14:;
+    if (v5 == 0) { goto after13; }
+    copy(m, v9, v4, v5);
+after13:;
+    t1 = block_core_block_ref_sum_of(m, v4, v5);
+    store8(m, (v8 + v5) + 3ull, 0, (t1 ^ v17) ^ v11);
+    store64(m, v3, 0, v5 + 4ull);
+    p435 = held(m, v2 + 64ull, 75);
+    put_held32(p435, 60, m, v2 + 64ull, 0u);
+    put_held64(p435, 0, m, v2 + 64ull, 0xFFFFFFFFFFFFFFFFull);
+    put_held8(p435, 74, m, v2 + 64ull, 0u);
+    put_held64(p435, 32, m, v2 + 64ull, 0ull);
+    put_held8(p435, 68, m, v2 + 64ull, 1u);
+    put_held64(p435, 24, m, v2 + 64ull, v7);
+    session_core_progress_Progress_wait(m, v10, v2 + 56ull, v2, 0ull, v7);
+    p474 = held(m, v0, 24);
+    put_held64(p474, 16, m, v0, get64(f10 + 8));
+    put_held64(p474, 8, m, v0, 1ull);
+    put_held16(p474, 0, m, v0, 0u);
+after2:;
+    m->g0 = v10 + 16ull;
+    return;
+after1:;
+    UNREACHABLE;
+}
+
+static u64 session_core_progress_Progress_left(struct call *m, u64 v0, u64 v1, u64 v2)
+{
+    u64 v3 = 0;
+    u64 v4 = 0;
+    v3 = 0xFFFFFFFFFFFFFFFFull;
+    v4 = load64(m, v1 + 40ull, 0);
+    if (v4 == 0xFFFFFFFFFFFFFFFFull) { goto after2; }
+    if (load8(m, v1 + 52ull, 0) == 0) { goto after4; }
+    v1 = v2 - load64(m, v0 + 32ull, 0);
+    v1 = ((v1 ^ 0x8000000000000000ull) > (0ull ^ 0x8000000000000000ull)) ? v1 : 0ull;
+    goto after3;
+after4:;
+    v1 = load64(m, v0 + 40ull, 0);
+after3:;
+    v1 = v4 - v1;
+    v3 = (v1 > v4) ? 0ull : v1;
+after2:;
+    return v3;
+}
+
+static void session_core_progress_Progress_drop_octets(struct call *m, u64 v0, u64 v1, u64 v2, u32 v3, u64 v4)
+{
+    u64 v5 = 0;
+    u64 v6 = 0;
+    u8 *f6 = NULL;
+    u8 *p15 = NULL;
+    u8 *p32 = NULL;
+    v6 = m->g0 - 16ull;
+    f6 = at(m, v6, 16);
+    v5 = v6;
+    m->g0 = v5;
+    p15 = held(m, v1 + 72ull, 5);
+    put_held32(p15, 0, m, v1 + 72ull, 0x10000u);
+    put_held8(p15, 4, m, v1 + 72ull, v3);
+    session_core_progress_Progress_wait_silent(m, v6, v1, v2, v4);
+    v3 = get8(f6);
+    p32 = held(m, v0, 16);
+    put_held64(p32, 8, m, v0, get64(f6 + 8));
+    put_held8(p32, 0, m, v0, v3);
+    m->g0 = v6 + 16ull;
+    return;
+}
+
+static void session_core_progress_Progress_wait_silent(struct call *m, u64 v0, u64 v1, u64 v2, u64 v3)
+{
+    u64 v4 = 0;
+    u64 v5 = 0;
+    u64 v6 = 0;
+    u64 v8 = 0;
+    u32 v7 = 0;
+    u8 *f8 = NULL;
+    u8 *p38 = NULL;
+    u8 *p91 = NULL;
+    v8 = m->g0 - 16ull;
+    f8 = at(m, v8, 16);
+    v4 = v8;
+    m->g0 = v4;
+    switch (load8(m, v1 + 76ull, 0) + 0xFFFFFFFDu) {
+        case 0: goto after5;
+        case 4: goto after4;
+        default: goto after3;
+    }
+after5:;
+    v5 = load64(m, v1, 0);
+    goto after2;
+after4:;
+    if (load8(m, v2 + 55ull, 0) == 0) { goto after6; }
+    p38 = held(m, v2, 16);
+    v5 = held64(p38, 8, m, v2);
+    v6 = (held64(p38, 0, m, v2) >> 2) * 3ull;
+    v5 = (v5 > v6) ? v5 : v6;
+    goto after2;
+after6:;
+    v5 = load64(m, v1 + 8ull, 0);
+    goto after2;
+after3:;
+    if (load8(m, v2 + 55ull, 0) == 0) { goto after7; }
+    v5 = load64(m, v2 + 16ull, 0);
+    goto after2;
+after7:;
+    v5 = load64(m, v2, 0);
+after2:;
+    session_core_progress_Progress_wait(m, v8, v1, v2, v5, v3);
+    v7 = get8(f8);
+    p91 = held(m, v0, 16);
+    put_held64(p91, 8, m, v0, get64(f8 + 8));
+    put_held8(p91, 0, m, v0, v7);
+    m->g0 = v8 + 16ull;
+    return;
+}
+
+static void session_core_progress_Progress_talk(struct call *m, u64 v0, u64 v1, u64 v2, u64 v3, u64 v4)
+{
+    u64 v5 = 0;
+    u64 v7 = 0;
+    u32 v6 = 0;
+    u64 w0 = 0;
+    u8 *f7 = NULL;
+    u8 *p86 = NULL;
+    v7 = m->g0 - 16ull;
+    f7 = at(m, v7, 16);
+    v5 = v7;
+    m->g0 = v5;
+    if (load8(m, v2 + 55ull, 0) == 0) { goto after4; }
+    v6 = load32(m, v1 + 68ull, 0);
+    goto after2;
+after4:;
+    v6 = load32(m, v1 + 68ull, 0);
+    if (load32(m, v2 + 48ull, 0) <= v6) { goto after5; }
+    w0 = session_core_progress_Progress_left(m, v1, v2, v4);
+    if (w0 != 0ull) { goto after2; }
+after5:;
+    store8(m, v1 + 76ull, 0, 0u);
+    v1 = 0ull;
+    v6 = 5u;
+    goto after1;
+after2:;
+    v6 = v6 + 1u;
+    store32(m, v1 + 68ull, 0, v6 ? v6 : 0xFFFFFFFFu);
+    session_core_progress_Progress_settle(m, v7, v1, v2, v3, v4);
+    v1 = get64(f7 + 8);
+    v6 = get8(f7);
+after1:;
+    p86 = held(m, v0, 16);
+    put_held64(p86, 8, m, v0, v1);
+    put_held8(p86, 0, m, v0, v6);
+    m->g0 = v7 + 16ull;
+}
+
+static void session_core_progress_Progress_settle(struct call *m, u64 v0, u64 v1, u64 v2, u64 v3, u64 v4)
+{
+    u64 v5 = 0;
+    u64 v6 = 0;
+    u64 v8 = 0;
+    u32 v7 = 0;
+    u8 *f8 = NULL;
+    u8 *p29 = NULL;
+    u8 *p61 = NULL;
+    v8 = m->g0 - 16ull;
+    f8 = at(m, v8, 16);
+    v5 = v8;
+    m->g0 = v5;
+    v6 = 0ull;
+    if (load64(m, v1, 0) != 0ull) { goto after3; }
+    store64(m, v3, 0, 0ull);
+    v7 = 0u;
+    p29 = held(m, v1 + 24ull, 58);
+    put_held8(p29, 57, m, v1 + 24ull, 0u);
+    put_held64(p29, 0, m, v1 + 24ull, v4);
+    put_held8(p29, 52, m, v1 + 24ull, 4u);
+    put_held16(p29, 55, m, v1 + 24ull, 0u);
+    goto after2;
+after3:;
+    session_core_progress_Progress_drop_octets(m, v8, v1, v2, 3u, v4);
+    v7 = 1u;
+    v6 = get64(f8 + 8);
+after2:;
+    p61 = held(m, v0, 16);
+    put_held64(p61, 8, m, v0, v6);
+    put_held8(p61, 0, m, v0, v7);
+    m->g0 = v8 + 16ull;
+    return;
+}
+
+static void session_core_setup_Setup_rules(struct call *m, u64 v0, u64 v1, u64 v2, u32 v3)
+{
+    u64 v4 = 0;
+    u64 v7 = 0;
+    u64 v8 = 0;
+    u64 v9 = 0;
+    u64 v10 = 0;
+    u64 v11 = 0;
+    u64 v12 = 0;
+    u32 v5 = 0;
+    u32 v6 = 0;
+    u32 v13 = 0;
+    u64 w0 = 0;
+    u64 w1 = 0;
+    u64 w2 = 0;
+    u8 *p37 = NULL;
+    u8 *p62 = NULL;
+    u8 *p115 = NULL;
+    u8 *p142 = NULL;
+    u8 *p163 = NULL;
+    v4 = (u64)load16(m, v1 + 24ull, 0);
+    if (v4 == 0) { goto after3; }
+    v5 = load16(m, v1 + 26ull, 0);
+    if (((v5 + 0xFFFFFFFFu) & 65535u) > 63u) { goto after3; }
+    v6 = load32(m, v1 + 20ull, 0);
+    if (v6 > 999u) { goto after2; }
+after3:;
+    p37 = held(m, v0, 64);
+    put_held64(p37, 56, m, v0, 0ull);
+    put_held64(p37, 48, m, v0, 0ull);
+    put_held64(p37, 40, m, v0, 0ull);
+    put_held64(p37, 32, m, v0, 0ull);
+    put_held64(p37, 24, m, v0, 0ull);
+    put_held64(p37, 16, m, v0, 0ull);
+    put_held64(p37, 8, m, v0, 0ull);
+    put_held64(p37, 0, m, v0, 0ull);
+    return;
+after2:;
+    p62 = held(m, v2 + 1ull, 2);
+    v7 = (u64)held8(p62, 0, m, v2 + 1ull);
+    v8 = load64(m, v1, 0);
+    v9 = v4 * ((u64)((1u << (held8(p62, 1, m, v2 + 1ull) & 31)) + 11u));
+    v10 = ((u64)v5) & 65535ull;
+    v2 = ((u64)v6) * v10;
+    v11 = quotient64(v9, v2);
+    w1 = (v9 - (v11 * v2)) * 0xF4240ull;
+    v9 = v2 + 0xFFFFFFFFFFFFFFFFull;
+    v11 = (quotient64(w1 + v9, v2)) + (v11 * 0xF4240ull);
+    if (v8 <= v11) { goto after4; }
+    if (v8 == 0xFFFFFFFFFFFFFFFFull) { goto after4; }
+    p115 = held(m, v0, 64);
+    put_held64(p115, 56, m, v0, 0ull);
+    put_held64(p115, 48, m, v0, 0ull);
+    put_held64(p115, 40, m, v0, 0ull);
+    put_held64(p115, 32, m, v0, 0ull);
+    put_held64(p115, 24, m, v0, 0ull);
+    put_held64(p115, 16, m, v0, 0ull);
+    put_held64(p115, 8, m, v0, 0ull);
+    put_held64(p115, 0, m, v0, 0ull);
+    return;
+after4:;
+    p142 = held(m, v1 + 8ull, 26);
+    v12 = held64(p142, 0, m, v1 + 8ull);
+    v5 = held32(p142, 8, m, v1 + 8ull);
+    v6 = held16(p142, 23, m, v1 + 8ull);
+    v13 = held8(p142, 25, m, v1 + 8ull);
+    p163 = held(m, v0, 64);
+    put_held64(p163, 16, m, v0, v11);
+    put_held8(p163, 63, m, v0, v3);
+    put_held8(p163, 62, m, v0, v13);
+    put_held16(p163, 60, m, v0, v6);
+    put_held64(p163, 0, m, v0, 1ull);
+    put_held32(p163, 56, m, v0, v5 ? v5 : 0x40000u);
+    put_held64(p163, 48, m, v0, (v3 & 255u) ? 0xFFFFFFFFFFFFFFFFull : ((v12 == 0) ? 0xD693A400ull : v12));
+    v1 = v4 * 12ull;
+    w1 = v1;
+    v1 = quotient64(v1, v2);
+    put_held64(p163, 40, m, v0, (quotient64(((w1 - (v1 * v2)) * 0xF4240ull) + v9, v2)) + (v1 * 0xF4240ull));
+    v1 = v4 * 22ull;
+    w2 = v1;
+    v1 = quotient64(v1, v2);
+    v1 = (quotient64(((w2 - (v1 * v2)) * 0xF4240ull) + v9, v2)) + (v1 * 0xF4240ull);
+    put_held64(p163, 24, m, v0, (v8 == 0xFFFFFFFFFFFFFFFFull) ? 0ull : v1);
+    put_held64(p163, 32, m, v0, (v8 == 0) ? v1 : v8);
+    w0 = v0 + 8ull;
+    v0 = ((quotient64(v11, 3ull)) << 2) + 4ull;
+    v1 = ((0x57300ull << (v7 & 63)) * v10) + (v4 * 11ull);
+    w2 = v1;
+    v1 = quotient64(v1, v2);
+    v1 = (quotient64(((w2 - (v1 * v2)) * 0xF4240ull) + v9, v2)) + (v1 * 0xF4240ull);
+    store64(m, w0, 0, (v0 > v1) ? v0 : v1);
+    return;
+}
+
+static void session_core_progress_Progress_await_block(struct call *m, u64 v0, u64 v1, u64 v2, u64 v3, u64 v4)
+{
+    u64 v5 = 0;
+    u64 v7 = 0;
+    u32 v6 = 0;
+    u64 w3 = 0;
+    u8 *f7 = NULL;
+    u8 *p18 = NULL;
+    u8 *p44 = NULL;
+    v7 = m->g0 - 16ull;
+    f7 = at(m, v7, 16);
+    v5 = v7;
+    m->g0 = v5;
+    store64(m, v3, 0, 0ull);
+    p18 = held(m, v1 + 8ull, 74);
+    put_held8(p18, 73, m, v1 + 8ull, 0u);
+    put_held8(p18, 68, m, v1 + 8ull, 6u);
+    put_held16(p18, 71, m, v1 + 8ull, 0u);
+    w3 = held64(p18, 0, m, v1 + 8ull);
+    session_core_progress_Progress_wait(m, v7, v1, v2, w3, v4);
+    v6 = get8(f7);
+    p44 = held(m, v0, 16);
+    put_held64(p44, 8, m, v0, get64(f7 + 8));
+    put_held8(p44, 0, m, v0, v6);
+    m->g0 = v7 + 16ull;
+    return;
+}
+
+static void session_core_lines_Line_happen(struct call *m, u64 v0, u64 v1, u32 v2, u64 v3, u64 v4, u64 v5, u64 v6, u64
+    v7)
+{
+    u64 v8 = 0;
+    u64 v9 = 0;
+    u64 v10 = 0;
+    u64 v12 = 0;
+    u64 v13 = 0;
+    u64 v14 = 0;
+    u32 v11 = 0;
+    u64 w0 = 0;
+    u8 *f14 = NULL;
+    u8 *p349 = NULL;
+    u8 *p384 = NULL;
+    v14 = m->g0 - 128ull;
+    f14 = at(m, v14, 128);
+    v8 = v14;
+    m->g0 = v8;
+    v9 = v1 + 56ull;
+    v10 = v1 + 144ull;
+    v11 = 7u;
+    switch ((u32)(((u64)v2) & 255ull)) {
+        case 0: goto after9;
+        case 1: goto after8;
+        case 2: goto after7;
+        case 3: goto after6;
+        case 4: goto after4;
+        default: goto after3;
+    }
+after9:;
+    if (load8(m, v1 + 132ull, 0) != 4u) { goto after3; }
+    session_core_progress_Progress_sent(m, v14, v9, v1, v10, v5, v6, v7);
+    v9 = get64(f14 + 8);
+    v11 = get8(f14);
+    goto after5;
+after8:;
+    v2 = load8(m, v1 + 132ull, 0);
+    if (v2 == 0) { goto after3; }
+    if (v2 < 4u) { goto after10; }
+    if (v2 == 4u) { goto after3; }
+    if (v2 > 7u) { goto after3; }
+after10:;
+    v12 = 0ull;
+    if (v4 != 0ull) { goto after11; }
+    session_core_progress_Progress_interrupted(m, v14 + 16ull, v9, v1, v10, v5, v6, v7);
+    v9 = get64(f14 + 24);
+    v11 = get8(f14 + 16);
+    goto after5;
+after11:;
+    if (load64(m, v1 + 24ull, 0) == 0xFFFFFFFFFFFFFFFFull) { goto after12; }
+    v12 = load64(m, v1 + 32ull, 0);
+    multi3(m, v14 + 48ull, v12, 0ull, v4, 0ull);
+    v12 = (v12 == 0) ? 0ull : ((get64(f14 + 56) != 0ull) ? 0xFFFFFFFFFFFFFFFFull : (v12 * v4));
+after12:;
+    v13 = v1 + 96ull;
+    w0 = v13;
+    v13 = v12 + load64(m, v13, 0);
+    store64(m, w0, 0, (v13 < v12) ? 0xFFFFFFFFFFFFFFFFull : v13);
+    session_core_progress_Progress_take_in(m, v14 + 32ull, v9, v1, v10, v3, v4, 0u, v5, v6, v7);
+    v9 = get64(f14 + 40);
+    v11 = get8(f14 + 32);
+    goto after5;
+after7:;
+    v2 = load8(m, v1 + 132ull, 0);
+    if (v2 == 0) { goto after3; }
+    if (v2 < 4u) { goto after13; }
+    if (v2 == 4u) { goto after3; }
+    if (v2 > 7u) { goto after3; }
+after13:;
+    v12 = 0ull;
+    if (v4 != 0ull) { goto after14; }
+    session_core_progress_Progress_interrupted(m, v14 + 64ull, v9, v1, v10, v5, v6, v7);
+    v9 = get64(f14 + 72);
+    v11 = get8(f14 + 64);
+    goto after5;
+after14:;
+    if (load64(m, v1 + 24ull, 0) == 0xFFFFFFFFFFFFFFFFull) { goto after15; }
+    v12 = load64(m, v1 + 32ull, 0);
+    multi3(m, v14 + 96ull, v12, 0ull, v4, 0ull);
+    v12 = (v12 == 0) ? 0ull : ((get64(f14 + 104) != 0ull) ? 0xFFFFFFFFFFFFFFFFull : (v12 * v4));
+after15:;
+    v13 = v1 + 96ull;
+    w0 = v13;
+    v13 = v12 + load64(m, v13, 0);
+    store64(m, w0, 0, (v13 < v12) ? 0xFFFFFFFFFFFFFFFFull : v13);
+    session_core_progress_Progress_take_in(m, v14 + 80ull, v9, v1, v10, v3, v4, 1u, v5, v6, v7);
+    v9 = get64(f14 + 88);
+    v11 = get8(f14 + 80);
+    goto after5;
+after6:;
+    v2 = load8(m, v1 + 132ull, 0);
+    if (v2 == 0) { goto after3; }
+    if (v2 < 4u) { goto after16; }
+    if (v2 == 4u) { goto after3; }
+    if (v2 > 7u) { goto after3; }
+after16:;
+    session_core_progress_Progress_silent(m, v14 + 112ull, v9, v1, v10, v5, v6, v7);
+    v9 = get64(f14 + 120);
+    v11 = get8(f14 + 112);
+after5:;
+    if ((v11 & 255u) != 2u) { goto after2; }
+    if ((load8(m, v1 + 136ull, 0) & 255u) == 0) { goto after2; }
+    p349 = held(m, v1 + 144ull, 12);
+    put_held64(p349, 0, m, v1 + 144ull, 4ull);
+    put_held32(p349, 8, m, v1 + 144ull, 0x1000000u);
+    goto after2;
+after4:;
+    v4 = v1 + 132ull;
+    if (((load8(m, v4, 0) + 0xFFFFFFF8u) & 255u) < 249u) { goto after3; }
+    session_core_progress_Progress_leave(m, v9, v1, v10);
+    store8(m, v4, 0, 0u);
+    v11 = 4u;
+after3:;
+    v9 = 0ull;
+after2:;
+    p384 = held(m, v0, 16);
+    put_held8(p384, 0, m, v0, v11);
+    put_held64(p384, 8, m, v0, v9);
+    m->g0 = v14 + 128ull;
+    return;
+}
+
+static void session_core_progress_Progress_sent(struct call *m, u64 v0, u64 v1, u64 v2, u64 v3, u64 v4, u64 v5, u64
+    v6)
+{
+    u64 v7 = 0;
+    u64 v8 = 0;
+    u64 v9 = 0;
+    u64 v10 = 0;
+    u64 v11 = 0;
+    u64 v13 = 0;
+    u32 v12 = 0;
+    u64 w0 = 0;
+    u64 w1 = 0;
+    u64 w4 = 0;
+    u8 *f13 = NULL;
+    u8 *p30 = NULL;
+    u8 *p214 = NULL;
+    v13 = m->g0 - 80ull;
+    f13 = at(m, v13, 80);
+    v7 = v13;
+    m->g0 = v7;
+    v8 = 0ull;
+    v9 = v2 + 32ull;
+    v10 = load64(m, v9, 0);
+    multi3(m, v13 + 64ull, v10, 0ull, v6, 0ull);
+    p30 = held(m, v1 + 24ull, 55);
+    put_held64(p30, 32, m, v1 + 24ull, 0ull);
+    v11 = v4 - held64(p30, 0, m, v1 + 24ull);
+    w1 = ((v11 ^ 0x8000000000000000ull) > (0xFFFFFFFFFFFFFFFFull ^ 0x8000000000000000ull)) ? v11 :
+        0xFFFFFFFFFFFFFFFFull;
+    v11 = w1;
+    v10 = (v10 == 0) ? 0ull : ((get64(f13 + 72) != 0ull) ? 0xFFFFFFFFFFFFFFFFull : (v10 * v6));
+    put_held8(p30, 54, m, v1 + 24ull, (u32)(v11 < (v10 >> 1)));
+    v10 = v11 - v10;
+    put_held64(p30, 24, m, v1 + 24ull, (v10 > v11) ? 0ull : v10);
+    if (load8(m, v2 + 53ull, 0) == 0) { goto after3; }
+    v10 = load64(m, v9, 0);
+    multi3(m, v13 + 32ull, v10, 0ull, v6, 0ull);
+    v11 = load64(m, v2 + 8ull, 0);
+    put_held8(p30, 52, m, v1 + 24ull, 5u);
+    v6 = v10 * v6;
+    v8 = v11 + v6;
+    w4 = (get64(f13 + 40) != 0ull) ? 0xFFFFFFFFFFFFFFFFull : ((v8 < v6) ? 0xFFFFFFFFFFFFFFFFull : v8);
+    session_core_progress_Progress_wait(m, v13 + 48ull, v1, v2, (v10 == 0) ? v11 : w4, v4);
+    v12 = 1u;
+    v1 = get64(f13 + 56);
+    goto after2;
+after3:;
+    if (load64(m, v2 + 24ull, 0) == 0xFFFFFFFFFFFFFFFFull) { goto after4; }
+    v10 = load64(m, v2 + 32ull, 0);
+    multi3(m, v13 + 16ull, v10, 0ull, v6, 0ull);
+    v8 = (v10 == 0) ? 0ull : ((get64(f13 + 24) != 0ull) ? 0xFFFFFFFFFFFFFFFFull : (v10 * v6));
+after4:;
+    put_held8(p30, 52, m, v1 + 24ull, 6u);
+    v10 = v1 + 40ull;
+    w0 = v10;
+    v10 = v8 + load64(m, v10, 0);
+    store64(m, w0, 0, (v10 < v8) ? 0xFFFFFFFFFFFFFFFFull : v10);
+    session_core_progress_Progress_go_on(m, v13, v1, v2, v3, v4, v5, v6);
+    v1 = get64(f13 + 8);
+    v12 = get8(f13);
+after2:;
+    p214 = held(m, v0, 16);
+    put_held8(p214, 0, m, v0, v12);
+    put_held64(p214, 8, m, v0, v1);
+    m->g0 = v13 + 80ull;
+    return;
+}
+
+static void session_core_progress_Progress_interrupted(struct call *m, u64 v0, u64 v1, u64 v2, u64 v3, u64 v4, u64 v5,
+    u64 v6)
+{
+    u64 v7 = 0;
+    u64 v8 = 0;
+    u64 v10 = 0;
+    u64 v12 = 0;
+    u32 v9 = 0;
+    u32 v11 = 0;
+    u8 *f8 = NULL;
+    u8 *p115 = NULL;
+    v12 = m->g0 - 16ull;
+    v7 = v12;
+    m->g0 = v7;
+    v8 = v12;
+    f8 = at(m, v8, 16);
+    v7 = 0xFFFFFFFFFFFFFFFFull;
+    v9 = 1u;
+    v10 = load64(m, v1 + 16ull, 0);
+    if (v10 == 0xFFFFFFFFFFFFFFFFull) { goto after2; }
+    v11 = load32(m, v1 + 64ull, 0);
+    if (v11 != 0xFFFFFFFFu) { goto after3; }
+    session_core_progress_Progress_silent(m, v8, v1, v2, v3, v4, v5, v6);
+    v7 = get64(f8 + 8);
+    v9 = get8(f8);
+    goto after2;
+after3:;
+    if (load8(m, v2 + 52ull, 0) == 0) { goto after4; }
+    v7 = 0ull;
+    v4 = v4 - load64(m, v1 + 24ull, 0);
+    if (v10 > (((v4 ^ 0x8000000000000000ull) > (0ull ^ 0x8000000000000000ull)) ? v4 : 0ull)) { goto after4; }
+    store32(m, v1 + 64ull, 0, 0xFFFFFFFFu);
+    goto after2;
+after4:;
+    if (v11 < 0xF4240u) { goto after5; }
+    session_core_progress_Progress_leave(m, v1, v2, v3);
+    store8(m, v1 + 76ull, 0, 0u);
+    v9 = 4u;
+    v7 = 0ull;
+    goto after2;
+after5:;
+    v9 = 1u;
+    store32(m, v1 + 64ull, 0, v11 + 1u);
+    v7 = v10;
+after2:;
+    p115 = held(m, v0, 16);
+    put_held64(p115, 8, m, v0, v7);
+    put_held8(p115, 0, m, v0, v9);
+    m->g0 = v8 + 16ull;
+    return;
+}
+
+static void session_core_progress_Progress_take_in(struct call *m, u64 v0, u64 v1, u64 v2, u64 v3, u64 v4, u64 v5, u32
+    v6, u64 v7, u64 v8, u64 v9)
+{
+    u64 v10 = 0;
+    u64 v11 = 0;
+    u64 v14 = 0;
+    u32 v12 = 0;
+    u32 v13 = 0;
+    u8 *f14 = NULL;
+    u8 *p178 = NULL;
+    v14 = m->g0 - 80ull;
+    f14 = at(m, v14, 80);
+    v10 = v14;
+    m->g0 = v10;
+    if (load8(m, v1 + 77ull, 0) == 0) { goto after3; }
+    if (load64(m, v1 + 16ull, 0) != 0ull) { goto after3; }
+    session_core_progress_Progress_leave(m, v1, v2, v3);
+    store8(m, v1 + 76ull, 0, 0u);
+    v11 = 0ull;
+    v12 = 5u;
+    goto after2;
+after3:;
+    v12 = 7u;
+    v11 = 0ull;
+    v13 = load8(m, v1 + 76ull, 0);
+    switch (v13) {
+        case 0: goto after2;
+        case 1: goto after8;
+        case 5: goto after7;
+        case 6: goto after6;
+        case 7: goto after4;
+        default: goto after5;
+    }
+after8:;
+    session_core_progress_Progress_drop_octets(m, v14 + 16ull, v1, v2, 2u, v7);
+    v12 = 1u;
+    v11 = get64(f14 + 24);
+    goto after2;
+after7:;
+    if (v6 == 0) { goto after9; }
+    session_core_progress_Progress_miss(m, v14 + 32ull, v1, v2, v7);
+    v12 = 1u;
+    v11 = get64(f14 + 40);
+    goto after2;
+after9:;
+    session_core_progress_Progress_echoed(m, v14 + 48ull, v1, v2, v3, v4, v5, v7, v8, v9);
+    v11 = get64(f14 + 56);
+    v12 = get8(f14 + 48);
+    goto after2;
+after6:;
+    session_core_progress_Progress_hear(m, v14 + 64ull, v1, v2, v3, v4, v5, v6, v7, v8, v9);
+    v11 = get64(f14 + 72);
+    v12 = get8(f14 + 64);
+    goto after2;
+after5:;
+    if (v13 > 3u) { goto after2; }
+after4:;
+    v3 = v1 + 72ull;
+    v12 = load32(m, v3, 0);
+    if (v5 < ((u64)v12)) { goto after10; }
+    store8(m, v1 + 76ull, 0, 0u);
+    store32(m, v3, 0, 0u);
+    v12 = 4u;
+    goto after2;
+after10:;
+    store32(m, v3, 0, v12 - ((u32)v5));
+    session_core_progress_Progress_wait_silent(m, v14, v1, v2, v7);
+    v12 = 1u;
+    v11 = get64(f14 + 8);
+after2:;
+    p178 = held(m, v0, 16);
+    put_held64(p178, 8, m, v0, v11);
+    put_held8(p178, 0, m, v0, v12);
+    m->g0 = v14 + 80ull;
+    return;
+}
+
+static void session_core_progress_Progress_silent(struct call *m, u64 v0, u64 v1, u64 v2, u64 v3, u64 v4, u64 v5, u64
+    v6)
+{
+    u64 v7 = 0;
+    u64 v8 = 0;
+    u64 v9 = 0;
+    u64 v11 = 0;
+    u32 v10 = 0;
+    u32 t0 = 0;
+    u64 w0 = 0;
+    u8 *f11 = NULL;
+    u8 *p19 = NULL;
+    u8 *p126 = NULL;
+    u8 *p224 = NULL;
+    u8 *p292 = NULL;
+    v11 = m->g0 - 64ull;
+    f11 = at(m, v11, 64);
+    v7 = v11;
+    m->g0 = v7;
+    v8 = v1 + 40ull;
+    p19 = held(m, v1 + 16ull, 62);
+    v9 = held64(p19, 0, m, v1 + 16ull);
+    w0 = v8;
+    v8 = v9 + load64(m, v8, 0);
+    store64(m, w0, 0, (v8 < v9) ? 0xFFFFFFFFFFFFFFFFull : v8);
+    if (held8(p19, 61, m, v1 + 16ull) == 0) { goto after3; }
+    session_core_progress_Progress_leave(m, v1, v2, v3);
+    put_held8(p19, 60, m, v1 + 16ull, 0u);
+    v8 = 0ull;
+    v10 = 5u;
+    goto after2;
+after3:;
+    v10 = 7u;
+    v8 = 0ull;
+    v9 = v1 + 76ull;
+    switch (load8(m, v9, 0) + 0xFFFFFFFFu) {
+        case 0: goto after10;
+        case 1: goto after9;
+        case 2: goto after8;
+        case 4: goto after7;
+        case 5: goto after6;
+        case 6: goto after5;
+        default: goto after2;
+    }
+after10:;
+    session_core_progress_Progress_talk(m, v11, v1, v2, v3, v4);
+    v8 = get64(f11 + 8);
+    v10 = get8(f11);
+    goto after2;
+after9:;
+    if (load64(m, v1, 0) > load64(m, v2 + ((load8(m, v2 + 55ull, 0)) ? 16ull : 0ull), 0)) { goto after11; }
+    store64(m, v1, 0, 0ull);
+after11:;
+    session_core_progress_Progress_talk(m, v11 + 16ull, v1, v2, v3, v4);
+    v8 = get64(f11 + 24);
+    v10 = get8(f11 + 16);
+    goto after2;
+after8:;
+    v8 = 0ull;
+    p126 = held(m, v1, 82);
+    put_held64(p126, 0, m, v1, 0ull);
+    store64(m, v3, 0, 0ull);
+    v10 = 0u;
+    put_held8(p126, 81, m, v1, 0u);
+    put_held64(p126, 24, m, v1, v4);
+    store8(m, v9, 0, 4u);
+    put_held16(p126, 79, m, v1, 0u);
+    goto after2;
+after7:;
+    v8 = 0ull;
+    if (held64(p19, 40, m, v1 + 16ull) != 0ull) { goto after12; }
+    put_held8(p19, 60, m, v1 + 16ull, 0u);
+    v10 = 4u;
+    goto after2;
+after12:;
+    session_core_progress_Progress_miss(m, v11 + 32ull, v1, v2, v4);
+    v10 = 1u;
+    v8 = get64(f11 + 40);
+    goto after2;
+after6:;
+    v8 = 0ull;
+    if (load64(m, v3, 0) != 0ull) { goto after13; }
+    put_held8(p19, 60, m, v1 + 16ull, 0u);
+    goto after4;
+after13:;
+    t0 = session_core_progress_Progress_judge(m, v1, v2, v3, v5, v6);
+    v10 = t0;
+    goto after2;
+after5:;
+    v9 = load64(m, v1, 0);
+    v10 = load8(m, v2 + 55ull, 0);
+    if (v10 == 0) { goto after15; }
+    p224 = held(m, v2, 16);
+    v6 = held64(p224, 8, m, v2);
+    v5 = (held64(p224, 0, m, v2) >> 2) * 3ull;
+    v6 = (v6 > v5) ? v6 : v5;
+    goto after14;
+after15:;
+    v6 = load64(m, v1 + 8ull, 0);
+after14:;
+    if (v9 > v6) { goto after16; }
+    store64(m, v1, 0, 0ull);
+    v10 = load8(m, v2 + 55ull, 0);
+after16:;
+    if ((v10 & 255u) == 0) { goto after17; }
+    session_core_progress_Progress_await_block(m, v11 + 48ull, v1, v2, v3, v4);
+    v10 = 1u;
+    v8 = get64(f11 + 56);
+    goto after2;
+after17:;
+    put_held8(p19, 60, m, v1 + 16ull, 0u);
+after4:;
+    v10 = 3u;
+after2:;
+    p292 = held(m, v0, 16);
+    put_held64(p292, 8, m, v0, v8);
+    put_held8(p292, 0, m, v0, v10);
+    m->g0 = v11 + 64ull;
+    return;
+}
+
+static void session_core_progress_Progress_leave(struct call *m, u64 v0, u64 v1, u64 v2)
+{
+    u64 v3 = 0;
+    u64 w1 = 0;
+    v3 = m->g0;
+    if ((v3 ^ 0x8000000000000000ull) < (16ull ^ 0x8000000000000000ull)) { goto after1; }
+    if (load8(m, v0 + 76ull, 0) != 6u) { goto after2; }
+    w1 = session_core_progress_Progress_owed_after(m, v0, v1, v2);
+    store64(m, v0, 0, w1);
+after2:;
+    m->g0 = v3;
+    return;
+after1:;
+    UNREACHABLE;
+}
+
+static void session_core_progress_Progress_go_on(struct call *m, u64 v0, u64 v1, u64 v2, u64 v3, u64 v4, u64 v5, u64
+    v6)
+{
+    u64 v7 = 0;
+    u64 v8 = 0;
+    u64 v9 = 0;
+    u64 v11 = 0;
+    u32 v10 = 0;
+    u32 t0 = 0;
+    u64 w3 = 0;
+    u8 *f11 = NULL;
+    u8 *p72 = NULL;
+    v11 = m->g0 - 16ull;
+    f11 = at(m, v11, 16);
+    v7 = v11;
+    m->g0 = v7;
+    v8 = load64(m, v3, 0);
+    if (v8 > 65535ull) { goto after4; }
+    v9 = 8ull;
+    if (load8(m, v1 + 81ull, 0) == 0) { goto after3; }
+    v9 = 24ull;
+    if (load64(m, v2 + 24ull, 0) != 0xFFFFFFFFFFFFFFFFull) { goto after3; }
+after4:;
+    v4 = 0ull;
+    t0 = session_core_progress_Progress_judge(m, v1, v2, v3, v5, v6);
+    v10 = t0;
+    goto after2;
+after3:;
+    w3 = load64(m, (v8 == 0) ? (v1 + 8ull) : (v2 + v9), 0);
+    session_core_progress_Progress_wait(m, v11, v1, v2, w3, v4);
+    v10 = 1u;
+    v4 = get64(f11 + 8);
+after2:;
+    p72 = held(m, v0, 16);
+    put_held64(p72, 8, m, v0, v4);
+    put_held8(p72, 0, m, v0, v10);
+    m->g0 = v11 + 16ull;
+    return;
+}
+
+static u32 session_core_progress_Progress_judge(struct call *m, u64 v0, u64 v1, u64 v2, u64 v3, u64 v4)
+{
+    u64 v5 = 0;
+    u64 v6 = 0;
+    u32 v7 = 0;
+    u32 v8 = 0;
+    u32 t0 = 0;
+    u64 w0 = 0;
+    u8 *p86 = NULL;
+    u8 *p106 = NULL;
+    u8 *p248 = NULL;
+    u8 *p272 = NULL;
+    u8 *p300 = NULL;
+    v5 = m->g0;
+    if ((v5 ^ 0x8000000000000000ull) < (16ull ^ 0x8000000000000000ull)) { goto after4; }
+    v6 = load64(m, v2, 0);
+    if (v4 == 0) { goto after7; }
+    if (load8(m, v1 + 53ull, 0) & 255u) { goto after7; }
+    t0 = session_core_sending_begin_with(m, v2 + 8ull, (v6 < 259ull) ? v6 : 259ull, v3, v4);
+    if (t0 == 0) { goto after7; }
+    if (v6 < 2ull) { goto after6; }
+    if ((spread32(load8(m, v2 + 9ull, 0), 8) ^ 0x80000000u) > (0xFFFFFFFFu ^ 0x80000000u)) { goto after6; }
+    w0 = session_core_progress_Progress_owed_after(m, v0, v1, v2);
+    v4 = w0;
+    v7 = load8(m, v0 + 79ull, 0);
+    goto after3;
+after7:;
+    w0 = session_core_progress_Progress_owed_after(m, v0, v1, v2);
+    v4 = w0;
+    goto after5;
+after6:;
+    v7 = load8(m, v0 + 79ull, 0);
+    w0 = session_core_progress_Progress_owed_after(m, v0, v1, v2);
+    v4 = w0;
+    if (v7 != 2u) { goto after3; }
+after5:;
+    p86 = held(m, v0, 83);
+    put_held64(p86, 0, m, v0, v4);
+    v7 = 0u;
+    put_held8(p86, 82, m, v0, 0u);
+    goto after2;
+after4:;
+    UNREACHABLE;
+after3:;
+    store64(m, v0, 0, v4);
+    v4 = v0 + 82ull;
+    p106 = held(m, v4, 1);
+    v8 = held8(p106, 0, m, v4) + 1u;
+    put_held8(p106, 0, m, v4, (v8 < 5u) ? v8 : 5u);
+    v8 = (v8 < 255u) ? v8 : 255u;
+    if ((v7 & 255u) != 1u) { goto after11; }
+    if (v6 < 2ull) { goto after1; }
+    v7 = spread32(load8(m, v2 + 9ull, 0), 8);
+    if ((v7 ^ 0x80000000u) > (0xFFFFFFFFu ^ 0x80000000u)) { goto after1; }
+    if (load8(m, v0 + 78ull, 0)) { goto after10; }
+    goto after1;
+after11:;
+    if (v6 < 2ull) { goto after9; }
+    v7 = load8(m, v2 + 9ull, 0);
+after10:;
+    if ((v8 & 255u) > 4u) { goto after1; }
+    if ((v7 & 255u) > 191u) { goto after1; }
+    goto after8;
+after9:;
+    if ((v8 & 255u) >= 5u) { goto after1; }
+after8:;
+    v7 = 1u;
+after2:;
+    if (load8(m, v0 + 81ull, 0) == 0) { goto after13; }
+    v8 = 1u;
+    if (v6 < 2ull) { goto after14; }
+    v8 = (u32)((spread32(load8(m, v2 + 9ull, 0), 8) ^ 0x80000000u) > (0xFFFFFFFFu ^ 0x80000000u));
+after14:;
+    if (v7 | (v8 ^ 1u)) { goto after16; }
+    if (v6 != 4ull) { goto after13; }
+    if (load8(m, v1 + 54ull, 0) & 255u) { goto after15; }
+    goto after13;
+after16:;
+    if ((v7 & v8) != 1u) { goto after13; }
+after15:;
+    if (load8(m, v1 + 55ull, 0) == 0) { goto after18; }
+    p248 = held(m, v1, 16);
+    v2 = held64(p248, 8, m, v1);
+    v1 = (held64(p248, 0, m, v1) >> 2) * 3ull;
+    v2 = (v2 > v1) ? v2 : v1;
+    goto after17;
+after18:;
+    v2 = load64(m, v0 + 8ull, 0);
+after17:;
+    p272 = held(m, v0, 81);
+    put_held64(p272, 0, m, v0, v2);
+    put_held8(p272, 80, m, v0, 1u);
+    put_held8(p272, 76, m, v0, 0u);
+    goto after12;
+after13:;
+    store8(m, v0 + 76ull, 0, 0u);
+after12:;
+    m->g0 = v5;
+    return 2u;
+after1:;
+    p300 = held(m, v0 + 76ull, 7);
+    put_held8(p300, 0, m, v0 + 76ull, 0u);
+    put_held8(p300, 6, m, v0 + 76ull, 0u);
+    m->g0 = v5;
+    return 6u;
+}
+
+static u32 session_core_sending_begin_with(struct call *m, u64 v0, u64 v1, u64 v2, u64 v3)
+{
+    u32 v4 = 0;
+    u32 v5 = 0;
+    u32 v6 = 0;
+    if (v1 >= v3) { goto after3; }
+    return 0u;
+after3:;
+    if (v3) { goto after4; }
+    v4 = 1u;
+    goto after1;
+after4:;
+    v3 = v3 + 0xFFFFFFFFFFFFFFFFull;
+again5:;
+    v5 = load8(m, v0, 0);
+    v6 = load8(m, v2, 0);
+    v4 = (u32)(v5 == v6);
+    if (v5 != v6) { goto after1; }
+    v5 = (u32)(v3 != 0ull);
+    v0 = v0 + 1ull;
+    v2 = v2 + 1ull;
+    v3 = v3 + 0xFFFFFFFFFFFFFFFFull;
+    if (v5 == 0) { goto after1; }
+    goto again5;
+after1:;
+    return v4;
+}
+
+static u64 session_core_progress_Progress_owed_after(struct call *m, u64 v0, u64 v1, u64 v2)
+{
+    u8 *p31 = NULL;
+    u8 *p55 = NULL;
+    if (load64(m, v2, 0) != 0ull) { goto after2; }
+    return load64(m, v0, 0);
+after2:;
+    if (load8(m, v0 + 81ull, 0)) { goto after3; }
+    if (load8(m, v1 + 55ull, 0) == 0) { goto after4; }
+    p31 = held(m, v1, 16);
+    v0 = held64(p31, 8, m, v1);
+    v1 = (held64(p31, 0, m, v1) >> 2) * 3ull;
+    return (v0 > v1) ? v0 : v1;
+after4:;
+    return load64(m, v0 + 8ull, 0);
+after3:;
+    p55 = held(m, v1 + 16ull, 16);
+    v0 = held64(p55, 0, m, v1 + 16ull);
+    return (held64(p55, 8, m, v1 + 16ull) < v0) ? v0 : 0ull;
+}
+
+static void session_core_progress_Progress_miss(struct call *m, u64 v0, u64 v1, u64 v2, u64 v3)
+{
+    u64 v4 = 0;
+    u64 v6 = 0;
+    u32 v5 = 0;
+    u8 *f6 = NULL;
+    u8 *p23 = NULL;
+    v6 = m->g0 - 16ull;
+    f6 = at(m, v6, 16);
+    v4 = v6;
+    m->g0 = v4;
+    session_core_progress_Progress_drop_octets(m, v6, v1, v2, 7u, v3);
+    v5 = get8(f6);
+    p23 = held(m, v0, 16);
+    put_held64(p23, 8, m, v0, get64(f6 + 8));
+    put_held8(p23, 0, m, v0, v5);
+    m->g0 = v6 + 16ull;
+    return;
+}
+
+static void session_core_progress_Progress_echoed(struct call *m, u64 v0, u64 v1, u64 v2, u64 v3, u64 v4, u64 v5, u64
+    v6, u64 v7, u64 v8)
+{
+    u64 v9 = 0;
+    u64 v10 = 0;
+    u64 v11 = 0;
+    u64 v12 = 0;
+    u64 v13 = 0;
+    u64 v15 = 0;
+    u64 v16 = 0;
+    u64 v17 = 0;
+    u64 v18 = 0;
+    u64 v19 = 0;
+    u64 v20 = 0;
+    u64 v21 = 0;
+    u64 v22 = 0;
+    u32 v14 = 0;
+    u32 t0 = 0;
+    u64 w4 = 0;
+    u8 *f10 = NULL;
+    u8 *p48 = NULL;
+    u8 *p200 = NULL;
+    u8 *p201 = NULL;
+    u8 *p309 = NULL;
+    u8 *p324 = NULL;
+    u8 *p366 = NULL;
+    v22 = m->g0 - 64ull;
+    v9 = v22;
+    m->g0 = v9;
+    v10 = v22;
+    f10 = at(m, v10, 64);
+    v11 = load64(m, v1 + 56ull, 0);
+    v12 = (v8 < v11) ? v8 : v11;
+    v13 = v7 + v12;
+    v9 = v8 - v12;
+    if (v5 >= v9) { goto after5; }
+    t0 = session_core_sending_begin_with(m, v13, v9, v4, v5);
+    if (t0 == 0) { goto after4; }
+    p48 = held(m, v2 + 8ull, 32);
+    v9 = held64(p48, 24, m, v2 + 8ull);
+    multi3(m, v10, v9, 0ull, v8, 0ull);
+    v3 = held64(p48, 0, m, v2 + 8ull);
+    v11 = v5 + v11;
+    store64(m, v1 + 56ull, 0, (v11 < v5) ? 0xFFFFFFFFFFFFFFFFull : v11);
+    v5 = v9 * v8;
+    v11 = v3 + v5;
+    w4 = (get64(f10 + 8) != 0ull) ? 0xFFFFFFFFFFFFFFFFull : ((v11 < v5) ? 0xFFFFFFFFFFFFFFFFull : v11);
+    session_core_progress_Progress_wait(m, v10 + 16ull, v1, v2, (v9 == 0) ? v3 : w4, v6);
+    v14 = 1u;
+    v5 = get64(f10 + 24);
+    goto after1;
+after5:;
+    t0 = session_core_sending_begin_with(m, v4, v5, v13, v9);
+    if (t0) { goto after2; }
+after4:;
+    session_core_progress_Progress_miss(m, v10 + 32ull, v1, v2, v6);
+    v14 = 1u;
+    v5 = get64(f10 + 40);
+    goto after1;
+after2:;
+    v15 = v3 + 8ull;
+    v16 = load64(m, v3, 0);
+    v17 = (v16 < 259ull) ? v16 : 259ull;
+    v18 = v15 + v17;
+    v13 = v4 + v9;
+    v11 = 259ull - v17;
+    v19 = v5 - v9;
+    v5 = (v11 < v19) ? v11 : v19;
+    if ((v18 - v13) >= v5) { goto after7; }
+    v20 = v5 & 3ull;
+    v9 = 0ull;
+    if (v5 < 4ull) { goto after8; }
+    v18 = v3 + v17;
+    v21 = v5 & 508ull;
+    v9 = 0ull;
+again9:;
+    v5 = v18 + v9;
+    v11 = v13 + v9;
+    p200 = held(m, v11, 4);
+    p201 = held(m, v5 + 8ull, 4);
+    put_held8(p201, 0, m, v5 + 8ull, held8(p200, 0, m, v11));
+    put_held8(p201, 1, m, v5 + 8ull, held8(p200, 1, m, v11));
+    put_held8(p201, 2, m, v5 + 8ull, held8(p200, 2, m, v11));
+    put_held8(p201, 3, m, v5 + 8ull, held8(p200, 3, m, v11));
+    v9 = v9 + 4ull;
+    if (v21 != v9) { goto again9; }
+    if (v20 == 0) { goto after6; }
+after8:;
+    v11 = 0ull - v20;
+    v5 = ((v9 + v17) + v3) + 8ull;
+    v9 = v4 + ((v9 + v8) - v12);
+again10:;
+    store8(m, v5, 0, load8(m, v9, 0));
+    v5 = v5 + 1ull;
+    v9 = v9 + 1ull;
+    v11 = v11 + 1ull;
+    if (v11 != 0ull) { goto again10; }
+    goto after6;
+after7:;
+    if (v5 == 0) { goto after11; }
+    copy(m, v18, v13, v5);
+after11:;
+    v16 = load64(m, v3, 0);
+after6:;
+    v5 = v19 + v16;
+    store64(m, v3, 0, (v5 < v19) ? 0xFFFFFFFFFFFFFFFFull : v5);
+    p309 = held(m, v1 + 56ull, 25);
+    put_held64(p309, 0, m, v1 + 56ull, v8);
+    put_held8(p309, 20, m, v1 + 56ull, 6u);
+    v14 = 0u;
+    if (held8(p309, 24, m, v1 + 56ull)) { goto after12; }
+    p324 = held(m, v3, 11);
+    v5 = held64(p324, 0, m, v3);
+    if (v5 != ((u64)held8(p324, 10, m, v3) + 4ull)) { goto after12; }
+    t0 = line_core_framing_sum_of(m, v15, v5);
+    v14 = (u32)((t0 & 255u) == 0);
+after12:;
+    store8(m, v1 + 81ull, 0, v14);
+    session_core_progress_Progress_go_on(m, v10 + 48ull, v1, v2, v3, v6, v7, v8);
+    v5 = get64(f10 + 56);
+    v14 = get8(f10 + 48);
+after1:;
+    p366 = held(m, v0, 16);
+    put_held8(p366, 0, m, v0, v14);
+    put_held64(p366, 8, m, v0, v5);
+    m->g0 = v10 + 64ull;
+}
+
+static void session_core_progress_Progress_hear(struct call *m, u64 v0, u64 v1, u64 v2, u64 v3, u64 v4, u64 v5, u32
+    v6, u64 v7, u64 v8, u64 v9)
+{
+    u64 v10 = 0;
+    u64 v11 = 0;
+    u64 v13 = 0;
+    u64 v14 = 0;
+    u64 v15 = 0;
+    u64 v16 = 0;
+    u64 v17 = 0;
+    u64 v18 = 0;
+    u64 v19 = 0;
+    u64 v20 = 0;
+    u64 v21 = 0;
+    u32 v12 = 0;
+    u32 t0 = 0;
+    u8 *f11 = NULL;
+    u8 *p88 = NULL;
+    u8 *p156 = NULL;
+    u8 *p157 = NULL;
+    u8 *p302 = NULL;
+    v21 = m->g0 - 16ull;
+    v10 = v21;
+    m->g0 = v10;
+    v11 = v21;
+    f11 = at(m, v11, 16);
+    if (load64(m, v3, 0) != 0ull) { goto after2; }
+    v12 = 0u;
+    if (load8(m, v2 + 52ull, 0) == 0) { goto after3; }
+    if (load64(m, v2 + 24ull, 0) == 0xFFFFFFFFFFFFFFFFull) { goto after3; }
+    v12 = 2u;
+    v10 = load64(m, v2 + 32ull, 0);
+    v13 = quotient64(((v10 < 0x3333333333333333ull) ? v10 : 0x3333333333333333ull) * 5ull, 3ull);
+    v10 = v7 - load64(m, v1 + 24ull, 0);
+    v10 = ((v10 ^ 0x8000000000000000ull) > (0ull ^ 0x8000000000000000ull)) ? v10 : 0ull;
+    if (v13 <= v10) { goto after3; }
+    v12 = (u32)(load64(m, v1 + 48ull, 0) < (v13 - v10));
+after3:;
+    store8(m, v1 + 79ull, 0, v12);
+after2:;
+    v10 = v1 + 80ull;
+    p88 = held(m, v10, 1);
+    put_held8(p88, 0, m, v10, v6 | ((u32)(held8(p88, 0, m, v10) != 0u)));
+    v14 = v3 + 8ull;
+    v15 = load64(m, v3, 0);
+    v16 = (v15 < 259ull) ? v15 : 259ull;
+    v13 = v14 + v16;
+    v10 = 259ull - v16;
+    v10 = (v10 < v5) ? v10 : v5;
+    if ((v13 - v4) >= v10) { goto after5; }
+    v17 = v10 & 3ull;
+    v13 = 0ull;
+    if (v10 < 4ull) { goto after6; }
+    v18 = v3 + v16;
+    v19 = v10 & 508ull;
+    v13 = 0ull;
+again7:;
+    v10 = v18 + v13;
+    v20 = v4 + v13;
+    p156 = held(m, v20, 4);
+    p157 = held(m, v10 + 8ull, 4);
+    put_held8(p157, 0, m, v10 + 8ull, held8(p156, 0, m, v20));
+    put_held8(p157, 1, m, v10 + 8ull, held8(p156, 1, m, v20));
+    put_held8(p157, 2, m, v10 + 8ull, held8(p156, 2, m, v20));
+    put_held8(p157, 3, m, v10 + 8ull, held8(p156, 3, m, v20));
+    v13 = v13 + 4ull;
+    if (v19 != v13) { goto again7; }
+    if (v17 == 0) { goto after4; }
+after6:;
+    v20 = 0ull - v17;
+    v10 = v4 + v13;
+    v13 = ((v13 + v16) + v3) + 8ull;
+again8:;
+    store8(m, v13, 0, load8(m, v10, 0));
+    v13 = v13 + 1ull;
+    v10 = v10 + 1ull;
+    v20 = v20 + 1ull;
+    if (v20 != 0ull) { goto again8; }
+    goto after4;
+after5:;
+    if (v10 == 0) { goto after9; }
+    copy(m, v13, v4, v10);
+after9:;
+    v15 = load64(m, v3, 0);
+after4:;
+    v10 = v5 + v15;
+    v10 = (v10 < v5) ? 0xFFFFFFFFFFFFFFFFull : v10;
+    store64(m, v3, 0, v10);
+    v6 = 0u;
+    if (load8(m, v1 + 80ull, 0)) { goto after10; }
+    if (v10 != ((u64)load8(m, v3 + 10ull, 0) + 4ull)) { goto after10; }
+    t0 = line_core_framing_sum_of(m, v14, v10);
+    v6 = (u32)((t0 & 255u) == 0);
+after10:;
+    store8(m, v1 + 81ull, 0, v6);
+    session_core_progress_Progress_go_on(m, v11, v1, v2, v3, v7, v8, v9);
+    v6 = get8(f11);
+    p302 = held(m, v0, 16);
+    put_held64(p302, 8, m, v0, get64(f11 + 8));
+    put_held8(p302, 0, m, v0, v6);
+    m->g0 = v11 + 16ull;
+    return;
+}
+
+static u32 line_core_framing_sum_of(struct call *m, u64 v0, u64 v1)
+{
+    u64 v2 = 0;
+    u32 v3 = 0;
+    u32 t0 = 0;
+    u32 t4 = 0;
+    u8 *p35 = NULL;
+    u64 n5;
+    const u8 *q5;
+    u64 n6;
+    const u8 *q6;
+    if (v1) { goto after2; }
+    return 0u;
+after2:;
+    v2 = v1 & 7ull;
+    v3 = 0u;
+    if (v1 < 8ull) { goto after4; }
+    v1 = v1 & 0xFFFFFFFFFFFFFFF8ull;
+    v3 = 0u;
+    n5 = v1 - 8ull;
+    q5 = span(m, v0, n5, 8, 8);
+    if (q5) {
+        n5 /= 8;
+        v3 ^= exclusive_or(q5, (n5 + 1u) * 8);
+        v0 = v0 + 8ull + 8ull * n5;
+        v1 = v1 - 8ull + 0xFFFFFFFFFFFFFFF8ull * n5;
+    } else {
+again5:;
+        p35 = held(m, v0, 8);
+        t4 = held8(p35, 3, m, v0) ^ (held8(p35, 2, m, v0) ^ (held8(p35, 1, m, v0) ^ (held8(p35, 0, m, v0) ^ v3)));
+        t0 = held8(p35, 7, m, v0) ^ (held8(p35, 6, m, v0) ^ (held8(p35, 5, m, v0) ^ (held8(p35, 4, m, v0) ^ t4)));
+        v3 = t0;
+        v0 = v0 + 8ull;
+        v1 = v1 + 0xFFFFFFFFFFFFFFF8ull;
+        if (v1 != 0ull) { goto again5; }
+    }
+    if (v2 == 0) { goto after3; }
+after4:;
+    n6 = v2 - 1ull;
+    q6 = span(m, v0, n6, 1, 1);
+    if (q6) {
+        v3 ^= exclusive_or(q6, (n6 + 1u) * 1);
+        v0 = v0 + 1ull + 1ull * n6;
+        v2 = v2 - 1ull + 0xFFFFFFFFFFFFFFFFull * n6;
+    } else {
+again6:;
+        v3 = load8(m, v0, 0) ^ v3;
+        v0 = v0 + 1ull;
+        v2 = v2 + 0xFFFFFFFFFFFFFFFFull;
+        if (v2 != 0ull) { goto again6; }
+    }
+after3:;
+    return v3;
 }
 
 static void c_lent_kept_check_CCheck_fitting(struct call *m, u64 v0, u64 v1)
@@ -6279,61 +8078,6 @@ after1:;
     UNREACHABLE;
 }
 
-static u32 line_core_framing_sum_of(struct call *m, u64 v0, u64 v1)
-{
-    u64 v2 = 0;
-    u32 v3 = 0;
-    u32 t0 = 0;
-    u32 t4 = 0;
-    u8 *p35 = NULL;
-    u64 n5;
-    const u8 *q5;
-    u64 n6;
-    const u8 *q6;
-    if (v1) { goto after2; }
-    return 0u;
-after2:;
-    v2 = v1 & 7ull;
-    v3 = 0u;
-    if (v1 < 8ull) { goto after4; }
-    v1 = v1 & 0xFFFFFFFFFFFFFFF8ull;
-    v3 = 0u;
-    n5 = v1 - 8ull;
-    q5 = span(m, v0, n5, 8, 8);
-    if (q5) {
-        n5 /= 8;
-        v3 ^= exclusive_or(q5, (n5 + 1u) * 8);
-        v0 = v0 + 8ull + 8ull * n5;
-        v1 = v1 - 8ull + 0xFFFFFFFFFFFFFFF8ull * n5;
-    } else {
-again5:;
-        p35 = held(m, v0, 8);
-        t4 = held8(p35, 3, m, v0) ^ (held8(p35, 2, m, v0) ^ (held8(p35, 1, m, v0) ^ (held8(p35, 0, m, v0) ^ v3)));
-        t0 = held8(p35, 7, m, v0) ^ (held8(p35, 6, m, v0) ^ (held8(p35, 5, m, v0) ^ (held8(p35, 4, m, v0) ^ t4)));
-        v3 = t0;
-        v0 = v0 + 8ull;
-        v1 = v1 + 0xFFFFFFFFFFFFFFF8ull;
-        if (v1 != 0ull) { goto again5; }
-    }
-    if (v2 == 0) { goto after3; }
-after4:;
-    n6 = v2 - 1ull;
-    q6 = span(m, v0, n6, 1, 1);
-    if (q6) {
-        v3 ^= exclusive_or(q6, (n6 + 1u) * 1);
-        v0 = v0 + 1ull + 1ull * n6;
-        v2 = v2 - 1ull + 0xFFFFFFFFFFFFFFFFull * n6;
-    } else {
-again6:;
-        v3 = load8(m, v0, 0) ^ v3;
-        v0 = v0 + 1ull;
-        v2 = v2 + 0xFFFFFFFFFFFFFFFFull;
-        if (v2 != 0ull) { goto again6; }
-    }
-after3:;
-    return v3;
-}
-
 static void c_lent_kept_judge_CWatched_of(struct call *m, u64 v0, u64 v1)
 {
     u64 v2 = 0;
@@ -6368,7 +8112,7 @@ static void c_lent_kept_judge_CWatched_of(struct call *m, u64 v0, u64 v1)
     u8 *p41 = NULL;
     u8 *p135 = NULL;
     u8 *p191 = NULL;
-    u8 *p321 = NULL;
+    u8 *p326 = NULL;
     v29 = m->g0 - 256ull;
     f29 = at(m, v29, 256);
     v2 = v29;
@@ -6547,32 +8291,33 @@ after3:;
 after2:;
     v27 = v20;
 after1:;
-    p321 = held(m, v0, 288);
-    put_held8(p321, 28, m, v0, (u32)v3);
-    put_held8(p321, 27, m, v0, v27);
-    put_held8(p321, 26, m, v0, v26);
-    put_held8(p321, 25, m, v0, v25);
-    put_held8(p321, 24, m, v0, v24);
-    put_held8(p321, 23, m, v0, v28);
-    put_held8(p321, 20, m, v0, v11);
-    put_held8(p321, 19, m, v0, v12);
-    put_held8(p321, 18, m, v0, v13);
-    put_held8(p321, 17, m, v0, v14);
-    put_held8(p321, 16, m, v0, v15);
-    put_held8(p321, 15, m, v0, v5);
-    put_held8(p321, 14, m, v0, v8);
-    put_held8(p321, 13, m, v0, v6);
-    put_held8(p321, 12, m, v0, v4);
-    put_held8(p321, 11, m, v0, v16);
-    put_held8(p321, 10, m, v0, v17);
-    put_held8(p321, 9, m, v0, v18);
-    put_held8(p321, 8, m, v0, v19);
-    put_held64(p321, 0, m, v0, v7);
-    put_held8(p321, 22, m, v0, v9 & 1u);
-    put_held8(p321, 21, m, v0, v10 & 1u);
-    copy(m, v0 + 29ull, v29 + 2ull, 254ull);
-    put_held8(p321, 287, m, v0, 0u);
-    put_held32(p321, 283, m, v0, 0u);
+    v23 = load8(m, v1 + 296ull, 0);
+    p326 = held(m, v0, 288);
+    put_held8(p326, 29, m, v0, (u32)v3);
+    put_held8(p326, 28, m, v0, v23);
+    put_held8(p326, 27, m, v0, v27);
+    put_held8(p326, 26, m, v0, v26);
+    put_held8(p326, 25, m, v0, v25);
+    put_held8(p326, 24, m, v0, v24);
+    put_held8(p326, 23, m, v0, v28);
+    put_held8(p326, 22, m, v0, v9 & 1u);
+    put_held8(p326, 21, m, v0, v10 & 1u);
+    put_held8(p326, 20, m, v0, v11);
+    put_held8(p326, 19, m, v0, v12);
+    put_held8(p326, 18, m, v0, v13);
+    put_held8(p326, 17, m, v0, v14);
+    put_held8(p326, 16, m, v0, v15);
+    put_held8(p326, 15, m, v0, v5);
+    put_held8(p326, 14, m, v0, v8);
+    put_held8(p326, 13, m, v0, v6);
+    put_held8(p326, 12, m, v0, v4);
+    put_held8(p326, 11, m, v0, v16);
+    put_held8(p326, 10, m, v0, v17);
+    put_held8(p326, 9, m, v0, v18);
+    put_held8(p326, 8, m, v0, v19);
+    put_held64(p326, 0, m, v0, v7);
+    copy(m, v0 + 30ull, v29 + 2ull, 254ull);
+    put_held32(p326, 284, m, v0, 0u);
     m->g0 = v29 + 256ull;
 }
 
@@ -6617,7 +8362,8 @@ static void c_lent_kept_judge_CWatched_watched(struct call *m, u64 v0, u64 v1)
     u8 *f37 = NULL;
     u8 *p18 = NULL;
     u8 *p167 = NULL;
-    u8 *p440 = NULL;
+    u8 *p430 = NULL;
+    u8 *p445 = NULL;
     v37 = m->g0 - 800ull;
     f37 = at(m, v37, 800);
     v2 = v37;
@@ -6808,43 +8554,48 @@ after30:;
     v34 = load8(m, v22, 0);
     v35 = load8(m, v23, 0);
     v36 = load8(m, v24, 0);
-    v5 = load8(m, v1 + 28ull, 0);
+    v5 = load8(m, v1 + 29ull, 0);
     memset(f37 + 536, (int)(0u & 255u), 256);
     v3 = (u64)((v5 < 254u) ? v5 : 254u);
     if (v3 == 0) { goto after35; }
-    copy(m, v37 + 536ull, v1 + 29ull, v3);
+    copy(m, v37 + 536ull, v1 + 30ull, v3);
 after35:;
     put64(f37 + 792, v3);
     copy(m, v37 + 8ull, v37 + 536ull, 264ull);
-    v1 = load64(m, v1, 0);
+    p430 = held(m, v1, 29);
+    v5 = held8(p430, 28, m, v1);
+    v1 = held64(p430, 0, m, v1);
     copy(m, v37 + 272ull, v37 + 8ull, 264ull);
-    p440 = held(m, v0, 296);
-    put_held16(p440, 22, m, v0, 0u);
-    put_held8(p440, 21, m, v0, v27);
-    put_held8(p440, 20, m, v0, v26);
-    put_held8(p440, 19, m, v0, v25);
-    put_held8(p440, 18, m, v0, v12);
-    put_held8(p440, 17, m, v0, v4);
-    put_held8(p440, 16, m, v0, (u32)((v13 & 255u) != 0u));
-    put_held8(p440, 15, m, v0, (u32)((v14 & 255u) != 0u));
-    put_held8(p440, 14, m, v0, v28);
-    put_held8(p440, 13, m, v0, v29);
-    put_held8(p440, 12, m, v0, v30);
-    put_held8(p440, 11, m, v0, v31);
-    put_held8(p440, 10, m, v0, v32);
-    put_held8(p440, 9, m, v0, v11);
-    put_held8(p440, 8, m, v0, v9);
-    put_held8(p440, 7, m, v0, v10);
-    put_held8(p440, 6, m, v0, v8);
-    put_held8(p440, 5, m, v0, v7);
-    put_held8(p440, 4, m, v0, v6);
+    p445 = held(m, v0, 304);
+    put_held16(p445, 22, m, v0, 0u);
+    put_held8(p445, 21, m, v0, v27);
+    put_held8(p445, 20, m, v0, v26);
+    put_held8(p445, 19, m, v0, v25);
+    put_held8(p445, 18, m, v0, v12);
+    put_held8(p445, 17, m, v0, v4);
+    put_held8(p445, 16, m, v0, (u32)((v13 & 255u) != 0u));
+    put_held8(p445, 15, m, v0, (u32)((v14 & 255u) != 0u));
+    put_held8(p445, 14, m, v0, v28);
+    put_held8(p445, 13, m, v0, v29);
+    put_held8(p445, 12, m, v0, v30);
+    put_held8(p445, 11, m, v0, v31);
+    put_held8(p445, 10, m, v0, v32);
+    put_held8(p445, 9, m, v0, v11);
+    put_held8(p445, 8, m, v0, v9);
+    put_held8(p445, 7, m, v0, v10);
+    put_held8(p445, 6, m, v0, v8);
+    put_held8(p445, 5, m, v0, v7);
+    put_held8(p445, 4, m, v0, v6);
     v4 = v33 & 255u;
-    put_held8(p440, 3, m, v0, v4 ? ((v4 == 1u) ? 1u : 2u) : 0u);
-    put_held8(p440, 2, m, v0, (u32)((v34 & 255u) != 0u));
-    put_held8(p440, 1, m, v0, (u32)((v35 & 255u) != 0u));
-    put_held8(p440, 0, m, v0, (u32)((v36 & 255u) != 0u));
+    put_held8(p445, 3, m, v0, v4 ? ((v4 == 1u) ? 1u : 2u) : 0u);
+    put_held8(p445, 2, m, v0, (u32)((v34 & 255u) != 0u));
+    put_held8(p445, 1, m, v0, (u32)((v35 & 255u) != 0u));
+    put_held8(p445, 0, m, v0, (u32)((v36 & 255u) != 0u));
     copy(m, v0 + 24ull, v37 + 272ull, 264ull);
-    put_held64(p440, 288, m, v0, v1);
+    put_held32(p445, 297, m, v0, 0u);
+    put_held8(p445, 296, m, v0, v5 ? ((v5 == 1u) ? 1u : 2u) : 0u);
+    put_held64(p445, 288, m, v0, v1);
+    put_held32(p445, 300, m, v0, 0u);
     m->g0 = v37 + 800ull;
     return;
 }
@@ -7028,13 +8779,13 @@ static void judge_core_monitor_Watched_sent(struct call *m, u64 v0, u64 v1, u32 
     u64 v5 = 0;
     u64 v6 = 0;
     u64 v7 = 0;
-    u64 v8 = 0;
+    u64 v11 = 0;
     u64 v50 = 0;
-    u64 v53 = 0;
-    u64 v54 = 0;
+    u64 v121 = 0;
+    u64 v122 = 0;
+    u32 v8 = 0;
     u32 v9 = 0;
     u32 v10 = 0;
-    u32 v11 = 0;
     u32 v12 = 0;
     u32 v13 = 0;
     u32 v14 = 0;
@@ -7075,23 +8826,93 @@ static void judge_core_monitor_Watched_sent(struct call *m, u64 v0, u64 v1, u32 
     u32 v49 = 0;
     u32 v51 = 0;
     u32 v52 = 0;
+    u32 v53 = 0;
+    u32 v54 = 0;
+    u32 v55 = 0;
+    u32 v56 = 0;
+    u32 v57 = 0;
+    u32 v58 = 0;
+    u32 v59 = 0;
+    u32 v60 = 0;
+    u32 v61 = 0;
+    u32 v62 = 0;
+    u32 v63 = 0;
+    u32 v64 = 0;
+    u32 v65 = 0;
+    u32 v66 = 0;
+    u32 v67 = 0;
+    u32 v68 = 0;
+    u32 v69 = 0;
+    u32 v70 = 0;
+    u32 v71 = 0;
+    u32 v72 = 0;
+    u32 v73 = 0;
+    u32 v74 = 0;
+    u32 v75 = 0;
+    u32 v76 = 0;
+    u32 v77 = 0;
+    u32 v78 = 0;
+    u32 v79 = 0;
+    u32 v80 = 0;
+    u32 v81 = 0;
+    u32 v82 = 0;
+    u32 v83 = 0;
+    u32 v84 = 0;
+    u32 v85 = 0;
+    u32 v86 = 0;
+    u32 v87 = 0;
+    u32 v88 = 0;
+    u32 v89 = 0;
+    u32 v90 = 0;
+    u32 v91 = 0;
+    u32 v92 = 0;
+    u32 v93 = 0;
+    u32 v94 = 0;
+    u32 v95 = 0;
+    u32 v96 = 0;
+    u32 v97 = 0;
+    u32 v98 = 0;
+    u32 v99 = 0;
+    u32 v100 = 0;
+    u32 v101 = 0;
+    u32 v102 = 0;
+    u32 v103 = 0;
+    u32 v104 = 0;
+    u32 v105 = 0;
+    u32 v106 = 0;
+    u32 v107 = 0;
+    u32 v108 = 0;
+    u32 v109 = 0;
+    u32 v110 = 0;
+    u32 v111 = 0;
+    u32 v112 = 0;
+    u32 v113 = 0;
+    u32 v114 = 0;
+    u32 v115 = 0;
+    u32 v116 = 0;
+    u32 v117 = 0;
+    u32 v118 = 0;
+    u32 v119 = 0;
+    u32 v120 = 0;
     u32 t2 = 0;
-    u8 *f54 = NULL;
+    u64 w6 = 0;
+    u64 w7 = 0;
+    u8 *f122 = NULL;
     u8 *p38 = NULL;
-    u8 *p48 = NULL;
-    u8 *p635 = NULL;
-    u8 *p660 = NULL;
-    u8 *p677 = NULL;
-    u8 *p1704 = NULL;
-    u8 *p1705 = NULL;
-    u8 *p1859 = NULL;
-    v54 = m->g0 - 128ull;
-    f54 = at(m, v54, 128);
-    v5 = v54;
+    u8 *p63 = NULL;
+    u8 *p1201 = NULL;
+    u8 *p1229 = NULL;
+    u8 *p2170 = NULL;
+    u8 *p2256 = NULL;
+    u8 *p2257 = NULL;
+    u8 *p2411 = NULL;
+    v122 = m->g0 - 112ull;
+    f122 = at(m, v122, 112);
+    v5 = v122;
     m->g0 = v5;
-    put64(f54 + 23, 0ull);
-    put64(f54 + 16, 0ull);
-    put64(f54 + 8, 0ull);
+    put64(f122 + 23, 0ull);
+    put64(f122 + 16, 0ull);
+    put64(f122 + 8, 0ull);
     switch ((u32)(u64)load8(m, v3, 0)) {
         case 1: goto after6;
         case 2: goto after5;
@@ -7102,51 +8923,41 @@ after7:;
     p38 = held(m, v3 + 9ull, 23);
     v6 = held64(p38, 15, m, v3 + 9ull);
     v7 = held64(p38, 7, m, v3 + 9ull);
-    p48 = held(m, v1, 288);
-    v8 = held64(p48, 280, m, v1);
-    v9 = held8(p38, 0, m, v3 + 9ull);
-    v10 = held8(p38, 1, m, v3 + 9ull);
-    v11 = held8(p38, 2, m, v3 + 9ull);
-    v12 = held8(p48, 17, m, v1);
-    v13 = held8(p48, 18, m, v1);
-    v14 = held8(p48, 19, m, v1);
-    v2 = held8(p48, 20, m, v1);
-    v15 = held8(p48, 16, m, v1);
-    v16 = held8(p48, 15, m, v1);
-    v17 = held8(p48, 14, m, v1);
-    v18 = held8(p48, 13, m, v1);
-    v19 = held16(p48, 11, m, v1);
-    v20 = held8(p48, 10, m, v1);
-    v21 = held8(p48, 9, m, v1);
-    v22 = held8(p48, 8, m, v1);
-    v23 = held8(p48, 7, m, v1);
-    v24 = held8(p48, 6, m, v1);
-    v25 = held8(p48, 5, m, v1);
-    v26 = held8(p48, 4, m, v1);
-    v27 = held8(p48, 3, m, v1);
-    v28 = held8(p48, 2, m, v1);
-    v29 = held8(p48, 1, m, v1);
-    v30 = held8(p48, 0, m, v1);
-    v31 = held8(p48, 21, m, v1);
-    put8(f54 + 127, v31);
-    put8(f54 + 126, v2);
-    put8(f54 + 125, v14);
-    put8(f54 + 124, v13);
-    put8(f54 + 123, v12);
-    put8(f54 + 122, v11);
-    put8(f54 + 121, v10);
-    put8(f54 + 120, v9);
-    put64(f54 + 96, 0ull);
-    put64(f54 + 104, 0ull);
-    put64(f54 + 109, 0ull);
-    put64(f54 + 56, 0ull);
-    put64(f54 + 64, 0ull);
-    put32(f54 + 71, 0u);
-    put64(f54 + 32, 0ull);
-    put64(f54 + 40, 0ull);
-    put32(f54 + 47, 0u);
-    judge_core_end_End_got_whole(m, v54 + 96ull, v1, v54 + 123ull);
-    v2 = 0u;
+    v8 = held8(p38, 2, m, v3 + 9ull);
+    v9 = held8(p38, 1, m, v3 + 9ull);
+    v10 = held8(p38, 0, m, v3 + 9ull);
+    p63 = held(m, v1, 288);
+    v11 = held64(p63, 280, m, v1);
+    v12 = held8(p63, 17, m, v1);
+    v13 = held8(p63, 18, m, v1);
+    v14 = held8(p63, 19, m, v1);
+    v15 = held8(p63, 20, m, v1);
+    v16 = held8(p63, 16, m, v1);
+    v17 = held8(p63, 15, m, v1);
+    v18 = held8(p63, 14, m, v1);
+    v19 = held8(p63, 13, m, v1);
+    v20 = held16(p63, 11, m, v1);
+    v21 = held8(p63, 10, m, v1);
+    v22 = held8(p63, 9, m, v1);
+    v23 = held8(p63, 8, m, v1);
+    v24 = held8(p63, 7, m, v1);
+    v25 = held8(p63, 6, m, v1);
+    v26 = held8(p63, 5, m, v1);
+    v27 = held8(p63, 4, m, v1);
+    v28 = held8(p63, 3, m, v1);
+    v29 = held8(p63, 2, m, v1);
+    v30 = held8(p63, 1, m, v1);
+    v2 = held8(p63, 0, m, v1);
+    v31 = held8(p63, 21, m, v1);
+    put8(f122 + 64, v31);
+    put8(f122 + 63, v15);
+    put8(f122 + 62, v14);
+    put8(f122 + 61, v13);
+    put8(f122 + 60, v12);
+    put64(f122 + 32, 0ull);
+    put64(f122 + 40, 0ull);
+    put64(f122 + 45, 0ull);
+    judge_core_end_End_got_whole(m, v122 + 32ull, v1, v122 + 60ull);
     v32 = 0u;
     v33 = 0u;
     v34 = 0u;
@@ -7166,14 +8977,13 @@ after7:;
     v48 = 0u;
     v49 = 0u;
     switch ((u32)(((u64)v12) & 255ull)) {
-        case 1: goto after11;
-        case 2: goto after10;
-        case 3: goto after9;
-        default: goto after3;
+        case 1: goto after14;
+        case 2: goto after13;
+        case 3: goto after12;
+        default: goto after9;
     }
-after11:;
-    if ((v13 & 255u) == 0) { goto after12; }
-    v2 = 0u;
+after14:;
+    if ((v13 & 255u) == 0) { goto after15; }
     v32 = 0u;
     v33 = 0u;
     v34 = 0u;
@@ -7192,635 +9002,866 @@ after11:;
     v47 = 0u;
     v48 = 0u;
     v49 = 0u;
-    goto after3;
-after12:;
-    v45 = 1u;
-    if ((v16 & 1u) == 0) { goto after13; }
-    v49 = 5u;
-    v2 = v30;
-    v32 = v29;
-    v33 = v28;
-    v34 = v27;
-    v35 = v26;
-    v36 = v25;
-    v37 = v24;
-    v38 = v23;
-    v39 = v22;
-    v40 = v21;
-    v41 = v20;
-    v42 = v19;
-    v43 = v18;
-    v44 = v17;
-    v46 = v15;
-    v47 = 1u;
-    v48 = 1u;
-    goto after3;
-after13:;
-    v33 = (u32)((v14 & 255u) == 0);
-    v49 = 12u;
-    v47 = 1u;
-    v34 = 0u;
-    v2 = v30;
-    v32 = v29;
-    v35 = v26;
-    v36 = v25;
-    v37 = v24;
-    v38 = v23;
-    v39 = v22;
-    v40 = v21;
-    v41 = v20;
-    v42 = v19;
-    v43 = v18;
-    v44 = v17;
-    v45 = 0u;
-    goto after4;
-after10:;
-    if ((v26 & 255u) == 0) { goto after15; }
-    switch (v25) {
-        case 1: goto after18;
-        case 2: goto after17;
-        case 3: goto after16;
-        default: goto after19;
-    }
-after19:;
-    if ((v13 & 255u) != 3u) { goto after15; }
-    if ((v14 & 255u) != 1u) { goto after15; }
-    if ((v31 & 255u) != (v24 & 255u)) { goto after15; }
-    v41 = 0u;
-    goto after14;
-after18:;
-    if ((v13 & 255u) != 3u) { goto after15; }
-    if ((v14 & 255u) != 3u) { goto after15; }
-    if ((v31 & 255u) != (v24 & 255u)) { goto after15; }
-    v41 = 0u;
-    goto after14;
-after17:;
-    if ((v13 & 255u) != 3u) { goto after15; }
-    if ((v14 & 255u) != 2u) { goto after15; }
-    v41 = 0u;
-    goto after14;
-after16:;
-    if ((v13 & 255u) != 3u) { goto after15; }
-    if (v14 & 255u) { goto after15; }
-    v41 = 0u;
-    goto after14;
+    goto after9;
 after15:;
-    v41 = v20;
-after14:;
-    v47 = 1u;
-    if ((v16 & 1u) == 0) { goto after20; }
-    v49 = (v26 & 255u) ? 6u : 4u;
-    v2 = v30;
-    v32 = v29;
-    v33 = v28;
-    v34 = v27;
-    v35 = v26;
-    v36 = v25;
-    v37 = v24;
-    v38 = v23;
-    v39 = v22;
-    v40 = v21;
-    v42 = v19;
-    v43 = v18;
-    v44 = v17;
-    v45 = v16;
-    goto after4;
-after20:;
-    v2 = v13 & 255u;
-    v33 = v2 ? v28 : ((u32)((v14 & 255u) == 0));
-    v45 = 0u;
-    v34 = v2 ? v27 : 0u;
-    v49 = 12u;
-    v47 = 1u;
-    v2 = v30;
-    v32 = v29;
-    v35 = v26;
-    v36 = v25;
-    v37 = v24;
-    v38 = v23;
-    v39 = v22;
-    v40 = v21;
-    v41 = v20;
-    v42 = v19;
-    v43 = v18;
-    v44 = v17;
-    goto after4;
-after9:;
     v48 = 1u;
-    v49 = (v16 & 1u) ? ((v26 & 255u) ? 6u : 4u) : 12u;
-    v2 = v30;
-    v32 = v29;
-    v33 = v28;
-    v34 = v27;
-    v35 = v26;
-    v36 = v25;
-    v37 = v24;
-    v38 = v23;
-    v39 = v22;
-    v40 = v21;
-    v41 = v20;
-    v42 = v19;
-    v43 = v18;
-    v44 = v17;
-    v45 = v16;
-    v46 = v15;
-    v47 = 1u;
+    if ((v17 & 1u) == 0) { goto after16; }
+    v49 = 5u;
+    v32 = v2;
+    v33 = v30;
+    v34 = v29;
+    v35 = v28;
+    v36 = v27;
+    v37 = v26;
+    v38 = v25;
+    v39 = v24;
+    v40 = v23;
+    v41 = v22;
+    v42 = v21;
+    v43 = v20;
+    v44 = v19;
+    v45 = v18;
+    v46 = 1u;
+    goto after10;
+after16:;
+    v34 = (u32)((v14 & 255u) == 0);
+    v49 = 12u;
+    v35 = 0u;
+    v32 = v2;
+    v33 = v30;
+    v36 = v27;
+    v37 = v26;
+    v38 = v25;
+    v39 = v24;
+    v40 = v23;
+    v41 = v22;
+    v42 = v21;
+    v43 = v20;
+    v44 = v19;
+    v45 = v18;
+    v46 = 0u;
+    goto after10;
+after13:;
+    if ((v27 & 255u) == 0) { goto after18; }
+    switch (v26) {
+        case 1: goto after21;
+        case 2: goto after20;
+        case 3: goto after19;
+        default: goto after22;
+    }
+after22:;
+    if ((v13 & 255u) != 3u) { goto after18; }
+    if ((v14 & 255u) != 1u) { goto after18; }
+    if ((v31 & 255u) != (v25 & 255u)) { goto after18; }
+    v42 = 0u;
+    goto after17;
+after21:;
+    if ((v13 & 255u) != 3u) { goto after18; }
+    if ((v14 & 255u) != 3u) { goto after18; }
+    if ((v31 & 255u) != (v25 & 255u)) { goto after18; }
+    v42 = 0u;
+    goto after17;
+after20:;
+    if ((v13 & 255u) != 3u) { goto after18; }
+    if ((v14 & 255u) != 2u) { goto after18; }
+    v42 = 0u;
+    goto after17;
+after19:;
+    if ((v13 & 255u) != 3u) { goto after18; }
+    if (v14 & 255u) { goto after18; }
+    v42 = 0u;
+    goto after17;
+after18:;
+    v42 = v21;
+after17:;
+    v48 = 1u;
+    if ((v17 & 1u) == 0) { goto after23; }
+    v49 = (v27 & 255u) ? 6u : 4u;
+    v32 = v2;
+    v33 = v30;
+    v34 = v29;
+    v35 = v28;
+    v36 = v27;
+    v37 = v26;
+    v38 = v25;
+    v39 = v24;
+    v40 = v23;
+    v41 = v22;
+    goto after11;
+after23:;
+    v13 = v13 & 255u;
+    v34 = v13 ? v29 : ((u32)((v14 & 255u) == 0));
+    v46 = 0u;
+    v35 = v13 ? v28 : 0u;
+    v49 = 12u;
+    v32 = v2;
+    v33 = v30;
+    v36 = v27;
+    v37 = v26;
+    v38 = v25;
+    v39 = v24;
+    v40 = v23;
+    v41 = v22;
+    v42 = v21;
+    v43 = v20;
+    v44 = v19;
+    v45 = v18;
+    goto after10;
+after12:;
+    v48 = 1u;
+    v49 = (v17 & 1u) ? ((v27 & 255u) ? 6u : 4u) : 12u;
+    v32 = v2;
+    v33 = v30;
+    v34 = v29;
+    v35 = v28;
+    v36 = v27;
+    v37 = v26;
+    v38 = v25;
+    v39 = v24;
+    v40 = v23;
+    v41 = v22;
+    v42 = v21;
+after11:;
+    v43 = v20;
+    v44 = v19;
+    v45 = v18;
+    v46 = v17;
+after10:;
+    v47 = v16;
+after9:;
+    v50 = v1 + 24ull;
+    v51 = 1u;
+    v52 = get8(f122 + 32);
+    if (v52 == 1u) { goto after25; }
+    v31 = 0u;
+    v53 = 0u;
+    v54 = 0u;
+    v55 = 0u;
+    v56 = 0u;
+    v57 = 0u;
+    v58 = 0u;
+    v59 = 0u;
+    v60 = 0u;
+    v61 = 0u;
+    v62 = 0u;
+    v63 = 0u;
+    v64 = 0u;
+    v65 = 0u;
+    v66 = 0u;
+    v67 = 0u;
+    v68 = 0u;
+    v69 = v47;
+    v70 = v46;
+    v71 = v45;
+    v72 = v44;
+    v73 = v43;
+    v74 = v42;
+    v75 = v41;
+    v76 = v40;
+    v77 = v39;
+    v78 = v38;
+    v79 = v37;
+    v80 = v36;
+    v81 = v35;
+    v82 = v34;
+    v83 = v33;
+    v84 = v32;
+    v85 = v49;
+    v86 = 0u;
+    v87 = 0u;
+    v88 = 0u;
+    v89 = 0u;
+    v90 = 0u;
+    v91 = 0u;
+    v92 = 0u;
+    v93 = 0u;
+    v94 = 0u;
+    v95 = 0u;
+    v96 = 0u;
+    v97 = 0u;
+    v98 = 0u;
+    v99 = 0u;
+    v100 = 0u;
+    v101 = 0u;
+    v102 = 0u;
+    v103 = 0u;
+    v104 = 0u;
+    v13 = 0u;
+    v14 = 0u;
+    v15 = 0u;
+    v105 = 0u;
+    v106 = 0u;
+    v107 = 0u;
+    v108 = 0u;
+    v109 = 0u;
+    v110 = 0u;
+    v111 = 0u;
+    v112 = 0u;
+    v113 = 0u;
+    v114 = 0u;
+    v115 = 0u;
+    v116 = 0u;
+    v117 = 0u;
+    v118 = 0u;
+    v119 = 0u;
+    v120 = 0u;
+    if (v48) { goto after24; }
+    goto after3;
+after25:;
+    v16 = get8(f122 + 49);
+    v17 = get8(f122 + 48);
+    v18 = get8(f122 + 47);
+    v19 = get8(f122 + 46);
+    v20 = get16(f122 + 44);
+    v21 = get8(f122 + 43);
+    v22 = get8(f122 + 42);
+    v23 = get8(f122 + 41);
+    v24 = get8(f122 + 40);
+    v25 = get8(f122 + 39);
+    v26 = get8(f122 + 38);
+    v27 = get8(f122 + 37);
+    v28 = get8(f122 + 36);
+    v29 = get8(f122 + 35);
+    v30 = get8(f122 + 34);
+    v2 = get8(f122 + 33);
+    v13 = get8(f122 + 50);
+    v14 = get8(f122 + 51);
+    v15 = get8(f122 + 52);
+    put64(f122 + 88, 0ull);
+    put64(f122 + 96, 0ull);
+    v31 = 0u;
+    put16(f122 + 104, 0u);
+    put8(f122 + 73, v15);
+    put8(f122 + 72, v14);
+    put8(f122 + 71, v13);
+    put8(f122 + 70, v8);
+    put8(f122 + 69, v9);
+    put8(f122 + 68, v10);
+    judge_core_end_End_sends(m, v122 + 88ull, (v122 + 32ull) | 1ull, v122 + 71ull, v50, v11, v122 + 68ull, v7, v6);
+    v89 = get8(f122 + 105);
+    v90 = get8(f122 + 104);
+    v91 = get8(f122 + 103);
+    v92 = get8(f122 + 102);
+    v93 = get16(f122 + 100);
+    v94 = get8(f122 + 99);
+    v95 = get8(f122 + 98);
+    v96 = get8(f122 + 97);
+    v97 = get8(f122 + 96);
+    v98 = get8(f122 + 95);
+    v99 = get8(f122 + 94);
+    v100 = get8(f122 + 93);
+    v101 = get8(f122 + 92);
+    v102 = get8(f122 + 91);
+    v103 = get8(f122 + 90);
+    v104 = get8(f122 + 89);
+    v88 = get8(f122 + 88);
+    if (v48 == 0) { goto after4; }
+    v31 = v88;
+    v53 = v89;
+    v54 = v90;
+    v55 = v91;
+    v56 = v92;
+    v57 = v93;
+    v58 = v94;
+    v59 = v95;
+    v60 = v96;
+    v61 = v97;
+    v62 = v98;
+    v63 = v99;
+    v64 = v100;
+    v65 = v101;
+    v66 = v102;
+    v67 = v103;
+    v68 = v104;
+    v69 = v16;
+    v70 = v17;
+    v71 = v18;
+    v72 = v19;
+    v73 = v20;
+    v74 = v21;
+    v75 = v22;
+    v76 = v23;
+    v77 = v24;
+    v78 = v25;
+    v79 = v26;
+    v80 = v27;
+    v81 = v28;
+    v82 = v29;
+    v83 = v30;
+    v84 = v2;
+    v85 = v13;
+    v86 = v14;
+    v87 = v15;
+after24:;
+    v88 = v31;
+    put64(f122 + 88, 0ull);
+    put64(f122 + 96, 0ull);
+    put16(f122 + 104, 0u);
+    put8(f122 + 87, v47);
+    put8(f122 + 86, v46);
+    put8(f122 + 85, v45);
+    put8(f122 + 84, v44);
+    put16(f122 + 82, v43);
+    put8(f122 + 81, v42);
+    put8(f122 + 80, v41);
+    put8(f122 + 79, v40);
+    put8(f122 + 78, v39);
+    put8(f122 + 77, v38);
+    put8(f122 + 76, v37);
+    put8(f122 + 75, v36);
+    put8(f122 + 74, v35);
+    put8(f122 + 73, v34);
+    put8(f122 + 72, v33);
+    put8(f122 + 71, v32);
+    put16(f122 + 69, 0u);
+    put8(f122 + 68, v49);
+    put8(f122 + 67, v8);
+    put8(f122 + 66, v9);
+    put8(f122 + 65, v10);
+    judge_core_end_End_sends(m, v122 + 88ull, v122 + 71ull, v122 + 68ull, v50, v11, v122 + 65ull, v7, v6);
+    v105 = get8(f122 + 105);
+    v106 = get8(f122 + 104);
+    v107 = get8(f122 + 103);
+    v108 = get8(f122 + 102);
+    v109 = get16(f122 + 100);
+    v110 = get8(f122 + 99);
+    v111 = get8(f122 + 98);
+    v112 = get8(f122 + 97);
+    v113 = get8(f122 + 96);
+    v114 = get8(f122 + 95);
+    v115 = get8(f122 + 94);
+    v116 = get8(f122 + 93);
+    v117 = get8(f122 + 92);
+    v118 = get8(f122 + 91);
+    v119 = get8(f122 + 90);
+    v120 = get8(f122 + 89);
+    v51 = (u32)(get8(f122 + 88) == 0);
+    v31 = 1u;
+    v89 = v53;
+    v90 = v54;
+    v91 = v55;
+    v92 = v56;
+    v93 = v57;
+    v94 = v58;
+    v95 = v59;
+    v96 = v60;
+    v97 = v61;
+    v98 = v62;
+    v99 = v63;
+    v100 = v64;
+    v101 = v65;
+    v102 = v66;
+    v103 = v67;
+    v104 = v68;
+    v16 = v69;
+    v17 = v70;
+    v18 = v71;
+    v19 = v72;
+    v20 = v73;
+    v21 = v74;
+    v22 = v75;
+    v23 = v76;
+    v24 = v77;
+    v25 = v78;
+    v26 = v79;
+    v27 = v80;
+    v28 = v81;
+    v29 = v82;
+    v30 = v83;
+    v2 = v84;
+    v13 = v85;
+    v14 = v86;
+    v15 = v87;
     goto after3;
 after8:;
-    judge_core_monitor_Watched_sent_other(m, v54 + 8ull, v1, 0u, v4);
+    judge_core_monitor_Watched_sent_other(m, v122 + 8ull, v1, 0u, v4);
     goto after2;
 after6:;
     t2 = load8(m, v3 + 1ull, 0);
-    judge_core_monitor_Watched_sent_other(m, v54 + 8ull, v1, t2, v4);
+    judge_core_monitor_Watched_sent_other(m, v122 + 8ull, v1, t2, v4);
     goto after2;
 after5:;
-    p635 = held(m, v1, 4);
-    v2 = held8(p635, 3, m, v1);
-    v44 = held8(p635, 2, m, v1);
-    v43 = held8(p635, 0, m, v1);
+    p1201 = held(m, v1, 17);
+    v18 = held8(p1201, 16, m, v1);
+    v2 = held8(p1201, 3, m, v1);
+    v27 = held8(p1201, 2, m, v1);
+    v19 = held8(p1201, 0, m, v1);
     v3 = v1 + 17ull;
-    if (((load8(m, v3, 0) + 0xFFFFFFFFu) & 255u) > 1u) { goto after21; }
-    p660 = held(m, v1 + 18ull, 2);
-    v41 = held8(p660, 0, m, v1 + 18ull);
-    v44 = v41 ? v44 : ((u32)(held8(p660, 1, m, v1 + 18ull) == 0));
-    v2 = v41 ? v2 : 0u;
-after21:;
-    p677 = held(m, v1 + 2ull, 294);
-    put_held8(p677, 13, m, v1 + 2ull, 0u);
-    put_held8(p677, 7, m, v1 + 2ull, 0u);
-    put_held16(p677, 5, m, v1 + 2ull, 12u);
-    put_held8(p635, 3, m, v1, v2);
-    put_held8(p635, 2, m, v1, v44);
-    put_held64(p677, 286, m, v1 + 2ull, v4);
-    put_held32(p677, 16, m, v1 + 2ull, 0u);
-    store8(m, v3, 0, (v43 & 255u) ? 4u : 3u);
+    if (((load8(m, v3, 0) + 0xFFFFFFFFu) & 255u) > 1u) { goto after26; }
+    p1229 = held(m, v1 + 18ull, 2);
+    v30 = held8(p1229, 0, m, v1 + 18ull);
+    v27 = v30 ? v27 : ((u32)(held8(p1229, 1, m, v1 + 18ull) == 0));
+    v2 = v30 ? v2 : 0u;
+after26:;
+    put_held8(p1201, 15, m, v1, 0u);
+    put_held8(p1201, 9, m, v1, 0u);
+    put_held16(p1201, 7, m, v1, 12u);
+    put_held8(p1201, 3, m, v1, v2);
+    put_held8(p1201, 2, m, v1, v27);
+    store8(m, v1 + 296ull, 0, 0u);
+    store64(m, v1 + 288ull, 0, v4);
+    store32(m, v1 + 18ull, 0, 0u);
+    put_held8(p1201, 16, m, v1, v18 & 1u);
+    store8(m, v3, 0, (v19 & 255u) ? 4u : 3u);
     goto after2;
 after4:;
-    v46 = v15;
-    v48 = 1u;
+    v105 = 0u;
+    v106 = 0u;
+    v107 = 0u;
+    v108 = 0u;
+    v109 = 0u;
+    v110 = 0u;
+    v111 = 0u;
+    v112 = 0u;
+    v113 = 0u;
+    v114 = 0u;
+    v115 = 0u;
+    v116 = 0u;
+    v117 = 0u;
+    v118 = 0u;
+    v119 = 0u;
+    v120 = 0u;
 after3:;
-    v50 = v1 + 24ull;
-    put16(f54 + 94, 0u);
-    put8(f54 + 93, v49);
-    put8(f54 + 92, v46);
-    put8(f54 + 91, v45);
-    put8(f54 + 90, v44);
-    put8(f54 + 89, v43);
-    put16(f54 + 87, v42);
-    put8(f54 + 86, v41);
-    put8(f54 + 85, v40);
-    put8(f54 + 84, v39);
-    put8(f54 + 83, v38);
-    put8(f54 + 82, v37);
-    put8(f54 + 81, v36);
-    put8(f54 + 80, v35);
-    put8(f54 + 79, v34);
-    put8(f54 + 78, v33);
-    put8(f54 + 77, v32);
-    put8(f54 + 76, v2);
-    put8(f54 + 75, v48);
-    if (get8(f54 + 96) != 1u) { goto after23; }
-    v46 = get8(f54 + 113);
-    v45 = get8(f54 + 112);
-    v44 = get8(f54 + 111);
-    v43 = get8(f54 + 110);
-    v42 = get16(f54 + 108);
-    v41 = get8(f54 + 107);
-    v40 = get8(f54 + 106);
-    v39 = get8(f54 + 105);
-    v38 = get8(f54 + 104);
-    v37 = get8(f54 + 103);
-    v36 = get8(f54 + 102);
-    v35 = get8(f54 + 101);
-    v34 = get8(f54 + 100);
-    v33 = get8(f54 + 99);
-    v32 = get8(f54 + 98);
-    v2 = get8(f54 + 97);
-    v49 = get8(f54 + 114);
-    v31 = get8(f54 + 115);
-    v23 = get8(f54 + 116);
-    goto after22;
-after23:;
-    v31 = 0u;
-    if (v47) { goto after24; }
-    v46 = v15;
-    v45 = v16;
-    v44 = v17;
-    v43 = v18;
-    v42 = v19;
-    v41 = v20;
-    v40 = v21;
-    v39 = v22;
-    v38 = v23;
-    v37 = v24;
-    v36 = v25;
-    v35 = v26;
-    v34 = v27;
-    v33 = v28;
-    v32 = v29;
-    v2 = v30;
-    v49 = 0u;
-after24:;
-    v23 = 0u;
-after22:;
-    judge_core_courses_attempted(m, v54 + 56ull, v54 + 96ull, v50, v8, v54 + 120ull, v7, v6);
-    judge_core_courses_attempted(m, v54 + 32ull, v54 + 75ull, v50, v8, v54 + 120ull, v7, v6);
-    if (v6) { goto after26; }
-    v48 = 0u;
-    goto after25;
-after26:;
-    v48 = load8(m, v7, 0);
-after25:;
-    v26 = get8(f54 + 50);
-    v28 = get8(f54 + 49);
-    v21 = get8(f54 + 48);
-    v51 = get8(f54 + 47);
-    v22 = get16(f54 + 45);
-    v25 = get8(f54 + 44);
-    v24 = get8(f54 + 43);
-    v20 = get8(f54 + 42);
-    v13 = get8(f54 + 41);
-    v15 = get8(f54 + 40);
-    v17 = get8(f54 + 39);
-    v19 = get8(f54 + 38);
-    v18 = get8(f54 + 37);
-    v47 = get8(f54 + 36);
-    v16 = get8(f54 + 35);
-    v14 = get8(f54 + 34);
-    v27 = get8(f54 + 33);
-    v30 = get8(f54 + 32);
-    if (get8(f54 + 56) != 1u) { goto after31; }
-    v52 = get8(f54 + 58);
-    if (get8(f54 + 57)) { goto after32; }
-    v29 = 0u;
-    v16 = get8(f54 + 59);
-    v47 = get8(f54 + 60);
-    v18 = get8(f54 + 61);
-    v19 = get8(f54 + 62);
-    v17 = get8(f54 + 63);
-    v15 = get8(f54 + 64);
-    v13 = get8(f54 + 65);
-    v20 = get8(f54 + 66);
-    v24 = get8(f54 + 67);
-    v25 = get8(f54 + 68);
-    v22 = get16(f54 + 69);
-    v48 = get8(f54 + 71);
-    v21 = get8(f54 + 72);
-    v10 = get8(f54 + 73);
-    v26 = get8(f54 + 74);
-    v12 = 0u;
-    v2 = 0u;
-    v32 = 0u;
-    v33 = 0u;
-    v34 = 0u;
-    v35 = 0u;
-    v36 = 0u;
-    v37 = 0u;
-    v38 = 0u;
-    v39 = 0u;
-    v40 = 0u;
-    v41 = 0u;
+    if (v6) { goto after28; }
     v42 = 0u;
-    v43 = 0u;
-    v44 = 0u;
-    v45 = 0u;
-    v46 = 0u;
-    v49 = 0u;
-    v31 = 0u;
-    v23 = 0u;
-    v14 = v52;
     goto after27;
-after32:;
-    if ((v30 & 255u) == 1u) { goto after30; }
-    v29 = v52;
-    goto after29;
-after31:;
-    v29 = 5u;
-    if ((v30 & 255u) != 1u) { goto after29; }
-    if ((v27 & 255u) == 0) { goto after28; }
-    v29 = v14;
-    goto after29;
-after30:;
-    v29 = v52;
-    if ((v27 & 255u) == 0) { goto after28; }
-after29:;
-    switch (v9) {
-        case 1: goto after38;
-        case 2: goto after37;
-        case 3: goto after36;
-        default: goto after39;
-    }
-after39:;
-    v18 = 2u - v11;
-    v16 = (u32)(v10 == 0);
-    v10 = 1u;
-    v19 = 0u;
-    v47 = v33;
-    v17 = 0u;
-    v15 = 0u;
-    v13 = 0u;
-    v20 = 0u;
-    v24 = 0u;
-    v25 = 0u;
+after28:;
+    v42 = load8(m, v7, 0);
+after27:;
+    if (v52 != 1u) { goto after33; }
+    if (v88 & 255u) { goto after32; }
     v12 = 0u;
-    v14 = 0u;
-    v48 = v43;
+    v32 = 0u;
+    v2 = 0u;
+    v30 = 0u;
+    v29 = 0u;
+    v28 = 0u;
+    v27 = 0u;
     v26 = 0u;
-    goto after33;
-after38:;
-    v14 = (v42 & 65280u) >> 8;
-    v19 = 0u;
-    v16 = v32;
-    v47 = v10;
-    v18 = v34;
-    v17 = 0u;
-    v15 = 0u;
-    v13 = 0u;
-    v20 = 0u;
+    v25 = 0u;
     v24 = 0u;
-    v25 = v41;
-    v12 = v42;
-    v48 = v43;
-    v10 = 1u;
-    goto after34;
-after37:;
-    if ((v2 & 255u) != 1u) { goto after48; }
-    v13 = 10u;
+    v23 = 0u;
+    v22 = 0u;
+    v21 = 0u;
+    v20 = 0u;
+    v19 = 0u;
+    v18 = 0u;
+    v17 = 0u;
+    v16 = 0u;
+    v13 = 0u;
+    v14 = 0u;
+    v15 = 0u;
+    v120 = v104;
+    v119 = v103;
+    v118 = v102;
+    v117 = v101;
+    v116 = v100;
+    v115 = v99;
+    v114 = v98;
+    v113 = v97;
+    v112 = v96;
+    v111 = v95;
+    v110 = v94;
+    v109 = v93;
+    v42 = v92;
+    v107 = v91;
+    v9 = v90;
+    v105 = v89;
+    goto after29;
+after33:;
+    if ((v31 & v51) == 1u) { goto after30; }
+    v32 = v31 ? v120 : 5u;
+    goto after31;
+after32:;
+    v32 = v104;
+    if (v31 & v51) { goto after30; }
+after31:;
     switch (v10) {
-        case 1: goto after45;
-        case 2: goto after44;
-        case 3: goto after43;
+        case 1: goto after39;
+        case 2: goto after38;
+        case 3: goto after37;
+        default: goto after40;
+    }
+after40:;
+    v117 = 2u - v8;
+    v119 = (u32)(v9 == 0);
+    v9 = 1u;
+    v116 = 0u;
+    v118 = v29;
+    v115 = 0u;
+    v114 = 0u;
+    v113 = 0u;
+    v112 = 0u;
+    v111 = 0u;
+    v110 = 0u;
+    v12 = 0u;
+    v31 = 0u;
+    v42 = v19;
+    v105 = 0u;
+    goto after34;
+after39:;
+    v31 = (v20 & 65280u) >> 8;
+    v116 = 0u;
+    v119 = v30;
+    v118 = v9;
+    v117 = v28;
+    v115 = 0u;
+    v114 = 0u;
+    v113 = 0u;
+    v112 = 0u;
+    v111 = 0u;
+    v110 = v21;
+    v12 = v20;
+    v42 = v19;
+    v9 = 1u;
+    goto after35;
+after38:;
+    if ((v2 & 255u) != 1u) { goto after49; }
+    v113 = 10u;
+    switch (v9) {
+        case 1: goto after46;
+        case 2: goto after45;
+        case 3: goto after44;
+        default: goto after48;
+    }
+after49:;
+    v113 = 0u;
+    switch (v9) {
+        case 1: goto after46;
+        case 2: goto after45;
+        case 3: goto after48;
         default: goto after47;
     }
 after48:;
-    v13 = 0u;
-    switch (v10) {
-        case 1: goto after45;
-        case 2: goto after44;
-        case 3: goto after47;
-        default: goto after46;
-    }
+    v31 = (v20 & 65280u) >> 8;
+    v9 = 0u;
+    v119 = v30;
+    v118 = v29;
+    v117 = v28;
+    v116 = v27;
+    v115 = v26;
+    v114 = v25;
+    v113 = v24;
+    v112 = v23;
+    v111 = v22;
+    v110 = v21;
+    v12 = v20;
+    goto after36;
 after47:;
-    v14 = (v42 & 65280u) >> 8;
-    v10 = 0u;
-    v16 = v32;
-    v47 = v33;
-    v18 = v34;
-    v19 = v35;
-    v17 = v36;
-    v15 = v37;
-    v13 = v38;
-    v20 = v39;
-    v24 = v40;
-    v25 = v41;
-    v12 = v42;
-    goto after35;
+    v9 = v18 & 255u;
+    v12 = v19 & 255u;
+    v42 = (v9 > v12) ? v9 : v12;
+    v115 = 3u;
+    v119 = 0u;
+    v118 = 0u;
+    v117 = 0u;
+    v114 = 0u;
+    v113 = 0u;
+    v105 = 0u;
+    goto after41;
 after46:;
-    v10 = v44 & 255u;
-    v12 = v43 & 255u;
-    v48 = (v10 > v12) ? v10 : v12;
-    v17 = 3u;
-    v16 = 0u;
-    v47 = 0u;
-    v18 = 0u;
-    v15 = 0u;
-    v13 = 0u;
-    v26 = 0u;
-    goto after40;
+    v105 = v16 & 1u;
+    v115 = 0u;
+    goto after43;
 after45:;
-    v26 = v46 & 1u;
-    v17 = 0u;
+    v105 = v16 & 1u;
+    v114 = 0u;
+    v115 = 2u;
+    v119 = v30;
+    v118 = v29;
+    v117 = v28;
     goto after42;
 after44:;
-    v26 = v46 & 1u;
-    v15 = 0u;
-    v17 = 2u;
-    v16 = v32;
-    v47 = v33;
-    v18 = v34;
-    goto after41;
+    v115 = 1u;
+    v105 = v16 & 1u;
+    v113 = 10u;
 after43:;
-    v17 = 1u;
-    v26 = v46 & 1u;
-    v13 = 10u;
+    v119 = v30;
+    v118 = v29;
+    v117 = v28;
+    v114 = v42;
 after42:;
-    v16 = v32;
-    v47 = v33;
-    v18 = v34;
-    v15 = v48;
+    v42 = v19;
 after41:;
-    v48 = v43;
-after40:;
-    v25 = (u32)((v2 & 255u) == 0);
-    v20 = 0u;
-    v19 = 1u;
-    v24 = 0u;
+    v110 = (u32)((v2 & 255u) == 0);
+    v112 = 0u;
+    v116 = 1u;
+    v111 = 0u;
     v12 = 0u;
-    v14 = 0u;
-    v10 = 1u;
-    goto after33;
-after36:;
-    v19 = 0u;
-    v16 = v32;
-    v47 = v33;
-    v18 = v34;
-    v17 = 0u;
-    v15 = 0u;
-    v13 = 0u;
-    v20 = 0u;
-    v24 = 0u;
-    v25 = v41;
-    v12 = 0u;
-    v14 = 0u;
-    v26 = v46;
-    switch (v10) {
-        case 1: goto after33;
-        case 2: goto after50;
-        case 3: goto after49;
-        default: goto after51;
-    }
-after51:;
-    v10 = v44 & 255u;
-    v12 = v43 & 255u;
-    v48 = (v10 > v12) ? v10 : v12;
-    v10 = 1u;
-    v16 = 0u;
-    v47 = 0u;
-    v18 = 0u;
-    v19 = 0u;
-    v17 = 0u;
-    v15 = 0u;
-    v13 = 0u;
-    v20 = 0u;
-    v24 = 0u;
-    v25 = 0u;
-    v12 = 0u;
-    v14 = 0u;
-    v26 = 0u;
-    goto after33;
-after50:;
-    v10 = 1u;
-    v18 = 0u;
-    v16 = v32;
-    v47 = v33;
-    v19 = 0u;
-    v17 = 0u;
-    v15 = 0u;
-    v13 = 0u;
-    v20 = 0u;
-    v24 = 0u;
-    v25 = v41;
-    v12 = 0u;
-    v14 = 0u;
-    v48 = v43;
-    v26 = 1u;
-    goto after33;
-after49:;
-    v10 = 1u;
-    v16 = v32;
-    v47 = v33;
-    v18 = v34;
-    v17 = 0u;
-    v15 = 0u;
-    v13 = 0u;
-    v20 = 0u;
-    v24 = 0u;
-    v25 = v41;
-    v12 = 0u;
-    v14 = 0u;
-after35:;
-    v48 = v43;
-after34:;
-    v26 = v46;
-after33:;
-    v22 = (v14 << 8) | (v12 & 255u);
-    v12 = 2u;
-    v14 = v2;
-    v21 = v44;
-    goto after27;
-after28:;
-    v12 = (u32)((v12 & 255u) == 2u);
-    v29 = 0u;
-    v2 = 0u;
-    v32 = 0u;
-    v33 = 0u;
-    v34 = 0u;
-    v35 = 0u;
-    v36 = 0u;
-    v37 = 0u;
-    v38 = 0u;
-    v39 = 0u;
-    v40 = 0u;
-    v41 = 0u;
-    v42 = 0u;
-    v43 = 0u;
-    v44 = 0u;
-    v45 = 0u;
-    v46 = 0u;
-    v49 = 0u;
     v31 = 0u;
+    v9 = 1u;
+    goto after34;
+after37:;
+    v116 = 0u;
+    v119 = v30;
+    v118 = v29;
+    v117 = v28;
+    v115 = 0u;
+    v114 = 0u;
+    v113 = 0u;
+    v112 = 0u;
+    v111 = 0u;
+    v110 = v21;
+    v12 = 0u;
+    v31 = 0u;
+    v105 = v16;
+    switch (v9) {
+        case 1: goto after34;
+        case 2: goto after51;
+        case 3: goto after50;
+        default: goto after52;
+    }
+after52:;
+    v9 = v18 & 255u;
+    v12 = v19 & 255u;
+    v42 = (v9 > v12) ? v9 : v12;
+    v9 = 1u;
+    v119 = 0u;
+    v118 = 0u;
+    v117 = 0u;
+    v116 = 0u;
+    v115 = 0u;
+    v114 = 0u;
+    v113 = 0u;
+    v112 = 0u;
+    v111 = 0u;
+    v110 = 0u;
+    v12 = 0u;
+    v31 = 0u;
+    v105 = 0u;
+    goto after34;
+after51:;
+    v9 = 1u;
+    v117 = 0u;
+    v119 = v30;
+    v118 = v29;
+    v116 = 0u;
+    v115 = 0u;
+    v114 = 0u;
+    v113 = 0u;
+    v112 = 0u;
+    v111 = 0u;
+    v110 = v21;
+    v12 = 0u;
+    v31 = 0u;
+    v42 = v19;
+    v105 = 1u;
+    goto after34;
+after50:;
+    v9 = 1u;
+    v119 = v30;
+    v118 = v29;
+    v117 = v28;
+    v115 = 0u;
+    v114 = 0u;
+    v113 = 0u;
+    v112 = 0u;
+    v111 = 0u;
+    v110 = v21;
+    v12 = 0u;
+    v31 = 0u;
+after36:;
+    v42 = v19;
+after35:;
+    v105 = v16;
+after34:;
+    v109 = (v31 << 8) | (v12 & 255u);
+    v12 = 2u;
+    v120 = v2;
+    v107 = v18;
+    goto after29;
+after30:;
+    v12 = (u32)((v12 & 255u) == 2u);
+    v32 = 0u;
+    v2 = 0u;
+    v30 = 0u;
+    v29 = 0u;
+    v28 = 0u;
+    v27 = 0u;
+    v26 = 0u;
+    v25 = 0u;
+    v24 = 0u;
     v23 = 0u;
-    v48 = v51;
-    v10 = v28;
-after27:;
-    put_held32(p48, 18, m, v1, 0u);
-    store64(m, v1 + 288ull, 0, v4);
-    put_held8(p48, 16, m, v1, v26);
-    put_held8(p48, 15, m, v1, v10);
-    put_held8(p48, 14, m, v1, v21);
-    put_held8(p48, 13, m, v1, v48);
-    put_held16(p48, 11, m, v1, v22);
-    put_held8(p48, 10, m, v1, v25);
-    put_held8(p48, 9, m, v1, v24);
-    put_held8(p48, 8, m, v1, v20);
-    put_held8(p48, 7, m, v1, v13);
-    put_held8(p48, 6, m, v1, v15);
-    put_held8(p48, 5, m, v1, v17);
-    put_held8(p48, 4, m, v1, v19);
-    put_held8(p48, 3, m, v1, v18);
-    put_held8(p48, 2, m, v1, v47);
-    put_held8(p48, 1, m, v1, v16);
-    v10 = held8(p48, 0, m, v1);
-    put_held8(p48, 0, m, v1, v14);
-    put_held8(p48, 17, m, v1, v10 ? 4u : 3u);
-    if (held8(p38, 0, m, v3 + 9ull)) { goto after52; }
-    v4 = held64(p48, 280, m, v1);
-    v10 = (u32)(v4 == 0);
-    if (v10) { goto after53; }
-    if (v10) { goto after54; }
-    fill(m, v50, 0u, v4);
+    v22 = 0u;
+    v21 = 0u;
+    v20 = 0u;
+    v19 = 0u;
+    v18 = 0u;
+    v17 = 0u;
+    v16 = 0u;
+    v13 = 0u;
+    v14 = 0u;
+    v15 = 0u;
+    v42 = v108;
+    v9 = v106;
+after29:;
+    put64(f122 + 32, 0ull);
+    put64(f122 + 40, 0ull);
+    v31 = 0u;
+    put16(f122 + 48, 0u);
+    put8(f122 + 97, 0u);
+    put8(f122 + 103, 0u);
+    put16(f122 + 95, 12u);
+    put16(f122 + 72, 0u);
+    put8(f122 + 94, held8(p63, 6, m, v1));
+    put8(f122 + 98, held8(p63, 10, m, v1));
+    put32(f122 + 99, held32(p63, 11, m, v1));
+    put16(f122 + 92, held16(p63, 4, m, v1));
+    put32(f122 + 88, held32(p63, 0, m, v1));
+    put8(f122 + 104, held8(p63, 16, m, v1) & 1u);
+    v6 = held64(p63, 280, m, v1);
+    put8(f122 + 71, 12u);
+    put16(f122 + 60, held16(p38, 0, m, v3 + 9ull));
+    put8(f122 + 62, held8(p38, 2, m, v3 + 9ull));
+    w6 = held64(p38, 7, m, v3 + 9ull);
+    w7 = held64(p38, 15, m, v3 + 9ull);
+    judge_core_end_End_sends(m, v122 + 32ull, v122 + 88ull, v122 + 71ull, v50, v6, v122 + 60ull, w6, w7);
+    v33 = load8(m, v1 + 296ull, 0);
+    if (get8(f122 + 32)) { goto after54; }
+    if ((v33 & 255u) != 2u) { goto after54; }
+    if (v12 != 2u) { goto after54; }
+    v105 = get8(f122 + 49);
+    v9 = get8(f122 + 48);
+    v107 = get8(f122 + 47);
+    v42 = get8(f122 + 46);
+    v109 = get16(f122 + 44);
+    v110 = get8(f122 + 43);
+    v111 = get8(f122 + 42);
+    v112 = get8(f122 + 41);
+    v113 = get8(f122 + 40);
+    v114 = get8(f122 + 39);
+    v115 = get8(f122 + 38);
+    v116 = get8(f122 + 37);
+    v117 = get8(f122 + 36);
+    v118 = get8(f122 + 35);
+    v119 = get8(f122 + 34);
+    v120 = get8(f122 + 33);
+    v2 = 0u;
+    v30 = 0u;
+    v29 = 0u;
+    v28 = 0u;
+    v27 = 0u;
+    v26 = 0u;
+    v25 = 0u;
+    v24 = 0u;
+    v23 = 0u;
+    v22 = 0u;
+    v21 = 0u;
+    v20 = 0u;
+    v19 = 0u;
+    v18 = 0u;
+    v17 = 0u;
+    v16 = 0u;
+    v12 = 0u;
+    v32 = 0u;
+    v13 = 0u;
+    v14 = 0u;
+    v15 = 0u;
+    goto after53;
 after54:;
-    put_held64(p48, 280, m, v1, 0ull);
+    v31 = (u32)((v33 & 255u) != 2u);
 after53:;
-    v53 = held64(p38, 15, m, v3 + 9ull);
-    if (v53 > 254ull) { goto after1; }
-    v8 = held64(p38, 7, m, v3 + 9ull);
-    if ((v50 - v8) >= v53) { goto after56; }
-    v7 = v53 & 3ull;
-    v4 = 0ull;
-    if (v53 < 4ull) { goto after57; }
-    v50 = v53 & 252ull;
-    v4 = 0ull;
-again58:;
-    v3 = v1 + v4;
-    v6 = v8 + v4;
-    p1704 = held(m, v6, 4);
-    p1705 = held(m, v3 + 24ull, 4);
-    put_held8(p1705, 0, m, v3 + 24ull, held8(p1704, 0, m, v6));
-    put_held8(p1705, 1, m, v3 + 24ull, held8(p1704, 1, m, v6));
-    put_held8(p1705, 2, m, v3 + 24ull, held8(p1704, 2, m, v6));
-    put_held8(p1705, 3, m, v3 + 24ull, held8(p1704, 3, m, v6));
-    v4 = v4 + 4ull;
-    if (v50 != v4) { goto again58; }
-    if (v7 == 0) { goto after55; }
+    put_held8(p63, 16, m, v1, v105);
+    put_held8(p63, 15, m, v1, v9);
+    put_held8(p63, 14, m, v1, v107);
+    put_held8(p63, 13, m, v1, v42);
+    put_held16(p63, 11, m, v1, v109);
+    put_held8(p63, 10, m, v1, v110);
+    put_held8(p63, 9, m, v1, v111);
+    put_held8(p63, 8, m, v1, v112);
+    put_held8(p63, 7, m, v1, v113);
+    put_held8(p63, 6, m, v1, v114);
+    put_held8(p63, 5, m, v1, v115);
+    put_held8(p63, 4, m, v1, v116);
+    put_held8(p63, 3, m, v1, v117);
+    put_held8(p63, 2, m, v1, v118);
+    put_held8(p63, 1, m, v1, v119);
+    put_held32(p63, 18, m, v1, 0u);
+    store64(m, v1 + 288ull, 0, v4);
+    v9 = held8(p63, 0, m, v1);
+    put_held8(p63, 0, m, v1, v120);
+    put_held8(p63, 17, m, v1, v9 ? 4u : 3u);
+    v4 = v3 + 9ull;
+    p2170 = held(m, v4, 1);
+    store8(m, v1 + 296ull, 0, (v12 == 2u) ? 1u : (v31 ? 0u : ((held8(p2170, 0, m, v4) & 255u) ? 2u : 0u)));
+    if (held8(p2170, 0, m, v4)) { goto after55; }
+    v4 = held64(p63, 280, m, v1);
+    v9 = (u32)(v4 == 0);
+    if (v9) { goto after56; }
+    if (v9) { goto after57; }
+    fill(m, v50, 0u, v4);
 after57:;
-    v3 = v8 + v4;
+    put_held64(p63, 280, m, v1, 0ull);
+after56:;
+    v121 = held64(p38, 15, m, v3 + 9ull);
+    if (v121 > 254ull) { goto after1; }
+    v7 = held64(p38, 7, m, v3 + 9ull);
+    if ((v50 - v7) >= v121) { goto after59; }
+    v6 = v121 & 3ull;
+    v4 = 0ull;
+    if (v121 < 4ull) { goto after60; }
+    v11 = v121 & 252ull;
+    v4 = 0ull;
+again61:;
+    v3 = v1 + v4;
+    v50 = v7 + v4;
+    p2256 = held(m, v50, 4);
+    p2257 = held(m, v3 + 24ull, 4);
+    put_held8(p2257, 0, m, v3 + 24ull, held8(p2256, 0, m, v50));
+    put_held8(p2257, 1, m, v3 + 24ull, held8(p2256, 1, m, v50));
+    put_held8(p2257, 2, m, v3 + 24ull, held8(p2256, 2, m, v50));
+    put_held8(p2257, 3, m, v3 + 24ull, held8(p2256, 3, m, v50));
+    v4 = v4 + 4ull;
+    if (v11 != v4) { goto again61; }
+    if (v6 == 0) { goto after58; }
+after60:;
+    v3 = v7 + v4;
     v4 = (v4 + v1) + 24ull;
-again59:;
+again62:;
     store8(m, v4, 0, load8(m, v3, 0));
     v4 = v4 + 1ull;
     v3 = v3 + 1ull;
-    v7 = v7 + 0xFFFFFFFFFFFFFFFFull;
-    if (v7 != 0ull) { goto again59; }
-    goto after55;
-after56:;
-    if (v53 == 0) { goto after55; }
-    copy(m, v50, v8, v53);
+    v6 = v6 + 0xFFFFFFFFFFFFFFFFull;
+    if (v6 != 0ull) { goto again62; }
+    goto after58;
+after59:;
+    if (v121 == 0) { goto after58; }
+    copy(m, v50, v7, v121);
+after58:;
+    put_held64(p63, 280, m, v1, v121);
 after55:;
-    put_held64(p48, 280, m, v1, v53);
-after52:;
-    put8(f54 + 30, v23);
-    put8(f54 + 29, v31);
-    put8(f54 + 28, v49);
-    put8(f54 + 27, v46);
-    put8(f54 + 26, v45);
-    put8(f54 + 25, v44);
-    put8(f54 + 24, v43);
-    put16(f54 + 22, v42);
-    put8(f54 + 21, v41);
-    put8(f54 + 20, v40);
-    put8(f54 + 19, v39);
-    put8(f54 + 18, v38);
-    put8(f54 + 17, v37);
-    put8(f54 + 16, v36);
-    put8(f54 + 15, v35);
-    put8(f54 + 14, v34);
-    put8(f54 + 13, v33);
-    put8(f54 + 12, v32);
-    put8(f54 + 11, v2);
-    put8(f54 + 10, v29);
-    put8(f54 + 9, v12);
-    put8(f54 + 8, 1u);
+    put8(f122 + 30, v15);
+    put8(f122 + 29, v14);
+    put8(f122 + 28, v13);
+    put8(f122 + 27, v16);
+    put8(f122 + 26, v17);
+    put8(f122 + 25, v18);
+    put8(f122 + 24, v19);
+    put16(f122 + 22, v20);
+    put8(f122 + 21, v21);
+    put8(f122 + 20, v22);
+    put8(f122 + 19, v23);
+    put8(f122 + 18, v24);
+    put8(f122 + 17, v25);
+    put8(f122 + 16, v26);
+    put8(f122 + 15, v27);
+    put8(f122 + 14, v28);
+    put8(f122 + 13, v29);
+    put8(f122 + 12, v30);
+    put8(f122 + 11, v2);
+    put8(f122 + 10, v32);
+    put8(f122 + 9, v12);
+    put8(f122 + 8, 1u);
 after2:;
-    p1859 = held(m, v0, 23);
-    put_held16(p1859, 0, m, v0, get16(f54 + 8));
-    put_held8(p1859, 2, m, v0, get8(f54 + 10));
-    put_held64(p1859, 3, m, v0, get64(f54 + 11));
-    put_held64(p1859, 11, m, v0, get64(f54 + 19));
-    put_held8(p1859, 19, m, v0, get8(f54 + 27));
-    put_held8(p1859, 22, m, v0, get8(f54 + 30));
-    put_held16(p1859, 20, m, v0, get16(f54 + 28));
-    m->g0 = v54 + 128ull;
+    p2411 = held(m, v0, 23);
+    put_held16(p2411, 0, m, v0, get16(f122 + 8));
+    put_held8(p2411, 2, m, v0, get8(f122 + 10));
+    put_held64(p2411, 3, m, v0, get64(f122 + 11));
+    put_held64(p2411, 11, m, v0, get64(f122 + 19));
+    put_held8(p2411, 19, m, v0, get8(f122 + 27));
+    put_held8(p2411, 22, m, v0, get8(f122 + 30));
+    put_held16(p2411, 20, m, v0, get16(f122 + 28));
+    m->g0 = v122 + 112ull;
     return;
 after1:;
     UNREACHABLE;
@@ -8350,6 +10391,1671 @@ after1:;
     put_held8(p963, 1, m, v0, v19);
 }
 
+static void judge_core_end_End_sends(struct call *m, u64 v0, u64 v1, u64 v2, u64 v3, u64 v4, u64 v5, u64 v6, u64 v7)
+{
+    u64 v8 = 0;
+    u64 v50 = 0;
+    u32 v9 = 0;
+    u32 v10 = 0;
+    u32 v11 = 0;
+    u32 v12 = 0;
+    u32 v13 = 0;
+    u32 v14 = 0;
+    u32 v15 = 0;
+    u32 v16 = 0;
+    u32 v17 = 0;
+    u32 v18 = 0;
+    u32 v19 = 0;
+    u32 v20 = 0;
+    u32 v21 = 0;
+    u32 v22 = 0;
+    u32 v23 = 0;
+    u32 v24 = 0;
+    u32 v25 = 0;
+    u32 v26 = 0;
+    u32 v27 = 0;
+    u32 v28 = 0;
+    u32 v29 = 0;
+    u32 v30 = 0;
+    u32 v31 = 0;
+    u32 v32 = 0;
+    u32 v33 = 0;
+    u32 v34 = 0;
+    u32 v35 = 0;
+    u32 v36 = 0;
+    u32 v37 = 0;
+    u32 v38 = 0;
+    u32 v39 = 0;
+    u32 v40 = 0;
+    u32 v41 = 0;
+    u32 v42 = 0;
+    u32 v43 = 0;
+    u32 v44 = 0;
+    u32 v45 = 0;
+    u32 v46 = 0;
+    u32 v47 = 0;
+    u32 v48 = 0;
+    u32 v49 = 0;
+    u32 t0 = 0;
+    u8 *f50 = NULL;
+    u8 *p14 = NULL;
+    u8 *p22 = NULL;
+    u8 *p32 = NULL;
+    u8 *p114 = NULL;
+    u8 *p3547 = NULL;
+    v50 = m->g0 - 32ull;
+    f50 = at(m, v50, 32);
+    v8 = v50;
+    m->g0 = v8;
+    p14 = held(m, v1, 17);
+    v9 = held16(p14, 11, m, v1);
+    v10 = held8(p14, 13, m, v1);
+    p22 = held(m, v5, 3);
+    v11 = held8(p22, 2, m, v5);
+    v12 = held8(p22, 1, m, v5);
+    p32 = held(m, v2, 3);
+    v13 = held8(p32, 2, m, v2);
+    v14 = held8(p32, 1, m, v2);
+    v15 = held8(p22, 0, m, v5);
+    v16 = held8(p32, 0, m, v2);
+    v17 = held8(p14, 16, m, v1);
+    v18 = held8(p14, 15, m, v1);
+    v19 = held8(p14, 14, m, v1);
+    v20 = held8(p14, 10, m, v1);
+    v21 = held8(p14, 9, m, v1);
+    v22 = held8(p14, 8, m, v1);
+    v23 = held8(p14, 7, m, v1);
+    v24 = held8(p14, 6, m, v1);
+    v25 = held8(p14, 5, m, v1);
+    v26 = held8(p14, 4, m, v1);
+    v27 = held8(p14, 3, m, v1);
+    v28 = held8(p14, 2, m, v1);
+    v29 = held8(p14, 1, m, v1);
+    v30 = held8(p14, 0, m, v1);
+    if ((v30 & 255u) != 1u) { goto after5; }
+    if (v15 != 2u) { goto after2; }
+    if (v12 == 0) { goto after4; }
+    goto after2;
+after5:;
+    if (v15 != 2u) { goto after2; }
+    if (v12 != 3u) { goto after2; }
+after4:;
+    p114 = held(m, v0, 18);
+    put_held16(p114, 0, m, v0, 1537u);
+    put_held64(p114, 2, m, v0, 0ull);
+    put_held64(p114, 10, m, v0, 0ull);
+    goto after1;
+after2:;
+    v31 = v9 >> 8;
+    v5 = ((u64)v10) & 255ull;
+    switch (v16) {
+        case 2: goto after50;
+        case 3: goto after49;
+        case 4: goto after48;
+        case 5: goto after47;
+        case 6: goto after46;
+        case 7: goto after45;
+        case 8: goto after44;
+        case 9: goto after43;
+        case 10: goto after42;
+        case 11: goto after41;
+        case 12: goto after38;
+        default: goto after51;
+    }
+after51:;
+    v32 = 0u;
+    v33 = 8u;
+    v34 = v15;
+    v35 = 0u;
+    v36 = 0u;
+    v37 = 0u;
+    v38 = 0u;
+    v39 = 0u;
+    v40 = 0u;
+    v41 = 0u;
+    v42 = 0u;
+    v43 = 0u;
+    v44 = 0u;
+    v45 = 0u;
+    v46 = 0u;
+    v47 = 0u;
+    v48 = 0u;
+    v49 = 0u;
+    switch (v15) {
+        case 1: goto after6;
+        case 2: goto after53;
+        case 3: goto after52;
+        default: goto after54;
+    }
+after54:;
+    v34 = 1u;
+    if (v12 != (v29 & 255u)) { goto after10; }
+    if (v7 > v5) { goto after11; }
+    v48 = 1u;
+    v36 = 2u - (v11 & 1u);
+    v32 = (u32)(v12 == 0);
+    v34 = 0u;
+    v33 = v30;
+    goto after14;
+after53:;
+    if (v7) { goto after56; }
+    v39 = 0u;
+    goto after55;
+after56:;
+    v39 = load8(m, v6, 0);
+after55:;
+    switch (v12) {
+        case 1: goto after62;
+        case 2: goto after64;
+        case 3: goto after60;
+        default: goto after65;
+    }
+after65:;
+    if (v16 == 0) { goto after63; }
+    v32 = 0u;
+    v33 = 19u;
+    v34 = 1u;
+    goto after9;
+after64:;
+    v38 = 2u;
+    if (((v16 + 0xFFFFFFFFu) & 255u) < 2u) { goto after61; }
+    v32 = 0u;
+    v33 = 18u;
+    v34 = 1u;
+    goto after9;
+after63:;
+    v15 = v19 & 255u;
+    v12 = v10 & 255u;
+    v46 = (v15 > v12) ? v15 : v12;
+    v32 = 0u;
+    v40 = ((v30 & 255u) != 1u) ? 0u : 10u;
+    v38 = 3u;
+    v35 = 0u;
+    v36 = 0u;
+    v39 = 0u;
+    v41 = 0u;
+    v42 = 0u;
+    v49 = 0u;
+    goto after57;
+after62:;
+    v38 = 0u;
+    v15 = ((u32)(v16 != 0u)) | ((u32)((v30 & 255u) != 1u));
+    v42 = v15 ? v13 : 0u;
+    v41 = v15 ? v14 : 0u;
+    v40 = v15 ? v16 : 10u;
+    v49 = v17 & 1u;
+    goto after59;
+after61:;
+    v40 = 1u;
+    v49 = v17 & 1u;
+    v39 = 0u;
+    v32 = v29;
+    v35 = v28;
+    v36 = v27;
+    v41 = v14;
+    v42 = v13;
+    goto after58;
+after60:;
+    v38 = 1u;
+    v15 = ((u32)(v16 != 0u)) | ((u32)((v30 & 255u) != 1u));
+    v42 = v15 ? v13 : 0u;
+    v41 = v15 ? v14 : 0u;
+    v40 = v15 ? v16 : 10u;
+    v49 = v17 & 1u;
+after59:;
+    v32 = v29;
+    v35 = v28;
+    v36 = v27;
+after58:;
+    v46 = v10;
+after57:;
+    v43 = (u32)((v30 & 255u) == 0);
+    v37 = 1u;
+    v34 = 0u;
+    v33 = v30;
+    goto after31;
+after52:;
+    v33 = 17u;
+    v34 = 1u;
+    goto after9;
+after50:;
+    v33 = 9u;
+    v34 = 1u;
+    v32 = v15;
+    v35 = v15;
+    v36 = v15;
+    v37 = v15;
+    v38 = v15;
+    v39 = v15;
+    v40 = v15;
+    v41 = v15;
+    v42 = v15;
+    v43 = v15;
+    v44 = v15;
+    v45 = v15;
+    v46 = v15;
+    v47 = v15;
+    v48 = v15;
+    v49 = v15;
+    switch (v15) {
+        case 1: goto after68;
+        case 2: goto after67;
+        case 3: goto after66;
+        default: goto after6;
+    }
+after68:;
+    v32 = 0u;
+    if (v11) { goto after15; }
+    if (v12 != (v28 & 255u)) { goto after10; }
+    v49 = v17 & 1u;
+    v48 = v18 & 1u;
+    goto after17;
+after67:;
+    v9 = 0u;
+    v15 = 0u;
+    if (v7 == 0) { goto after69; }
+    v15 = load8(m, v6, 0);
+after69:;
+    v33 = 19u;
+    v32 = v12;
+    v35 = v12;
+    v36 = v12;
+    v37 = v12;
+    v38 = v12;
+    v39 = v12;
+    v40 = v12;
+    v41 = v12;
+    v42 = v12;
+    v43 = v12;
+    v44 = v12;
+    v45 = v12;
+    v46 = v12;
+    v47 = v12;
+    v48 = v12;
+    v49 = v12;
+    switch (v12) {
+        case 1: goto after70;
+        case 2: goto after72;
+        case 3: goto after71;
+        default: goto after6;
+    }
+after72:;
+    v15 = 0u;
+    v9 = 2u;
+    goto after70;
+after71:;
+    v9 = 1u;
+after70:;
+    v37 = 1u;
+    v49 = v17 & 1u;
+    v43 = (u32)((v30 & 255u) == 0);
+    v40 = 11u;
+    v34 = 0u;
+    v33 = v30;
+    v32 = v29;
+    v35 = v28;
+    v36 = v27;
+    v38 = v9;
+    v39 = v15;
+    goto after19;
+after66:;
+    v32 = 0u;
+    v33 = 17u;
+    goto after9;
+after49:;
+    v33 = 11u;
+    v34 = v15;
+    v32 = 0u;
+    v35 = 0u;
+    v36 = 0u;
+    v37 = 0u;
+    v38 = 0u;
+    v39 = 0u;
+    v40 = 0u;
+    v41 = 0u;
+    v42 = 0u;
+    v43 = 0u;
+    v44 = 0u;
+    v45 = 0u;
+    v46 = 0u;
+    v47 = 0u;
+    v48 = 0u;
+    v49 = 0u;
+    switch (v15) {
+        case 1: goto after6;
+        case 2: goto after76;
+        case 3: goto after73;
+        default: goto after77;
+    }
+after77:;
+    v34 = 1u;
+    if (v12 != (v29 & 255u)) { goto after78; }
+    v33 = 7u;
+    v32 = 0u;
+    goto after9;
+after78:;
+    v33 = 12u;
+    v32 = v27;
+    v35 = v27;
+    v36 = v27;
+    v37 = v27;
+    v38 = v27;
+    v39 = v27;
+    v40 = v27;
+    v41 = v27;
+    v42 = v27;
+    v43 = v27;
+    v44 = v27;
+    v45 = v27;
+    v46 = v27;
+    v47 = v27;
+    v48 = v27;
+    v49 = v27;
+    switch (v27) {
+        case 1: goto after80;
+        case 2: goto after81;
+        default: goto after6;
+    }
+after81:;
+    if (v7 != v4) { goto after75; }
+    if ((v11 & 1u) == 0) { goto after79; }
+    goto after75;
+after80:;
+    if (v7 != v4) { goto after75; }
+    if ((v11 & 1u) == 0) { goto after75; }
+after79:;
+    if (v7 < 4ull) { goto after83; }
+    if (load8(m, v6, 0) != load8(m, v3, 0)) { goto after75; }
+    if ((load8(m, v6 + 1ull, 0) & 255u) != (load8(m, v3 + 1ull, 0) & 255u)) { goto after75; }
+    if ((load8(m, v6 + 2ull, 0) & 255u) != (load8(m, v3 + 2ull, 0) & 255u)) { goto after75; }
+    if ((load8(m, v6 + 3ull, 0) & 255u) != (load8(m, v3 + 3ull, 0) & 255u)) { goto after75; }
+    v32 = 0u;
+    v35 = 0u;
+    v36 = 0u;
+    v37 = 0u;
+    v38 = 0u;
+    v39 = 0u;
+    v40 = 0u;
+    v41 = 0u;
+    v42 = 0u;
+    v43 = 0u;
+    v44 = 0u;
+    v45 = 0u;
+    v46 = 0u;
+    v47 = 0u;
+    v48 = 0u;
+    v49 = 0u;
+    t0 = core_cmp_slices_groups_equal_i8_31_core_cmp_numbers_U8PartialEq(m, v6, v7, v3);
+    if (t0) { goto after82; }
+    goto after6;
+after83:;
+    if (v7 == 0) { goto after82; }
+    v1 = 0ull;
+    if (load8(m, v6, 0) != load8(m, v3, 0)) { goto after84; }
+    v1 = 1ull;
+    if (v7 == 1ull) { goto after82; }
+    if (load8(m, v6 + 1ull, 0) != load8(m, v3 + 1ull, 0)) { goto after84; }
+    v1 = 2ull;
+    if (v7 == 2ull) { goto after82; }
+    if (load8(m, v6 + 2ull, 0) == load8(m, v3 + 2ull, 0)) { goto after82; }
+after84:;
+    v32 = 0u;
+    v35 = 0u;
+    v36 = 0u;
+    v37 = 0u;
+    v38 = 0u;
+    v39 = 0u;
+    v40 = 0u;
+    v41 = 0u;
+    v42 = 0u;
+    v43 = 0u;
+    v44 = 0u;
+    v45 = 0u;
+    v46 = 0u;
+    v47 = 0u;
+    v48 = 0u;
+    v49 = 0u;
+    if (v1 < v7) { goto after6; }
+after82:;
+    v33 = 1u;
+    if ((v30 & 255u) != 1u) { goto after85; }
+    v34 = 0u;
+    v32 = v29;
+    v35 = v28;
+    goto after22;
+after85:;
+    v15 = v9 & 255u;
+    if (v15 > 2u) { goto after23; }
+    v15 = v15 + 1u;
+    v44 = (v15 < 255u) ? v15 : 255u;
+    v15 = (v20 & 255u) + 1u;
+    v43 = (v15 < 255u) ? v15 : 255u;
+    v49 = v17 & 1u;
+    v48 = v18 & 1u;
+    v34 = 0u;
+    v33 = 0u;
+    v32 = v29;
+    v35 = v28;
+    v36 = v27;
+    v37 = v26;
+    v38 = v25;
+    v39 = v24;
+    v40 = v23;
+    v41 = v22;
+    v42 = v21;
+    v45 = v31;
+    goto after16;
+after76:;
+    v34 = 1u;
+    if (v12 == 0) { goto after74; }
+after75:;
+    v32 = 0u;
+    goto after9;
+after74:;
+    if ((v20 & 255u) >= 2u) { goto after86; }
+    v33 = 19u;
+    v32 = 0u;
+    goto after9;
+after86:;
+    v15 = v19 & 255u;
+    v12 = v10 & 255u;
+    v46 = (v15 > v12) ? v15 : v12;
+    v37 = 1u;
+    v34 = 0u;
+    v15 = v30 & 255u;
+    v40 = (v15 != 1u) ? 0u : 10u;
+    v43 = (u32)(v15 == 0);
+    goto after24;
+after73:;
+    v33 = 17u;
+    v34 = 1u;
+    v32 = 0u;
+    goto after9;
+after48:;
+    v33 = 13u;
+    v34 = 1u;
+    v32 = v15;
+    v35 = v15;
+    v36 = v15;
+    v37 = v15;
+    v38 = v15;
+    v39 = v15;
+    v40 = v15;
+    v41 = v15;
+    v42 = v15;
+    v43 = v15;
+    v44 = v15;
+    v45 = v15;
+    v46 = v15;
+    v47 = v15;
+    v48 = v15;
+    v49 = v15;
+    switch (v15) {
+        case 1: goto after88;
+        case 2: goto after87;
+        case 3: goto after40;
+        default: goto after6;
+    }
+after88:;
+    if (v12 == (v28 & 255u)) { goto after89; }
+    v32 = 0u;
+    goto after10;
+after89:;
+    v33 = 1u;
+    if ((v30 & 255u) == 1u) { goto after25; }
+    if (v31 > 2u) { goto after23; }
+    v15 = v31 + 1u;
+    v45 = (v15 < 255u) ? v15 : 255u;
+    v15 = (v20 & 255u) + 1u;
+    v43 = (v15 < 255u) ? v15 : 255u;
+    v49 = v17 & 1u;
+    v48 = v18 & 1u;
+    goto after36;
+after87:;
+    v35 = 0u;
+    if (v12 == 0) { goto after90; }
+    v32 = 0u;
+    goto after8;
+after90:;
+    if ((v20 & 255u) >= 2u) { goto after91; }
+    v33 = 19u;
+    v32 = 0u;
+    goto after8;
+after91:;
+    v15 = v19 & 255u;
+    v12 = v10 & 255u;
+    v46 = (v15 > v12) ? v15 : v12;
+    v37 = 1u;
+    v34 = 0u;
+    v15 = v30 & 255u;
+    v40 = (v15 != 1u) ? 0u : 10u;
+    v43 = (u32)(v15 == 0);
+    goto after24;
+after47:;
+    v49 = 0u;
+    put16(f50 + 24, 0u);
+    put64(f50 + 16, 0ull);
+    put64(f50 + 8, 0ull);
+    v34 = 1u;
+    v33 = 13u;
+    v48 = 0u;
+    v47 = 0u;
+    v46 = 0u;
+    v43 = 0u;
+    v42 = 0u;
+    v41 = 0u;
+    v40 = 0u;
+    v39 = 0u;
+    v38 = 0u;
+    v37 = 0u;
+    v36 = 0u;
+    v35 = 0u;
+    v32 = 0u;
+    switch (v15) {
+        case 1: goto after93;
+        case 2: goto after92;
+        default: goto after26;
+    }
+after93:;
+    v48 = 0u;
+    v47 = 0u;
+    v46 = 0u;
+    v43 = 0u;
+    v42 = 0u;
+    v41 = 0u;
+    v40 = 0u;
+    v39 = 0u;
+    v38 = 0u;
+    v37 = 0u;
+    v36 = 0u;
+    v35 = 0u;
+    v32 = 0u;
+    if (v11 != 2u) { goto after26; }
+    if (v12 == (v28 & 255u)) { goto after94; }
+    v35 = 0u;
+    v33 = 7u;
+    goto after28;
+after94:;
+    v33 = 1u;
+    if ((v30 & 255u) != 1u) { goto after95; }
+    v34 = 0u;
+    v32 = v29;
+    v35 = v12;
+    v36 = v27;
+    v37 = v26;
+    v38 = v25;
+    v39 = v24;
+    v40 = v23;
+    v41 = v22;
+    v42 = v21;
+    v43 = v20;
+    v46 = v10;
+    v47 = v19;
+    v48 = v18;
+    v49 = v17;
+    goto after27;
+after95:;
+    if (v31 <= 2u) { goto after96; }
+    v35 = 0u;
+    v33 = 20u;
+    goto after28;
+after96:;
+    v15 = v31 + 1u;
+    v31 = (v15 < 255u) ? v15 : 255u;
+    v15 = (v20 & 255u) + 1u;
+    v43 = (v15 < 255u) ? v15 : 255u;
+    v49 = v17 & 1u;
+    v48 = v18 & 1u;
+    v34 = 0u;
+    v33 = 0u;
+    v32 = v29;
+    v35 = v12;
+    v36 = v27;
+    v37 = v26;
+    v38 = v25;
+    v39 = v24;
+    v40 = v23;
+    v41 = v22;
+    v42 = v21;
+    v46 = v10;
+    v47 = v19;
+    goto after27;
+after92:;
+    if (v7) { goto after98; }
+    v15 = 0u;
+    goto after97;
+after98:;
+    v15 = load8(m, v6, 0);
+after97:;
+    judge_core_end_End_repeats_request(m, v50 + 8ull, v1, v12, v15, 13u);
+    v49 = get8(f50 + 25);
+    v48 = get8(f50 + 24);
+    v47 = get8(f50 + 23);
+    v46 = get8(f50 + 22);
+    v43 = get8(f50 + 19);
+    v42 = get8(f50 + 18);
+    v41 = get8(f50 + 17);
+    v40 = get8(f50 + 16);
+    v39 = get8(f50 + 15);
+    v38 = get8(f50 + 14);
+    v37 = get8(f50 + 13);
+    v36 = get8(f50 + 12);
+    v35 = get8(f50 + 11);
+    v32 = get8(f50 + 10);
+    v33 = get8(f50 + 9);
+    v34 = get8(f50 + 8);
+    goto after26;
+after46:;
+    v49 = 0u;
+    put16(f50 + 24, 0u);
+    put64(f50 + 16, 0ull);
+    put64(f50 + 8, 0ull);
+    if (v15 == 2u) { goto after99; }
+    v34 = 1u;
+    v33 = 14u;
+    v48 = 0u;
+    v47 = 0u;
+    v46 = 0u;
+    v44 = 0u;
+    v45 = 0u;
+    v43 = 0u;
+    v42 = 0u;
+    v41 = 0u;
+    v40 = 0u;
+    v39 = 0u;
+    v38 = 0u;
+    v37 = 0u;
+    v36 = 0u;
+    v35 = 0u;
+    v32 = 0u;
+    goto after6;
+after99:;
+    if (v7) { goto after101; }
+    v15 = 0u;
+    goto after100;
+after101:;
+    v15 = load8(m, v6, 0);
+after100:;
+    judge_core_end_End_repeats_request(m, v50 + 8ull, v1, v12, v15, 14u);
+    v44 = get16(f50 + 20);
+    v45 = v44 >> 8;
+    v49 = get8(f50 + 25);
+    v48 = get8(f50 + 24);
+    v47 = get8(f50 + 23);
+    v46 = get8(f50 + 22);
+    v43 = get8(f50 + 19);
+    v42 = get8(f50 + 18);
+    v41 = get8(f50 + 17);
+    v40 = get8(f50 + 16);
+    v39 = get8(f50 + 15);
+    v38 = get8(f50 + 14);
+    v37 = get8(f50 + 13);
+    v36 = get8(f50 + 12);
+    v35 = get8(f50 + 11);
+    v32 = get8(f50 + 10);
+    v33 = get8(f50 + 9);
+    v34 = get8(f50 + 8);
+    goto after6;
+after45:;
+    v36 = 0u;
+    v33 = 15u;
+    v34 = 1u;
+    if (v15 != 3u) { goto after29; }
+    if (v14 != v12) { goto after29; }
+    v35 = 0u;
+    v15 = 0u;
+    if (v7 == 0) { goto after102; }
+    v15 = load8(m, v6, 0);
+after102:;
+    if ((v15 & 255u) == (v13 & 255u)) { goto after103; }
+    v33 = 16u;
+    v32 = 0u;
+    goto after8;
+after103:;
+    v34 = 0u;
+    v33 = v30;
+    v32 = v29;
+    v35 = v28;
+    v36 = v27;
+    v37 = v26;
+    v38 = v25;
+    v39 = v24;
+    v40 = v23;
+    v41 = v22;
+    v42 = v21;
+    v43 = v20;
+    v44 = 0u;
+    v45 = 0u;
+    v46 = v13;
+    v47 = v19;
+    v48 = v18;
+    v49 = v17;
+    switch (v14) {
+        case 1: goto after6;
+        case 2: goto after105;
+        case 3: goto after104;
+        default: goto after106;
+    }
+after106:;
+    v15 = v19 & 255u;
+    v12 = v10 & 255u;
+    v46 = (v15 > v12) ? v15 : v12;
+    goto after30;
+after105:;
+    v49 = 1u;
+    v34 = 0u;
+    v33 = v30;
+    v32 = v29;
+    v35 = v28;
+    v36 = 0u;
+    v37 = v26;
+    v38 = v25;
+    v39 = v24;
+    v40 = v23;
+    v41 = v22;
+    v42 = v21;
+    v43 = v20;
+    v44 = 0u;
+    v45 = 0u;
+    v46 = v10;
+    v47 = v19;
+    v48 = v18;
+    goto after6;
+after104:;
+    v33 = v30;
+    v32 = v29;
+    v35 = v28;
+    v36 = v27;
+    v37 = v26;
+    v38 = v25;
+    v39 = v24;
+    v40 = v23;
+    v41 = v22;
+    v42 = v21;
+    v43 = v20;
+    v44 = 0u;
+    v45 = 0u;
+    goto after21;
+after44:;
+    v32 = 0u;
+    v33 = 17u;
+    v34 = 1u;
+    v35 = 0u;
+    v36 = 0u;
+    v37 = 0u;
+    v38 = 0u;
+    v39 = 0u;
+    v40 = 0u;
+    v41 = 0u;
+    v42 = 0u;
+    v43 = 0u;
+    v44 = 0u;
+    v45 = 0u;
+    v46 = 0u;
+    v47 = 0u;
+    v48 = 0u;
+    v49 = 0u;
+    switch (v15) {
+        case 1: goto after108;
+        case 2: goto after107;
+        case 3: goto after6;
+        default: goto after109;
+    }
+after109:;
+    if (v12 != (v29 & 255u)) { goto after10; }
+    if (v7 > v5) { goto after11; }
+    v48 = 1u;
+    v36 = 2u - (v11 & 1u);
+    v34 = 0u;
+    v33 = v30;
+    v32 = (u32)(v12 == 0);
+    goto after14;
+after108:;
+    if (v11) { goto after15; }
+    if (v12 != (v28 & 255u)) { goto after10; }
+    v49 = v17 & 1u;
+    v48 = v18 & 1u;
+    goto after17;
+after107:;
+    v32 = 0u;
+    v15 = 0u;
+    if (v7 == 0) { goto after110; }
+    v15 = load8(m, v6, 0);
+after110:;
+    v33 = 18u;
+    v35 = 0u;
+    v36 = 0u;
+    v37 = 0u;
+    v38 = 0u;
+    v39 = 0u;
+    v40 = 0u;
+    v41 = 0u;
+    v42 = 0u;
+    v43 = 0u;
+    v44 = 0u;
+    v45 = 0u;
+    v46 = 0u;
+    v47 = 0u;
+    v48 = 0u;
+    v49 = 0u;
+    switch (v12) {
+        case 1: goto after114;
+        case 2: goto after6;
+        case 3: goto after113;
+        default: goto after115;
+    }
+after115:;
+    v15 = v19 & 255u;
+    v12 = v10 & 255u;
+    v46 = (v15 > v12) ? v15 : v12;
+    v35 = 0u;
+    v40 = ((v30 & 255u) != 1u) ? 0u : 10u;
+    v38 = 3u;
+    v32 = 0u;
+    v36 = 0u;
+    v39 = 0u;
+    v49 = 0u;
+    goto after111;
+after114:;
+    v49 = v17 & 1u;
+    v40 = 8u;
+    v38 = 0u;
+    goto after112;
+after113:;
+    v38 = 1u;
+    v49 = v17 & 1u;
+    v40 = 8u;
+after112:;
+    v32 = v29;
+    v35 = v28;
+    v36 = v27;
+    v39 = v15;
+    v46 = v10;
+after111:;
+    v43 = (u32)((v30 & 255u) == 0);
+    goto after32;
+after43:;
+    v32 = 0u;
+    v33 = 17u;
+    v34 = 1u;
+    v35 = 0u;
+    v36 = 0u;
+    v37 = 0u;
+    v38 = 0u;
+    v39 = 0u;
+    v40 = 0u;
+    v41 = 0u;
+    v42 = 0u;
+    v43 = 0u;
+    v44 = 0u;
+    v45 = 0u;
+    v46 = 0u;
+    v47 = 0u;
+    v48 = 0u;
+    v49 = 0u;
+    switch (v15) {
+        case 1: goto after117;
+        case 2: goto after116;
+        case 3: goto after6;
+        default: goto after118;
+    }
+after118:;
+    if (v12 != (v29 & 255u)) { goto after10; }
+    if (v7 > v5) { goto after11; }
+    v48 = 1u;
+    v36 = 2u - (v11 & 1u);
+    v34 = 0u;
+    v33 = v30;
+    v32 = (u32)(v12 == 0);
+    goto after14;
+after117:;
+    if (v12 != (v28 & 255u)) { goto after10; }
+    v33 = 1u;
+    if ((v30 & 255u) == 1u) { goto after25; }
+    if (v31 > 2u) { goto after34; }
+    v15 = v31 + 1u;
+    v45 = (v15 < 255u) ? v15 : 255u;
+    v15 = (v20 & 255u) + 1u;
+    v43 = (v15 < 255u) ? v15 : 255u;
+    v49 = v17 & 1u;
+    v48 = v18 & 1u;
+    goto after36;
+after116:;
+    v32 = 0u;
+    v15 = 0u;
+    if (v7 == 0) { goto after119; }
+    v15 = load8(m, v6, 0);
+after119:;
+    v33 = 18u;
+    v35 = 0u;
+    v36 = 0u;
+    v37 = 0u;
+    v38 = 0u;
+    v39 = 0u;
+    v40 = 0u;
+    v41 = 0u;
+    v42 = 0u;
+    v43 = 0u;
+    v44 = 0u;
+    v45 = 0u;
+    v46 = 0u;
+    v47 = 0u;
+    v48 = 0u;
+    v49 = 0u;
+    switch (v12) {
+        case 1: goto after123;
+        case 2: goto after6;
+        case 3: goto after122;
+        default: goto after124;
+    }
+after124:;
+    v15 = v19 & 255u;
+    v12 = v10 & 255u;
+    v46 = (v15 > v12) ? v15 : v12;
+    v35 = 0u;
+    v40 = ((v30 & 255u) != 1u) ? 0u : 10u;
+    v38 = 3u;
+    v32 = 0u;
+    v36 = 0u;
+    v39 = 0u;
+    v49 = 0u;
+    goto after120;
+after123:;
+    v49 = v17 & 1u;
+    v40 = 9u;
+    v38 = 0u;
+    goto after121;
+after122:;
+    v38 = 1u;
+    v49 = v17 & 1u;
+    v40 = 9u;
+after121:;
+    v32 = v29;
+    v35 = v28;
+    v36 = v27;
+    v39 = v15;
+    v46 = v10;
+after120:;
+    v43 = (u32)((v30 & 255u) == 0);
+    goto after32;
+after42:;
+    v44 = 0u;
+    v33 = 8u;
+    v34 = v15;
+    v32 = 0u;
+    v35 = 0u;
+    v36 = 0u;
+    v37 = 0u;
+    v38 = 0u;
+    v39 = 0u;
+    v40 = 0u;
+    v41 = 0u;
+    v42 = 0u;
+    v43 = 0u;
+    v46 = 0u;
+    v47 = 0u;
+    v48 = 0u;
+    v49 = 0u;
+    switch (v15) {
+        case 1: goto after125;
+        case 2: goto after129;
+        case 3: goto after128;
+        default: goto after130;
+    }
+after130:;
+    v34 = 1u;
+    if (v12 == (v29 & 255u)) { goto after131; }
+    v33 = 7u;
+    goto after127;
+after131:;
+    if (v7 <= v5) { goto after132; }
+    v33 = 4u;
+    goto after127;
+after132:;
+    v48 = 1u;
+    v36 = 2u - (v11 & 1u);
+    v34 = 0u;
+    v33 = v30;
+    v32 = (u32)(v12 == 0);
+    v35 = v28;
+    v37 = 0u;
+    v38 = 0u;
+    v39 = 0u;
+    v40 = v23;
+    v41 = v22;
+    v42 = v21;
+    v43 = 0u;
+    v46 = v10;
+    v47 = v19;
+    goto after126;
+after129:;
+    v32 = 0u;
+    v16 = 0u;
+    if (v7 == 0) { goto after133; }
+    v16 = load8(m, v6, 0);
+after133:;
+    v33 = 18u;
+    v34 = 1u;
+    v35 = 0u;
+    v36 = 0u;
+    v37 = 0u;
+    v38 = 0u;
+    v39 = 0u;
+    v40 = 0u;
+    v41 = 0u;
+    v42 = 0u;
+    v43 = 0u;
+    v46 = 0u;
+    v47 = 0u;
+    v48 = 0u;
+    v49 = 0u;
+    switch (v12) {
+        case 1: goto after137;
+        case 2: goto after125;
+        case 3: goto after136;
+        default: goto after138;
+    }
+after138:;
+    v16 = v19 & 255u;
+    v36 = v10 & 255u;
+    v46 = (v16 > v36) ? v16 : v36;
+    v35 = 0u;
+    v40 = ((v30 & 255u) != 1u) ? 0u : 10u;
+    v38 = 3u;
+    v32 = 0u;
+    v36 = 0u;
+    v39 = 0u;
+    v41 = 0u;
+    v42 = 0u;
+    v49 = 0u;
+    goto after134;
+after137:;
+    v49 = v17 & 1u;
+    v40 = 10u;
+    v38 = 0u;
+    goto after135;
+after136:;
+    v38 = 1u;
+    v49 = v17 & 1u;
+    v40 = 10u;
+after135:;
+    v32 = v29;
+    v35 = v28;
+    v36 = v27;
+    v39 = v16;
+    v41 = v14;
+    v42 = v13;
+    v46 = v10;
+after134:;
+    v43 = (u32)((v30 & 255u) == 0);
+    v37 = 1u;
+    v34 = 0u;
+    v33 = v30;
+    v47 = v19;
+    v48 = 1u;
+    goto after125;
+after128:;
+    v33 = 17u;
+    v34 = 1u;
+after127:;
+    v32 = 0u;
+    v35 = 0u;
+    v36 = 0u;
+    v37 = 0u;
+    v38 = 0u;
+    v39 = 0u;
+    v40 = 0u;
+    v41 = 0u;
+    v42 = 0u;
+    v43 = 0u;
+    v46 = 0u;
+    v47 = 0u;
+    v48 = 0u;
+after126:;
+    v49 = 0u;
+after125:;
+    if (v15 == 1u) { goto after139; }
+    v45 = 0u;
+    goto after6;
+after139:;
+    if (v11 == 2u) { goto after140; }
+    v45 = 0u;
+    goto after6;
+after140:;
+    v45 = 0u;
+    if (v12 != ((u32)((v28 & 255u) == 0))) { goto after6; }
+    v45 = v9 >> 8;
+    v33 = 1u;
+    if ((v30 & 255u) == 1u) { goto after35; }
+    if (v45 > 2u) { goto after34; }
+    v15 = v45 + 1u;
+    v45 = (v15 < 255u) ? v15 : 255u;
+    goto after37;
+after41:;
+    v33 = 9u;
+    v34 = 1u;
+    v32 = v15;
+    v35 = v15;
+    v36 = v15;
+    v37 = v15;
+    v38 = v15;
+    v39 = v15;
+    v40 = v15;
+    v41 = v15;
+    v42 = v15;
+    v43 = v15;
+    v44 = v15;
+    v45 = v15;
+    v46 = v15;
+    v47 = v15;
+    v48 = v15;
+    v49 = v15;
+    switch (v15) {
+        case 1: goto after142;
+        case 2: goto after141;
+        case 3: goto after40;
+        default: goto after6;
+    }
+after142:;
+    v32 = 0u;
+    v33 = 10u;
+    v35 = 0u;
+    v36 = 0u;
+    v37 = 0u;
+    v38 = 0u;
+    v39 = 0u;
+    v40 = 0u;
+    v41 = 0u;
+    v42 = 0u;
+    v43 = 0u;
+    v44 = 0u;
+    v45 = 0u;
+    v46 = 0u;
+    v47 = 0u;
+    v48 = 0u;
+    v49 = 0u;
+    switch (v11) {
+        case 0: goto after143;
+        case 2: goto after39;
+        default: goto after6;
+    }
+after143:;
+    if (v12 != (v28 & 255u)) { goto after10; }
+    v49 = v17 & 1u;
+    v48 = v18 & 1u;
+    goto after17;
+after141:;
+    v9 = 0u;
+    v15 = 0u;
+    if (v7 == 0) { goto after144; }
+    v15 = load8(m, v6, 0);
+after144:;
+    v33 = 19u;
+    v32 = v12;
+    v35 = v12;
+    v36 = v12;
+    v37 = v12;
+    v38 = v12;
+    v39 = v12;
+    v40 = v12;
+    v41 = v12;
+    v42 = v12;
+    v43 = v12;
+    v44 = v12;
+    v45 = v12;
+    v46 = v12;
+    v47 = v12;
+    v48 = v12;
+    v49 = v12;
+    switch (v12) {
+        case 1: goto after145;
+        case 2: goto after147;
+        case 3: goto after146;
+        default: goto after6;
+    }
+after147:;
+    v15 = 0u;
+    v9 = 2u;
+    goto after145;
+after146:;
+    v9 = 1u;
+after145:;
+    v37 = 1u;
+    v49 = v17 & 1u;
+    v43 = (u32)((v30 & 255u) == 0);
+    v40 = 11u;
+    v34 = 0u;
+    v33 = v30;
+    v32 = v29;
+    v35 = v28;
+    v36 = v27;
+    v38 = v9;
+    v39 = v15;
+    goto after19;
+after40:;
+    v35 = 0u;
+    v33 = 17u;
+    v32 = 0u;
+    goto after8;
+after39:;
+    v35 = 0u;
+    v36 = 0u;
+    v37 = 0u;
+    v38 = 0u;
+    v39 = 0u;
+    v40 = 0u;
+    v41 = 0u;
+    v42 = 0u;
+    v43 = 0u;
+    v44 = 0u;
+    v45 = 0u;
+    v46 = 0u;
+    v47 = 0u;
+    v48 = 0u;
+    v49 = 0u;
+    if (v12 != ((u32)((v28 & 255u) == 0))) { goto after6; }
+    v45 = v9 >> 8;
+    v33 = 1u;
+    if ((v30 & 255u) == 1u) { goto after35; }
+    if (v45 > 2u) { goto after34; }
+    v15 = v45 + 1u;
+    v45 = (v15 < 255u) ? v15 : 255u;
+    goto after37;
+after38:;
+    v45 = v9 >> 8;
+    v34 = 0u;
+    v33 = v30;
+    v32 = v29;
+    v35 = v12;
+    v36 = v27;
+    v37 = 0u;
+    v38 = 0u;
+    v39 = 0u;
+    v40 = v23;
+    v41 = v22;
+    v42 = v21;
+    v43 = v20;
+    v44 = v9;
+    v46 = v10;
+    v47 = v19;
+    v48 = 0u;
+    v49 = v17;
+    switch (v15) {
+        case 1: goto after6;
+        case 2: goto after149;
+        case 3: goto after148;
+        default: goto after150;
+    }
+after150:;
+    if (v7 <= v5) { goto after151; }
+    v35 = 0u;
+    v33 = 4u;
+    goto after33;
+after151:;
+    v48 = (((u32)(v27 == 0)) & ((u32)(v12 == (v29 & 255u)))) & ((u32)((v23 & 255u) != 12u));
+    v36 = 2u - (v11 & 1u);
+    v34 = 0u;
+    v33 = v30;
+    v32 = (u32)(v12 == 0);
+    v35 = v28;
+    v37 = 0u;
+    v38 = 0u;
+    v39 = 0u;
+    v40 = 0u;
+    v41 = 0u;
+    v42 = 0u;
+    goto after13;
+after149:;
+    if (v7) { goto after153; }
+    v39 = 0u;
+    goto after152;
+after153:;
+    v39 = load8(m, v6, 0);
+after152:;
+    switch (v12) {
+        case 1: goto after158;
+        case 2: goto after157;
+        case 3: goto after156;
+        default: goto after159;
+    }
+after159:;
+    v15 = v19 & 255u;
+    v12 = v10 & 255u;
+    v46 = (v15 > v12) ? v15 : v12;
+    v35 = 0u;
+    v40 = ((v30 & 255u) != 1u) ? 0u : 10u;
+    v38 = 3u;
+    v32 = 0u;
+    v36 = 0u;
+    v39 = 0u;
+    v49 = 0u;
+    goto after154;
+after158:;
+    v49 = v17 & 1u;
+    v40 = 12u;
+    v38 = 0u;
+    goto after155;
+after157:;
+    v49 = v17 & 1u;
+    v40 = 12u;
+    v39 = 0u;
+    v38 = 2u;
+    goto after155;
+after156:;
+    v38 = 1u;
+    v49 = v17 & 1u;
+    v40 = 12u;
+after155:;
+    v32 = v29;
+    v35 = v28;
+    v36 = v27;
+    v46 = v10;
+after154:;
+    v43 = (u32)((v30 & 255u) == 0);
+    goto after32;
+after148:;
+    v34 = 0u;
+    v46 = 0u;
+    if (v7 == 0) { goto after160; }
+    v46 = load8(m, v6, 0);
+after160:;
+    v33 = v30;
+    v32 = v29;
+    v35 = v28;
+    v36 = v27;
+    v37 = 0u;
+    v38 = 0u;
+    v39 = 0u;
+    v40 = v23;
+    v41 = v22;
+    v42 = v21;
+    v43 = v20;
+    v44 = 0u;
+    v45 = 0u;
+    v47 = v19;
+    v48 = 0u;
+    v49 = v17;
+    switch (v12) {
+        case 1: goto after6;
+        case 2: goto after162;
+        case 3: goto after161;
+        default: goto after163;
+    }
+after163:;
+    v15 = v19 & 255u;
+    v12 = v10 & 255u;
+    v46 = (v15 > v12) ? v15 : v12;
+    goto after30;
+after162:;
+    v49 = 1u;
+    v34 = 0u;
+    v33 = v30;
+    v32 = v29;
+    v35 = v28;
+    v36 = 0u;
+    v37 = 0u;
+    v38 = 0u;
+    v39 = 0u;
+    v40 = v23;
+    v41 = v22;
+    v42 = v21;
+    v43 = v20;
+    v44 = 0u;
+    v45 = 0u;
+    v46 = v10;
+    v47 = v19;
+    v48 = 0u;
+    goto after6;
+after161:;
+    v33 = v30;
+    v32 = v29;
+    v35 = v28;
+    v36 = v27;
+    v37 = 0u;
+    v38 = 0u;
+    v39 = 0u;
+    v40 = v23;
+    v41 = v22;
+    v42 = v21;
+    v43 = v20;
+    v44 = 0u;
+    v45 = 0u;
+    v46 = v10;
+    v47 = v19;
+    v48 = 0u;
+    goto after20;
+after37:;
+    v43 = 1u;
+    v49 = v17 & 1u;
+    v48 = v18 & 1u;
+after36:;
+    v34 = 0u;
+    v33 = 0u;
+    v32 = v29;
+    v35 = v12;
+    v36 = v27;
+    v37 = v26;
+    v38 = v25;
+    v39 = v24;
+    v40 = v23;
+    v41 = v22;
+    v42 = v21;
+    v44 = v9;
+    goto after16;
+after35:;
+    v34 = 0u;
+    v32 = v29;
+    v35 = v12;
+    v36 = v27;
+    v37 = v26;
+    v38 = v25;
+    v39 = v24;
+    v40 = v23;
+    v41 = v22;
+    v42 = v21;
+    v43 = 0u;
+    v44 = v9;
+    goto after21;
+after34:;
+    v35 = 0u;
+    v33 = 20u;
+after33:;
+    v34 = 1u;
+    v32 = 0u;
+    goto after8;
+after32:;
+    v37 = 1u;
+    v34 = 0u;
+    v33 = v30;
+    v41 = 0u;
+    v42 = 0u;
+after31:;
+    v44 = 0u;
+    v45 = 0u;
+    goto after18;
+after30:;
+    v48 = 1u;
+    v34 = 0u;
+    v33 = v30;
+    v32 = 0u;
+    v35 = 0u;
+    v36 = 0u;
+    v37 = 0u;
+    v38 = 0u;
+    v39 = 0u;
+    v40 = 0u;
+    v41 = 0u;
+    v42 = 0u;
+    v43 = 0u;
+    v44 = 0u;
+    v45 = 0u;
+    goto after12;
+after29:;
+    v32 = 0u;
+    v35 = 0u;
+    goto after7;
+after28:;
+    v34 = 1u;
+    v32 = 0u;
+    v36 = 0u;
+    v37 = 0u;
+    v38 = 0u;
+    v39 = 0u;
+    v40 = 0u;
+    v41 = 0u;
+    v42 = 0u;
+    v43 = 0u;
+    v9 = 0u;
+    v31 = 0u;
+    v46 = 0u;
+    v47 = 0u;
+    v48 = 0u;
+    v49 = 0u;
+after27:;
+    put8(f50 + 21, v31);
+    put8(f50 + 20, v9);
+after26:;
+    v44 = get16(f50 + 20);
+    v45 = v44 >> 8;
+    goto after6;
+after25:;
+    v34 = 0u;
+    v32 = v29;
+    v35 = v12;
+    goto after22;
+after24:;
+    v38 = 3u;
+    v33 = v30;
+    v32 = 0u;
+    v35 = 0u;
+    v36 = 0u;
+    v39 = 0u;
+    v41 = 0u;
+    v42 = 0u;
+    v44 = 0u;
+    v45 = 0u;
+    v47 = v19;
+    v48 = 1u;
+    v49 = 0u;
+    goto after6;
+after23:;
+    v32 = 0u;
+    v33 = 20u;
+    v34 = 1u;
+    goto after9;
+after22:;
+    v36 = v27;
+    v37 = v26;
+    v38 = v25;
+    v39 = v24;
+    v40 = v23;
+    v41 = v22;
+    v42 = v21;
+    v43 = v20;
+    v44 = v9;
+    v45 = v31;
+after21:;
+    v46 = v10;
+    v47 = v19;
+    v48 = v18;
+after20:;
+    v49 = v17;
+    goto after6;
+after19:;
+    v41 = 0u;
+    v42 = 0u;
+    v44 = 0u;
+    v45 = 0u;
+    v46 = v10;
+after18:;
+    v47 = v19;
+    v48 = 1u;
+    goto after6;
+after17:;
+    v34 = 0u;
+    v33 = v30;
+    v32 = v29;
+    v35 = v12;
+    v36 = v27;
+    v37 = v26;
+    v38 = v25;
+    v39 = v24;
+    v40 = v23;
+    v41 = v22;
+    v42 = v21;
+    v43 = 0u;
+    v44 = 0u;
+    v45 = 0u;
+after16:;
+    v46 = v10;
+    v47 = v19;
+    goto after6;
+after15:;
+    v33 = 10u;
+    goto after9;
+after14:;
+    v35 = v28;
+    v37 = 0u;
+    v38 = 0u;
+    v39 = 0u;
+    v40 = v23;
+    v41 = v22;
+    v42 = v21;
+after13:;
+    v43 = 0u;
+    v44 = 0u;
+    v45 = 0u;
+    v46 = v10;
+after12:;
+    v47 = v19;
+    v49 = 0u;
+    goto after6;
+after11:;
+    v33 = 4u;
+    goto after9;
+after10:;
+    v33 = 7u;
+after9:;
+    v35 = 0u;
+after8:;
+    v36 = 0u;
+after7:;
+    v37 = 0u;
+    v38 = 0u;
+    v39 = 0u;
+    v40 = 0u;
+    v41 = 0u;
+    v42 = 0u;
+    v43 = 0u;
+    v44 = 0u;
+    v45 = 0u;
+    v46 = 0u;
+    v47 = 0u;
+    v48 = 0u;
+    v49 = 0u;
+after6:;
+    p3547 = held(m, v0, 18);
+    put_held8(p3547, 0, m, v0, v34);
+    put_held8(p3547, 17, m, v0, v49);
+    put_held8(p3547, 16, m, v0, v48);
+    put_held8(p3547, 15, m, v0, v47);
+    put_held8(p3547, 14, m, v0, v46);
+    put_held8(p3547, 11, m, v0, v43);
+    put_held8(p3547, 10, m, v0, v42);
+    put_held8(p3547, 9, m, v0, v41);
+    put_held8(p3547, 8, m, v0, v40);
+    put_held8(p3547, 7, m, v0, v39);
+    put_held8(p3547, 6, m, v0, v38);
+    put_held8(p3547, 5, m, v0, v37);
+    put_held8(p3547, 4, m, v0, v36);
+    put_held8(p3547, 3, m, v0, v35);
+    put_held8(p3547, 2, m, v0, v32);
+    put_held8(p3547, 1, m, v0, v33);
+    put_held16(p3547, 12, m, v0, (v45 << 8) | (v44 & 255u));
+after1:;
+    m->g0 = v50 + 32ull;
+}
+
 static void judge_core_monitor_Watched_sent_other(struct call *m, u64 v0, u64 v1, u32 v2, u64 v3)
 {
     u64 v4 = 0;
@@ -8395,7 +12101,7 @@ static void judge_core_monitor_Watched_sent_other(struct call *m, u64 v0, u64 v1
     u32 v43 = 0;
     u8 *f44 = NULL;
     u8 *p24 = NULL;
-    u8 *p685 = NULL;
+    u8 *p695 = NULL;
     v44 = m->g0 - 32ull;
     f44 = at(m, v44, 32);
     v4 = v44;
@@ -8656,1722 +12362,35 @@ after19:;
     put_held16(p24, 7, m, v1, 12u);
     put_held8(p24, 3, m, v1, v21);
     put_held8(p24, 2, m, v1, v22);
+    store8(m, v1 + 296ull, 0, 0u);
     store64(m, v1 + 288ull, 0, v3);
     put_held32(p24, 18, m, v1, 0u);
+    put_held8(p24, 16, m, v1, v9 & 1u);
     put_held8(p24, 17, m, v1, (v24 & 255u) ? 4u : 3u);
-    p685 = held(m, v0, 23);
-    put_held8(p685, 22, m, v0, v43);
-    put_held8(p685, 21, m, v0, v8);
-    put_held8(p685, 20, m, v0, v42);
-    put_held8(p685, 19, m, v0, v40);
-    put_held8(p685, 18, m, v0, v39);
-    put_held8(p685, 17, m, v0, v38);
-    put_held8(p685, 16, m, v0, v37);
-    put_held16(p685, 14, m, v0, v36);
-    put_held8(p685, 13, m, v0, v35);
-    put_held8(p685, 12, m, v0, v34);
-    put_held8(p685, 11, m, v0, v33);
-    put_held8(p685, 10, m, v0, v32);
-    put_held8(p685, 9, m, v0, v31);
-    put_held8(p685, 8, m, v0, v30);
-    put_held8(p685, 7, m, v0, v29);
-    put_held8(p685, 6, m, v0, v28);
-    put_held8(p685, 5, m, v0, v27);
-    put_held8(p685, 4, m, v0, v26);
-    put_held8(p685, 3, m, v0, v25);
-    put_held8(p685, 2, m, v0, v2);
-    put_held16(p685, 0, m, v0, 513u);
+    p695 = held(m, v0, 23);
+    put_held8(p695, 22, m, v0, v43);
+    put_held8(p695, 21, m, v0, v8);
+    put_held8(p695, 20, m, v0, v42);
+    put_held8(p695, 19, m, v0, v40);
+    put_held8(p695, 18, m, v0, v39);
+    put_held8(p695, 17, m, v0, v38);
+    put_held8(p695, 16, m, v0, v37);
+    put_held16(p695, 14, m, v0, v36);
+    put_held8(p695, 13, m, v0, v35);
+    put_held8(p695, 12, m, v0, v34);
+    put_held8(p695, 11, m, v0, v33);
+    put_held8(p695, 10, m, v0, v32);
+    put_held8(p695, 9, m, v0, v31);
+    put_held8(p695, 8, m, v0, v30);
+    put_held8(p695, 7, m, v0, v29);
+    put_held8(p695, 6, m, v0, v28);
+    put_held8(p695, 5, m, v0, v27);
+    put_held8(p695, 4, m, v0, v26);
+    put_held8(p695, 3, m, v0, v25);
+    put_held8(p695, 2, m, v0, v2);
+    put_held16(p695, 0, m, v0, 513u);
     m->g0 = v44 + 32ull;
     return;
-}
-
-static void judge_core_courses_attempted(struct call *m, u64 v0, u64 v1, u64 v2, u64 v3, u64 v4, u64 v5, u64 v6)
-{
-    u64 v7 = 0;
-    u64 v31 = 0;
-    u64 v51 = 0;
-    u32 v8 = 0;
-    u32 v9 = 0;
-    u32 v10 = 0;
-    u32 v11 = 0;
-    u32 v12 = 0;
-    u32 v13 = 0;
-    u32 v14 = 0;
-    u32 v15 = 0;
-    u32 v16 = 0;
-    u32 v17 = 0;
-    u32 v18 = 0;
-    u32 v19 = 0;
-    u32 v20 = 0;
-    u32 v21 = 0;
-    u32 v22 = 0;
-    u32 v23 = 0;
-    u32 v24 = 0;
-    u32 v25 = 0;
-    u32 v26 = 0;
-    u32 v27 = 0;
-    u32 v28 = 0;
-    u32 v29 = 0;
-    u32 v30 = 0;
-    u32 v32 = 0;
-    u32 v33 = 0;
-    u32 v34 = 0;
-    u32 v35 = 0;
-    u32 v36 = 0;
-    u32 v37 = 0;
-    u32 v38 = 0;
-    u32 v39 = 0;
-    u32 v40 = 0;
-    u32 v41 = 0;
-    u32 v42 = 0;
-    u32 v43 = 0;
-    u32 v44 = 0;
-    u32 v45 = 0;
-    u32 v46 = 0;
-    u32 v47 = 0;
-    u32 v48 = 0;
-    u32 v49 = 0;
-    u32 v50 = 0;
-    u32 t0 = 0;
-    u8 *f51 = NULL;
-    u8 *p90 = NULL;
-    u8 *p100 = NULL;
-    u8 *p120 = NULL;
-    u8 *p3596 = NULL;
-    v51 = m->g0 - 48ull;
-    f51 = at(m, v51, 48);
-    v7 = v51;
-    m->g0 = v7;
-    v8 = 0u;
-    v9 = 0u;
-    v10 = 0u;
-    v11 = 0u;
-    v12 = 0u;
-    v13 = 0u;
-    v14 = 0u;
-    v15 = 0u;
-    v16 = 0u;
-    v17 = 0u;
-    v18 = 0u;
-    v19 = 0u;
-    v20 = 0u;
-    v21 = 0u;
-    v22 = 0u;
-    v23 = 0u;
-    v24 = 0u;
-    v25 = load8(m, v1, 0);
-    if ((v25 & 255u) != 1u) { goto after1; }
-    p90 = held(m, v4, 3);
-    v26 = held8(p90, 2, m, v4);
-    v27 = held8(p90, 1, m, v4);
-    p100 = held(m, v1 + 18ull, 3);
-    v28 = held8(p100, 2, m, v1 + 18ull);
-    v29 = held8(p100, 1, m, v1 + 18ull);
-    v30 = held8(p100, 0, m, v1 + 18ull);
-    v19 = held8(p90, 0, m, v4);
-    v1 = v1 + 1ull;
-    p120 = held(m, v1, 17);
-    v31 = held64(p120, 8, m, v1);
-    put64(f51 + 8, v31);
-    v4 = held64(p120, 0, m, v1);
-    put64(f51, v4);
-    put8(f51 + 19, v28);
-    put8(f51 + 18, v29);
-    put8(f51 + 17, v30);
-    v32 = held8(p120, 16, m, v1);
-    put8(f51 + 16, v32);
-    v33 = get16(f51 + 11);
-    v34 = get8(f51 + 13);
-    v35 = get8(f51 + 15);
-    v36 = get8(f51 + 14);
-    v37 = get8(f51 + 10);
-    v38 = get8(f51 + 9);
-    v39 = get8(f51 + 7);
-    v40 = get8(f51 + 6);
-    v41 = get8(f51 + 5);
-    v42 = get8(f51 + 4);
-    v43 = get8(f51 + 3);
-    v44 = get8(f51 + 2);
-    v45 = get8(f51 + 1);
-    v46 = (u32)v4;
-    if ((v46 & 255u) != 1u) { goto after37; }
-    if (v19 != 2u) { goto after36; }
-    if (v27) { goto after36; }
-    goto after2;
-after37:;
-    if (v19 != 2u) { goto after36; }
-    if (v27 == 3u) { goto after2; }
-after36:;
-    v47 = v33 >> 8;
-    v1 = ((u64)v34) & 255ull;
-    v48 = (u32)v31;
-    switch (v30) {
-        case 2: goto after49;
-        case 3: goto after48;
-        case 4: goto after47;
-        case 5: goto after45;
-        case 6: goto after44;
-        case 7: goto after43;
-        case 8: goto after42;
-        case 9: goto after41;
-        case 10: goto after40;
-        case 11: goto after39;
-        case 12: goto after38;
-        default: goto after50;
-    }
-after50:;
-    v9 = 0u;
-    v8 = 8u;
-    v24 = v19;
-    v10 = 0u;
-    v11 = 0u;
-    v12 = 0u;
-    v13 = 0u;
-    v14 = 0u;
-    v15 = 0u;
-    v16 = 0u;
-    v17 = 0u;
-    v18 = 0u;
-    v49 = 0u;
-    v50 = 0u;
-    v20 = 0u;
-    v21 = 0u;
-    v22 = 0u;
-    v23 = 0u;
-    switch (v19) {
-        case 1: goto after3;
-        case 2: goto after52;
-        case 3: goto after51;
-        default: goto after53;
-    }
-after53:;
-    v24 = 1u;
-    if (v27 != (v45 & 255u)) { goto after7; }
-    if (v6 > v1) { goto after8; }
-    v22 = 1u;
-    v11 = 2u - (v26 & 1u);
-    v9 = (u32)(v27 == 0);
-    v24 = 0u;
-    v8 = v46;
-    goto after11;
-after52:;
-    if (v6) { goto after55; }
-    v14 = 0u;
-    goto after54;
-after55:;
-    v14 = load8(m, v5, 0);
-after54:;
-    switch (v27) {
-        case 1: goto after61;
-        case 2: goto after63;
-        case 3: goto after59;
-        default: goto after64;
-    }
-after64:;
-    if (v30 == 0) { goto after62; }
-    v9 = 0u;
-    v8 = 19u;
-    v24 = 1u;
-    goto after6;
-after63:;
-    v13 = 2u;
-    if (((v30 + 0xFFFFFFFFu) & 255u) < 2u) { goto after60; }
-    v10 = 0u;
-    v8 = 18u;
-    v24 = 1u;
-    v9 = 0u;
-    goto after5;
-after62:;
-    v11 = v36 & 255u;
-    v14 = v34 & 255u;
-    v20 = (v11 > v14) ? v11 : v14;
-    v10 = 0u;
-    v15 = ((v46 & 255u) != 1u) ? 0u : 10u;
-    v13 = 3u;
-    v9 = 0u;
-    v11 = 0u;
-    v14 = 0u;
-    v16 = 0u;
-    v17 = 0u;
-    v23 = 0u;
-    goto after56;
-after61:;
-    v13 = 0u;
-    v11 = ((u32)(v30 != 0u)) | ((u32)((v46 & 255u) != 1u));
-    v17 = v11 ? v28 : 0u;
-    v16 = v11 ? v29 : 0u;
-    v15 = v11 ? v30 : 10u;
-    v23 = v32 & 1u;
-    goto after58;
-after60:;
-    v15 = 1u;
-    v23 = v32 & 1u;
-    v14 = 0u;
-    v9 = v45;
-    v10 = v44;
-    v11 = v43;
-    v16 = v29;
-    v17 = v28;
-    goto after57;
-after59:;
-    v13 = 1u;
-    v11 = ((u32)(v30 != 0u)) | ((u32)((v46 & 255u) != 1u));
-    v17 = v11 ? v28 : 0u;
-    v16 = v11 ? v29 : 0u;
-    v15 = v11 ? v30 : 10u;
-    v23 = v32 & 1u;
-after58:;
-    v9 = v45;
-    v10 = v44;
-    v11 = v43;
-after57:;
-    v20 = v34;
-after56:;
-    v18 = (u32)((v46 & 255u) == 0);
-    goto after14;
-after51:;
-    v8 = 17u;
-    v24 = 1u;
-    goto after6;
-after49:;
-    v8 = 9u;
-    v24 = 1u;
-    v9 = v19;
-    v10 = v19;
-    v11 = v19;
-    v12 = v19;
-    v13 = v19;
-    v14 = v19;
-    v15 = v19;
-    v16 = v19;
-    v17 = v19;
-    v18 = v19;
-    v49 = v19;
-    v50 = v19;
-    v20 = v19;
-    v21 = v19;
-    v22 = v19;
-    v23 = v19;
-    switch (v19) {
-        case 1: goto after66;
-        case 2: goto after65;
-        case 3: goto after46;
-        default: goto after3;
-    }
-after66:;
-    v10 = 0u;
-    if (v26 == 0) { goto after67; }
-    v8 = 10u;
-    v9 = 0u;
-    goto after5;
-after67:;
-    if (v27 == (v44 & 255u)) { goto after68; }
-    v8 = 7u;
-    v9 = 0u;
-    goto after5;
-after68:;
-    v23 = v32 & 1u;
-    v22 = v35 & 1u;
-    goto after16;
-after65:;
-    v30 = 0u;
-    v19 = 0u;
-    if (v6 == 0) { goto after69; }
-    v19 = load8(m, v5, 0);
-after69:;
-    v8 = 19u;
-    v9 = v27;
-    v10 = v27;
-    v11 = v27;
-    v12 = v27;
-    v13 = v27;
-    v14 = v27;
-    v15 = v27;
-    v16 = v27;
-    v17 = v27;
-    v18 = v27;
-    v49 = v27;
-    v50 = v27;
-    v20 = v27;
-    v21 = v27;
-    v22 = v27;
-    v23 = v27;
-    switch (v27) {
-        case 1: goto after70;
-        case 2: goto after72;
-        case 3: goto after71;
-        default: goto after3;
-    }
-after72:;
-    v19 = 0u;
-    v30 = 2u;
-    goto after70;
-after71:;
-    v30 = 1u;
-after70:;
-    v12 = 1u;
-    v23 = v32 & 1u;
-    v18 = (u32)((v46 & 255u) == 0);
-    v15 = 11u;
-    v24 = 0u;
-    v8 = v46;
-    v9 = v45;
-    v10 = v44;
-    v11 = v43;
-    v13 = v30;
-    v14 = v19;
-    goto after17;
-after48:;
-    v8 = 11u;
-    v24 = v19;
-    v9 = 0u;
-    v10 = 0u;
-    v11 = 0u;
-    v12 = 0u;
-    v13 = 0u;
-    v14 = 0u;
-    v15 = 0u;
-    v16 = 0u;
-    v17 = 0u;
-    v18 = 0u;
-    v49 = 0u;
-    v50 = 0u;
-    v20 = 0u;
-    v21 = 0u;
-    v22 = 0u;
-    v23 = 0u;
-    switch (v19) {
-        case 1: goto after3;
-        case 2: goto after76;
-        case 3: goto after73;
-        default: goto after77;
-    }
-after77:;
-    v24 = 1u;
-    if (v27 != (v45 & 255u)) { goto after78; }
-    v8 = 7u;
-    v9 = 0u;
-    goto after6;
-after78:;
-    v8 = 12u;
-    v9 = v43;
-    v10 = v43;
-    v11 = v43;
-    v12 = v43;
-    v13 = v43;
-    v14 = v43;
-    v15 = v43;
-    v16 = v43;
-    v17 = v43;
-    v18 = v43;
-    v49 = v43;
-    v50 = v43;
-    v20 = v43;
-    v21 = v43;
-    v22 = v43;
-    v23 = v43;
-    switch (v43) {
-        case 1: goto after80;
-        case 2: goto after81;
-        default: goto after3;
-    }
-after81:;
-    if (v6 != v3) { goto after75; }
-    if ((v26 & 1u) == 0) { goto after79; }
-    goto after75;
-after80:;
-    if (v6 != v3) { goto after75; }
-    if ((v26 & 1u) == 0) { goto after75; }
-after79:;
-    if (v6 < 4ull) { goto after83; }
-    if (load8(m, v5, 0) != load8(m, v2, 0)) { goto after75; }
-    if ((load8(m, v5 + 1ull, 0) & 255u) != (load8(m, v2 + 1ull, 0) & 255u)) { goto after75; }
-    if ((load8(m, v5 + 2ull, 0) & 255u) != (load8(m, v2 + 2ull, 0) & 255u)) { goto after75; }
-    if ((load8(m, v5 + 3ull, 0) & 255u) != (load8(m, v2 + 3ull, 0) & 255u)) { goto after75; }
-    v9 = 0u;
-    v10 = 0u;
-    v11 = 0u;
-    v12 = 0u;
-    v13 = 0u;
-    v14 = 0u;
-    v15 = 0u;
-    v16 = 0u;
-    v17 = 0u;
-    v18 = 0u;
-    v49 = 0u;
-    v50 = 0u;
-    v20 = 0u;
-    v21 = 0u;
-    v22 = 0u;
-    v23 = 0u;
-    t0 = core_cmp_slices_groups_equal_i8_31_core_cmp_numbers_U8PartialEq(m, v5, v6, v2);
-    if (t0) { goto after82; }
-    goto after3;
-after83:;
-    if (v6 == 0) { goto after82; }
-    v1 = 0ull;
-    if (load8(m, v5, 0) != load8(m, v2, 0)) { goto after84; }
-    v1 = 1ull;
-    if (v6 == 1ull) { goto after82; }
-    if (load8(m, v5 + 1ull, 0) != load8(m, v2 + 1ull, 0)) { goto after84; }
-    v1 = 2ull;
-    if (v6 == 2ull) { goto after82; }
-    if (load8(m, v5 + 2ull, 0) == load8(m, v2 + 2ull, 0)) { goto after82; }
-after84:;
-    v9 = 0u;
-    v10 = 0u;
-    v11 = 0u;
-    v12 = 0u;
-    v13 = 0u;
-    v14 = 0u;
-    v15 = 0u;
-    v16 = 0u;
-    v17 = 0u;
-    v18 = 0u;
-    v49 = 0u;
-    v50 = 0u;
-    v20 = 0u;
-    v21 = 0u;
-    v22 = 0u;
-    v23 = 0u;
-    if (v1 < v6) { goto after3; }
-after82:;
-    v8 = 1u;
-    if ((v46 & 255u) != 1u) { goto after85; }
-    v24 = 0u;
-    v9 = v45;
-    v10 = v44;
-    goto after21;
-after85:;
-    v11 = v33 & 255u;
-    if (v11 > 2u) { goto after22; }
-    v11 = v11 + 1u;
-    v49 = (v11 < 255u) ? v11 : 255u;
-    v11 = (v37 & 255u) + 1u;
-    v18 = (v11 < 255u) ? v11 : 255u;
-    v23 = v32 & 1u;
-    v22 = v35 & 1u;
-    v24 = 0u;
-    v8 = 0u;
-    v9 = v45;
-    v10 = v44;
-    v11 = v43;
-    v12 = v42;
-    v13 = v41;
-    v14 = v40;
-    v15 = v39;
-    v16 = v48;
-    v17 = v38;
-    v50 = v47;
-    goto after15;
-after76:;
-    v24 = 1u;
-    if (v27 == 0) { goto after74; }
-after75:;
-    v9 = 0u;
-    goto after6;
-after74:;
-    if ((v37 & 255u) >= 2u) { goto after86; }
-    v8 = 19u;
-    v9 = 0u;
-    goto after6;
-after86:;
-    v11 = v36 & 255u;
-    v14 = v34 & 255u;
-    v20 = (v11 > v14) ? v11 : v14;
-    v12 = 1u;
-    v24 = 0u;
-    v11 = v46 & 255u;
-    v15 = (v11 != 1u) ? 0u : 10u;
-    v18 = (u32)(v11 == 0);
-    goto after23;
-after73:;
-    v8 = 17u;
-    v24 = 1u;
-    v9 = 0u;
-    goto after6;
-after47:;
-    v8 = 13u;
-    v24 = 1u;
-    v9 = v19;
-    v10 = v19;
-    v11 = v19;
-    v12 = v19;
-    v13 = v19;
-    v14 = v19;
-    v15 = v19;
-    v16 = v19;
-    v17 = v19;
-    v18 = v19;
-    v49 = v19;
-    v50 = v19;
-    v20 = v19;
-    v21 = v19;
-    v22 = v19;
-    v23 = v19;
-    switch (v19) {
-        case 1: goto after88;
-        case 2: goto after87;
-        case 3: goto after46;
-        default: goto after3;
-    }
-after88:;
-    if (v27 == (v44 & 255u)) { goto after89; }
-    v10 = 0u;
-    v8 = 7u;
-    v9 = 0u;
-    goto after5;
-after89:;
-    v8 = 1u;
-    if ((v46 & 255u) == 1u) { goto after24; }
-    if (v47 > 2u) { goto after22; }
-    v11 = v47 + 1u;
-    v50 = (v11 < 255u) ? v11 : 255u;
-    v11 = (v37 & 255u) + 1u;
-    v18 = (v11 < 255u) ? v11 : 255u;
-    v23 = v32 & 1u;
-    v22 = v35 & 1u;
-    goto after33;
-after87:;
-    v10 = 0u;
-    if (v27 == 0) { goto after90; }
-    v9 = 0u;
-    goto after5;
-after90:;
-    if ((v37 & 255u) >= 2u) { goto after91; }
-    v8 = 19u;
-    v9 = 0u;
-    goto after5;
-after91:;
-    v11 = v36 & 255u;
-    v14 = v34 & 255u;
-    v20 = (v11 > v14) ? v11 : v14;
-    v12 = 1u;
-    v24 = 0u;
-    v11 = v46 & 255u;
-    v15 = (v11 != 1u) ? 0u : 10u;
-    v18 = (u32)(v11 == 0);
-    goto after23;
-after46:;
-    v10 = 0u;
-    v8 = 17u;
-    v9 = 0u;
-    goto after5;
-after45:;
-    v23 = 0u;
-    put16(f51 + 40, 0u);
-    put64(f51 + 32, 0ull);
-    put64(f51 + 24, 0ull);
-    v24 = 1u;
-    v8 = 13u;
-    v22 = 0u;
-    v21 = 0u;
-    v20 = 0u;
-    v18 = 0u;
-    v17 = 0u;
-    v16 = 0u;
-    v15 = 0u;
-    v14 = 0u;
-    v13 = 0u;
-    v12 = 0u;
-    v11 = 0u;
-    v10 = 0u;
-    v9 = 0u;
-    switch (v19) {
-        case 1: goto after93;
-        case 2: goto after92;
-        default: goto after25;
-    }
-after93:;
-    v22 = 0u;
-    v21 = 0u;
-    v20 = 0u;
-    v18 = 0u;
-    v17 = 0u;
-    v16 = 0u;
-    v15 = 0u;
-    v14 = 0u;
-    v13 = 0u;
-    v12 = 0u;
-    v11 = 0u;
-    v10 = 0u;
-    v9 = 0u;
-    if (v26 != 2u) { goto after25; }
-    if (v27 == (v44 & 255u)) { goto after94; }
-    v10 = 0u;
-    v8 = 7u;
-    goto after27;
-after94:;
-    v8 = 1u;
-    if ((v46 & 255u) != 1u) { goto after95; }
-    v24 = 0u;
-    v9 = v45;
-    v10 = v27;
-    v11 = v43;
-    v12 = v42;
-    v13 = v41;
-    v14 = v40;
-    v15 = v39;
-    v16 = v48;
-    v17 = v38;
-    v18 = v37;
-    v20 = v34;
-    v21 = v36;
-    v22 = v35;
-    v23 = v32;
-    goto after26;
-after95:;
-    if (v47 <= 2u) { goto after96; }
-    v10 = 0u;
-    v8 = 20u;
-    goto after27;
-after96:;
-    v11 = v47 + 1u;
-    v47 = (v11 < 255u) ? v11 : 255u;
-    v11 = (v37 & 255u) + 1u;
-    v18 = (v11 < 255u) ? v11 : 255u;
-    v23 = v32 & 1u;
-    v22 = v35 & 1u;
-    v24 = 0u;
-    v8 = 0u;
-    v9 = v45;
-    v10 = v27;
-    v11 = v43;
-    v12 = v42;
-    v13 = v41;
-    v14 = v40;
-    v15 = v39;
-    v16 = v48;
-    v17 = v38;
-    v20 = v34;
-    v21 = v36;
-    goto after26;
-after92:;
-    if (v6) { goto after98; }
-    v11 = 0u;
-    goto after97;
-after98:;
-    v11 = load8(m, v5, 0);
-after97:;
-    judge_core_end_End_repeats_request(m, v51 + 24ull, v51, v27, v11, 13u);
-    v23 = get8(f51 + 41);
-    v22 = get8(f51 + 40);
-    v21 = get8(f51 + 39);
-    v20 = get8(f51 + 38);
-    v18 = get8(f51 + 35);
-    v17 = get8(f51 + 34);
-    v16 = get8(f51 + 33);
-    v15 = get8(f51 + 32);
-    v14 = get8(f51 + 31);
-    v13 = get8(f51 + 30);
-    v12 = get8(f51 + 29);
-    v11 = get8(f51 + 28);
-    v10 = get8(f51 + 27);
-    v9 = get8(f51 + 26);
-    v8 = get8(f51 + 25);
-    v24 = get8(f51 + 24);
-    goto after25;
-after44:;
-    v23 = 0u;
-    put16(f51 + 40, 0u);
-    put64(f51 + 32, 0ull);
-    put64(f51 + 24, 0ull);
-    if (v19 == 2u) { goto after99; }
-    v24 = 1u;
-    v8 = 14u;
-    v22 = 0u;
-    v21 = 0u;
-    v20 = 0u;
-    v49 = 0u;
-    v50 = 0u;
-    v18 = 0u;
-    v17 = 0u;
-    v16 = 0u;
-    v15 = 0u;
-    v14 = 0u;
-    v13 = 0u;
-    v12 = 0u;
-    v11 = 0u;
-    v10 = 0u;
-    v9 = 0u;
-    goto after3;
-after99:;
-    if (v6) { goto after101; }
-    v11 = 0u;
-    goto after100;
-after101:;
-    v11 = load8(m, v5, 0);
-after100:;
-    judge_core_end_End_repeats_request(m, v51 + 24ull, v51, v27, v11, 14u);
-    v49 = get16(f51 + 36);
-    v50 = v49 >> 8;
-    v23 = get8(f51 + 41);
-    v22 = get8(f51 + 40);
-    v21 = get8(f51 + 39);
-    v20 = get8(f51 + 38);
-    v18 = get8(f51 + 35);
-    v17 = get8(f51 + 34);
-    v16 = get8(f51 + 33);
-    v15 = get8(f51 + 32);
-    v14 = get8(f51 + 31);
-    v13 = get8(f51 + 30);
-    v12 = get8(f51 + 29);
-    v11 = get8(f51 + 28);
-    v10 = get8(f51 + 27);
-    v9 = get8(f51 + 26);
-    v8 = get8(f51 + 25);
-    v24 = get8(f51 + 24);
-    goto after3;
-after43:;
-    v11 = 0u;
-    v8 = 15u;
-    v24 = 1u;
-    if (v19 != 3u) { goto after28; }
-    if (v29 != v27) { goto after28; }
-    v10 = 0u;
-    v11 = 0u;
-    if (v6 == 0) { goto after102; }
-    v11 = load8(m, v5, 0);
-after102:;
-    if ((v11 & 255u) == (v28 & 255u)) { goto after103; }
-    v8 = 16u;
-    v9 = 0u;
-    goto after5;
-after103:;
-    v24 = 0u;
-    v8 = v46;
-    v9 = v45;
-    v10 = v44;
-    v11 = v43;
-    v12 = v42;
-    v13 = v41;
-    v14 = v40;
-    v15 = v39;
-    v16 = v48;
-    v17 = v38;
-    v18 = v37;
-    v49 = 0u;
-    v50 = 0u;
-    v20 = v28;
-    v21 = v36;
-    v22 = v35;
-    v23 = v32;
-    switch (v29) {
-        case 1: goto after3;
-        case 2: goto after105;
-        case 3: goto after104;
-        default: goto after106;
-    }
-after106:;
-    v11 = v36 & 255u;
-    v14 = v34 & 255u;
-    v20 = (v11 > v14) ? v11 : v14;
-    goto after29;
-after105:;
-    v23 = 1u;
-    v24 = 0u;
-    v8 = v46;
-    v9 = v45;
-    v10 = v44;
-    v11 = 0u;
-    v12 = v42;
-    v13 = v41;
-    v14 = v40;
-    v15 = v39;
-    v16 = v48;
-    v17 = v38;
-    v18 = v37;
-    v49 = 0u;
-    v50 = 0u;
-    v20 = v34;
-    v21 = v36;
-    v22 = v35;
-    goto after3;
-after104:;
-    v8 = v46;
-    v9 = v45;
-    v10 = v44;
-    v11 = v43;
-    v12 = v42;
-    v13 = v41;
-    v14 = v40;
-    v15 = v39;
-    v16 = v48;
-    v17 = v38;
-    v18 = v37;
-    v49 = 0u;
-    v50 = 0u;
-    goto after19;
-after42:;
-    v9 = 0u;
-    v8 = 17u;
-    v24 = 1u;
-    v10 = 0u;
-    v11 = 0u;
-    v12 = 0u;
-    v13 = 0u;
-    v14 = 0u;
-    v15 = 0u;
-    v16 = 0u;
-    v17 = 0u;
-    v18 = 0u;
-    v49 = 0u;
-    v50 = 0u;
-    v20 = 0u;
-    v21 = 0u;
-    v22 = 0u;
-    v23 = 0u;
-    switch (v19) {
-        case 1: goto after108;
-        case 2: goto after107;
-        case 3: goto after3;
-        default: goto after109;
-    }
-after109:;
-    if (v27 != (v45 & 255u)) { goto after7; }
-    if (v6 > v1) { goto after8; }
-    v22 = 1u;
-    v11 = 2u - (v26 & 1u);
-    v24 = 0u;
-    v8 = v46;
-    v9 = (u32)(v27 == 0);
-    goto after11;
-after108:;
-    if (v26 == 0) { goto after110; }
-    v8 = 10u;
-    goto after6;
-after110:;
-    if (v27 != (v44 & 255u)) { goto after7; }
-    v23 = v32 & 1u;
-    v22 = v35 & 1u;
-    goto after16;
-after107:;
-    v9 = 0u;
-    v19 = 0u;
-    if (v6 == 0) { goto after111; }
-    v19 = load8(m, v5, 0);
-after111:;
-    v8 = 18u;
-    v10 = 0u;
-    v11 = 0u;
-    v12 = 0u;
-    v13 = 0u;
-    v14 = 0u;
-    v15 = 0u;
-    v16 = 0u;
-    v17 = 0u;
-    v18 = 0u;
-    v49 = 0u;
-    v50 = 0u;
-    v20 = 0u;
-    v21 = 0u;
-    v22 = 0u;
-    v23 = 0u;
-    switch (v27) {
-        case 1: goto after115;
-        case 2: goto after3;
-        case 3: goto after114;
-        default: goto after116;
-    }
-after116:;
-    v11 = v36 & 255u;
-    v14 = v34 & 255u;
-    v20 = (v11 > v14) ? v11 : v14;
-    v11 = 0u;
-    v15 = ((v46 & 255u) != 1u) ? 0u : 10u;
-    v13 = 3u;
-    v9 = 0u;
-    v10 = 0u;
-    v14 = 0u;
-    v23 = 0u;
-    goto after112;
-after115:;
-    v23 = v32 & 1u;
-    v15 = 8u;
-    v13 = 0u;
-    goto after113;
-after114:;
-    v13 = 1u;
-    v23 = v32 & 1u;
-    v15 = 8u;
-after113:;
-    v9 = v45;
-    v10 = v44;
-    v11 = v43;
-    v14 = v19;
-    v20 = v34;
-after112:;
-    v18 = (u32)((v46 & 255u) == 0);
-    goto after30;
-after41:;
-    v9 = 0u;
-    v8 = 17u;
-    v24 = 1u;
-    v10 = 0u;
-    v11 = 0u;
-    v12 = 0u;
-    v13 = 0u;
-    v14 = 0u;
-    v15 = 0u;
-    v16 = 0u;
-    v17 = 0u;
-    v18 = 0u;
-    v49 = 0u;
-    v50 = 0u;
-    v20 = 0u;
-    v21 = 0u;
-    v22 = 0u;
-    v23 = 0u;
-    switch (v19) {
-        case 1: goto after118;
-        case 2: goto after117;
-        case 3: goto after3;
-        default: goto after119;
-    }
-after119:;
-    if (v27 != (v45 & 255u)) { goto after7; }
-    if (v6 > v1) { goto after8; }
-    v22 = 1u;
-    v11 = 2u - (v26 & 1u);
-    v24 = 0u;
-    v8 = v46;
-    v9 = (u32)(v27 == 0);
-    goto after11;
-after118:;
-    if (v27 != (v44 & 255u)) { goto after7; }
-    v8 = 1u;
-    if ((v46 & 255u) == 1u) { goto after24; }
-    if (v47 > 2u) { goto after31; }
-    v11 = v47 + 1u;
-    v50 = (v11 < 255u) ? v11 : 255u;
-    v11 = (v37 & 255u) + 1u;
-    v18 = (v11 < 255u) ? v11 : 255u;
-    v23 = v32 & 1u;
-    v22 = v35 & 1u;
-    goto after33;
-after117:;
-    v9 = 0u;
-    v19 = 0u;
-    if (v6 == 0) { goto after120; }
-    v19 = load8(m, v5, 0);
-after120:;
-    v8 = 18u;
-    v10 = 0u;
-    v11 = 0u;
-    v12 = 0u;
-    v13 = 0u;
-    v14 = 0u;
-    v15 = 0u;
-    v16 = 0u;
-    v17 = 0u;
-    v18 = 0u;
-    v49 = 0u;
-    v50 = 0u;
-    v20 = 0u;
-    v21 = 0u;
-    v22 = 0u;
-    v23 = 0u;
-    switch (v27) {
-        case 1: goto after124;
-        case 2: goto after3;
-        case 3: goto after123;
-        default: goto after125;
-    }
-after125:;
-    v11 = v36 & 255u;
-    v14 = v34 & 255u;
-    v20 = (v11 > v14) ? v11 : v14;
-    v11 = 0u;
-    v15 = ((v46 & 255u) != 1u) ? 0u : 10u;
-    v13 = 3u;
-    v9 = 0u;
-    v10 = 0u;
-    v14 = 0u;
-    v23 = 0u;
-    goto after121;
-after124:;
-    v23 = v32 & 1u;
-    v15 = 9u;
-    v13 = 0u;
-    goto after122;
-after123:;
-    v13 = 1u;
-    v23 = v32 & 1u;
-    v15 = 9u;
-after122:;
-    v9 = v45;
-    v10 = v44;
-    v11 = v43;
-    v14 = v19;
-    v20 = v34;
-after121:;
-    v18 = (u32)((v46 & 255u) == 0);
-    goto after30;
-after40:;
-    v9 = 0u;
-    v8 = 17u;
-    v24 = 1u;
-    v10 = 0u;
-    v11 = 0u;
-    v12 = 0u;
-    v13 = 0u;
-    v14 = 0u;
-    v15 = 0u;
-    v16 = 0u;
-    v17 = 0u;
-    v18 = 0u;
-    v49 = 0u;
-    v50 = 0u;
-    v20 = 0u;
-    v21 = 0u;
-    v22 = 0u;
-    v23 = 0u;
-    switch (v19) {
-        case 1: goto after126;
-        case 2: goto after127;
-        case 3: goto after3;
-        default: goto after128;
-    }
-after128:;
-    if (v27 != (v45 & 255u)) { goto after7; }
-    if (v6 > v1) { goto after8; }
-    v22 = 1u;
-    v11 = 2u - (v26 & 1u);
-    v24 = 0u;
-    v8 = v46;
-    v9 = (u32)(v27 == 0);
-    goto after11;
-after127:;
-    v9 = 0u;
-    v19 = 0u;
-    if (v6 == 0) { goto after129; }
-    v19 = load8(m, v5, 0);
-after129:;
-    v8 = 18u;
-    v10 = 0u;
-    v11 = 0u;
-    v12 = 0u;
-    v13 = 0u;
-    v14 = 0u;
-    v15 = 0u;
-    v16 = 0u;
-    v17 = 0u;
-    v18 = 0u;
-    v49 = 0u;
-    v50 = 0u;
-    v20 = 0u;
-    v21 = 0u;
-    v22 = 0u;
-    v23 = 0u;
-    switch (v27) {
-        case 1: goto after133;
-        case 2: goto after3;
-        case 3: goto after132;
-        default: goto after134;
-    }
-after134:;
-    v11 = v36 & 255u;
-    v14 = v34 & 255u;
-    v20 = (v11 > v14) ? v11 : v14;
-    v11 = 0u;
-    v15 = ((v46 & 255u) != 1u) ? 0u : 10u;
-    v13 = 3u;
-    v9 = 0u;
-    v10 = 0u;
-    v14 = 0u;
-    v16 = 0u;
-    v17 = 0u;
-    v23 = 0u;
-    goto after130;
-after133:;
-    v23 = v32 & 1u;
-    v15 = 10u;
-    v13 = 0u;
-    goto after131;
-after132:;
-    v13 = 1u;
-    v23 = v32 & 1u;
-    v15 = 10u;
-after131:;
-    v9 = v45;
-    v10 = v44;
-    v11 = v43;
-    v14 = v19;
-    v16 = v29;
-    v17 = v28;
-    v20 = v34;
-after130:;
-    v18 = (u32)((v46 & 255u) == 0);
-    goto after14;
-after126:;
-    v8 = 8u;
-    if (v26 != 2u) { goto after6; }
-    v10 = 0u;
-    v11 = 0u;
-    v12 = 0u;
-    v13 = 0u;
-    v14 = 0u;
-    v15 = 0u;
-    v16 = 0u;
-    v17 = 0u;
-    v18 = 0u;
-    v49 = 0u;
-    v50 = 0u;
-    v20 = 0u;
-    v21 = 0u;
-    v22 = 0u;
-    v23 = 0u;
-    if (v27 != ((u32)((v44 & 255u) == 0))) { goto after3; }
-    v8 = 1u;
-    if ((v46 & 255u) == 1u) { goto after32; }
-    if (v47 > 2u) { goto after31; }
-    v11 = v47 + 1u;
-    v50 = (v11 < 255u) ? v11 : 255u;
-    goto after34;
-after39:;
-    v8 = 9u;
-    v24 = 1u;
-    v9 = v19;
-    v10 = v19;
-    v11 = v19;
-    v12 = v19;
-    v13 = v19;
-    v14 = v19;
-    v15 = v19;
-    v16 = v19;
-    v17 = v19;
-    v18 = v19;
-    v49 = v19;
-    v50 = v19;
-    v20 = v19;
-    v21 = v19;
-    v22 = v19;
-    v23 = v19;
-    switch (v19) {
-        case 1: goto after138;
-        case 2: goto after137;
-        case 3: goto after136;
-        default: goto after3;
-    }
-after138:;
-    v9 = 0u;
-    v8 = 10u;
-    v10 = 0u;
-    v11 = 0u;
-    v12 = 0u;
-    v13 = 0u;
-    v14 = 0u;
-    v15 = 0u;
-    v16 = 0u;
-    v17 = 0u;
-    v18 = 0u;
-    v49 = 0u;
-    v50 = 0u;
-    v20 = 0u;
-    v21 = 0u;
-    v22 = 0u;
-    v23 = 0u;
-    switch (v26) {
-        case 0: goto after139;
-        case 2: goto after135;
-        default: goto after3;
-    }
-after139:;
-    if (v27 != (v44 & 255u)) { goto after7; }
-    v23 = v32 & 1u;
-    v22 = v35 & 1u;
-    goto after16;
-after137:;
-    v30 = 0u;
-    v19 = 0u;
-    if (v6 == 0) { goto after140; }
-    v19 = load8(m, v5, 0);
-after140:;
-    v8 = 19u;
-    v9 = v27;
-    v10 = v27;
-    v11 = v27;
-    v12 = v27;
-    v13 = v27;
-    v14 = v27;
-    v15 = v27;
-    v16 = v27;
-    v17 = v27;
-    v18 = v27;
-    v49 = v27;
-    v50 = v27;
-    v20 = v27;
-    v21 = v27;
-    v22 = v27;
-    v23 = v27;
-    switch (v27) {
-        case 1: goto after141;
-        case 2: goto after143;
-        case 3: goto after142;
-        default: goto after3;
-    }
-after143:;
-    v19 = 0u;
-    v30 = 2u;
-    goto after141;
-after142:;
-    v30 = 1u;
-after141:;
-    v12 = 1u;
-    v23 = v32 & 1u;
-    v18 = (u32)((v46 & 255u) == 0);
-    v15 = 11u;
-    v24 = 0u;
-    v8 = v46;
-    v9 = v45;
-    v10 = v44;
-    v11 = v43;
-    v13 = v30;
-    v14 = v19;
-    goto after17;
-after136:;
-    v11 = 0u;
-    v8 = 17u;
-    goto after28;
-after135:;
-    v10 = 0u;
-    v11 = 0u;
-    v12 = 0u;
-    v13 = 0u;
-    v14 = 0u;
-    v15 = 0u;
-    v16 = 0u;
-    v17 = 0u;
-    v18 = 0u;
-    v49 = 0u;
-    v50 = 0u;
-    v20 = 0u;
-    v21 = 0u;
-    v22 = 0u;
-    v23 = 0u;
-    if (v27 != ((u32)((v44 & 255u) == 0))) { goto after3; }
-    v8 = 1u;
-    if ((v46 & 255u) == 1u) { goto after32; }
-    if (v47 > 2u) { goto after31; }
-    v11 = v47 + 1u;
-    v50 = (v11 < 255u) ? v11 : 255u;
-    goto after34;
-after38:;
-    v24 = 0u;
-    v8 = v46;
-    v9 = v45;
-    v10 = v27;
-    v11 = v43;
-    v12 = 0u;
-    v13 = 0u;
-    v14 = 0u;
-    v15 = v39;
-    v16 = v48;
-    v17 = v38;
-    v18 = v37;
-    v49 = v33;
-    v50 = v47;
-    v20 = v34;
-    v21 = v36;
-    v22 = 0u;
-    v23 = v32;
-    switch (v19) {
-        case 1: goto after3;
-        case 2: goto after145;
-        case 3: goto after144;
-        default: goto after146;
-    }
-after146:;
-    if (v6 <= v1) { goto after147; }
-    v11 = 0u;
-    v8 = 4u;
-    v24 = 1u;
-    goto after28;
-after147:;
-    v22 = ((u32)(v27 == (v45 & 255u))) & ((u32)((v39 & 255u) != 12u));
-    v11 = 2u - (v26 & 1u);
-    v24 = 0u;
-    v8 = v46;
-    v9 = (u32)(v27 == 0);
-    v10 = v44;
-    v12 = 0u;
-    v13 = 0u;
-    v14 = 0u;
-    v15 = 0u;
-    v16 = 0u;
-    v17 = 0u;
-    goto after10;
-after145:;
-    if (v6) { goto after149; }
-    v14 = 0u;
-    goto after148;
-after149:;
-    v14 = load8(m, v5, 0);
-after148:;
-    switch (v27) {
-        case 1: goto after154;
-        case 2: goto after153;
-        case 3: goto after152;
-        default: goto after155;
-    }
-after155:;
-    v11 = v36 & 255u;
-    v14 = v34 & 255u;
-    v20 = (v11 > v14) ? v11 : v14;
-    v11 = 0u;
-    v15 = ((v46 & 255u) != 1u) ? 0u : 10u;
-    v13 = 3u;
-    v9 = 0u;
-    v10 = 0u;
-    v14 = 0u;
-    v23 = 0u;
-    goto after150;
-after154:;
-    v23 = v32 & 1u;
-    v15 = 12u;
-    v13 = 0u;
-    goto after151;
-after153:;
-    v23 = v32 & 1u;
-    v15 = 12u;
-    v14 = 0u;
-    v13 = 2u;
-    goto after151;
-after152:;
-    v13 = 1u;
-    v23 = v32 & 1u;
-    v15 = 12u;
-after151:;
-    v9 = v45;
-    v10 = v44;
-    v11 = v43;
-    v20 = v34;
-after150:;
-    v18 = (u32)((v46 & 255u) == 0);
-    goto after30;
-after144:;
-    v24 = 0u;
-    v20 = 0u;
-    if (v6 == 0) { goto after156; }
-    v20 = load8(m, v5, 0);
-after156:;
-    v8 = v46;
-    v9 = v45;
-    v10 = v44;
-    v11 = v43;
-    v12 = 0u;
-    v13 = 0u;
-    v14 = 0u;
-    v15 = v39;
-    v16 = v48;
-    v17 = v38;
-    v18 = v37;
-    v49 = 0u;
-    v50 = 0u;
-    v21 = v36;
-    v22 = 0u;
-    v23 = v32;
-    switch (v27) {
-        case 1: goto after3;
-        case 2: goto after158;
-        case 3: goto after157;
-        default: goto after159;
-    }
-after159:;
-    v11 = v36 & 255u;
-    v14 = v34 & 255u;
-    v20 = (v11 > v14) ? v11 : v14;
-    goto after29;
-after158:;
-    v23 = 1u;
-    v24 = 0u;
-    v8 = v46;
-    v9 = v45;
-    v10 = v44;
-    v11 = 0u;
-    v12 = 0u;
-    v13 = 0u;
-    v14 = 0u;
-    v15 = v39;
-    v16 = v48;
-    v17 = v38;
-    v18 = v37;
-    v49 = 0u;
-    v50 = 0u;
-    v20 = v34;
-    v21 = v36;
-    v22 = 0u;
-    goto after3;
-after157:;
-    v8 = v46;
-    v9 = v45;
-    v10 = v44;
-    v11 = v43;
-    v12 = 0u;
-    v13 = 0u;
-    v14 = 0u;
-    v15 = v39;
-    v16 = v48;
-    v17 = v38;
-    v18 = v37;
-    v49 = 0u;
-    v50 = 0u;
-    v20 = v34;
-    v21 = v36;
-    v22 = 0u;
-    goto after18;
-after34:;
-    v18 = 1u;
-    v23 = v32 & 1u;
-    v22 = v35 & 1u;
-after33:;
-    v24 = 0u;
-    v8 = 0u;
-    v9 = v45;
-    v10 = v27;
-    v11 = v43;
-    v12 = v42;
-    v13 = v41;
-    v14 = v40;
-    v15 = v39;
-    v16 = v48;
-    v17 = v38;
-    v49 = v33;
-    goto after15;
-after32:;
-    v24 = 0u;
-    v9 = v45;
-    v10 = v27;
-    v11 = v43;
-    v12 = v42;
-    v13 = v41;
-    v14 = v40;
-    v15 = v39;
-    v16 = v48;
-    v17 = v38;
-    v18 = 0u;
-    goto after20;
-after31:;
-    v11 = 0u;
-    v8 = 20u;
-    v24 = 1u;
-    goto after28;
-after30:;
-    v12 = 1u;
-    v24 = 0u;
-    v8 = v46;
-    v16 = 0u;
-    v17 = 0u;
-    goto after13;
-after29:;
-    v22 = 1u;
-    v24 = 0u;
-    v8 = v46;
-    v9 = 0u;
-    v10 = 0u;
-    v11 = 0u;
-    v12 = 0u;
-    v13 = 0u;
-    v14 = 0u;
-    v15 = 0u;
-    v16 = 0u;
-    v17 = 0u;
-    v18 = 0u;
-    v49 = 0u;
-    v50 = 0u;
-    goto after9;
-after28:;
-    v9 = 0u;
-    v10 = 0u;
-    goto after4;
-after27:;
-    v24 = 1u;
-    v9 = 0u;
-    v11 = 0u;
-    v12 = 0u;
-    v13 = 0u;
-    v14 = 0u;
-    v15 = 0u;
-    v16 = 0u;
-    v17 = 0u;
-    v18 = 0u;
-    v33 = 0u;
-    v47 = 0u;
-    v20 = 0u;
-    v21 = 0u;
-    v22 = 0u;
-    v23 = 0u;
-after26:;
-    put8(f51 + 37, v47);
-    put8(f51 + 36, v33);
-after25:;
-    v49 = get16(f51 + 36);
-    v50 = v49 >> 8;
-    goto after3;
-after24:;
-    v24 = 0u;
-    v9 = v45;
-    v10 = v27;
-    goto after21;
-after23:;
-    v13 = 3u;
-    v8 = v46;
-    v9 = 0u;
-    v10 = 0u;
-    v11 = 0u;
-    v14 = 0u;
-    v16 = 0u;
-    v17 = 0u;
-    v49 = 0u;
-    v50 = 0u;
-    v21 = v36;
-    v22 = 1u;
-    v23 = 0u;
-    goto after3;
-after22:;
-    v10 = 0u;
-    v8 = 20u;
-    v24 = 1u;
-    v9 = 0u;
-    goto after5;
-after21:;
-    v11 = v43;
-    v12 = v42;
-    v13 = v41;
-    v14 = v40;
-    v15 = v39;
-    v16 = v48;
-    v17 = v38;
-    v18 = v37;
-after20:;
-    v49 = v33;
-    v50 = v47;
-after19:;
-    v20 = v34;
-    v21 = v36;
-    v22 = v35;
-after18:;
-    v23 = v32;
-    goto after3;
-after17:;
-    v16 = 0u;
-    v17 = 0u;
-    v49 = 0u;
-    v50 = 0u;
-    v20 = v34;
-    goto after12;
-after16:;
-    v24 = 0u;
-    v8 = v46;
-    v9 = v45;
-    v10 = v27;
-    v11 = v43;
-    v12 = v42;
-    v13 = v41;
-    v14 = v40;
-    v15 = v39;
-    v16 = v48;
-    v17 = v38;
-    v18 = 0u;
-    v49 = 0u;
-    v50 = 0u;
-after15:;
-    v20 = v34;
-    v21 = v36;
-    goto after3;
-after14:;
-    v12 = 1u;
-    v24 = 0u;
-    v8 = v46;
-after13:;
-    v49 = 0u;
-    v50 = 0u;
-after12:;
-    v21 = v36;
-    v22 = 1u;
-    goto after3;
-after11:;
-    v10 = v44;
-    v12 = 0u;
-    v13 = 0u;
-    v14 = 0u;
-    v15 = v39;
-    v16 = v48;
-    v17 = v38;
-after10:;
-    v18 = 0u;
-    v49 = 0u;
-    v50 = 0u;
-    v20 = v34;
-after9:;
-    v21 = v36;
-    v23 = 0u;
-    goto after3;
-after8:;
-    v8 = 4u;
-    goto after6;
-after7:;
-    v8 = 7u;
-after6:;
-    v10 = 0u;
-after5:;
-    v11 = 0u;
-after4:;
-    v12 = 0u;
-    v13 = 0u;
-    v14 = 0u;
-    v15 = 0u;
-    v16 = 0u;
-    v17 = 0u;
-    v18 = 0u;
-    v49 = 0u;
-    v50 = 0u;
-    v20 = 0u;
-    v21 = 0u;
-    v22 = 0u;
-    v23 = 0u;
-after3:;
-    v19 = (v50 << 8) | (v49 & 255u);
-    goto after1;
-after2:;
-    v9 = 0u;
-    v8 = 6u;
-    v24 = 1u;
-    v10 = 0u;
-    v11 = 0u;
-    v12 = 0u;
-    v13 = 0u;
-    v14 = 0u;
-    v15 = 0u;
-    v16 = 0u;
-    v17 = 0u;
-    v18 = 0u;
-    v19 = 0u;
-    v20 = 0u;
-    v21 = 0u;
-    v22 = 0u;
-    v23 = 0u;
-after1:;
-    p3596 = held(m, v0, 19);
-    put_held8(p3596, 0, m, v0, v25);
-    put_held8(p3596, 18, m, v0, v23);
-    put_held8(p3596, 17, m, v0, v22);
-    put_held8(p3596, 16, m, v0, v21);
-    put_held8(p3596, 15, m, v0, v20);
-    put_held16(p3596, 13, m, v0, v19);
-    put_held8(p3596, 12, m, v0, v18);
-    put_held8(p3596, 11, m, v0, v17);
-    put_held8(p3596, 10, m, v0, v16);
-    put_held8(p3596, 9, m, v0, v15);
-    put_held8(p3596, 8, m, v0, v14);
-    put_held8(p3596, 7, m, v0, v13);
-    put_held8(p3596, 6, m, v0, v12);
-    put_held8(p3596, 5, m, v0, v11);
-    put_held8(p3596, 4, m, v0, v10);
-    put_held8(p3596, 3, m, v0, v9);
-    put_held8(p3596, 2, m, v0, v8);
-    put_held8(p3596, 1, m, v0, v24);
-    m->g0 = v51 + 48ull;
 }
 
 static void judge_core_end_End_repeats_request(struct call *m, u64 v0, u64 v1, u32 v2, u32 v3, u32 v4)
@@ -10700,1319 +12719,6 @@ after1:;
     put_held8(p620, 3, m, v0, v20);
     put_held8(p620, 2, m, v0, v19);
     put_held8(p620, 1, m, v0, v4);
-}
-
-static void session_core_progress_Progress_drop_octets(struct call *m, u64 v0, u64 v1, u64 v2, u32 v3, u64 v4)
-{
-    u64 v5 = 0;
-    u64 v6 = 0;
-    u8 *f6 = NULL;
-    u8 *p15 = NULL;
-    u8 *p32 = NULL;
-    v6 = m->g0 - 16ull;
-    f6 = at(m, v6, 16);
-    v5 = v6;
-    m->g0 = v5;
-    p15 = held(m, v1 + 72ull, 5);
-    put_held32(p15, 0, m, v1 + 72ull, 0x10000u);
-    put_held8(p15, 4, m, v1 + 72ull, v3);
-    session_core_progress_Progress_wait_silent(m, v6, v1, v2, v4);
-    v3 = get8(f6);
-    p32 = held(m, v0, 16);
-    put_held64(p32, 8, m, v0, get64(f6 + 8));
-    put_held8(p32, 0, m, v0, v3);
-    m->g0 = v6 + 16ull;
-    return;
-}
-
-static void session_core_progress_Progress_wait_silent(struct call *m, u64 v0, u64 v1, u64 v2, u64 v3)
-{
-    u64 v4 = 0;
-    u64 v5 = 0;
-    u64 v6 = 0;
-    u64 v8 = 0;
-    u32 v7 = 0;
-    u8 *f8 = NULL;
-    u8 *p38 = NULL;
-    u8 *p91 = NULL;
-    v8 = m->g0 - 16ull;
-    f8 = at(m, v8, 16);
-    v4 = v8;
-    m->g0 = v4;
-    switch (load8(m, v1 + 76ull, 0) + 0xFFFFFFFDu) {
-        case 0: goto after5;
-        case 4: goto after4;
-        default: goto after3;
-    }
-after5:;
-    v5 = load64(m, v1, 0);
-    goto after2;
-after4:;
-    if (load8(m, v2 + 55ull, 0) == 0) { goto after6; }
-    p38 = held(m, v2, 16);
-    v5 = held64(p38, 8, m, v2);
-    v6 = (held64(p38, 0, m, v2) >> 2) * 3ull;
-    v5 = (v5 > v6) ? v5 : v6;
-    goto after2;
-after6:;
-    v5 = load64(m, v1 + 8ull, 0);
-    goto after2;
-after3:;
-    if (load8(m, v2 + 55ull, 0) == 0) { goto after7; }
-    v5 = load64(m, v2 + 16ull, 0);
-    goto after2;
-after7:;
-    v5 = load64(m, v2, 0);
-after2:;
-    session_core_progress_Progress_wait(m, v8, v1, v2, v5, v3);
-    v7 = get8(f8);
-    p91 = held(m, v0, 16);
-    put_held64(p91, 8, m, v0, get64(f8 + 8));
-    put_held8(p91, 0, m, v0, v7);
-    m->g0 = v8 + 16ull;
-    return;
-}
-
-static void session_core_progress_Progress_wait(struct call *m, u64 v0, u64 v1, u64 v2, u64 v3, u64 v4)
-{
-    u64 v5 = 0;
-    u32 v6 = 0;
-    u64 w0 = 0;
-    u8 *p15 = NULL;
-    u8 *p40 = NULL;
-    v5 = m->g0;
-    if ((v5 ^ 0x8000000000000000ull) < (16ull ^ 0x8000000000000000ull)) { goto after1; }
-    w0 = session_core_progress_Progress_left(m, v1, v2, v4);
-    v2 = w0;
-    p15 = held(m, v1 + 24ull, 54);
-    put_held32(p15, 40, m, v1 + 24ull, 0u);
-    put_held64(p15, 0, m, v1 + 24ull, v4);
-    v6 = (u32)(v2 < v3);
-    put_held8(p15, 53, m, v1 + 24ull, v6);
-    w0 = v1 + 16ull;
-    v1 = v6 ? v2 : v3;
-    store64(m, w0, 0, v1);
-    p40 = held(m, v0, 16);
-    put_held64(p40, 8, m, v0, v1);
-    put_held8(p40, 0, m, v0, 1u);
-    m->g0 = v5;
-    return;
-after1:;
-    UNREACHABLE;
-}
-
-static u64 session_core_progress_Progress_left(struct call *m, u64 v0, u64 v1, u64 v2)
-{
-    u64 v3 = 0;
-    u64 v4 = 0;
-    v3 = 0xFFFFFFFFFFFFFFFFull;
-    v4 = load64(m, v1 + 40ull, 0);
-    if (v4 == 0xFFFFFFFFFFFFFFFFull) { goto after2; }
-    if (load8(m, v1 + 52ull, 0) == 0) { goto after4; }
-    v1 = v2 - load64(m, v0 + 32ull, 0);
-    v1 = ((v1 ^ 0x8000000000000000ull) > (0ull ^ 0x8000000000000000ull)) ? v1 : 0ull;
-    goto after3;
-after4:;
-    v1 = load64(m, v0 + 40ull, 0);
-after3:;
-    v1 = v4 - v1;
-    v3 = (v1 > v4) ? 0ull : v1;
-after2:;
-    return v3;
-}
-
-static void session_core_progress_Progress_await_block(struct call *m, u64 v0, u64 v1, u64 v2, u64 v3, u64 v4)
-{
-    u64 v5 = 0;
-    u64 v7 = 0;
-    u32 v6 = 0;
-    u64 w3 = 0;
-    u8 *f7 = NULL;
-    u8 *p18 = NULL;
-    u8 *p44 = NULL;
-    v7 = m->g0 - 16ull;
-    f7 = at(m, v7, 16);
-    v5 = v7;
-    m->g0 = v5;
-    store64(m, v3, 0, 0ull);
-    p18 = held(m, v1 + 8ull, 74);
-    put_held8(p18, 73, m, v1 + 8ull, 0u);
-    put_held8(p18, 68, m, v1 + 8ull, 6u);
-    put_held16(p18, 71, m, v1 + 8ull, 0u);
-    w3 = held64(p18, 0, m, v1 + 8ull);
-    session_core_progress_Progress_wait(m, v7, v1, v2, w3, v4);
-    v6 = get8(f7);
-    p44 = held(m, v0, 16);
-    put_held64(p44, 8, m, v0, get64(f7 + 8));
-    put_held8(p44, 0, m, v0, v6);
-    m->g0 = v7 + 16ull;
-    return;
-}
-
-static void session_core_progress_Progress_sent(struct call *m, u64 v0, u64 v1, u64 v2, u64 v3, u64 v4, u64 v5, u64
-    v6)
-{
-    u64 v7 = 0;
-    u64 v8 = 0;
-    u64 v9 = 0;
-    u64 v10 = 0;
-    u64 v11 = 0;
-    u64 v13 = 0;
-    u32 v12 = 0;
-    u64 w0 = 0;
-    u64 w1 = 0;
-    u64 w4 = 0;
-    u8 *f13 = NULL;
-    u8 *p30 = NULL;
-    u8 *p214 = NULL;
-    v13 = m->g0 - 80ull;
-    f13 = at(m, v13, 80);
-    v7 = v13;
-    m->g0 = v7;
-    v8 = 0ull;
-    v9 = v2 + 32ull;
-    v10 = load64(m, v9, 0);
-    multi3(m, v13 + 64ull, v10, 0ull, v6, 0ull);
-    p30 = held(m, v1 + 24ull, 55);
-    put_held64(p30, 32, m, v1 + 24ull, 0ull);
-    v11 = v4 - held64(p30, 0, m, v1 + 24ull);
-    w1 = ((v11 ^ 0x8000000000000000ull) > (0xFFFFFFFFFFFFFFFFull ^ 0x8000000000000000ull)) ? v11 :
-        0xFFFFFFFFFFFFFFFFull;
-    v11 = w1;
-    v10 = (v10 == 0) ? 0ull : ((get64(f13 + 72) != 0ull) ? 0xFFFFFFFFFFFFFFFFull : (v10 * v6));
-    put_held8(p30, 54, m, v1 + 24ull, (u32)(v11 < (v10 >> 1)));
-    v10 = v11 - v10;
-    put_held64(p30, 24, m, v1 + 24ull, (v10 > v11) ? 0ull : v10);
-    if (load8(m, v2 + 53ull, 0) == 0) { goto after3; }
-    v10 = load64(m, v9, 0);
-    multi3(m, v13 + 32ull, v10, 0ull, v6, 0ull);
-    v11 = load64(m, v2 + 8ull, 0);
-    put_held8(p30, 52, m, v1 + 24ull, 5u);
-    v6 = v10 * v6;
-    v8 = v11 + v6;
-    w4 = (get64(f13 + 40) != 0ull) ? 0xFFFFFFFFFFFFFFFFull : ((v8 < v6) ? 0xFFFFFFFFFFFFFFFFull : v8);
-    session_core_progress_Progress_wait(m, v13 + 48ull, v1, v2, (v10 == 0) ? v11 : w4, v4);
-    v12 = 1u;
-    v1 = get64(f13 + 56);
-    goto after2;
-after3:;
-    if (load64(m, v2 + 24ull, 0) == 0xFFFFFFFFFFFFFFFFull) { goto after4; }
-    v10 = load64(m, v2 + 32ull, 0);
-    multi3(m, v13 + 16ull, v10, 0ull, v6, 0ull);
-    v8 = (v10 == 0) ? 0ull : ((get64(f13 + 24) != 0ull) ? 0xFFFFFFFFFFFFFFFFull : (v10 * v6));
-after4:;
-    put_held8(p30, 52, m, v1 + 24ull, 6u);
-    v10 = v1 + 40ull;
-    w0 = v10;
-    v10 = v8 + load64(m, v10, 0);
-    store64(m, w0, 0, (v10 < v8) ? 0xFFFFFFFFFFFFFFFFull : v10);
-    session_core_progress_Progress_go_on(m, v13, v1, v2, v3, v4, v5, v6);
-    v1 = get64(f13 + 8);
-    v12 = get8(f13);
-after2:;
-    p214 = held(m, v0, 16);
-    put_held8(p214, 0, m, v0, v12);
-    put_held64(p214, 8, m, v0, v1);
-    m->g0 = v13 + 80ull;
-    return;
-}
-
-static void session_core_progress_Progress_go_on(struct call *m, u64 v0, u64 v1, u64 v2, u64 v3, u64 v4, u64 v5, u64
-    v6)
-{
-    u64 v7 = 0;
-    u64 v8 = 0;
-    u64 v9 = 0;
-    u64 v11 = 0;
-    u32 v10 = 0;
-    u32 t0 = 0;
-    u64 w3 = 0;
-    u8 *f11 = NULL;
-    u8 *p72 = NULL;
-    v11 = m->g0 - 16ull;
-    f11 = at(m, v11, 16);
-    v7 = v11;
-    m->g0 = v7;
-    v8 = load64(m, v3, 0);
-    if (v8 > 65535ull) { goto after4; }
-    v9 = 8ull;
-    if (load8(m, v1 + 81ull, 0) == 0) { goto after3; }
-    v9 = 24ull;
-    if (load64(m, v2 + 24ull, 0) != 0xFFFFFFFFFFFFFFFFull) { goto after3; }
-after4:;
-    v4 = 0ull;
-    t0 = session_core_progress_Progress_judge(m, v1, v2, v3, v5, v6);
-    v10 = t0;
-    goto after2;
-after3:;
-    w3 = load64(m, (v8 == 0) ? (v1 + 8ull) : (v2 + v9), 0);
-    session_core_progress_Progress_wait(m, v11, v1, v2, w3, v4);
-    v10 = 1u;
-    v4 = get64(f11 + 8);
-after2:;
-    p72 = held(m, v0, 16);
-    put_held64(p72, 8, m, v0, v4);
-    put_held8(p72, 0, m, v0, v10);
-    m->g0 = v11 + 16ull;
-    return;
-}
-
-static u32 session_core_progress_Progress_judge(struct call *m, u64 v0, u64 v1, u64 v2, u64 v3, u64 v4)
-{
-    u64 v5 = 0;
-    u64 v6 = 0;
-    u32 v7 = 0;
-    u32 v8 = 0;
-    u32 t0 = 0;
-    u64 w0 = 0;
-    u8 *p86 = NULL;
-    u8 *p106 = NULL;
-    u8 *p248 = NULL;
-    u8 *p272 = NULL;
-    u8 *p300 = NULL;
-    v5 = m->g0;
-    if ((v5 ^ 0x8000000000000000ull) < (16ull ^ 0x8000000000000000ull)) { goto after4; }
-    v6 = load64(m, v2, 0);
-    if (v4 == 0) { goto after7; }
-    if (load8(m, v1 + 53ull, 0) & 255u) { goto after7; }
-    t0 = session_core_sending_begin_with(m, v2 + 8ull, (v6 < 259ull) ? v6 : 259ull, v3, v4);
-    if (t0 == 0) { goto after7; }
-    if (v6 < 2ull) { goto after6; }
-    if ((spread32(load8(m, v2 + 9ull, 0), 8) ^ 0x80000000u) > (0xFFFFFFFFu ^ 0x80000000u)) { goto after6; }
-    w0 = session_core_progress_Progress_owed_after(m, v0, v1, v2);
-    v4 = w0;
-    v7 = load8(m, v0 + 79ull, 0);
-    goto after3;
-after7:;
-    w0 = session_core_progress_Progress_owed_after(m, v0, v1, v2);
-    v4 = w0;
-    goto after5;
-after6:;
-    v7 = load8(m, v0 + 79ull, 0);
-    w0 = session_core_progress_Progress_owed_after(m, v0, v1, v2);
-    v4 = w0;
-    if (v7 != 2u) { goto after3; }
-after5:;
-    p86 = held(m, v0, 83);
-    put_held64(p86, 0, m, v0, v4);
-    v7 = 0u;
-    put_held8(p86, 82, m, v0, 0u);
-    goto after2;
-after4:;
-    UNREACHABLE;
-after3:;
-    store64(m, v0, 0, v4);
-    v4 = v0 + 82ull;
-    p106 = held(m, v4, 1);
-    v8 = held8(p106, 0, m, v4) + 1u;
-    put_held8(p106, 0, m, v4, (v8 < 5u) ? v8 : 5u);
-    v8 = (v8 < 255u) ? v8 : 255u;
-    if ((v7 & 255u) != 1u) { goto after11; }
-    if (v6 < 2ull) { goto after1; }
-    v7 = spread32(load8(m, v2 + 9ull, 0), 8);
-    if ((v7 ^ 0x80000000u) > (0xFFFFFFFFu ^ 0x80000000u)) { goto after1; }
-    if (load8(m, v0 + 78ull, 0)) { goto after10; }
-    goto after1;
-after11:;
-    if (v6 < 2ull) { goto after9; }
-    v7 = load8(m, v2 + 9ull, 0);
-after10:;
-    if ((v8 & 255u) > 4u) { goto after1; }
-    if ((v7 & 255u) > 191u) { goto after1; }
-    goto after8;
-after9:;
-    if ((v8 & 255u) >= 5u) { goto after1; }
-after8:;
-    v7 = 1u;
-after2:;
-    if (load8(m, v0 + 81ull, 0) == 0) { goto after13; }
-    v8 = 1u;
-    if (v6 < 2ull) { goto after14; }
-    v8 = (u32)((spread32(load8(m, v2 + 9ull, 0), 8) ^ 0x80000000u) > (0xFFFFFFFFu ^ 0x80000000u));
-after14:;
-    if (v7 | (v8 ^ 1u)) { goto after16; }
-    if (v6 != 4ull) { goto after13; }
-    if (load8(m, v1 + 54ull, 0) & 255u) { goto after15; }
-    goto after13;
-after16:;
-    if ((v7 & v8) != 1u) { goto after13; }
-after15:;
-    if (load8(m, v1 + 55ull, 0) == 0) { goto after18; }
-    p248 = held(m, v1, 16);
-    v2 = held64(p248, 8, m, v1);
-    v1 = (held64(p248, 0, m, v1) >> 2) * 3ull;
-    v2 = (v2 > v1) ? v2 : v1;
-    goto after17;
-after18:;
-    v2 = load64(m, v0 + 8ull, 0);
-after17:;
-    p272 = held(m, v0, 81);
-    put_held64(p272, 0, m, v0, v2);
-    put_held8(p272, 80, m, v0, 1u);
-    put_held8(p272, 76, m, v0, 0u);
-    goto after12;
-after13:;
-    store8(m, v0 + 76ull, 0, 0u);
-after12:;
-    m->g0 = v5;
-    return 2u;
-after1:;
-    p300 = held(m, v0 + 76ull, 7);
-    put_held8(p300, 0, m, v0 + 76ull, 0u);
-    put_held8(p300, 6, m, v0 + 76ull, 0u);
-    m->g0 = v5;
-    return 6u;
-}
-
-static u32 session_core_sending_begin_with(struct call *m, u64 v0, u64 v1, u64 v2, u64 v3)
-{
-    u64 v5 = 0;
-    u64 v6 = 0;
-    u64 v7 = 0;
-    u64 v8 = 0;
-    u64 v9 = 0;
-    u64 v10 = 0;
-    u32 v4 = 0;
-    u32 t0 = 0;
-    u32 t1 = 0;
-    u32 t2 = 0;
-    u32 t3 = 0;
-    u32 t4 = 0;
-    u8 *p68 = NULL;
-    u8 *p70 = NULL;
-    u8 *p175 = NULL;
-    u8 *p180 = NULL;
-    u8 *p192 = NULL;
-    u8 *p197 = NULL;
-    u8 *p204 = NULL;
-    u8 *p209 = NULL;
-    u8 *p357 = NULL;
-    u8 *p359 = NULL;
-    u8 *p461 = NULL;
-    u8 *p466 = NULL;
-    u8 *p534 = NULL;
-    u8 *p536 = NULL;
-    u8 *p817 = NULL;
-    u8 *p822 = NULL;
-    u8 *p1086 = NULL;
-    u8 *p1091 = NULL;
-    u8 *p1344 = NULL;
-    u8 *p1346 = NULL;
-    v4 = 0u;
-    if (v1 < v3) { goto after1; }
-    if (v3 > 3ull) { goto after5; }
-    if (v3) { goto after6; }
-    v4 = 0u;
-    goto after2;
-after6:;
-    v1 = v3 >> 1;
-    t0 = ((u32)(load8(m, v2, 0) != load8(m, v0, 0))) | ((u32)(load8(m, v2 + v1, 0) != load8(m, v0 + v1, 0)));
-    v1 = v3 + 0xFFFFFFFFFFFFFFFFull;
-    v4 = t0 | ((u32)(load8(m, v2 + v1, 0) != load8(m, v0 + v1, 0)));
-    goto after2;
-after5:;
-    if (v3 > 8ull) { goto after7; }
-    p68 = held(m, v2, 4);
-    p70 = held(m, v0, 4);
-    t0 = ((u32)(held8(p68, 0, m, v2) != held8(p70, 0, m, v0))) | ((u32)(held8(p68, 1, m, v2) != held8(p70, 1, m,
-        v0)));
-    t0 = (t0 | ((u32)(held8(p68, 2, m, v2) != held8(p70, 2, m, v0)))) | ((u32)(held8(p68, 3, m, v2) != held8(p70, 3,
-        m, v0)));
-    v1 = v3 + 0xFFFFFFFFFFFFFFFCull;
-    t1 = (u32)(load8(m, v2 + v1, 0) != load8(m, v0 + v1, 0));
-    v1 = v3 + 0xFFFFFFFFFFFFFFFDull;
-    t1 = t1 | ((u32)(load8(m, v2 + v1, 0) != load8(m, v0 + v1, 0)));
-    v1 = v3 + 0xFFFFFFFFFFFFFFFEull;
-    t1 = t1 | ((u32)(load8(m, v2 + v1, 0) != load8(m, v0 + v1, 0)));
-    v1 = v3 + 0xFFFFFFFFFFFFFFFFull;
-    v4 = t0 | (t1 | ((u32)(load8(m, v2 + v1, 0) != load8(m, v0 + v1, 0))));
-    goto after2;
-after7:;
-    if (v3 > 32ull) { goto after8; }
-    v3 = v3 + 0xFFFFFFFFFFFFFFF8ull;
-    v5 = (v3 < 8ull) ? v3 : 8ull;
-    v1 = v2 + v5;
-    p175 = held(m, v1, 8);
-    v5 = v0 + v5;
-    p180 = held(m, v5, 8);
-    v6 = (v3 < 16ull) ? v3 : 16ull;
-    v7 = v2 + v6;
-    p192 = held(m, v7, 8);
-    v6 = v0 + v6;
-    p197 = held(m, v6, 8);
-    t0 = ((u32)(held8(p175, 0, m, v1) != held8(p180, 0, m, v5))) | ((u32)(held8(p192, 0, m, v7) != held8(p197, 0, m,
-        v6)));
-    v8 = v2 + v3;
-    p204 = held(m, v8, 8);
-    v3 = v0 + v3;
-    p209 = held(m, v3, 8);
-    t1 = ((u32)(held8(p175, 1, m, v1) != held8(p180, 1, m, v5))) | ((u32)(held8(p192, 1, m, v7) != held8(p197, 1, m,
-        v6)));
-    t0 = (t0 | ((u32)(held8(p204, 0, m, v8) != held8(p209, 0, m, v3)))) | ((t1 | ((u32)(held8(p204, 1, m, v8) !=
-        held8(p209, 1, m, v3)))) << 1);
-    t1 = ((u32)(held8(p175, 3, m, v1) != held8(p180, 3, m, v5))) | ((u32)(held8(p192, 3, m, v7) != held8(p197, 3, m,
-        v6)));
-    t2 = ((u32)(held8(p175, 2, m, v1) != held8(p180, 2, m, v5))) | ((u32)(held8(p192, 2, m, v7) != held8(p197, 2, m,
-        v6)));
-    t1 = ((t1 | ((u32)(held8(p204, 3, m, v8) != held8(p209, 3, m, v3)))) << 3) | ((t2 | ((u32)(held8(p204, 2, m, v8)
-        != held8(p209, 2, m, v3)))) << 2);
-    t0 = t0 | t1;
-    t1 = ((u32)(held8(p175, 4, m, v1) != held8(p180, 4, m, v5))) | ((u32)(held8(p192, 4, m, v7) != held8(p197, 4, m,
-        v6)));
-    t2 = ((u32)(held8(p175, 5, m, v1) != held8(p180, 5, m, v5))) | ((u32)(held8(p192, 5, m, v7) != held8(p197, 5, m,
-        v6)));
-    t1 = (t1 | ((u32)(held8(p204, 4, m, v8) != held8(p209, 4, m, v3)))) | ((t2 | ((u32)(held8(p204, 5, m, v8) !=
-        held8(p209, 5, m, v3)))) << 1);
-    t2 = ((u32)(held8(p175, 7, m, v1) != held8(p180, 7, m, v5))) | ((u32)(held8(p192, 7, m, v7) != held8(p197, 7, m,
-        v6)));
-    t3 = ((u32)(held8(p175, 6, m, v1) != held8(p180, 6, m, v5))) | ((u32)(held8(p192, 6, m, v7) != held8(p197, 6, m,
-        v6)));
-    t2 = ((t2 | ((u32)(held8(p204, 7, m, v8) != held8(p209, 7, m, v3)))) << 3) | ((t3 | ((u32)(held8(p204, 6, m, v8)
-        != held8(p209, 6, m, v3)))) << 2);
-    p357 = held(m, v2, 8);
-    p359 = held(m, v0, 8);
-    t0 = ((u32)(((t0 | ((t1 | t2) << 4)) & 255u) != 0u)) | ((u32)(held8(p357, 0, m, v2) != held8(p359, 0, m, v0)));
-    t1 = ((u32)(held8(p357, 1, m, v2) != held8(p359, 1, m, v0))) | ((u32)(held8(p357, 2, m, v2) != held8(p359, 2, m,
-        v0)));
-    t0 = t0 | t1;
-    t1 = ((u32)(held8(p357, 3, m, v2) != held8(p359, 3, m, v0))) | ((u32)(held8(p357, 4, m, v2) != held8(p359, 4, m,
-        v0)));
-    t2 = ((u32)(held8(p357, 5, m, v2) != held8(p359, 5, m, v0))) | ((u32)(held8(p357, 6, m, v2) != held8(p359, 6, m,
-        v0)));
-    v4 = (t0 | (t1 | t2)) | ((u32)(held8(p357, 7, m, v2) != held8(p359, 7, m, v0)));
-    goto after2;
-after8:;
-    if (v3 < 65ull) { goto after3; }
-    v9 = v3 & 0xFFFFFFFFFFFFFFC0ull;
-    v10 = 0ull;
-    v6 = v2;
-    v8 = v0;
-again10:;
-    v4 = 0u;
-    v1 = 0ull;
-again11:;
-    v5 = v6 + v1;
-    p461 = held(m, v5, 2);
-    v7 = v8 + v1;
-    p466 = held(m, v7, 2);
-    t0 = (v4 | ((u32)(held8(p461, 0, m, v5) != held8(p466, 0, m, v7)))) | ((u32)(held8(p461, 1, m, v5) != held8(p466,
-        1, m, v7)));
-    v4 = t0;
-    v1 = v1 + 2ull;
-    if (v1 != 64ull) { goto again11; }
-    if (v4 & 1u) { goto after9; }
-    v6 = v6 + 64ull;
-    v8 = v8 + 64ull;
-    v10 = v10 + 64ull;
-    if ((v3 - v10) > 63ull) { goto again10; }
-    v10 = v9;
-after9:;
-    v7 = v3 - v10;
-    if (v7 < 32ull) { goto after12; }
-    v1 = v2 + v10;
-    v5 = v0 + v10;
-again14:;
-    v4 = 1u;
-    p534 = held(m, v1, 32);
-    p536 = held(m, v5, 32);
-    t0 = ((u32)(held8(p534, 0, m, v1) != held8(p536, 0, m, v5))) | (((u32)(held8(p534, 1, m, v1) != held8(p536, 1, m,
-        v5))) << 1);
-    t1 = (((u32)(held8(p534, 3, m, v1) != held8(p536, 3, m, v5))) << 3) | (((u32)(held8(p534, 2, m, v1) != held8(p536,
-        2, m, v5))) << 2);
-    t0 = t0 | t1;
-    t1 = ((u32)(held8(p534, 4, m, v1) != held8(p536, 4, m, v5))) | (((u32)(held8(p534, 5, m, v1) != held8(p536, 5, m,
-        v5))) << 1);
-    t2 = (((u32)(held8(p534, 7, m, v1) != held8(p536, 7, m, v5))) << 3) | (((u32)(held8(p534, 6, m, v1) != held8(p536,
-        6, m, v5))) << 2);
-    t0 = t0 | ((t1 | t2) << 4);
-    t1 = ((u32)(held8(p534, 12, m, v1) != held8(p536, 12, m, v5))) | (((u32)(held8(p534, 13, m, v1) != held8(p536, 13,
-        m, v5))) << 1);
-    t2 = (((u32)(held8(p534, 15, m, v1) != held8(p536, 15, m, v5))) << 3) | (((u32)(held8(p534, 14, m, v1) !=
-        held8(p536, 14, m, v5))) << 2);
-    t1 = (t1 | t2) << 12;
-    t2 = ((u32)(held8(p534, 8, m, v1) != held8(p536, 8, m, v5))) | (((u32)(held8(p534, 9, m, v1) != held8(p536, 9, m,
-        v5))) << 1);
-    t3 = (((u32)(held8(p534, 11, m, v1) != held8(p536, 11, m, v5))) << 3) | (((u32)(held8(p534, 10, m, v1) !=
-        held8(p536, 10, m, v5))) << 2);
-    t0 = t0 | (t1 | ((t2 | t3) << 8));
-    t1 = ((u32)(held8(p534, 16, m, v1) != held8(p536, 16, m, v5))) | (((u32)(held8(p534, 17, m, v1) != held8(p536, 17,
-        m, v5))) << 1);
-    t2 = (((u32)(held8(p534, 19, m, v1) != held8(p536, 19, m, v5))) << 3) | (((u32)(held8(p534, 18, m, v1) !=
-        held8(p536, 18, m, v5))) << 2);
-    t1 = t1 | t2;
-    t2 = ((u32)(held8(p534, 20, m, v1) != held8(p536, 20, m, v5))) | (((u32)(held8(p534, 21, m, v1) != held8(p536, 21,
-        m, v5))) << 1);
-    t3 = (((u32)(held8(p534, 23, m, v1) != held8(p536, 23, m, v5))) << 3) | (((u32)(held8(p534, 22, m, v1) !=
-        held8(p536, 22, m, v5))) << 2);
-    t1 = t1 | ((t2 | t3) << 4);
-    t2 = ((u32)(held8(p534, 28, m, v1) != held8(p536, 28, m, v5))) | (((u32)(held8(p534, 29, m, v1) != held8(p536, 29,
-        m, v5))) << 1);
-    t3 = (((u32)(held8(p534, 31, m, v1) != held8(p536, 31, m, v5))) << 3) | (((u32)(held8(p534, 30, m, v1) !=
-        held8(p536, 30, m, v5))) << 2);
-    t2 = (t2 | t3) << 12;
-    t3 = ((u32)(held8(p534, 24, m, v1) != held8(p536, 24, m, v5))) | (((u32)(held8(p534, 25, m, v1) != held8(p536, 25,
-        m, v5))) << 1);
-    t4 = (((u32)(held8(p534, 27, m, v1) != held8(p536, 27, m, v5))) << 3) | (((u32)(held8(p534, 26, m, v1) !=
-        held8(p536, 26, m, v5))) << 2);
-    if ((t0 | (t1 | (t2 | ((t3 | t4) << 8)))) & 65535u) { goto after13; }
-    v1 = v1 + 32ull;
-    v5 = v5 + 32ull;
-    v7 = v7 + 0xFFFFFFFFFFFFFFE0ull;
-    if (v7 > 31ull) { goto again14; }
-    goto after12;
-after13:;
-    if (v7 > 31ull) { goto after2; }
-after12:;
-    v5 = v3 + 0xFFFFFFFFFFFFFFE0ull;
-    v1 = v2 + v5;
-    p817 = held(m, v1, 32);
-    v5 = v0 + v5;
-    p822 = held(m, v5, 32);
-    t0 = ((u32)(held8(p817, 0, m, v1) != held8(p822, 0, m, v5))) | (((u32)(held8(p817, 1, m, v1) != held8(p822, 1, m,
-        v5))) << 1);
-    t1 = (((u32)(held8(p817, 3, m, v1) != held8(p822, 3, m, v5))) << 3) | (((u32)(held8(p817, 2, m, v1) != held8(p822,
-        2, m, v5))) << 2);
-    t0 = t0 | t1;
-    t1 = ((u32)(held8(p817, 4, m, v1) != held8(p822, 4, m, v5))) | (((u32)(held8(p817, 5, m, v1) != held8(p822, 5, m,
-        v5))) << 1);
-    t2 = (((u32)(held8(p817, 7, m, v1) != held8(p822, 7, m, v5))) << 3) | (((u32)(held8(p817, 6, m, v1) != held8(p822,
-        6, m, v5))) << 2);
-    t0 = t0 | ((t1 | t2) << 4);
-    t1 = ((u32)(held8(p817, 12, m, v1) != held8(p822, 12, m, v5))) | (((u32)(held8(p817, 13, m, v1) != held8(p822, 13,
-        m, v5))) << 1);
-    t2 = (((u32)(held8(p817, 15, m, v1) != held8(p822, 15, m, v5))) << 3) | (((u32)(held8(p817, 14, m, v1) !=
-        held8(p822, 14, m, v5))) << 2);
-    t1 = (t1 | t2) << 12;
-    t2 = ((u32)(held8(p817, 8, m, v1) != held8(p822, 8, m, v5))) | (((u32)(held8(p817, 9, m, v1) != held8(p822, 9, m,
-        v5))) << 1);
-    t3 = (((u32)(held8(p817, 11, m, v1) != held8(p822, 11, m, v5))) << 3) | (((u32)(held8(p817, 10, m, v1) !=
-        held8(p822, 10, m, v5))) << 2);
-    t0 = t0 | (t1 | ((t2 | t3) << 8));
-    t1 = ((u32)(held8(p817, 16, m, v1) != held8(p822, 16, m, v5))) | (((u32)(held8(p817, 17, m, v1) != held8(p822, 17,
-        m, v5))) << 1);
-    t2 = (((u32)(held8(p817, 19, m, v1) != held8(p822, 19, m, v5))) << 3) | (((u32)(held8(p817, 18, m, v1) !=
-        held8(p822, 18, m, v5))) << 2);
-    t1 = t1 | t2;
-    t2 = ((u32)(held8(p817, 20, m, v1) != held8(p822, 20, m, v5))) | (((u32)(held8(p817, 21, m, v1) != held8(p822, 21,
-        m, v5))) << 1);
-    t3 = (((u32)(held8(p817, 23, m, v1) != held8(p822, 23, m, v5))) << 3) | (((u32)(held8(p817, 22, m, v1) !=
-        held8(p822, 22, m, v5))) << 2);
-    t1 = t1 | ((t2 | t3) << 4);
-    t2 = ((u32)(held8(p817, 28, m, v1) != held8(p822, 28, m, v5))) | (((u32)(held8(p817, 29, m, v1) != held8(p822, 29,
-        m, v5))) << 1);
-    t3 = (((u32)(held8(p817, 31, m, v1) != held8(p822, 31, m, v5))) << 3) | (((u32)(held8(p817, 30, m, v1) !=
-        held8(p822, 30, m, v5))) << 2);
-    t2 = (t2 | t3) << 12;
-    t3 = ((u32)(held8(p817, 24, m, v1) != held8(p822, 24, m, v5))) | (((u32)(held8(p817, 25, m, v1) != held8(p822, 25,
-        m, v5))) << 1);
-    t4 = (((u32)(held8(p817, 27, m, v1) != held8(p822, 27, m, v5))) << 3) | (((u32)(held8(p817, 26, m, v1) !=
-        held8(p822, 26, m, v5))) << 2);
-    v4 = (u32)(((t0 | (t1 | (t2 | ((t3 | t4) << 8)))) & 65535u) != 0u);
-    goto after2;
-after3:;
-    v5 = v3 + 0xFFFFFFFFFFFFFFE0ull;
-    v1 = v2 + v5;
-    p1086 = held(m, v1, 32);
-    v5 = v0 + v5;
-    p1091 = held(m, v5, 32);
-    t0 = ((u32)(held8(p1086, 0, m, v1) != held8(p1091, 0, m, v5))) | (((u32)(held8(p1086, 1, m, v1) != held8(p1091, 1,
-        m, v5))) << 1);
-    t1 = (((u32)(held8(p1086, 3, m, v1) != held8(p1091, 3, m, v5))) << 3) | (((u32)(held8(p1086, 2, m, v1) !=
-        held8(p1091, 2, m, v5))) << 2);
-    t0 = t0 | t1;
-    t1 = ((u32)(held8(p1086, 4, m, v1) != held8(p1091, 4, m, v5))) | (((u32)(held8(p1086, 5, m, v1) != held8(p1091, 5,
-        m, v5))) << 1);
-    t2 = (((u32)(held8(p1086, 7, m, v1) != held8(p1091, 7, m, v5))) << 3) | (((u32)(held8(p1086, 6, m, v1) !=
-        held8(p1091, 6, m, v5))) << 2);
-    t0 = t0 | ((t1 | t2) << 4);
-    t1 = ((u32)(held8(p1086, 12, m, v1) != held8(p1091, 12, m, v5))) | (((u32)(held8(p1086, 13, m, v1) != held8(p1091,
-        13, m, v5))) << 1);
-    t2 = (((u32)(held8(p1086, 15, m, v1) != held8(p1091, 15, m, v5))) << 3) | (((u32)(held8(p1086, 14, m, v1) !=
-        held8(p1091, 14, m, v5))) << 2);
-    t1 = (t1 | t2) << 12;
-    t2 = ((u32)(held8(p1086, 8, m, v1) != held8(p1091, 8, m, v5))) | (((u32)(held8(p1086, 9, m, v1) != held8(p1091, 9,
-        m, v5))) << 1);
-    t3 = (((u32)(held8(p1086, 11, m, v1) != held8(p1091, 11, m, v5))) << 3) | (((u32)(held8(p1086, 10, m, v1) !=
-        held8(p1091, 10, m, v5))) << 2);
-    t0 = t0 | (t1 | ((t2 | t3) << 8));
-    t1 = ((u32)(held8(p1086, 16, m, v1) != held8(p1091, 16, m, v5))) | (((u32)(held8(p1086, 17, m, v1) != held8(p1091,
-        17, m, v5))) << 1);
-    t2 = (((u32)(held8(p1086, 19, m, v1) != held8(p1091, 19, m, v5))) << 3) | (((u32)(held8(p1086, 18, m, v1) !=
-        held8(p1091, 18, m, v5))) << 2);
-    t1 = t1 | t2;
-    t2 = ((u32)(held8(p1086, 20, m, v1) != held8(p1091, 20, m, v5))) | (((u32)(held8(p1086, 21, m, v1) != held8(p1091,
-        21, m, v5))) << 1);
-    t3 = (((u32)(held8(p1086, 23, m, v1) != held8(p1091, 23, m, v5))) << 3) | (((u32)(held8(p1086, 22, m, v1) !=
-        held8(p1091, 22, m, v5))) << 2);
-    t1 = t1 | ((t2 | t3) << 4);
-    t2 = ((u32)(held8(p1086, 28, m, v1) != held8(p1091, 28, m, v5))) | (((u32)(held8(p1086, 29, m, v1) != held8(p1091,
-        29, m, v5))) << 1);
-    t3 = (((u32)(held8(p1086, 31, m, v1) != held8(p1091, 31, m, v5))) << 3) | (((u32)(held8(p1086, 30, m, v1) !=
-        held8(p1091, 30, m, v5))) << 2);
-    t2 = (t2 | t3) << 12;
-    t3 = ((u32)(held8(p1086, 24, m, v1) != held8(p1091, 24, m, v5))) | (((u32)(held8(p1086, 25, m, v1) != held8(p1091,
-        25, m, v5))) << 1);
-    t4 = (((u32)(held8(p1086, 27, m, v1) != held8(p1091, 27, m, v5))) << 3) | (((u32)(held8(p1086, 26, m, v1) !=
-        held8(p1091, 26, m, v5))) << 2);
-    p1344 = held(m, v2, 32);
-    p1346 = held(m, v0, 32);
-    t0 = ((u32)(((t0 | (t1 | (t2 | ((t3 | t4) << 8)))) & 65535u) != 0u)) | ((u32)(held8(p1344, 0, m, v2) !=
-        held8(p1346, 0, m, v0)));
-    t1 = ((u32)(held8(p1344, 1, m, v2) != held8(p1346, 1, m, v0))) | ((u32)(held8(p1344, 2, m, v2) != held8(p1346, 2,
-        m, v0)));
-    t0 = t0 | t1;
-    t1 = ((u32)(held8(p1344, 3, m, v2) != held8(p1346, 3, m, v0))) | ((u32)(held8(p1344, 4, m, v2) != held8(p1346, 4,
-        m, v0)));
-    t2 = ((u32)(held8(p1344, 5, m, v2) != held8(p1346, 5, m, v0))) | ((u32)(held8(p1344, 6, m, v2) != held8(p1346, 6,
-        m, v0)));
-    t0 = t0 | (t1 | t2);
-    t1 = ((u32)(held8(p1344, 7, m, v2) != held8(p1346, 7, m, v0))) | ((u32)(held8(p1344, 8, m, v2) != held8(p1346, 8,
-        m, v0)));
-    t2 = ((u32)(held8(p1344, 9, m, v2) != held8(p1346, 9, m, v0))) | ((u32)(held8(p1344, 10, m, v2) != held8(p1346,
-        10, m, v0)));
-    t1 = t1 | t2;
-    t2 = ((u32)(held8(p1344, 11, m, v2) != held8(p1346, 11, m, v0))) | ((u32)(held8(p1344, 12, m, v2) != held8(p1346,
-        12, m, v0)));
-    t3 = ((u32)(held8(p1344, 13, m, v2) != held8(p1346, 13, m, v0))) | ((u32)(held8(p1344, 14, m, v2) != held8(p1346,
-        14, m, v0)));
-    t0 = t0 | (t1 | (t2 | t3));
-    t1 = ((u32)(held8(p1344, 15, m, v2) != held8(p1346, 15, m, v0))) | ((u32)(held8(p1344, 16, m, v2) != held8(p1346,
-        16, m, v0)));
-    t2 = ((u32)(held8(p1344, 17, m, v2) != held8(p1346, 17, m, v0))) | ((u32)(held8(p1344, 18, m, v2) != held8(p1346,
-        18, m, v0)));
-    t1 = t1 | t2;
-    t2 = ((u32)(held8(p1344, 19, m, v2) != held8(p1346, 19, m, v0))) | ((u32)(held8(p1344, 20, m, v2) != held8(p1346,
-        20, m, v0)));
-    t3 = ((u32)(held8(p1344, 21, m, v2) != held8(p1346, 21, m, v0))) | ((u32)(held8(p1344, 22, m, v2) != held8(p1346,
-        22, m, v0)));
-    t1 = t1 | (t2 | t3);
-    t2 = ((u32)(held8(p1344, 23, m, v2) != held8(p1346, 23, m, v0))) | ((u32)(held8(p1344, 24, m, v2) != held8(p1346,
-        24, m, v0)));
-    t3 = ((u32)(held8(p1344, 25, m, v2) != held8(p1346, 25, m, v0))) | ((u32)(held8(p1344, 26, m, v2) != held8(p1346,
-        26, m, v0)));
-    t2 = t2 | t3;
-    t3 = ((u32)(held8(p1344, 27, m, v2) != held8(p1346, 27, m, v0))) | ((u32)(held8(p1344, 28, m, v2) != held8(p1346,
-        28, m, v0)));
-    t4 = ((u32)(held8(p1344, 29, m, v2) != held8(p1346, 29, m, v0))) | ((u32)(held8(p1344, 30, m, v2) != held8(p1346,
-        30, m, v0)));
-    t0 = (t0 | (t1 | (t2 | (t3 | t4)))) | ((u32)(held8(p1344, 31, m, v2) != held8(p1346, 31, m, v0)));
-    v4 = t0;
-after2:;
-    v4 = v4 ^ 1u;
-after1:;
-    return v4 & 1u;
-}
-
-static u64 session_core_progress_Progress_owed_after(struct call *m, u64 v0, u64 v1, u64 v2)
-{
-    u8 *p31 = NULL;
-    u8 *p55 = NULL;
-    if (load64(m, v2, 0) != 0ull) { goto after2; }
-    return load64(m, v0, 0);
-after2:;
-    if (load8(m, v0 + 81ull, 0)) { goto after3; }
-    if (load8(m, v1 + 55ull, 0) == 0) { goto after4; }
-    p31 = held(m, v1, 16);
-    v0 = held64(p31, 8, m, v1);
-    v1 = (held64(p31, 0, m, v1) >> 2) * 3ull;
-    return (v0 > v1) ? v0 : v1;
-after4:;
-    return load64(m, v0 + 8ull, 0);
-after3:;
-    p55 = held(m, v1 + 16ull, 16);
-    v0 = held64(p55, 0, m, v1 + 16ull);
-    return (held64(p55, 8, m, v1 + 16ull) < v0) ? v0 : 0ull;
-}
-
-static void session_core_progress_Progress_interrupted(struct call *m, u64 v0, u64 v1, u64 v2, u64 v3, u64 v4, u64 v5,
-    u64 v6)
-{
-    u64 v7 = 0;
-    u64 v8 = 0;
-    u64 v10 = 0;
-    u64 v12 = 0;
-    u32 v9 = 0;
-    u32 v11 = 0;
-    u8 *f8 = NULL;
-    u8 *p115 = NULL;
-    v12 = m->g0 - 16ull;
-    v7 = v12;
-    m->g0 = v7;
-    v8 = v12;
-    f8 = at(m, v8, 16);
-    v7 = 0xFFFFFFFFFFFFFFFFull;
-    v9 = 1u;
-    v10 = load64(m, v1 + 16ull, 0);
-    if (v10 == 0xFFFFFFFFFFFFFFFFull) { goto after2; }
-    v11 = load32(m, v1 + 64ull, 0);
-    if (v11 != 0xFFFFFFFFu) { goto after3; }
-    session_core_progress_Progress_silent(m, v8, v1, v2, v3, v4, v5, v6);
-    v7 = get64(f8 + 8);
-    v9 = get8(f8);
-    goto after2;
-after3:;
-    if (load8(m, v2 + 52ull, 0) == 0) { goto after4; }
-    v7 = 0ull;
-    v4 = v4 - load64(m, v1 + 24ull, 0);
-    if (v10 > (((v4 ^ 0x8000000000000000ull) > (0ull ^ 0x8000000000000000ull)) ? v4 : 0ull)) { goto after4; }
-    store32(m, v1 + 64ull, 0, 0xFFFFFFFFu);
-    goto after2;
-after4:;
-    if (v11 < 0xF4240u) { goto after5; }
-    session_core_progress_Progress_leave(m, v1, v2, v3);
-    store8(m, v1 + 76ull, 0, 0u);
-    v9 = 4u;
-    v7 = 0ull;
-    goto after2;
-after5:;
-    v9 = 1u;
-    store32(m, v1 + 64ull, 0, v11 + 1u);
-    v7 = v10;
-after2:;
-    p115 = held(m, v0, 16);
-    put_held64(p115, 8, m, v0, v7);
-    put_held8(p115, 0, m, v0, v9);
-    m->g0 = v8 + 16ull;
-    return;
-}
-
-static void session_core_progress_Progress_silent(struct call *m, u64 v0, u64 v1, u64 v2, u64 v3, u64 v4, u64 v5, u64
-    v6)
-{
-    u64 v7 = 0;
-    u64 v8 = 0;
-    u64 v9 = 0;
-    u64 v11 = 0;
-    u32 v10 = 0;
-    u32 t0 = 0;
-    u64 w0 = 0;
-    u8 *f11 = NULL;
-    u8 *p19 = NULL;
-    u8 *p126 = NULL;
-    u8 *p224 = NULL;
-    u8 *p292 = NULL;
-    v11 = m->g0 - 64ull;
-    f11 = at(m, v11, 64);
-    v7 = v11;
-    m->g0 = v7;
-    v8 = v1 + 40ull;
-    p19 = held(m, v1 + 16ull, 62);
-    v9 = held64(p19, 0, m, v1 + 16ull);
-    w0 = v8;
-    v8 = v9 + load64(m, v8, 0);
-    store64(m, w0, 0, (v8 < v9) ? 0xFFFFFFFFFFFFFFFFull : v8);
-    if (held8(p19, 61, m, v1 + 16ull) == 0) { goto after3; }
-    session_core_progress_Progress_leave(m, v1, v2, v3);
-    put_held8(p19, 60, m, v1 + 16ull, 0u);
-    v8 = 0ull;
-    v10 = 5u;
-    goto after2;
-after3:;
-    v10 = 7u;
-    v8 = 0ull;
-    v9 = v1 + 76ull;
-    switch (load8(m, v9, 0) + 0xFFFFFFFFu) {
-        case 0: goto after10;
-        case 1: goto after9;
-        case 2: goto after8;
-        case 4: goto after7;
-        case 5: goto after6;
-        case 6: goto after5;
-        default: goto after2;
-    }
-after10:;
-    session_core_progress_Progress_talk(m, v11, v1, v2, v3, v4);
-    v8 = get64(f11 + 8);
-    v10 = get8(f11);
-    goto after2;
-after9:;
-    if (load64(m, v1, 0) > load64(m, v2 + ((load8(m, v2 + 55ull, 0)) ? 16ull : 0ull), 0)) { goto after11; }
-    store64(m, v1, 0, 0ull);
-after11:;
-    session_core_progress_Progress_talk(m, v11 + 16ull, v1, v2, v3, v4);
-    v8 = get64(f11 + 24);
-    v10 = get8(f11 + 16);
-    goto after2;
-after8:;
-    v8 = 0ull;
-    p126 = held(m, v1, 82);
-    put_held64(p126, 0, m, v1, 0ull);
-    store64(m, v3, 0, 0ull);
-    v10 = 0u;
-    put_held8(p126, 81, m, v1, 0u);
-    put_held64(p126, 24, m, v1, v4);
-    store8(m, v9, 0, 4u);
-    put_held16(p126, 79, m, v1, 0u);
-    goto after2;
-after7:;
-    v8 = 0ull;
-    if (held64(p19, 40, m, v1 + 16ull) != 0ull) { goto after12; }
-    put_held8(p19, 60, m, v1 + 16ull, 0u);
-    v10 = 4u;
-    goto after2;
-after12:;
-    session_core_progress_Progress_miss(m, v11 + 32ull, v1, v2, v4);
-    v10 = 1u;
-    v8 = get64(f11 + 40);
-    goto after2;
-after6:;
-    v8 = 0ull;
-    if (load64(m, v3, 0) != 0ull) { goto after13; }
-    put_held8(p19, 60, m, v1 + 16ull, 0u);
-    goto after4;
-after13:;
-    t0 = session_core_progress_Progress_judge(m, v1, v2, v3, v5, v6);
-    v10 = t0;
-    goto after2;
-after5:;
-    v9 = load64(m, v1, 0);
-    v10 = load8(m, v2 + 55ull, 0);
-    if (v10 == 0) { goto after15; }
-    p224 = held(m, v2, 16);
-    v6 = held64(p224, 8, m, v2);
-    v5 = (held64(p224, 0, m, v2) >> 2) * 3ull;
-    v6 = (v6 > v5) ? v6 : v5;
-    goto after14;
-after15:;
-    v6 = load64(m, v1 + 8ull, 0);
-after14:;
-    if (v9 > v6) { goto after16; }
-    store64(m, v1, 0, 0ull);
-    v10 = load8(m, v2 + 55ull, 0);
-after16:;
-    if ((v10 & 255u) == 0) { goto after17; }
-    session_core_progress_Progress_await_block(m, v11 + 48ull, v1, v2, v3, v4);
-    v10 = 1u;
-    v8 = get64(f11 + 56);
-    goto after2;
-after17:;
-    put_held8(p19, 60, m, v1 + 16ull, 0u);
-after4:;
-    v10 = 3u;
-after2:;
-    p292 = held(m, v0, 16);
-    put_held64(p292, 8, m, v0, v8);
-    put_held8(p292, 0, m, v0, v10);
-    m->g0 = v11 + 64ull;
-    return;
-}
-
-static void session_core_progress_Progress_leave(struct call *m, u64 v0, u64 v1, u64 v2)
-{
-    u64 v3 = 0;
-    u64 w1 = 0;
-    v3 = m->g0;
-    if ((v3 ^ 0x8000000000000000ull) < (16ull ^ 0x8000000000000000ull)) { goto after1; }
-    if (load8(m, v0 + 76ull, 0) != 6u) { goto after2; }
-    w1 = session_core_progress_Progress_owed_after(m, v0, v1, v2);
-    store64(m, v0, 0, w1);
-after2:;
-    m->g0 = v3;
-    return;
-after1:;
-    UNREACHABLE;
-}
-
-static void session_core_progress_Progress_talk(struct call *m, u64 v0, u64 v1, u64 v2, u64 v3, u64 v4)
-{
-    u64 v5 = 0;
-    u64 v7 = 0;
-    u32 v6 = 0;
-    u64 w0 = 0;
-    u8 *f7 = NULL;
-    u8 *p86 = NULL;
-    v7 = m->g0 - 16ull;
-    f7 = at(m, v7, 16);
-    v5 = v7;
-    m->g0 = v5;
-    if (load8(m, v2 + 55ull, 0) == 0) { goto after4; }
-    v6 = load32(m, v1 + 68ull, 0);
-    goto after2;
-after4:;
-    v6 = load32(m, v1 + 68ull, 0);
-    if (load32(m, v2 + 48ull, 0) <= v6) { goto after5; }
-    w0 = session_core_progress_Progress_left(m, v1, v2, v4);
-    if (w0 != 0ull) { goto after2; }
-after5:;
-    store8(m, v1 + 76ull, 0, 0u);
-    v1 = 0ull;
-    v6 = 5u;
-    goto after1;
-after2:;
-    v6 = v6 + 1u;
-    store32(m, v1 + 68ull, 0, v6 ? v6 : 0xFFFFFFFFu);
-    session_core_progress_Progress_settle(m, v7, v1, v2, v3, v4);
-    v1 = get64(f7 + 8);
-    v6 = get8(f7);
-after1:;
-    p86 = held(m, v0, 16);
-    put_held64(p86, 8, m, v0, v1);
-    put_held8(p86, 0, m, v0, v6);
-    m->g0 = v7 + 16ull;
-}
-
-static void session_core_progress_Progress_miss(struct call *m, u64 v0, u64 v1, u64 v2, u64 v3)
-{
-    u64 v4 = 0;
-    u64 v6 = 0;
-    u32 v5 = 0;
-    u8 *f6 = NULL;
-    u8 *p23 = NULL;
-    v6 = m->g0 - 16ull;
-    f6 = at(m, v6, 16);
-    v4 = v6;
-    m->g0 = v4;
-    session_core_progress_Progress_drop_octets(m, v6, v1, v2, 7u, v3);
-    v5 = get8(f6);
-    p23 = held(m, v0, 16);
-    put_held64(p23, 8, m, v0, get64(f6 + 8));
-    put_held8(p23, 0, m, v0, v5);
-    m->g0 = v6 + 16ull;
-    return;
-}
-
-static void session_core_progress_Progress_settle(struct call *m, u64 v0, u64 v1, u64 v2, u64 v3, u64 v4)
-{
-    u64 v5 = 0;
-    u64 v6 = 0;
-    u64 v8 = 0;
-    u32 v7 = 0;
-    u8 *f8 = NULL;
-    u8 *p29 = NULL;
-    u8 *p61 = NULL;
-    v8 = m->g0 - 16ull;
-    f8 = at(m, v8, 16);
-    v5 = v8;
-    m->g0 = v5;
-    v6 = 0ull;
-    if (load64(m, v1, 0) != 0ull) { goto after3; }
-    store64(m, v3, 0, 0ull);
-    v7 = 0u;
-    p29 = held(m, v1 + 24ull, 58);
-    put_held8(p29, 57, m, v1 + 24ull, 0u);
-    put_held64(p29, 0, m, v1 + 24ull, v4);
-    put_held8(p29, 52, m, v1 + 24ull, 4u);
-    put_held16(p29, 55, m, v1 + 24ull, 0u);
-    goto after2;
-after3:;
-    session_core_progress_Progress_drop_octets(m, v8, v1, v2, 3u, v4);
-    v7 = 1u;
-    v6 = get64(f8 + 8);
-after2:;
-    p61 = held(m, v0, 16);
-    put_held64(p61, 8, m, v0, v6);
-    put_held8(p61, 0, m, v0, v7);
-    m->g0 = v8 + 16ull;
-    return;
-}
-
-static void session_core_progress_Progress_take_in(struct call *m, u64 v0, u64 v1, u64 v2, u64 v3, u64 v4, u64 v5, u32
-    v6, u64 v7, u64 v8, u64 v9)
-{
-    u64 v10 = 0;
-    u64 v11 = 0;
-    u64 v14 = 0;
-    u32 v12 = 0;
-    u32 v13 = 0;
-    u8 *f14 = NULL;
-    u8 *p178 = NULL;
-    v14 = m->g0 - 80ull;
-    f14 = at(m, v14, 80);
-    v10 = v14;
-    m->g0 = v10;
-    if (load8(m, v1 + 77ull, 0) == 0) { goto after3; }
-    if (load64(m, v1 + 16ull, 0) != 0ull) { goto after3; }
-    session_core_progress_Progress_leave(m, v1, v2, v3);
-    store8(m, v1 + 76ull, 0, 0u);
-    v11 = 0ull;
-    v12 = 5u;
-    goto after2;
-after3:;
-    v12 = 7u;
-    v11 = 0ull;
-    v13 = load8(m, v1 + 76ull, 0);
-    switch (v13) {
-        case 0: goto after2;
-        case 1: goto after8;
-        case 5: goto after7;
-        case 6: goto after6;
-        case 7: goto after4;
-        default: goto after5;
-    }
-after8:;
-    session_core_progress_Progress_drop_octets(m, v14 + 16ull, v1, v2, 2u, v7);
-    v12 = 1u;
-    v11 = get64(f14 + 24);
-    goto after2;
-after7:;
-    if (v6 == 0) { goto after9; }
-    session_core_progress_Progress_miss(m, v14 + 32ull, v1, v2, v7);
-    v12 = 1u;
-    v11 = get64(f14 + 40);
-    goto after2;
-after9:;
-    session_core_progress_Progress_echoed(m, v14 + 48ull, v1, v2, v3, v4, v5, v7, v8, v9);
-    v11 = get64(f14 + 56);
-    v12 = get8(f14 + 48);
-    goto after2;
-after6:;
-    session_core_progress_Progress_hear(m, v14 + 64ull, v1, v2, v3, v4, v5, v6, v7, v8, v9);
-    v11 = get64(f14 + 72);
-    v12 = get8(f14 + 64);
-    goto after2;
-after5:;
-    if (v13 > 3u) { goto after2; }
-after4:;
-    v3 = v1 + 72ull;
-    v12 = load32(m, v3, 0);
-    if (v5 < ((u64)v12)) { goto after10; }
-    store8(m, v1 + 76ull, 0, 0u);
-    store32(m, v3, 0, 0u);
-    v12 = 4u;
-    goto after2;
-after10:;
-    store32(m, v3, 0, v12 - ((u32)v5));
-    session_core_progress_Progress_wait_silent(m, v14, v1, v2, v7);
-    v12 = 1u;
-    v11 = get64(f14 + 8);
-after2:;
-    p178 = held(m, v0, 16);
-    put_held64(p178, 8, m, v0, v11);
-    put_held8(p178, 0, m, v0, v12);
-    m->g0 = v14 + 80ull;
-    return;
-}
-
-static void session_core_progress_Progress_echoed(struct call *m, u64 v0, u64 v1, u64 v2, u64 v3, u64 v4, u64 v5, u64
-    v6, u64 v7, u64 v8)
-{
-    u64 v9 = 0;
-    u64 v10 = 0;
-    u64 v11 = 0;
-    u64 v12 = 0;
-    u64 v13 = 0;
-    u64 v15 = 0;
-    u64 v16 = 0;
-    u64 v17 = 0;
-    u64 v18 = 0;
-    u64 v19 = 0;
-    u64 v20 = 0;
-    u64 v21 = 0;
-    u64 v22 = 0;
-    u32 v14 = 0;
-    u32 t0 = 0;
-    u64 w4 = 0;
-    u8 *f10 = NULL;
-    u8 *p48 = NULL;
-    u8 *p200 = NULL;
-    u8 *p201 = NULL;
-    u8 *p309 = NULL;
-    u8 *p324 = NULL;
-    u8 *p366 = NULL;
-    v22 = m->g0 - 64ull;
-    v9 = v22;
-    m->g0 = v9;
-    v10 = v22;
-    f10 = at(m, v10, 64);
-    v11 = load64(m, v1 + 56ull, 0);
-    v12 = (v8 < v11) ? v8 : v11;
-    v13 = v7 + v12;
-    v9 = v8 - v12;
-    if (v5 >= v9) { goto after5; }
-    t0 = session_core_sending_begin_with(m, v13, v9, v4, v5);
-    if (t0 == 0) { goto after4; }
-    p48 = held(m, v2 + 8ull, 32);
-    v9 = held64(p48, 24, m, v2 + 8ull);
-    multi3(m, v10, v9, 0ull, v8, 0ull);
-    v3 = held64(p48, 0, m, v2 + 8ull);
-    v11 = v5 + v11;
-    store64(m, v1 + 56ull, 0, (v11 < v5) ? 0xFFFFFFFFFFFFFFFFull : v11);
-    v5 = v9 * v8;
-    v11 = v3 + v5;
-    w4 = (get64(f10 + 8) != 0ull) ? 0xFFFFFFFFFFFFFFFFull : ((v11 < v5) ? 0xFFFFFFFFFFFFFFFFull : v11);
-    session_core_progress_Progress_wait(m, v10 + 16ull, v1, v2, (v9 == 0) ? v3 : w4, v6);
-    v14 = 1u;
-    v5 = get64(f10 + 24);
-    goto after1;
-after5:;
-    t0 = session_core_sending_begin_with(m, v4, v5, v13, v9);
-    if (t0) { goto after2; }
-after4:;
-    session_core_progress_Progress_miss(m, v10 + 32ull, v1, v2, v6);
-    v14 = 1u;
-    v5 = get64(f10 + 40);
-    goto after1;
-after2:;
-    v15 = v3 + 8ull;
-    v16 = load64(m, v3, 0);
-    v17 = (v16 < 259ull) ? v16 : 259ull;
-    v18 = v15 + v17;
-    v13 = v4 + v9;
-    v11 = 259ull - v17;
-    v19 = v5 - v9;
-    v5 = (v11 < v19) ? v11 : v19;
-    if ((v18 - v13) >= v5) { goto after7; }
-    v20 = v5 & 3ull;
-    v9 = 0ull;
-    if (v5 < 4ull) { goto after8; }
-    v18 = v3 + v17;
-    v21 = v5 & 508ull;
-    v9 = 0ull;
-again9:;
-    v5 = v18 + v9;
-    v11 = v13 + v9;
-    p200 = held(m, v11, 4);
-    p201 = held(m, v5 + 8ull, 4);
-    put_held8(p201, 0, m, v5 + 8ull, held8(p200, 0, m, v11));
-    put_held8(p201, 1, m, v5 + 8ull, held8(p200, 1, m, v11));
-    put_held8(p201, 2, m, v5 + 8ull, held8(p200, 2, m, v11));
-    put_held8(p201, 3, m, v5 + 8ull, held8(p200, 3, m, v11));
-    v9 = v9 + 4ull;
-    if (v21 != v9) { goto again9; }
-    if (v20 == 0) { goto after6; }
-after8:;
-    v11 = 0ull - v20;
-    v5 = ((v9 + v17) + v3) + 8ull;
-    v9 = v4 + ((v9 + v8) - v12);
-again10:;
-    store8(m, v5, 0, load8(m, v9, 0));
-    v5 = v5 + 1ull;
-    v9 = v9 + 1ull;
-    v11 = v11 + 1ull;
-    if (v11 != 0ull) { goto again10; }
-    goto after6;
-after7:;
-    if (v5 == 0) { goto after11; }
-    copy(m, v18, v13, v5);
-after11:;
-    v16 = load64(m, v3, 0);
-after6:;
-    v5 = v19 + v16;
-    store64(m, v3, 0, (v5 < v19) ? 0xFFFFFFFFFFFFFFFFull : v5);
-    p309 = held(m, v1 + 56ull, 25);
-    put_held64(p309, 0, m, v1 + 56ull, v8);
-    put_held8(p309, 20, m, v1 + 56ull, 6u);
-    v14 = 0u;
-    if (held8(p309, 24, m, v1 + 56ull)) { goto after12; }
-    p324 = held(m, v3, 11);
-    v5 = held64(p324, 0, m, v3);
-    if (v5 != ((u64)held8(p324, 10, m, v3) + 4ull)) { goto after12; }
-    t0 = line_core_framing_sum_of(m, v15, v5);
-    v14 = (u32)((t0 & 255u) == 0);
-after12:;
-    store8(m, v1 + 81ull, 0, v14);
-    session_core_progress_Progress_go_on(m, v10 + 48ull, v1, v2, v3, v6, v7, v8);
-    v5 = get64(f10 + 56);
-    v14 = get8(f10 + 48);
-after1:;
-    p366 = held(m, v0, 16);
-    put_held8(p366, 0, m, v0, v14);
-    put_held64(p366, 8, m, v0, v5);
-    m->g0 = v10 + 64ull;
-}
-
-static void session_core_progress_Progress_hear(struct call *m, u64 v0, u64 v1, u64 v2, u64 v3, u64 v4, u64 v5, u32
-    v6, u64 v7, u64 v8, u64 v9)
-{
-    u64 v10 = 0;
-    u64 v11 = 0;
-    u64 v13 = 0;
-    u64 v14 = 0;
-    u64 v15 = 0;
-    u64 v16 = 0;
-    u64 v17 = 0;
-    u64 v18 = 0;
-    u64 v19 = 0;
-    u64 v20 = 0;
-    u64 v21 = 0;
-    u32 v12 = 0;
-    u32 t0 = 0;
-    u8 *f11 = NULL;
-    u8 *p88 = NULL;
-    u8 *p156 = NULL;
-    u8 *p157 = NULL;
-    u8 *p302 = NULL;
-    v21 = m->g0 - 16ull;
-    v10 = v21;
-    m->g0 = v10;
-    v11 = v21;
-    f11 = at(m, v11, 16);
-    if (load64(m, v3, 0) != 0ull) { goto after2; }
-    v12 = 0u;
-    if (load8(m, v2 + 52ull, 0) == 0) { goto after3; }
-    if (load64(m, v2 + 24ull, 0) == 0xFFFFFFFFFFFFFFFFull) { goto after3; }
-    v12 = 2u;
-    v10 = load64(m, v2 + 32ull, 0);
-    v13 = quotient64(((v10 < 0x3333333333333333ull) ? v10 : 0x3333333333333333ull) * 5ull, 3ull);
-    v10 = v7 - load64(m, v1 + 24ull, 0);
-    v10 = ((v10 ^ 0x8000000000000000ull) > (0ull ^ 0x8000000000000000ull)) ? v10 : 0ull;
-    if (v13 <= v10) { goto after3; }
-    v12 = (u32)(load64(m, v1 + 48ull, 0) < (v13 - v10));
-after3:;
-    store8(m, v1 + 79ull, 0, v12);
-after2:;
-    v10 = v1 + 80ull;
-    p88 = held(m, v10, 1);
-    put_held8(p88, 0, m, v10, v6 | ((u32)(held8(p88, 0, m, v10) != 0u)));
-    v14 = v3 + 8ull;
-    v15 = load64(m, v3, 0);
-    v16 = (v15 < 259ull) ? v15 : 259ull;
-    v13 = v14 + v16;
-    v10 = 259ull - v16;
-    v10 = (v10 < v5) ? v10 : v5;
-    if ((v13 - v4) >= v10) { goto after5; }
-    v17 = v10 & 3ull;
-    v13 = 0ull;
-    if (v10 < 4ull) { goto after6; }
-    v18 = v3 + v16;
-    v19 = v10 & 508ull;
-    v13 = 0ull;
-again7:;
-    v10 = v18 + v13;
-    v20 = v4 + v13;
-    p156 = held(m, v20, 4);
-    p157 = held(m, v10 + 8ull, 4);
-    put_held8(p157, 0, m, v10 + 8ull, held8(p156, 0, m, v20));
-    put_held8(p157, 1, m, v10 + 8ull, held8(p156, 1, m, v20));
-    put_held8(p157, 2, m, v10 + 8ull, held8(p156, 2, m, v20));
-    put_held8(p157, 3, m, v10 + 8ull, held8(p156, 3, m, v20));
-    v13 = v13 + 4ull;
-    if (v19 != v13) { goto again7; }
-    if (v17 == 0) { goto after4; }
-after6:;
-    v20 = 0ull - v17;
-    v10 = v4 + v13;
-    v13 = ((v13 + v16) + v3) + 8ull;
-again8:;
-    store8(m, v13, 0, load8(m, v10, 0));
-    v13 = v13 + 1ull;
-    v10 = v10 + 1ull;
-    v20 = v20 + 1ull;
-    if (v20 != 0ull) { goto again8; }
-    goto after4;
-after5:;
-    if (v10 == 0) { goto after9; }
-    copy(m, v13, v4, v10);
-after9:;
-    v15 = load64(m, v3, 0);
-after4:;
-    v10 = v5 + v15;
-    v10 = (v10 < v5) ? 0xFFFFFFFFFFFFFFFFull : v10;
-    store64(m, v3, 0, v10);
-    v6 = 0u;
-    if (load8(m, v1 + 80ull, 0)) { goto after10; }
-    if (v10 != ((u64)load8(m, v3 + 10ull, 0) + 4ull)) { goto after10; }
-    t0 = line_core_framing_sum_of(m, v14, v10);
-    v6 = (u32)((t0 & 255u) == 0);
-after10:;
-    store8(m, v1 + 81ull, 0, v6);
-    session_core_progress_Progress_go_on(m, v11, v1, v2, v3, v7, v8, v9);
-    v6 = get8(f11);
-    p302 = held(m, v0, 16);
-    put_held64(p302, 8, m, v0, get64(f11 + 8));
-    put_held8(p302, 0, m, v0, v6);
-    m->g0 = v11 + 16ull;
-    return;
 }
 
 static void c_lent_kept_receiver_CReceiver_fitting(struct call *m, u64 v0, u64 v1, u64 v2)
@@ -12519,6 +13225,384 @@ after1:;
     put_held32(p967, 49, m, v0, get32(f33 + 4));
 }
 
+static void c_lent_session_session_turn(struct call *m, u64 v0, u64 v1, u64 v2, u64 v3, u64 v4, u64 v5, u64 v6, u64
+    v7, u64 v8)
+{
+    u64 v9 = 0;
+    u64 v10 = 0;
+    u64 v11 = 0;
+    u64 v14 = 0;
+    u64 v15 = 0;
+    u64 v16 = 0;
+    u64 v20 = 0;
+    u64 v21 = 0;
+    u64 v31 = 0;
+    u64 v32 = 0;
+    u64 v34 = 0;
+    u32 v12 = 0;
+    u32 v13 = 0;
+    u32 v17 = 0;
+    u32 v18 = 0;
+    u32 v19 = 0;
+    u32 v22 = 0;
+    u32 v23 = 0;
+    u32 v24 = 0;
+    u32 v25 = 0;
+    u32 v26 = 0;
+    u32 v27 = 0;
+    u32 v28 = 0;
+    u32 v29 = 0;
+    u32 v30 = 0;
+    u32 v33 = 0;
+    u32 t1 = 0;
+    u8 *f34 = NULL;
+    u8 *p17 = NULL;
+    u8 *p45 = NULL;
+    u8 *p80 = NULL;
+    u8 *p235 = NULL;
+    u8 *p236 = NULL;
+    u8 *p346 = NULL;
+    u8 *p402 = NULL;
+    u8 *p403 = NULL;
+    u8 *p601 = NULL;
+    u8 *p691 = NULL;
+    u8 *p715 = NULL;
+    u8 *p871 = NULL;
+    v34 = m->g0 - 160ull;
+    f34 = at(m, v34, 160);
+    v9 = v34;
+    m->g0 = v9;
+    p17 = held(m, v5, 24);
+    v10 = held64(p17, 16, m, v5);
+    v11 = held64(p17, 8, m, v5);
+    v12 = held8(p17, 1, m, v5);
+    v13 = held8(p17, 0, m, v5);
+    memset(f34 + 48, (int)(0u & 255u), 80);
+    if (v8 >= 258ull) { goto after5; }
+    p45 = held(m, v0, 24);
+    put_held32(p45, 1, m, v0, 0u);
+    put_held8(p45, 0, m, v0, 33u);
+    put_held32(p45, 4, m, v0, 0u);
+    put_held64(p45, 16, m, v0, 0ull);
+    put_held64(p45, 8, m, v0, 258ull);
+    goto after1;
+after5:;
+    c_lent_kept_CTerminal_fitting(m, v34 + 48ull, v1, v3, v4);
+    if (get8(f34 + 48) != 1u) { goto after9; }
+    p80 = held(m, v1 + 472ull, 12);
+    v5 = held64(p80, 0, m, v1 + 472ull);
+    v14 = (v5 == 0) ? 0xD693A400ull : v5;
+    v15 = v1 + 488ull;
+    v16 = v1 + 56ull;
+    v17 = get8(f34 + 59);
+    v18 = held32(p80, 8, m, v1 + 472ull);
+    v19 = v18 ? v18 : 0x40000u;
+    v4 = get64(f34 + 120);
+    v20 = get64(f34 + 112);
+    v21 = get64(f34 + 104);
+    v3 = get64(f34 + 96);
+    v22 = get8(f34 + 88);
+    v23 = get8(f34 + 80);
+    v8 = get64(f34 + 72);
+    v24 = get8(f34 + 65);
+    v18 = get8(f34 + 64);
+    v25 = get8(f34 + 61);
+    v26 = get8(f34 + 60);
+    v27 = get8(f34 + 58);
+    v28 = get8(f34 + 57);
+    v29 = get8(f34 + 56);
+    if (v13 & 255u) { goto after11; }
+    put64(f34 + 144, 1ull);
+    v5 = 0ull;
+    v30 = 0u;
+    if ((v18 + 0xFFFFFFFFu) < 5u) { goto after14; }
+    v12 = 1u;
+    v13 = 0u;
+    switch (v18) {
+        case 1: goto after4;
+        case 2: goto after4;
+        case 3: goto after4;
+        case 4: goto after4;
+        case 5: goto after4;
+        case 6: goto after12;
+        default: goto after13;
+    }
+after14:;
+    v13 = 1u;
+    v12 = 1u;
+    goto after12;
+after13:;
+    if (v3 >= v10) { goto after15; }
+    v13 = 2u;
+    v18 = 0u;
+    v30 = 0u;
+    goto after12;
+after15:;
+    v31 = ((u64)v17) & 255ull;
+    if ((v2 - v11) >= v10) { goto after17; }
+    v20 = v10 & 3ull;
+    v8 = 0ull;
+    if (v10 < 4ull) { goto after18; }
+    v32 = v10 & 0xFFFFFFFFFFFFFFFCull;
+    v8 = 0ull;
+again19:;
+    v5 = v2 + v8;
+    v4 = v11 + v8;
+    p235 = held(m, v4, 4);
+    p236 = held(m, v5, 4);
+    put_held8(p236, 0, m, v5, held8(p235, 0, m, v4));
+    put_held8(p236, 1, m, v5, held8(p235, 1, m, v4));
+    put_held8(p236, 2, m, v5, held8(p235, 2, m, v4));
+    put_held8(p236, 3, m, v5, held8(p235, 3, m, v4));
+    v8 = v8 + 4ull;
+    if (v32 != v8) { goto again19; }
+    if (v20 == 0) { goto after16; }
+after18:;
+    v5 = v2 + v8;
+    v8 = v11 + v8;
+again20:;
+    store8(m, v5, 0, load8(m, v8, 0));
+    v5 = v5 + 1ull;
+    v8 = v8 + 1ull;
+    v20 = v20 + 0xFFFFFFFFFFFFFFFFull;
+    if (v20 != 0ull) { goto again20; }
+    goto after16;
+after17:;
+    if (v10 == 0) { goto after16; }
+    copy(m, v2, v11, v10);
+after16:;
+    v20 = (v31 < v10) ? v31 : v10;
+    if (v10 <= v31) { goto after22; }
+    if (v20 == 255ull) { goto after4; }
+    v13 = 32u;
+    goto after21;
+after22:;
+    if (v20 == 255ull) { goto after4; }
+    v13 = 0u;
+after21:;
+    v12 = (u32)(v10 > v31);
+    p346 = held(m, v7, 3);
+    put_held8(p346, 0, m, v7, 0u);
+    v23 = (u32)v20;
+    put_held8(p346, 2, m, v7, v23);
+    v13 = v13 | ((v29 & 255u) ? 64u : 0u);
+    put_held8(p346, 1, m, v7, v13);
+    v5 = v7 + 3ull;
+    if ((v5 - v2) >= v20) { goto after24; }
+    v11 = v20 & 3ull;
+    v8 = 0ull;
+    if (v20 < 4ull) { goto after25; }
+    v32 = v20 & 252ull;
+    v8 = 0ull;
+again26:;
+    v5 = v7 + v8;
+    v4 = v2 + v8;
+    p402 = held(m, v4, 4);
+    p403 = held(m, v5 + 3ull, 4);
+    put_held8(p403, 0, m, v5 + 3ull, held8(p402, 0, m, v4));
+    put_held8(p403, 1, m, v5 + 3ull, held8(p402, 1, m, v4));
+    put_held8(p403, 2, m, v5 + 3ull, held8(p402, 2, m, v4));
+    put_held8(p403, 3, m, v5 + 3ull, held8(p402, 3, m, v4));
+    v8 = v8 + 4ull;
+    if (v32 != v8) { goto again26; }
+    if (v11 == 0) { goto after23; }
+after25:;
+    v5 = v2 + v8;
+    v8 = (v8 + v7) + 3ull;
+again27:;
+    store8(m, v8, 0, load8(m, v5, 0));
+    v8 = v8 + 1ull;
+    v5 = v5 + 1ull;
+    v11 = v11 + 0xFFFFFFFFFFFFFFFFull;
+    if (v11 != 0ull) { goto again27; }
+    goto after23;
+after24:;
+    if (v20 == 0) { goto after23; }
+    copy(m, v5, v2, v20);
+after23:;
+    v18 = v12 ? 1u : 2u;
+    t1 = block_core_block_ref_sum_of(m, v2, v20);
+    store8(m, (v7 + v20) + 3ull, 0, (t1 ^ v23) ^ v13);
+    put64(f34 + 136, v20 + 4ull);
+    v4 = 0ull;
+    put64(f34 + 128, 0ull);
+    v22 = 0u;
+    session_core_lines_Line_turn(m, v34 + 8ull, v16, v15, 0u, v14, v19, v34 + 128ull, 0ull, v6);
+    v5 = get64(f34 + 16);
+    v30 = get8(f34 + 8);
+    v20 = v10;
+    v23 = v17;
+    v8 = 0ull;
+    v24 = 0u;
+    v27 = 0u;
+    v12 = 0u;
+    v13 = 0u;
+after12:;
+    if (v12 == 0) { goto after10; }
+    goto after3;
+after11:;
+    put64(f34 + 144, 1ull);
+    v5 = 0ull;
+    v30 = 0u;
+    if ((v18 + 0xFFFFFFFFu) < 5u) { goto after30; }
+    v33 = 1u;
+    v13 = 0u;
+    switch (v18) {
+        case 1: goto after4;
+        case 2: goto after4;
+        case 3: goto after4;
+        case 4: goto after4;
+        case 5: goto after4;
+        case 6: goto after28;
+        default: goto after29;
+    }
+after30:;
+    v33 = 1u;
+    v13 = 1u;
+    goto after28;
+after29:;
+    v33 = 1u;
+    if (((v12 + 1u) & 255u) >= 2u) { goto after31; }
+    v13 = 3u;
+    v18 = 0u;
+    v30 = 0u;
+    goto after28;
+after31:;
+    p601 = held(m, v7, 5);
+    put_held8(p601, 2, m, v7, 1u);
+    put_held16(p601, 0, m, v7, 49408u);
+    put_held8(p601, 3, m, v7, v12);
+    put8(f34 + 159, v12);
+    put8(f34 + 158, 1u);
+    put32(f34 + 154, 0x10202u);
+    t1 = block_core_block_ref_sum_of(m, (v34 + 154ull) + 5ull, 1ull);
+    put_held8(p601, 4, m, v7, t1 ^ 192u);
+    put64(f34 + 136, 5ull);
+    put64(f34 + 128, 0ull);
+    v27 = 0u;
+    session_core_lines_Line_turn(m, v34 + 24ull, v16, v15, 0u, v14, v19, v34 + 128ull, (v22 & 1u) ? v4 : 0ull, v6);
+    v18 = 4u;
+    v5 = get64(f34 + 32);
+    v30 = get8(f34 + 24);
+    v24 = v12;
+    v33 = 0u;
+    v13 = 0u;
+after28:;
+    if (v33) { goto after3; }
+after10:;
+    v13 = 1u << (v18 & 31);
+    if ((v13 & 73u) == 0) { goto after8; }
+    v23 = 0u;
+    goto after7;
+after9:;
+    p691 = held(m, v0, 24);
+    put_held64(p691, 1, m, v0, 0ull);
+    put_held8(p691, 0, m, v0, 32u);
+    put_held64(p691, 9, m, v0, 0ull);
+    put_held64(p691, 16, m, v0, 0ull);
+    goto after1;
+after8:;
+    if (v13 & 6u) { goto after6; }
+    v23 = v24;
+after7:;
+    v8 = 0ull;
+after6:;
+    p715 = held(m, v1, 56);
+    put_held32(p715, 9, m, v1, 0u);
+    put_held8(p715, 8, m, v1, v22);
+    put_held8(p715, 7, m, v1, v23);
+    put_held8(p715, 6, m, v1, v18);
+    put_held8(p715, 5, m, v1, v25);
+    put_held8(p715, 4, m, v1, v26);
+    put_held8(p715, 3, m, v1, v17);
+    put_held8(p715, 2, m, v1, v27);
+    put_held8(p715, 1, m, v1, v28);
+    put_held8(p715, 0, m, v1, v29);
+    put_held32(p715, 12, m, v1, 0u);
+    put_held64(p715, 48, m, v1, v4);
+    put_held64(p715, 40, m, v1, v20);
+    put_held64(p715, 32, m, v1, v21);
+    put_held64(p715, 24, m, v1, v3);
+    put_held64(p715, 16, m, v1, v8);
+    v1 = 0ull;
+    v13 = 68u;
+    switch ((u32)(((u64)v30) & 255ull)) {
+        case 1: goto after32;
+        case 2: goto after35;
+        case 3: goto after37;
+        case 4: goto after43;
+        case 5: goto after42;
+        case 6: goto after41;
+        case 7: goto after35;
+        case 8: goto after39;
+        case 9: goto after38;
+        case 10: goto after36;
+        case 11: goto after40;
+        default: goto after44;
+    }
+after44:;
+    v13 = 0u;
+    goto after34;
+after43:;
+    v1 = 0ull;
+    v13 = 2u;
+    goto after33;
+after42:;
+    v1 = 0ull;
+    v13 = 3u;
+    goto after33;
+after41:;
+    v1 = 0ull;
+    v13 = 4u;
+    goto after33;
+after40:;
+    v1 = 0ull;
+    v13 = 21u;
+    goto after33;
+after39:;
+    v1 = 0ull;
+    v13 = 64u;
+    goto after33;
+after38:;
+    v1 = 0ull;
+    v13 = 65u;
+    goto after33;
+after37:;
+    v13 = 66u;
+    goto after34;
+after36:;
+    v1 = 0ull;
+    v13 = 67u;
+    goto after33;
+after35:;
+    v13 = 1u;
+after34:;
+    v1 = v5;
+after33:;
+    v5 = 0ull;
+after32:;
+    put32(f34 + 43, 0u);
+    put32(f34 + 40, 0u);
+    goto after2;
+after4:;
+    UNREACHABLE;
+after3:;
+    put32(f34 + 43, 0u);
+    put32(f34 + 40, 0u);
+    v13 = v13 | 16u;
+    v1 = 0ull;
+    v5 = 0ull;
+after2:;
+    p871 = held(m, v0, 24);
+    put_held8(p871, 0, m, v0, v13);
+    put_held32(p871, 1, m, v0, get32(f34 + 40));
+    put_held32(p871, 4, m, v0, get32(f34 + 43));
+    put_held64(p871, 16, m, v0, v5);
+    put_held64(p871, 8, m, v0, v1);
+after1:;
+    m->g0 = v34 + 160ull;
+}
+
 static void c_lent_kept_CTerminal_fitting(struct call *m, u64 v0, u64 v1, u64 v2, u64 v3)
 {
     u64 v4 = 0;
@@ -12756,1222 +13840,1583 @@ after1:;
     put_held32(p468, 44, m, v0, get32(f35 + 11));
 }
 
+static void session_core_lines_Line_turn(struct call *m, u64 v0, u64 v1, u64 v2, u32 v3, u64 v4, u32 v5, u64 v6, u64
+    v7, u64 v8)
+{
+    u64 v9 = 0;
+    u64 v10 = 0;
+    u64 v12 = 0;
+    u32 v11 = 0;
+    u8 *f12 = NULL;
+    u8 *p28 = NULL;
+    u8 *p41 = NULL;
+    u8 *p98 = NULL;
+    u8 *p136 = NULL;
+    u8 *p198 = NULL;
+    u8 *p267 = NULL;
+    v12 = m->g0 - 64ull;
+    f12 = at(m, v12, 64);
+    v9 = v12;
+    m->g0 = v9;
+    v10 = 0ull;
+    v11 = 4u;
+    switch ((u32)(u64)load8(m, v6, 0)) {
+        case 1: goto after5;
+        case 2: goto after2;
+        case 3: goto after4;
+        case 4: goto after3;
+        default: goto after6;
+    }
+after6:;
+    p28 = held(m, v6 + 8ull, 9);
+    v11 = held8(p28, 8, m, v6 + 8ull);
+    v10 = held64(p28, 0, m, v6 + 8ull);
+    store64(m, v2, 0, v10);
+    p41 = held(m, v1, 72);
+    put_held32(p41, 48, m, v1, v5);
+    put_held64(p41, 40, m, v1, v4);
+    v6 = ((u64)v11) & 255ull;
+    v7 = held64(p41, 0, m, v1);
+    multi3(m, v12 + 48ull, v6, 0ull, v7, 0ull);
+    put_held64(p41, 64, m, v1, (v11 & 255u) ? ((get64(f12 + 56) != 0ull) ? 0xFFFFFFFFFFFFFFFFull : (v7 * v6)) : 0ull);
+    v6 = v1 + 56ull;
+    switch ((u32)(((u64)v3) & 255ull)) {
+        case 1: goto after9;
+        case 2: goto after8;
+        default: goto after10;
+    }
+after10:;
+    p98 = held(m, v1 + 88ull, 51);
+    put_held8(p98, 50, m, v1 + 88ull, 0u);
+    put_held64(p98, 8, m, v1 + 88ull, 0ull);
+    put_held32(p98, 36, m, v1 + 88ull, 0u);
+    put_held8(p98, 44, m, v1 + 88ull, 1u);
+    put_held64(p98, 0, m, v1 + 88ull, v8);
+    session_core_progress_Progress_wait(m, v12, v6, v1, 0ull, v8);
+    v6 = get64(f12 + 8);
+    v11 = 1u;
+    goto after7;
+after9:;
+    p136 = held(m, v1 + 88ull, 51);
+    put_held8(p136, 50, m, v1 + 88ull, 0u);
+    put_held64(p136, 8, m, v1 + 88ull, 0ull);
+    put_held32(p136, 36, m, v1 + 88ull, 0u);
+    put_held64(p136, 0, m, v1 + 88ull, v8);
+    session_core_progress_Progress_drop_octets(m, v12 + 16ull, v6, v1, 2u, v8);
+    v6 = get64(f12 + 24);
+    v11 = 1u;
+    goto after7;
+after8:;
+    session_core_progress_Progress_talk(m, v12 + 32ull, v6, v1, v1 + 144ull, v8);
+    v6 = get64(f12 + 40);
+    v11 = get8(f12 + 32);
+    if (v11 != 2u) { goto after7; }
+    if ((load8(m, v1 + 136ull, 0) & 255u) == 0) { goto after7; }
+    p198 = held(m, v1 + 144ull, 12);
+    put_held64(p198, 0, m, v1 + 144ull, 4ull);
+    put_held32(p198, 8, m, v1 + 144ull, 0x1000000u);
+after7:;
+    switch ((u32)(((u64)v11) & 255ull)) {
+        case 1: goto after15;
+        case 2: goto after11;
+        case 3: goto after11;
+        case 4: goto after14;
+        case 5: goto after13;
+        case 6: goto after12;
+        case 7: goto after11;
+        default: goto after2;
+    }
+after15:;
+    v11 = 1u;
+    v10 = v6;
+    goto after2;
+after14:;
+    v10 = 0ull;
+    v11 = 8u;
+    goto after2;
+after13:;
+    v10 = 0ull;
+    v11 = 9u;
+    goto after2;
+after12:;
+    v10 = 0ull;
+    v11 = 10u;
+    goto after2;
+after11:;
+    v10 = 0ull;
+    v11 = 11u;
+    goto after2;
+after5:;
+    v11 = (v7 < 2ull) ? 3u : 2u;
+    v10 = v7;
+    goto after2;
+after4:;
+    v11 = 5u;
+    goto after2;
+after3:;
+    v11 = 6u;
+after2:;
+    p267 = held(m, v0, 16);
+    put_held64(p267, 8, m, v0, v10);
+    put_held8(p267, 0, m, v0, v11);
+    m->g0 = v12 + 64ull;
+    return;
+}
+
+static void t1_core_lent_LentTerminal_quiet_into(struct call *m, u64 v0, u64 v1, u64 v2)
+{
+    u64 v3 = 0;
+    u64 v4 = 0;
+    u64 v8 = 0;
+    u64 v9 = 0;
+    u32 v5 = 0;
+    u32 v6 = 0;
+    u32 v7 = 0;
+    u32 t1 = 0;
+    u8 *f4 = NULL;
+    u8 *p50 = NULL;
+    u8 *p109 = NULL;
+    u8 *p150 = NULL;
+    u8 *p227 = NULL;
+    u8 *p260 = NULL;
+    u8 *p290 = NULL;
+    u8 *p354 = NULL;
+    v9 = m->g0 - 16ull;
+    v3 = v9;
+    m->g0 = v3;
+    v4 = v9;
+    f4 = at(m, v4, 16);
+    v5 = 4u;
+    switch ((u32)(u64)load8(m, v1 + 8ull, 0)) {
+        case 1: goto after15;
+        case 2: goto after15;
+        case 3: goto after15;
+        case 4: goto after14;
+        case 5: goto after13;
+        case 6: goto after12;
+        default: goto after11;
+    }
+after15:;
+    v3 = v1 + 2ull;
+    v5 = load8(m, v3, 0);
+    if (v5 < 3u) { goto after8; }
+    v3 = 0ull;
+    p50 = held(m, v1 + 8ull, 24);
+    put_held64(p50, 8, m, v1 + 8ull, 0ull);
+    put_held16(p50, 0, m, v1 + 8ull, 261u);
+    put_held64(p50, 16, m, v1 + 8ull, 0ull);
+    put32(f4 + 12, 0u);
+    put16(f4 + 10, 514u);
+    goto after5;
+after14:;
+    v3 = v1 + 2ull;
+    v6 = load8(m, v3, 0);
+    if (v6 > 2u) { goto after10; }
+    v5 = 1u;
+    store8(m, v3, 0, v6 + 1u);
+    v7 = load8(m, v1 + 9ull, 0) << 24;
+    goto after9;
+after13:;
+    v8 = v1 + 9ull;
+    v5 = load8(m, v8, 0);
+    if (v5 > 2u) { goto after7; }
+    v3 = 0ull;
+    p109 = held(m, v1 + 8ull, 24);
+    put_held64(p109, 16, m, v1 + 8ull, 0ull);
+    put_held64(p109, 8, m, v1 + 8ull, 0ull);
+    store8(m, v8, 0, v5 + 1u);
+    put_held8(p109, 0, m, v1 + 8ull, 5u);
+    put32(f4 + 12, 0u);
+    put16(f4 + 10, 514u);
+    goto after5;
+after12:;
+    v5 = 0u;
+after11:;
+    v6 = 0u;
+    v1 = 0ull;
+    v7 = 1u;
+    v3 = 0ull;
+    goto after1;
+after10:;
+    p150 = held(m, v1 + 8ull, 24);
+    put_held64(p150, 8, m, v1 + 8ull, 0ull);
+    put_held16(p150, 0, m, v1 + 8ull, 261u);
+    put_held64(p150, 16, m, v1 + 8ull, 0ull);
+    v5 = 0u;
+    v7 = 0u;
+after9:;
+    put16(f4 + 10, 514u);
+    put32(f4 + 12, ((v5 << 16) | v7) | v5);
+    if (v6 < 3u) { goto after16; }
+    v5 = v5 | 0xFFFFFFC0u;
+    v1 = 0x10000ull;
+    v3 = 0ull;
+    goto after4;
+after16:;
+    if ((((v7 >> 24) + 1u) & 255u) <= 1u) { goto after6; }
+    v1 = v4 + 15ull;
+    v3 = 1ull;
+    v5 = 193u;
+    goto after4;
+after8:;
+    store8(m, v3, 0, v5 + 1u);
+    v7 = load8(m, v1 + 1ull, 0);
+    v6 = 0u;
+    p227 = held(m, v2, 3);
+    put_held8(p227, 2, m, v2, 0u);
+    v5 = v7 ? 0xFFFFFF90u : 0xFFFFFF80u;
+    put_held8(p227, 1, m, v2, v5);
+    put_held8(p227, 0, m, v2, 0u);
+    put32(f4 + 12, v7);
+    put16(f4 + 10, 258u);
+    v8 = v2 + 3ull;
+    v3 = 0ull;
+    v1 = 0x10000ull;
+    goto after3;
+after7:;
+    v3 = 0ull;
+    p260 = held(m, v1 + 8ull, 24);
+    put_held64(p260, 16, m, v1 + 8ull, 0ull);
+    put_held64(p260, 8, m, v1 + 8ull, 0ull);
+    put_held16(p260, 0, m, v1 + 8ull, 6u);
+    v1 = 4ull;
+    v7 = 0u;
+    v5 = 0u;
+    v6 = 0u;
+    goto after1;
+after6:;
+    UNREACHABLE;
+after5:;
+    v1 = 0x10000ull;
+    v5 = 192u;
+after4:;
+    p290 = held(m, v2, 3);
+    put_held8(p290, 1, m, v2, v5);
+    put_held8(p290, 0, m, v2, 0u);
+    v6 = (u32)v3;
+    put_held8(p290, 2, m, v2, v6);
+    v8 = v2 + 3ull;
+    if ((v8 - v1) >= v3) { goto after3; }
+    store8(m, v8, 0, load8(m, v1, 0));
+    v3 = 1ull;
+    v6 = 1u;
+    goto after2;
+after3:;
+    if (v3 == 0) { goto after2; }
+    copy(m, v8, v1, v3);
+after2:;
+    t1 = block_core_block_ref_sum_of(m, v1, v3);
+    store8(m, (v2 + v3) + 3ull, 0, (t1 ^ v6) ^ v5);
+    v3 = v3 | 4ull;
+    v6 = 1u;
+    v1 = 0ull;
+    v7 = 0u;
+    v5 = 0u;
+after1:;
+    p354 = held(m, v0, 25);
+    put_held8(p354, 0, m, v0, v7);
+    put_held8(p354, 24, m, v0, v6);
+    put_held64(p354, 16, m, v0, v3);
+    put_held64(p354, 8, m, v0, v1);
+    put_held8(p354, 1, m, v0, v5);
+    m->g0 = v4 + 16ull;
+}
+
+static void t1_core_lent_LentTerminal_received_into(struct call *m, u64 v0, u64 v1, u64 v2, u64 v3, u64 v4, u64 v5,
+    u64 v6)
+{
+    u64 v7 = 0;
+    u64 v15 = 0;
+    u64 v16 = 0;
+    u64 v17 = 0;
+    u64 v19 = 0;
+    u64 v20 = 0;
+    u64 v21 = 0;
+    u64 v22 = 0;
+    u64 v23 = 0;
+    u64 v24 = 0;
+    u32 v8 = 0;
+    u32 v9 = 0;
+    u32 v10 = 0;
+    u32 v11 = 0;
+    u32 v12 = 0;
+    u32 v13 = 0;
+    u32 v14 = 0;
+    u32 v18 = 0;
+    u32 t0 = 0;
+    u32 t1 = 0;
+    u8 *f24 = NULL;
+    u8 *p309 = NULL;
+    u8 *p482 = NULL;
+    u8 *p541 = NULL;
+    u8 *p584 = NULL;
+    u8 *p620 = NULL;
+    u8 *p664 = NULL;
+    u8 *p678 = NULL;
+    u8 *p719 = NULL;
+    u8 *p732 = NULL;
+    u8 *p776 = NULL;
+    u8 *p777 = NULL;
+    u8 *p857 = NULL;
+    u8 *p880 = NULL;
+    u8 *p1027 = NULL;
+    u8 *p1072 = NULL;
+    u8 *p1142 = NULL;
+    u8 *p1158 = NULL;
+    u8 *p1218 = NULL;
+    u8 *p1219 = NULL;
+    u8 *p1324 = NULL;
+    u8 *p1511 = NULL;
+    u8 *p1562 = NULL;
+    u8 *p1614 = NULL;
+    u8 *p1676 = NULL;
+    u8 *p1726 = NULL;
+    u8 *p1780 = NULL;
+    u8 *p1800 = NULL;
+    u8 *p1819 = NULL;
+    u8 *p1843 = NULL;
+    u8 *p1863 = NULL;
+    u8 *p1882 = NULL;
+    u8 *p1907 = NULL;
+    u8 *p2059 = NULL;
+    u8 *p2100 = NULL;
+    u8 *p2323 = NULL;
+    u8 *p2371 = NULL;
+    u8 *p2372 = NULL;
+    u8 *p2476 = NULL;
+    v24 = m->g0 - 32ull;
+    f24 = at(m, v24, 32);
+    v7 = v24;
+    m->g0 = v7;
+    v8 = load8(m, v1 + 4ull, 0);
+    put64(f24 + 24, 0ull);
+    put64(f24 + 16, 0ull);
+    put64(f24 + 8, 0ull);
+    put64(f24, 0ull);
+    block_core_block_ref_pcb_in(m, v24, v4, v5);
+    if (get8(f24)) { goto after12; }
+    v9 = 2u;
+    if (v5 < 3ull) { goto after9; }
+    v10 = get8(f24 + 2);
+    v11 = get8(f24 + 3);
+    v12 = load8(m, v4, 2);
+    v13 = 0u;
+    v14 = get8(f24 + 1);
+    switch (v14) {
+        case 1: goto after13;
+        case 2: goto after14;
+        case 3: goto after14;
+        default: goto after15;
+    }
+after15:;
+    v13 = v12 & 255u;
+    if (v13 == 255u) { goto after9; }
+    if ((v8 & 255u) >= v13) { goto after10; }
+    goto after9;
+after14:;
+    v13 = 0x1000100u >> ((v10 << 3) & 31);
+after13:;
+    if ((v12 & 255u) != (v13 & 255u)) { goto after9; }
+    switch (v14 + 0xFFFFFFFFu) {
+        case 1: goto after16;
+        case 2: goto after17;
+        default: goto after10;
+    }
+after17:;
+    if (v10 != 1u) { goto after10; }
+    goto after11;
+after16:;
+    if (v10 == 1u) { goto after11; }
+    goto after10;
+after12:;
+    v9 = (get8(f24 + 8) == 1u) ? (((get8(f24 + 24) & 255u) == 4u) ? 1u : 2u) : 2u;
+    goto after9;
+after11:;
+    if (v5 == 3ull) { goto after9; }
+    v10 = 1u;
+    v9 = 2u;
+    if (((load8(m, v4, 3) + 1u) & 255u) < 2u) { goto after9; }
+after10:;
+    v9 = 2u;
+    v15 = ((u64)v12) & 255ull;
+    if (v5 <= (v15 + 3ull)) { goto after9; }
+    v9 = 1u;
+    v16 = v15 + 4ull;
+    t0 = block_core_block_ref_sum_of(m, v4, v16);
+    if (t0 & 255u) { goto after9; }
+    v9 = 2u;
+    v17 = 0ull;
+    v12 = 0u;
+    if (v16 != v5) { goto after8; }
+    v13 = 0u;
+    v18 = 0u;
+    v5 = 0ull;
+    if (load8(m, v4, 0) & 255u) { goto after7; }
+    v17 = v4 + 3ull;
+    v9 = 0u;
+    v12 = v14;
+    v13 = v10;
+    v18 = v11;
+    v5 = v15;
+    goto after7;
+after9:;
+    v17 = 0ull;
+    v12 = 0u;
+after8:;
+    v13 = 0u;
+    v18 = 0u;
+    v5 = 0ull;
+after7:;
+    v8 = 4u;
+    switch ((u32)(u64)load8(m, v1 + 8ull, 0)) {
+        case 1: goto after38;
+        case 2: goto after37;
+        case 3: goto after36;
+        case 4: goto after35;
+        case 5: goto after34;
+        case 6: goto after33;
+        default: goto after32;
+    }
+after38:;
+    v4 = v1 + 16ull;
+    if (v9) { goto after39; }
+    switch (v12 + 0xFFFFFFFFu) {
+        case 0: goto after44;
+        case 1: goto after43;
+        default: goto after42;
+    }
+after44:;
+    v8 = load8(m, v1, 0);
+    if (v13 != v8) { goto after45; }
+    v5 = v1 + 2ull;
+    v8 = load8(m, v5, 0);
+    if (v8 > 2u) { goto after31; }
+    v11 = 1u;
+    store8(m, v5, 0, v8 + 1u);
+    v18 = 0u;
+    v13 = 0u;
+    v10 = 0u;
+    goto after18;
+after45:;
+    p309 = held(m, v1, 72);
+    v5 = (u64)held8(p309, 24, m, v1);
+    v4 = load64(m, v4, 0);
+    put_held8(p309, 0, m, v1, (u32)(v8 == 0));
+    v10 = 0u;
+    put_held8(p309, 2, m, v1, 0u);
+    put_held64(p309, 64, m, v1, 0ull);
+    put_held32(p309, 25, m, v1, 0u);
+    put_held32(p309, 28, m, v1, 0u);
+    v5 = v4 + v5;
+    put_held64(p309, 16, m, v1, v5);
+    put_held8(p309, 9, m, v1, 0u);
+    v8 = held8(p309, 3, m, v1);
+    put_held8(p309, 24, m, v1, v8);
+    v18 = (u32)((held64(p309, 56, m, v1) - v5) <= (((u64)v8) & 255ull));
+    v11 = v18 ? 2u : 1u;
+    put_held8(p309, 8, m, v1, v11);
+    v13 = 0u;
+    goto after41;
+after43:;
+    switch (v13) {
+        case 1: goto after47;
+        case 3: goto after46;
+        default: goto after42;
+    }
+after47:;
+    v9 = load8(m, v17, 0);
+    store8(m, v1 + 3ull, 0, v9);
+    v8 = 0u;
+    v12 = (u32)(v5 == 0);
+    v9 = v12 ? 0u : v9;
+    v12 = v12 ? 0u : 0x10000u;
+    v10 = 3u;
+    v18 = 2u;
+    v11 = 1u;
+    v13 = 1u;
+    goto after19;
+after46:;
+    v10 = 3u;
+    v18 = 2u;
+    v11 = 1u;
+    if (v5) { goto after48; }
+    v8 = 0u;
+    v13 = 3u;
+    goto after40;
+after48:;
+    v9 = load8(m, v17, 0);
+    v12 = 0x10000u;
+    v8 = 0u;
+    v13 = 3u;
+    goto after19;
+after42:;
+    v18 = 2u;
+    v5 = v1 + 2ull;
+    v8 = load8(m, v5, 0);
+    if (v8 > 2u) { goto after49; }
+    v11 = 1u;
+    store8(m, v5, 0, v8 + 1u);
+    v13 = load8(m, v1 + 1ull, 0);
+    v12 = 0u;
+    v8 = 512u;
+    goto after20;
+after49:;
+    p482 = held(m, v4, 16);
+    put_held64(p482, 0, m, v4, 0ull);
+    put_held64(p482, 8, m, v4, 0ull);
+    store16(m, v1 + 8ull, 0, 261u);
+    v13 = 0u;
+    v11 = 5u;
+    v10 = 2u;
+after41:;
+    v8 = 0u;
+after40:;
+    v12 = 0u;
+    v9 = 0u;
+    goto after19;
+after39:;
+    v18 = 2u;
+    v5 = v1 + 2ull;
+    v8 = load8(m, v5, 0);
+    if (v8 > 2u) { goto after50; }
+    v11 = 1u;
+    store8(m, v5, 0, v8 + 1u);
+    v8 = v9 << 8;
+    v13 = load8(m, v1 + 1ull, 0);
+    v12 = 0u;
+    goto after20;
+after50:;
+    p541 = held(m, v4, 16);
+    put_held64(p541, 0, m, v4, 0ull);
+    put_held64(p541, 8, m, v4, 0ull);
+    store16(m, v1 + 8ull, 0, 261u);
+    v9 = 0u;
+    v11 = 5u;
+    v10 = 2u;
+    v13 = 0u;
+    v8 = 0u;
+    v12 = 0u;
+    goto after19;
+after37:;
+    v4 = v1 + 16ull;
+    if (v9) { goto after54; }
+    switch (v12) {
+        case 1: goto after58;
+        case 2: goto after56;
+        case 3: goto after55;
+        default: goto after57;
+    }
+after58:;
+    p584 = held(m, v1, 3);
+    v8 = held8(p584, 2, m, v1);
+    if (v13 != held8(p584, 0, m, v1)) { goto after59; }
+    v18 = 2u;
+    if ((v8 & 255u) > 2u) { goto after60; }
+    v18 = 1u;
+    put_held8(p584, 2, m, v1, v8 + 1u);
+    v14 = 0u;
+    v11 = 2u;
+    v10 = 0u;
+    goto after52;
+after60:;
+    p620 = held(m, v4, 16);
+    put_held64(p620, 0, m, v4, 0ull);
+    put_held64(p620, 8, m, v4, 0ull);
+    store16(m, v1 + 8ull, 0, 261u);
+    goto after53;
+after59:;
+    v18 = 2u;
+    if ((v8 & 255u) > 2u) { goto after61; }
+    v10 = 1u;
+    put_held8(p584, 2, m, v1, v8 + 1u);
+    v8 = held8(p584, 1, m, v1);
+    v14 = 0u;
+    v11 = 2u;
+    v18 = 2u;
+    goto after51;
+after61:;
+    p664 = held(m, v4, 16);
+    put_held64(p664, 0, m, v4, 0ull);
+    put_held64(p664, 8, m, v4, 0ull);
+    store16(m, v1 + 8ull, 0, 261u);
+    goto after53;
+after57:;
+    p678 = held(m, v1 + 1ull, 55);
+    v8 = held8(p678, 0, m, v1 + 1ull);
+    if (v5 > held64(p678, 47, m, v1 + 1ull)) { goto after63; }
+    if (v13 == (v8 & 255u)) { goto after62; }
+after63:;
+    v18 = 2u;
+    v5 = v1 + 2ull;
+    v9 = load8(m, v5, 0);
+    if (v9 > 2u) { goto after64; }
+    v10 = 1u;
+    store8(m, v5, 0, v9 + 1u);
+    goto after26;
+after64:;
+    p719 = held(m, v4, 16);
+    put_held64(p719, 0, m, v4, 0ull);
+    put_held64(p719, 8, m, v4, 0ull);
+    put_held16(p678, 7, m, v1 + 1ull, 261u);
+    goto after53;
+after62:;
+    p732 = held(m, v1, 72);
+    put_held8(p732, 0, m, v1, (u32)(held8(p732, 0, m, v1) == 0));
+    v19 = held64(p732, 64, m, v1);
+    v20 = v3 + v19;
+    if ((v20 - v17) >= v5) { goto after66; }
+    v21 = v5 & 3ull;
+    v15 = 0ull;
+    if (v5 < 4ull) { goto after67; }
+    v22 = v5 & 252ull;
+    v15 = 0ull;
+again68:;
+    v16 = v20 + v15;
+    v23 = v17 + v15;
+    p776 = held(m, v23, 4);
+    p777 = held(m, v16, 4);
+    put_held8(p777, 0, m, v16, held8(p776, 0, m, v23));
+    put_held8(p777, 1, m, v16, held8(p776, 1, m, v23));
+    put_held8(p777, 2, m, v16, held8(p776, 2, m, v23));
+    put_held8(p777, 3, m, v16, held8(p776, 3, m, v23));
+    v15 = v15 + 4ull;
+    if (v22 != v15) { goto again68; }
+    if (v21 == 0) { goto after65; }
+after67:;
+    v17 = v17 + v15;
+    v3 = v3 + (v15 + v19);
+again69:;
+    store8(m, v3, 0, load8(m, v17, 0));
+    v3 = v3 + 1ull;
+    v17 = v17 + 1ull;
+    v21 = v21 + 0xFFFFFFFFFFFFFFFFull;
+    if (v21 != 0ull) { goto again69; }
+    goto after65;
+after66:;
+    if (v5 == 0) { goto after65; }
+    copy(m, v20, v17, v5);
+after65:;
+    p857 = held(m, v4, 16);
+    put_held64(p857, 0, m, v4, 0ull);
+    put_held64(p857, 8, m, v4, 0ull);
+    v13 = 0u;
+    put_held8(p678, 1, m, v1 + 1ull, 0u);
+    put_held64(p732, 64, m, v1, v19 + v5);
+    v5 = v1 + 1ull;
+    p880 = held(m, v5, 1);
+    v8 = (u32)(held8(p880, 0, m, v5) == 0);
+    put_held8(p880, 0, m, v5, v8);
+    v10 = 1u;
+    if ((v18 & 1u) == 0) { goto after71; }
+    v18 = 2u;
+    v11 = 3u;
+    v14 = 0u;
+    goto after70;
+after71:;
+    v14 = 1u;
+    put_held8(p678, 31, m, v1 + 1ull, 1u);
+    v11 = 0u;
+    v10 = 0u;
+    v8 = 0u;
+    v18 = 0u;
+after70:;
+    put_held8(p678, 8, m, v1 + 1ull, 0u);
+    put_held8(p678, 7, m, v1 + 1ull, v11);
+    goto after24;
+after56:;
+    switch (v13) {
+        case 1: goto after73;
+        case 3: goto after72;
+        default: goto after55;
+    }
+after73:;
+    v8 = load8(m, v17, 0);
+    store8(m, v1 + 3ull, 0, v8);
+    v14 = 0u;
+    v12 = (u32)(v5 == 0);
+    v9 = v12 ? 0u : v8;
+    v12 = v12 ? 0u : 0x10000u;
+    v8 = 1u;
+    v10 = 3u;
+    v11 = 2u;
+    v18 = 2u;
+    v13 = 0u;
+    goto after23;
+after72:;
+    v10 = 3u;
+    v11 = 2u;
+    if (v5) { goto after74; }
+    v14 = 0u;
+    v18 = 2u;
+    v8 = 3u;
+    goto after51;
+after74:;
+    v9 = load8(m, v17, 0);
+    v12 = 0x10000u;
+    v14 = 0u;
+    v18 = 2u;
+    v8 = 3u;
+    v13 = 0u;
+    goto after23;
+after55:;
+    v18 = 2u;
+    v5 = v1 + 2ull;
+    v8 = load8(m, v5, 0);
+    if (v8 > 2u) { goto after75; }
+    v10 = 1u;
+    store8(m, v5, 0, v8 + 1u);
+    v8 = load8(m, v1 + 1ull, 0);
+    goto after26;
+after75:;
+    p1027 = held(m, v4, 16);
+    put_held64(p1027, 0, m, v4, 0ull);
+    put_held64(p1027, 8, m, v4, 0ull);
+    store16(m, v1 + 8ull, 0, 261u);
+    goto after53;
+after54:;
+    v18 = 2u;
+    v5 = v1 + 2ull;
+    v8 = load8(m, v5, 0);
+    if (v8 > 2u) { goto after76; }
+    v10 = 1u;
+    store8(m, v5, 0, v8 + 1u);
+    v13 = v9 << 8;
+    v8 = load8(m, v1 + 1ull, 0);
+    v14 = 0u;
+    goto after25;
+after76:;
+    p1072 = held(m, v4, 16);
+    put_held64(p1072, 0, m, v4, 0ull);
+    put_held64(p1072, 8, m, v4, 0ull);
+    store16(m, v1 + 8ull, 0, 261u);
+after53:;
+    v14 = 0u;
+    v11 = 5u;
+    v10 = 2u;
+after52:;
+    v8 = 0u;
+after51:;
+    v13 = 0u;
+    goto after24;
+after36:;
+    if (v9) { goto after79; }
+    switch (v12) {
+        case 1: goto after83;
+        case 2: goto after81;
+        case 3: goto after80;
+        default: goto after82;
+    }
+after83:;
+    v18 = 2u;
+    v5 = v1 + 2ull;
+    v8 = load8(m, v5, 0);
+    if (v8 > 2u) { goto after84; }
+    v10 = 1u;
+    store8(m, v5, 0, v8 + 1u);
+    v8 = load8(m, v1 + 1ull, 0);
+    v14 = 0u;
+    v11 = 3u;
+    goto after77;
+after84:;
+    p1142 = held(m, v1 + 8ull, 24);
+    put_held64(p1142, 8, m, v1 + 8ull, 0ull);
+    put_held16(p1142, 0, m, v1 + 8ull, 261u);
+    put_held64(p1142, 16, m, v1 + 8ull, 0ull);
+    goto after78;
+after82:;
+    p1158 = held(m, v1 + 1ull, 71);
+    v8 = held8(p1158, 0, m, v1 + 1ull);
+    v20 = held64(p1158, 63, m, v1 + 1ull);
+    v22 = v20 + v5;
+    if (v22 > held64(p1158, 47, m, v1 + 1ull)) { goto after85; }
+    if (v13 != (v8 & 255u)) { goto after85; }
+    v23 = v3 + v20;
+    if ((v23 - v17) >= v5) { goto after87; }
+    v16 = v5 & 3ull;
+    v4 = 0ull;
+    if (v5 < 4ull) { goto after88; }
+    v21 = v5 & 252ull;
+    v4 = 0ull;
+again89:;
+    v5 = v23 + v4;
+    v15 = v17 + v4;
+    p1218 = held(m, v15, 4);
+    p1219 = held(m, v5, 4);
+    put_held8(p1219, 0, m, v5, held8(p1218, 0, m, v15));
+    put_held8(p1219, 1, m, v5, held8(p1218, 1, m, v15));
+    put_held8(p1219, 2, m, v5, held8(p1218, 2, m, v15));
+    put_held8(p1219, 3, m, v5, held8(p1218, 3, m, v15));
+    v4 = v4 + 4ull;
+    if (v21 != v4) { goto again89; }
+    if (v16 == 0) { goto after86; }
+after88:;
+    v5 = v17 + v4;
+    v4 = v3 + (v4 + v20);
+again90:;
+    store8(m, v4, 0, load8(m, v5, 0));
+    v4 = v4 + 1ull;
+    v5 = v5 + 1ull;
+    v16 = v16 + 0xFFFFFFFFFFFFFFFFull;
+    if (v16 != 0ull) { goto again90; }
+    goto after86;
+after87:;
+    if (v5 == 0) { goto after86; }
+    copy(m, v23, v17, v5);
+after86:;
+    v13 = 0u;
+    put_held8(p1158, 1, m, v1 + 1ull, 0u);
+    put_held64(p1158, 63, m, v1 + 1ull, v22);
+    put_held64(p1158, 15, m, v1 + 1ull, 0ull);
+    put_held64(p1158, 23, m, v1 + 1ull, 0ull);
+    v5 = v1 + 1ull;
+    p1324 = held(m, v5, 1);
+    v8 = (u32)(held8(p1324, 0, m, v5) == 0);
+    put_held8(p1324, 0, m, v5, v8);
+    v10 = 1u;
+    if ((v18 & 1u) == 0) { goto after92; }
+    v18 = 2u;
+    v11 = 3u;
+    v14 = 0u;
+    goto after91;
+after92:;
+    v14 = 1u;
+    put_held8(p1158, 31, m, v1 + 1ull, 1u);
+    v11 = 0u;
+    v10 = 0u;
+    v8 = 0u;
+    v18 = 0u;
+after91:;
+    put_held8(p1158, 8, m, v1 + 1ull, 0u);
+    put_held8(p1158, 7, m, v1 + 1ull, v11);
+    goto after28;
+after85:;
+    v18 = 2u;
+    v5 = v1 + 2ull;
+    v9 = load8(m, v5, 0);
+    if (v9 > 2u) { goto after93; }
+    v10 = 1u;
+    store8(m, v5, 0, v9 + 1u);
+    goto after29;
+after93:;
+    put_held64(p1158, 15, m, v1 + 1ull, 0ull);
+    put_held16(p1158, 7, m, v1 + 1ull, 261u);
+    put_held64(p1158, 23, m, v1 + 1ull, 0ull);
+    goto after78;
+after81:;
+    switch (v13) {
+        case 1: goto after95;
+        case 3: goto after94;
+        default: goto after80;
+    }
+after95:;
+    v8 = load8(m, v17, 0);
+    store8(m, v1 + 3ull, 0, v8);
+    v14 = 0u;
+    v12 = (u32)(v5 == 0);
+    v9 = v12 ? 0u : v8;
+    v12 = v12 ? 0u : 0x10000u;
+    v8 = 1u;
+    v18 = 2u;
+    v11 = 3u;
+    v10 = 3u;
+    v13 = 0u;
+    goto after27;
+after94:;
+    v18 = 2u;
+    v11 = 3u;
+    if (v5) { goto after96; }
+    v14 = 0u;
+    v10 = 3u;
+    v8 = 3u;
+    goto after77;
+after96:;
+    v9 = load8(m, v17, 0);
+    v12 = 0x10000u;
+    v14 = 0u;
+    v10 = 3u;
+    v8 = 3u;
+    v13 = 0u;
+    goto after27;
+after80:;
+    v18 = 2u;
+    v5 = v1 + 2ull;
+    v8 = load8(m, v5, 0);
+    if (v8 > 2u) { goto after97; }
+    v10 = 1u;
+    store8(m, v5, 0, v8 + 1u);
+    v8 = load8(m, v1 + 1ull, 0);
+    goto after29;
+after97:;
+    p1511 = held(m, v1 + 8ull, 24);
+    put_held64(p1511, 8, m, v1 + 8ull, 0ull);
+    put_held16(p1511, 0, m, v1 + 8ull, 261u);
+    put_held64(p1511, 16, m, v1 + 8ull, 0ull);
+    goto after78;
+after79:;
+    v18 = 2u;
+    v5 = v1 + 2ull;
+    v8 = load8(m, v5, 0);
+    if (v8 > 2u) { goto after98; }
+    v10 = 1u;
+    store8(m, v5, 0, v8 + 1u);
+    v13 = v9 << 8;
+    v8 = load8(m, v1 + 1ull, 0);
+    v14 = 0u;
+    v11 = 3u;
+    goto after28;
+after98:;
+    p1562 = held(m, v1 + 8ull, 24);
+    put_held64(p1562, 8, m, v1 + 8ull, 0ull);
+    put_held16(p1562, 0, m, v1 + 8ull, 261u);
+    put_held64(p1562, 16, m, v1 + 8ull, 0ull);
+after78:;
+    v14 = 0u;
+    v11 = 5u;
+    v10 = 2u;
+    v8 = 0u;
+after77:;
+    v13 = 0u;
+    goto after28;
+after35:;
+    v18 = load8(m, v1 + 9ull, 0);
+    if (v9) { goto after101; }
+    if (v12 != 3u) { goto after101; }
+    if (v13 != 1u) { goto after101; }
+    if (load8(m, v17, 0) != v18) { goto after101; }
+    p1614 = held(m, v1 + 2ull, 30);
+    put_held64(p1614, 14, m, v1 + 2ull, 0ull);
+    v11 = 0u;
+    put_held16(p1614, 6, m, v1 + 2ull, 0u);
+    put_held8(p1614, 2, m, v1 + 2ull, v18);
+    put_held8(p1614, 0, m, v1 + 2ull, 0u);
+    put_held64(p1614, 22, m, v1 + 2ull, 0ull);
+    v14 = 2u;
+    v10 = 0u;
+    goto after100;
+after101:;
+    v10 = 2u;
+    v5 = v1 + 2ull;
+    v9 = load8(m, v5, 0);
+    if (v9 > 2u) { goto after102; }
+    v8 = 1u;
+    store8(m, v5, 0, v9 + 1u);
+    v9 = v18 << 24;
+    v14 = 0u;
+    v11 = 4u;
+    goto after99;
+after102:;
+    p1676 = held(m, v1 + 8ull, 24);
+    put_held64(p1676, 8, m, v1 + 8ull, 0ull);
+    put_held16(p1676, 0, m, v1 + 8ull, 261u);
+    put_held64(p1676, 16, m, v1 + 8ull, 0ull);
+    v14 = 0u;
+    v11 = 5u;
+after100:;
+    v8 = 0u;
+    v9 = 0u;
+after99:;
+    v13 = ((v8 << 16) | v9) | v8;
+    goto after30;
+after34:;
+    v8 = load8(m, v1 + 9ull, 0);
+    if (v9) { goto after103; }
+    if (v12 != 3u) { goto after104; }
+    if (v13) { goto after104; }
+    v12 = 0u;
+    p1726 = held(m, v1, 32);
+    put_held16(p1726, 0, m, v1, 0u);
+    put_held8(p1726, 2, m, v1, 0u);
+    v4 = 0ull;
+    put_held64(p1726, 16, m, v1, 0ull);
+    put_held16(p1726, 8, m, v1, 0u);
+    put_held8(p1726, 4, m, v1, 32u);
+    put_held64(p1726, 24, m, v1, 0ull);
+    v5 = 3ull;
+    put_held8(p1726, 3, m, v1, held8(p1726, 5, m, v1));
+    goto after21;
+after104:;
+    v10 = 2u;
+    if ((v8 & 255u) > 2u) { goto after106; }
+    p1780 = held(m, v1 + 16ull, 16);
+    put_held64(p1780, 8, m, v1 + 16ull, 0ull);
+    put_held64(p1780, 0, m, v1 + 16ull, 0ull);
+    v8 = v8 + 1u;
+    v14 = 0u;
+    v11 = 5u;
+    goto after105;
+after106:;
+    p1800 = held(m, v1 + 16ull, 16);
+    put_held64(p1800, 8, m, v1 + 16ull, 0ull);
+    put_held64(p1800, 0, m, v1 + 16ull, 0ull);
+    v14 = 4u;
+    v10 = 0u;
+    v11 = 6u;
+    v8 = 0u;
+after105:;
+    p1819 = held(m, v1 + 8ull, 2);
+    put_held8(p1819, 1, m, v1 + 8ull, v8);
+    put_held8(p1819, 0, m, v1 + 8ull, v11);
+    v13 = 0u;
+    goto after30;
+after103:;
+    v10 = 2u;
+    if ((v8 & 255u) > 2u) { goto after108; }
+    p1843 = held(m, v1 + 16ull, 16);
+    put_held64(p1843, 8, m, v1 + 16ull, 0ull);
+    put_held64(p1843, 0, m, v1 + 16ull, 0ull);
+    v8 = v8 + 1u;
+    v14 = 0u;
+    v11 = 5u;
+    goto after107;
+after108:;
+    p1863 = held(m, v1 + 16ull, 16);
+    put_held64(p1863, 8, m, v1 + 16ull, 0ull);
+    put_held64(p1863, 0, m, v1 + 16ull, 0ull);
+    v14 = 4u;
+    v10 = 0u;
+    v11 = 6u;
+    v8 = 0u;
+after107:;
+    p1882 = held(m, v1 + 8ull, 2);
+    put_held8(p1882, 1, m, v1 + 8ull, v8);
+    put_held8(p1882, 0, m, v1 + 8ull, v11);
+    v13 = 0u;
+    goto after30;
+after33:;
+    v8 = 0u;
+after32:;
+    v9 = 0u;
+    v5 = 0ull;
+    v12 = 1u;
+    v4 = 0ull;
+    goto after1;
+after31:;
+    p1907 = held(m, v4, 16);
+    put_held64(p1907, 0, m, v4, 0ull);
+    put_held64(p1907, 8, m, v4, 0ull);
+    store16(m, v1 + 8ull, 0, 261u);
+    v13 = 0u;
+    v18 = 2u;
+    v11 = 5u;
+    v10 = 2u;
+    goto after18;
+after30:;
+    v18 = v10;
+    goto after22;
+after29:;
+    v14 = 0u;
+    v13 = 512u;
+    v11 = 3u;
+after28:;
+    v12 = 0u;
+    v9 = 0u;
+after27:;
+    v13 = ((v13 | (v8 & 255u)) | v12) | (v9 << 24);
+    goto after22;
+after26:;
+    v14 = 0u;
+    v13 = 512u;
+after25:;
+    v11 = 2u;
+    v18 = 2u;
+after24:;
+    v12 = 0u;
+    v9 = 0u;
+after23:;
+    v13 = ((v13 | (v8 & 255u)) | v12) | (v9 << 24);
+after22:;
+    v4 = 0ull;
+    v5 = 1ull;
+    v12 = 0u;
+    v8 = 0u;
+    v9 = 0u;
+    switch (v14) {
+        case 1: goto after1;
+        case 2: goto after110;
+        case 3: goto after6;
+        case 4: goto after109;
+        default: goto after18;
+    }
+after110:;
+    v5 = 2ull;
+    goto after21;
+after109:;
+    v5 = 4ull;
+after21:;
+    v8 = 0u;
+    v9 = 0u;
+    goto after1;
+after20:;
+    v10 = 1u;
+    v9 = 0u;
+after19:;
+    v13 = ((v8 | (v13 & 255u)) | v12) | (v9 << 24);
+after18:;
+    put8(f24 + 1, v10);
+    put32(f24 + 2, v13);
+    put8(f24, v18);
+    switch (v18) {
+        case 1: goto after112;
+        case 2: goto after111;
+        default: goto after113;
+    }
+after113:;
+    v8 = 1u;
+    v13 = load8(m, v1, 0);
+    if ((v11 + 0xFFFFFFFFu) > 1u) { goto after5; }
+    p2059 = held(m, v1 + 16ull, 48);
+    v5 = (u64)held8(p2059, 8, m, v1 + 16ull);
+    v4 = held64(p2059, 0, m, v1 + 16ull);
+    v1 = held64(p2059, 40, m, v1 + 16ull) - v4;
+    v15 = (v5 < v1) ? v5 : v1;
+    if (v15 == 255ull) { goto after6; }
+    v2 = v2 + v4;
+    goto after4;
+after112:;
+    v13 = load8(m, v1, 0);
+    v8 = 0u;
+    if ((v11 + 0xFFFFFFFFu) > 1u) { goto after5; }
+    p2100 = held(m, v1 + 16ull, 48);
+    v5 = (u64)held8(p2100, 8, m, v1 + 16ull);
+    v4 = held64(p2100, 0, m, v1 + 16ull);
+    v1 = held64(p2100, 40, m, v1 + 16ull) - v4;
+    v15 = (v5 < v1) ? v5 : v1;
+    if (v15 == 255ull) { goto after6; }
+    v2 = v2 + v4;
+    goto after4;
+after111:;
+    v9 = v13 >> 24;
+    v8 = v13 & 0xFF0000u;
+    switch (v10) {
+        case 1: goto after116;
+        case 2: goto after118;
+        case 3: goto after117;
+        default: goto after114;
+    }
+after118:;
+    switch ((u32)(((u64)v13) & 255ull)) {
+        case 1: goto after119;
+        case 3: goto after120;
+        default: goto after115;
+    }
+after120:;
+    if (v8 != 0x10000u) { goto after6; }
+    goto after114;
+after119:;
+    if (v8 != 0x10000u) { goto after6; }
+    if (((v9 + 0xFFFFFFFFu) & 255u) >= 254u) { goto after6; }
+    goto after114;
+after117:;
+    switch ((u32)(((u64)v13) & 255ull)) {
+        case 1: goto after121;
+        case 3: goto after122;
+        default: goto after123;
+    }
+after123:;
+    if (v8 == 0x10000u) { goto after6; }
+    goto after114;
+after122:;
+    if (v8 != 0x10000u) { goto after6; }
+    goto after114;
+after121:;
+    if (v8 != 0x10000u) { goto after6; }
+    if (((v9 + 0xFFFFFFFFu) & 255u) < 254u) { goto after114; }
+    goto after6;
+after116:;
+    if (v8 == 0x10000u) { goto after6; }
+    goto after114;
+after115:;
+    if (v8 == 0x10000u) { goto after6; }
+after114:;
+    v9 = (u32)(v8 == 0x10000u);
+    v2 = v9 ? (v24 + 5ull) : 0x10000ull;
+    if (v10 != 3u) { goto after125; }
+    if ((v13 & 255u) != 3u) { goto after125; }
+    if (v8 != 0x10000u) { goto after125; }
+    v8 = load8(m, v2, 0);
+    v9 = (v8 > 1u) ? v8 : 1u;
+    v13 = 3u;
+    v15 = 1ull;
+    goto after124;
+after125:;
+    v8 = v13 >> 8;
+    v15 = (u64)v9;
+    v9 = 1u;
+    switch (v10) {
+        case 1: goto after127;
+        case 2: goto after126;
+        case 3: goto after124;
+        default: goto after4;
+    }
+after127:;
+    v8 = ((v13 & 255u) ? 0xFFFFFF90u : 0xFFFFFF80u) + v8;
+    goto after3;
+after126:;
+    v8 = v13 | 0xFFFFFFC0u;
+    goto after3;
+after124:;
+    v8 = v13 | 0xFFFFFFE0u;
+    goto after2;
+after6:;
+    UNREACHABLE;
+after5:;
+    v15 = 0ull;
+    v2 = 0x10000ull;
+after4:;
+    v8 = ((v8 << 5) & 32u) | ((v13 & 255u) ? 64u : 0u);
+after3:;
+    v9 = 1u;
+after2:;
+    p2323 = held(m, v6, 3);
+    put_held8(p2323, 1, m, v6, v8);
+    put_held8(p2323, 0, m, v6, 0u);
+    v12 = (u32)v15;
+    put_held8(p2323, 2, m, v6, v12);
+    v1 = v6 + 3ull;
+    if ((v1 - v2) >= v15) { goto after129; }
+    v17 = v15 & 3ull;
+    v5 = 0ull;
+    if (v15 < 4ull) { goto after130; }
+    v3 = v15 & 0xFFFFFFFFFFFFFFFCull;
+    v5 = 0ull;
+again131:;
+    v1 = v6 + v5;
+    v4 = v2 + v5;
+    p2371 = held(m, v4, 4);
+    p2372 = held(m, v1 + 3ull, 4);
+    put_held8(p2372, 0, m, v1 + 3ull, held8(p2371, 0, m, v4));
+    put_held8(p2372, 1, m, v1 + 3ull, held8(p2371, 1, m, v4));
+    put_held8(p2372, 2, m, v1 + 3ull, held8(p2371, 2, m, v4));
+    put_held8(p2372, 3, m, v1 + 3ull, held8(p2371, 3, m, v4));
+    v5 = v5 + 4ull;
+    if (v3 != v5) { goto again131; }
+    if (v17 == 0) { goto after128; }
+after130:;
+    v1 = v2 + v5;
+    v5 = (v5 + v6) + 3ull;
+again132:;
+    store8(m, v5, 0, load8(m, v1, 0));
+    v5 = v5 + 1ull;
+    v1 = v1 + 1ull;
+    v17 = v17 + 0xFFFFFFFFFFFFFFFFull;
+    if (v17 != 0ull) { goto again132; }
+    goto after128;
+after129:;
+    if (v15 == 0) { goto after128; }
+    copy(m, v1, v2, v15);
+after128:;
+    t1 = block_core_block_ref_sum_of(m, v2, v15);
+    store8(m, (v6 + v15) + 3ull, 0, (t1 ^ v12) ^ v8);
+    v4 = v15 + 4ull;
+    v5 = 0ull;
+    v12 = 0u;
+    v8 = 0u;
+after1:;
+    p2476 = held(m, v0, 25);
+    put_held8(p2476, 0, m, v0, v12);
+    put_held8(p2476, 24, m, v0, v9);
+    put_held64(p2476, 16, m, v0, v4);
+    put_held64(p2476, 8, m, v0, v5);
+    put_held8(p2476, 1, m, v0, v8);
+    m->g0 = v24 + 32ull;
+}
+
 static void c_lent_lent_terminal_turn(struct call *m, u64 v0, u64 v1, u64 v2, u64 v3, u64 v4, u64 v5, u64 v6, u64 v7,
     u64 v8)
 {
     u64 v9 = 0;
     u64 v10 = 0;
     u64 v11 = 0;
-    u64 v16 = 0;
     u64 v17 = 0;
-    u64 v18 = 0;
-    u64 v19 = 0;
-    u64 v21 = 0;
-    u64 v35 = 0;
-    u64 v36 = 0;
     u32 v12 = 0;
     u32 v13 = 0;
     u32 v14 = 0;
     u32 v15 = 0;
-    u32 v20 = 0;
-    u32 v22 = 0;
-    u32 v23 = 0;
-    u32 v24 = 0;
-    u32 v25 = 0;
-    u32 v26 = 0;
-    u32 v27 = 0;
-    u32 v28 = 0;
-    u32 v29 = 0;
-    u32 v30 = 0;
-    u32 v31 = 0;
-    u32 v32 = 0;
-    u32 v33 = 0;
-    u32 v34 = 0;
-    u32 t0 = 0;
+    u32 v16 = 0;
     u32 t1 = 0;
-    u32 t2 = 0;
-    u8 *f36 = NULL;
-    u8 *p25 = NULL;
-    u8 *p59 = NULL;
-    u8 *p202 = NULL;
-    u8 *p203 = NULL;
-    u8 *p313 = NULL;
-    u8 *p369 = NULL;
-    u8 *p370 = NULL;
-    u8 *p697 = NULL;
-    u8 *p733 = NULL;
-    u8 *p766 = NULL;
-    u8 *p903 = NULL;
-    u8 *p957 = NULL;
-    u8 *p1417 = NULL;
-    u8 *p1418 = NULL;
-    u8 *p1722 = NULL;
-    u8 *p1723 = NULL;
-    u8 *p2147 = NULL;
-    u8 *p2534 = NULL;
-    u8 *p2657 = NULL;
-    u8 *p2703 = NULL;
-    u8 *p2704 = NULL;
-    u8 *p2825 = NULL;
-    u8 *p2906 = NULL;
-    v36 = m->g0 - 128ull;
-    f36 = at(m, v36, 128);
-    v9 = v36;
+    u8 *f17 = NULL;
+    u8 *p14 = NULL;
+    u8 *p43 = NULL;
+    u8 *p169 = NULL;
+    u8 *p170 = NULL;
+    u8 *p311 = NULL;
+    u8 *p366 = NULL;
+    u8 *p367 = NULL;
+    u8 *p568 = NULL;
+    u8 *p658 = NULL;
+    u8 *p674 = NULL;
+    u8 *p755 = NULL;
+    v17 = m->g0 - 208ull;
+    f17 = at(m, v17, 208);
+    v9 = v17;
     m->g0 = v9;
-    p25 = held(m, v6, 24);
-    v10 = held64(p25, 16, m, v6);
-    v11 = held64(p25, 8, m, v6);
-    v12 = held8(p25, 1, m, v6);
-    v13 = held8(p25, 0, m, v6);
-    memset(f36 + 16, (int)(0u & 255u), 80);
-    put16(f36 + 12, 0u);
-    put32(f36 + 8, 0u);
-    if (v8 >= 258ull) { goto after13; }
-    p59 = held(m, v0, 16);
-    put_held32(p59, 1, m, v0, 0u);
-    put_held8(p59, 0, m, v0, 33u);
-    put_held32(p59, 4, m, v0, 0u);
-    put_held64(p59, 8, m, v0, 258ull);
-    goto after1;
-after13:;
-    c_lent_kept_CTerminal_fitting(m, v36 + 16ull, v1, v3, v5);
-    if (get8(f36 + 16) != 1u) { goto after20; }
-    v14 = get8(f36 + 48);
-    v15 = get8(f36 + 27);
-    v6 = ((u64)v15) & 255ull;
-    v16 = get64(f36 + 88);
-    v17 = get64(f36 + 80);
-    v18 = get64(f36 + 72);
-    v19 = get64(f36 + 64);
-    v20 = get8(f36 + 56);
-    v21 = get64(f36 + 40);
-    v22 = get8(f36 + 33);
-    v23 = get8(f36 + 32);
-    v24 = get8(f36 + 29);
-    v25 = get8(f36 + 28);
-    v26 = get8(f36 + 26);
-    v27 = get8(f36 + 25);
-    v28 = get8(f36 + 24);
-    switch (v13) {
-        case 1: goto after24;
-        case 2: goto after23;
-        case 3: goto after22;
-        default: goto after25;
-    }
-after25:;
-    if ((v23 + 0xFFFFFFFFu) < 5u) { goto after19; }
-    v29 = 0u;
-    switch (v23) {
-        case 1: goto after12;
-        case 2: goto after12;
-        case 3: goto after12;
-        case 4: goto after12;
-        case 5: goto after12;
-        case 6: goto after3;
-        default: goto after26;
-    }
-after26:;
-    if (v19 >= v10) { goto after27; }
-    v29 = 2u;
-    goto after3;
-after27:;
-    if ((v2 - v11) >= v10) { goto after29; }
-    v4 = v10 & 3ull;
-    v5 = 0ull;
-    if (v10 < 4ull) { goto after30; }
-    v21 = v10 & 0xFFFFFFFFFFFFFFFCull;
-    v5 = 0ull;
-again31:;
-    v8 = v2 + v5;
-    v3 = v11 + v5;
-    p202 = held(m, v3, 4);
-    p203 = held(m, v8, 4);
-    put_held8(p203, 0, m, v8, held8(p202, 0, m, v3));
-    put_held8(p203, 1, m, v8, held8(p202, 1, m, v3));
-    put_held8(p203, 2, m, v8, held8(p202, 2, m, v3));
-    put_held8(p203, 3, m, v8, held8(p202, 3, m, v3));
-    v5 = v5 + 4ull;
-    if (v21 != v5) { goto again31; }
-    if (v4 == 0) { goto after28; }
-after30:;
-    v8 = v2 + v5;
-    v5 = v11 + v5;
-again32:;
-    store8(m, v8, 0, load8(m, v5, 0));
-    v8 = v8 + 1ull;
-    v5 = v5 + 1ull;
-    v4 = v4 + 0xFFFFFFFFFFFFFFFFull;
-    if (v4 != 0ull) { goto again32; }
-    goto after28;
-after29:;
-    if (v10 == 0) { goto after28; }
-    copy(m, v2, v11, v10);
-after28:;
-    v11 = (v6 < v10) ? v6 : v10;
-    if (v10 <= v6) { goto after34; }
-    if (v11 == 255ull) { goto after12; }
-    v13 = 32u;
-    goto after33;
-after34:;
-    if (v11 == 255ull) { goto after12; }
-    v13 = 0u;
-after33:;
-    v12 = (u32)(v10 > v6);
-    p313 = held(m, v7, 3);
-    put_held8(p313, 0, m, v7, 0u);
-    v29 = (u32)v11;
-    put_held8(p313, 2, m, v7, v29);
-    v13 = v13 | ((v28 & 255u) ? 64u : 0u);
-    put_held8(p313, 1, m, v7, v13);
-    v6 = v7 + 3ull;
-    if ((v6 - v2) >= v11) { goto after36; }
-    v3 = v11 & 3ull;
-    v8 = 0ull;
-    if (v11 < 4ull) { goto after37; }
-    v4 = v11 & 252ull;
-    v8 = 0ull;
-again38:;
-    v6 = v7 + v8;
-    v5 = v2 + v8;
-    p369 = held(m, v5, 4);
-    p370 = held(m, v6 + 3ull, 4);
-    put_held8(p370, 0, m, v6 + 3ull, held8(p369, 0, m, v5));
-    put_held8(p370, 1, m, v6 + 3ull, held8(p369, 1, m, v5));
-    put_held8(p370, 2, m, v6 + 3ull, held8(p369, 2, m, v5));
-    put_held8(p370, 3, m, v6 + 3ull, held8(p369, 3, m, v5));
-    v8 = v8 + 4ull;
-    if (v4 != v8) { goto again38; }
-    if (v3 == 0) { goto after35; }
-after37:;
-    v6 = v2 + v8;
-    v8 = (v8 + v7) + 3ull;
-again39:;
-    store8(m, v8, 0, load8(m, v6, 0));
-    v8 = v8 + 1ull;
-    v6 = v6 + 1ull;
-    v3 = v3 + 0xFFFFFFFFFFFFFFFFull;
-    if (v3 != 0ull) { goto again39; }
-    goto after35;
-after36:;
-    if (v11 == 0) { goto after35; }
-    copy(m, v6, v2, v11);
-after35:;
-    v23 = v12 ? 1u : 2u;
-    t1 = block_core_block_ref_sum_of(m, v2, v11);
-    store8(m, (v7 + v11) + 3ull, 0, (t1 ^ v29) ^ v13);
-    v6 = v11 + 4ull;
-    v16 = 0ull;
-    v30 = 1u;
-    v13 = 0u;
-    v17 = v10;
-    v20 = 0u;
-    v21 = 0ull;
-    v22 = 0u;
-    v31 = v15;
-    goto after21;
-after24:;
-    put64(f36 + 120, 0ull);
-    put64(f36 + 112, 0ull);
-    put64(f36 + 104, 0ull);
-    put64(f36 + 96, 0ull);
-    block_core_block_ref_pcb_in(m, v36 + 96ull, v11, v10);
-    if (get8(f36 + 96)) { goto after40; }
-    v13 = 2u;
-    if (v10 < 3ull) { goto after16; }
-    v32 = get8(f36 + 98);
-    v33 = get8(f36 + 99);
-    v12 = load8(m, v11, 2);
-    v29 = 0u;
-    v34 = get8(f36 + 97);
-    switch (v34) {
-        case 1: goto after41;
-        case 2: goto after42;
-        case 3: goto after42;
-        default: goto after43;
-    }
-after43:;
-    v29 = v12 & 255u;
-    if (v29 == 255u) { goto after16; }
-    if ((v25 & 255u) >= v29) { goto after17; }
-    goto after16;
-after42:;
-    v29 = 0x1000100u >> ((v32 << 3) & 31);
-after41:;
-    if ((v12 & 255u) != (v29 & 255u)) { goto after16; }
-    switch (v34 + 0xFFFFFFFFu) {
-        case 1: goto after44;
-        case 2: goto after45;
-        default: goto after17;
-    }
-after45:;
-    if (v32 != 1u) { goto after17; }
-    goto after18;
-after44:;
-    if (v32 == 1u) { goto after18; }
-    goto after17;
-after40:;
-    v13 = (get8(f36 + 104) == 1u) ? (((get8(f36 + 120) & 255u) == 4u) ? 1u : 2u) : 2u;
-    goto after16;
-after23:;
-    v29 = 4u;
-    switch (v23) {
-        case 1: goto after57;
-        case 2: goto after57;
-        case 3: goto after57;
-        case 4: goto after53;
-        case 5: goto after56;
-        case 6: goto after55;
-        default: goto after54;
-    }
-after57:;
-    if ((v26 & 255u) < 3u) { goto after49; }
-    put32(f36 + 98, 0u);
-    put16(f36 + 96, 514u);
-    goto after52;
-after56:;
-    if (v22 > 2u) { goto after46; }
-    put32(f36 + 98, 0u);
-    put16(f36 + 96, 514u);
-    v22 = v22 + 1u;
-    goto after51;
-after55:;
-    v29 = 0u;
-after54:;
-    if (1u) { goto after3; }
-    v6 = 0ull;
-    v13 = 0u;
-    v31 = v15;
-    v30 = 0u;
-    v15 = v14;
-    goto after4;
-after53:;
-    if ((v26 & 255u) > 2u) { goto after58; }
-    put16(f36 + 96, 514u);
-    put32(f36 + 98, (v22 << 24) | 0x10001u);
-    if (((v22 + 1u) & 255u) <= 1u) { goto after12; }
-    v26 = v26 + 1u;
-    p697 = held(m, v7, 3);
-    put_held8(p697, 2, m, v7, 1u);
-    put_held16(p697, 0, m, v7, 49408u);
-    v5 = v7 + 3ull;
-    v8 = v36 + 101ull;
-    if (v5 == v8) { goto after50; }
-    v6 = 1ull;
-    v13 = 192u;
-    v23 = 4u;
-    goto after48;
-after58:;
-    put32(f36 + 98, 0u);
-    put16(f36 + 96, 514u);
-after52:;
-    v22 = 1u;
-after51:;
-    v14 = 0u;
-    p733 = held(m, v7, 3);
-    put_held8(p733, 2, m, v7, 0u);
-    put_held16(p733, 0, m, v7, 49152u);
-    v5 = v7 + 3ull;
-    v8 = 0x10000ull;
-    v13 = 192u;
-    v21 = 0ull;
-    v23 = 5u;
-    v6 = 0ull;
-    goto after48;
-after50:;
-    store8(m, v5, 0, v22);
-    v6 = 1ull;
-    v13 = 192u;
-    v23 = 4u;
-    goto after47;
-after49:;
-    p766 = held(m, v7, 3);
-    put_held8(p766, 2, m, v7, 0u);
-    put_held8(p766, 0, m, v7, 0u);
-    v13 = v27 ? 0xFFFFFF90u : 0xFFFFFF80u;
-    put_held8(p766, 1, m, v7, v13);
-    put32(f36 + 98, v27);
-    put16(f36 + 96, 258u);
-    v5 = v7 + 3ull;
-    v26 = v26 + 1u;
-    v6 = 0ull;
-    v8 = 0x10000ull;
-after48:;
-    if (v6 == 0) { goto after47; }
-    copy(m, v5, v8, v6);
-after47:;
-    t1 = block_core_block_ref_sum_of(m, v8, v6);
-    store8(m, (v7 + v6) + 3ull, 0, t1 ^ v13);
-    v29 = 0u;
-    v6 = v6 | 4ull;
-    v30 = 1u;
-    v31 = v15;
-    v13 = 0u;
-    v15 = v14;
-    goto after4;
-after46:;
-    v29 = 0u;
-    v13 = 4u;
-    v6 = 0ull;
-    v23 = 6u;
-    v31 = v15;
-    v30 = 0u;
-    v15 = 0u;
-    v21 = 0ull;
-    v22 = 0u;
-    goto after4;
-after22:;
-    if ((v23 + 0xFFFFFFFFu) < 5u) { goto after62; }
-    v29 = 0u;
-    switch (v23) {
-        case 1: goto after12;
-        case 2: goto after12;
-        case 3: goto after12;
-        case 4: goto after12;
-        case 5: goto after12;
-        case 6: goto after60;
-        default: goto after61;
-    }
-after62:;
-    v29 = 1u;
-    goto after60;
-after61:;
-    v30 = 1u;
-    if (((v12 + 1u) & 255u) > 1u) { goto after59; }
-    v29 = 3u;
-after60:;
-    if (1u) { goto after3; }
-    v30 = 0u;
-    v6 = 0ull;
-    v13 = 0u;
-    v31 = v15;
-    v15 = v14;
-    goto after4;
-after59:;
-    p903 = held(m, v7, 5);
-    put_held8(p903, 2, m, v7, 1u);
-    put_held16(p903, 0, m, v7, 49408u);
-    put_held8(p903, 3, m, v7, v12);
-    put8(f36 + 101, v12);
-    put8(f36 + 100, 1u);
-    put32(f36 + 96, 0x10202u);
-    v6 = 5ull;
-    t1 = block_core_block_ref_sum_of(m, (v36 + 96ull) + 5ull, 1ull);
-    put_held8(p903, 4, m, v7, t1 ^ 192u);
-    v29 = 0u;
-    v23 = 4u;
-    v31 = v15;
-    v13 = 0u;
-    v15 = v14;
-    v22 = v12;
-after21:;
-    v26 = 0u;
-    goto after4;
-after20:;
-    p957 = held(m, v0, 16);
-    put_held64(p957, 1, m, v0, 0ull);
-    put_held8(p957, 0, m, v0, 32u);
-    put_held64(p957, 8, m, v0, 0ull);
-    goto after1;
-after19:;
-    v29 = 1u;
-    goto after3;
-after18:;
-    if (v10 == 3ull) { goto after16; }
-    v32 = 1u;
-    v13 = 2u;
-    if (((load8(m, v11, 3) + 1u) & 255u) < 2u) { goto after16; }
-after17:;
-    v13 = 2u;
-    v3 = ((u64)v12) & 255ull;
-    if (v10 <= (v3 + 3ull)) { goto after16; }
-    v13 = 1u;
-    v5 = v3 + 4ull;
-    t0 = block_core_block_ref_sum_of(m, v11, v5);
-    if (t0 & 255u) { goto after16; }
-    v13 = 2u;
-    v8 = 0ull;
-    v12 = 0u;
-    if (v5 != v10) { goto after15; }
-    v30 = 0u;
-    v31 = 0u;
-    v5 = 0ull;
-    if (load8(m, v11, 0) & 255u) { goto after14; }
-    v8 = v11 + 3ull;
-    v13 = 0u;
-    v12 = v34;
-    v30 = v32;
-    v31 = v33;
-    v5 = v3;
-    goto after14;
-after16:;
-    v8 = 0ull;
-    v12 = 0u;
-after15:;
-    v30 = 0u;
-    v31 = 0u;
-    v5 = 0ull;
-after14:;
-    v29 = 4u;
-    switch (v23) {
-        case 1: goto after96;
-        case 2: goto after95;
-        case 3: goto after94;
-        case 4: goto after93;
-        case 5: goto after92;
-        case 6: goto after91;
-        default: goto after90;
-    }
-after96:;
-    if (v13) { goto after97; }
-    switch (v12 + 0xFFFFFFFFu) {
-        case 0: goto after100;
-        case 1: goto after99;
-        default: goto after98;
-    }
-after100:;
-    v13 = v28 & 255u;
-    if (v30 != v13) { goto after101; }
-    v30 = 2u;
-    if ((v26 & 255u) <= 2u) { goto after89; }
-    v14 = 0u;
-    v21 = 0ull;
-    v22 = 1u;
-    v23 = 5u;
-    v31 = v15;
-    v12 = 0u;
-    v29 = 2u;
-    goto after63;
-after101:;
-    v21 = v21 + (((u64)v14) & 255ull);
-    v29 = (u32)((v17 - v21) <= v6);
-    v23 = v29 ? 2u : 1u;
-    v28 = (u32)(v13 == 0);
-    v26 = 0u;
-    v16 = 0ull;
-    v31 = v15;
-    v22 = 0u;
-    v14 = v15;
-    v30 = 0u;
-    goto after66;
-after99:;
-    switch (v30) {
-        case 1: goto after103;
-        case 3: goto after102;
-        default: goto after98;
-    }
-after103:;
-    v13 = 0u;
-    v31 = load8(m, v8, 0);
-    v23 = (u32)(v5 == 0);
-    v12 = v23 ? 0u : v31;
-    v32 = v23 ? 0u : 0x10000u;
-    v30 = 3u;
-    v29 = 2u;
-    v23 = 1u;
-    v15 = 1u;
-    goto after64;
-after102:;
-    v30 = 3u;
-    v29 = 2u;
-    v23 = 1u;
-    if (v5) { goto after104; }
-    v13 = 0u;
-    v31 = v15;
-    v15 = 3u;
-    goto after65;
-after104:;
-    v12 = load8(m, v8, 0);
-    v32 = 0x10000u;
-    v13 = 0u;
-    v31 = v15;
-    v15 = 3u;
-    goto after64;
-after98:;
-    v29 = 2u;
-    if ((v26 & 255u) > 2u) { goto after67; }
-    v23 = 1u;
-    v26 = v26 + 1u;
-    v32 = 0u;
-    v13 = 512u;
-    v31 = v15;
-    v30 = 1u;
-    v15 = v27;
-    v12 = 0u;
-    goto after64;
-after97:;
-    v29 = 2u;
-    if ((v26 & 255u) > 2u) { goto after67; }
-    v13 = v13 << 8;
-    v23 = 1u;
-    v26 = v26 + 1u;
-    v12 = 0u;
-    v31 = v15;
-    v30 = 1u;
-    v15 = v27;
-    v32 = 0u;
-    goto after64;
-after95:;
-    if (v13) { goto after105; }
-    switch (v12) {
-        case 1: goto after109;
-        case 2: goto after107;
-        case 3: goto after106;
-        default: goto after108;
-    }
-after109:;
-    if (v30 != (v28 & 255u)) { goto after110; }
-    v29 = 2u;
-    if ((v26 & 255u) > 2u) { goto after72; }
-    v29 = 1u;
-    v26 = v26 + 1u;
-    v13 = 0u;
-    v23 = 2u;
-    goto after73;
-after110:;
-    v29 = 2u;
-    if ((v26 & 255u) > 2u) { goto after72; }
-    v30 = 1u;
-    v26 = v26 + 1u;
-    v13 = 0u;
-    v23 = 2u;
-    v29 = 2u;
-    goto after74;
-after108:;
-    if (v30 != v27) { goto after112; }
-    if (v5 <= v18) { goto after111; }
-after112:;
-    v29 = 2u;
-    if ((v26 & 255u) > 2u) { goto after72; }
-    goto after76;
-after111:;
-    v13 = v28 & 255u;
-    v21 = v4 + v16;
-    if ((v21 - v8) >= v5) { goto after114; }
-    v11 = v5 & 3ull;
-    v3 = 0ull;
-    if (v5 < 4ull) { goto after115; }
-    v35 = v5 & 252ull;
-    v3 = 0ull;
-again116:;
-    v6 = v21 + v3;
-    v10 = v8 + v3;
-    p1417 = held(m, v10, 4);
-    p1418 = held(m, v6, 4);
-    put_held8(p1418, 0, m, v6, held8(p1417, 0, m, v10));
-    put_held8(p1418, 1, m, v6, held8(p1417, 1, m, v10));
-    put_held8(p1418, 2, m, v6, held8(p1417, 2, m, v10));
-    put_held8(p1418, 3, m, v6, held8(p1417, 3, m, v10));
-    v3 = v3 + 4ull;
-    if (v35 != v3) { goto again116; }
-    if (v11 == 0) { goto after113; }
-after115:;
-    v6 = v8 + v3;
-    v8 = v4 + (v3 + v16);
-again117:;
-    store8(m, v8, 0, load8(m, v6, 0));
-    v8 = v8 + 1ull;
-    v6 = v6 + 1ull;
-    v11 = v11 + 0xFFFFFFFFFFFFFFFFull;
-    if (v11 != 0ull) { goto again117; }
-    goto after113;
-after114:;
-    if (v5 == 0) { goto after113; }
-    copy(m, v21, v8, v5);
-after113:;
-    v28 = (u32)(v13 == 0);
-    v16 = v5 + v16;
-    v30 = 1u;
-    v27 = (u32)(v27 == 0);
-    v21 = 0ull;
-    v26 = 0u;
-    if ((v31 & 1u) == 0) { goto after118; }
-    v29 = 2u;
-    v23 = 3u;
-    v22 = 0u;
-    v14 = 0u;
-    v13 = 0u;
-    goto after74;
-after118:;
-    v20 = 1u;
-    v23 = 0u;
-    v22 = 0u;
-    v14 = 0u;
-    v13 = 1u;
-    v29 = 0u;
-    goto after73;
-after107:;
-    switch (v30) {
-        case 1: goto after120;
-        case 3: goto after119;
-        default: goto after106;
-    }
-after120:;
-    v13 = 0u;
-    v15 = load8(m, v8, 0);
-    v12 = (u32)(v5 == 0);
-    v31 = v12 ? 0u : v15;
-    v32 = v12 ? 0u : 0x10000u;
-    v34 = 1u;
-    v30 = 3u;
-    v23 = 2u;
-    v29 = 2u;
-    v12 = 0u;
-    goto after69;
-after119:;
-    v30 = 3u;
-    v23 = 2u;
-    if (v5) { goto after121; }
-    v13 = 0u;
-    v29 = 2u;
-    v34 = 3u;
-    v12 = 0u;
-    goto after70;
-after121:;
-    v31 = load8(m, v8, 0);
-    v32 = 0x10000u;
-    v13 = 0u;
-    v29 = 2u;
-    v34 = 3u;
-    v12 = 0u;
-    goto after69;
-after106:;
-    v29 = 2u;
-    if ((v26 & 255u) > 2u) { goto after72; }
-    goto after76;
-after105:;
-    v29 = 2u;
-    if ((v26 & 255u) > 2u) { goto after72; }
-    v12 = v13 << 8;
-    v30 = 1u;
-    v26 = v26 + 1u;
-    v13 = 0u;
-    goto after75;
-after94:;
-    if (v13) { goto after122; }
-    switch (v12) {
-        case 1: goto after126;
-        case 2: goto after124;
-        case 3: goto after123;
-        default: goto after125;
-    }
-after126:;
-    v29 = 2u;
-    if ((v26 & 255u) > 2u) { goto after80; }
-    v30 = 1u;
-    v26 = v26 + 1u;
-    v13 = 0u;
-    v23 = 3u;
-    goto after81;
-after125:;
-    if (v30 != v27) { goto after127; }
-    v35 = v5 + v16;
-    if (v35 > v18) { goto after127; }
-    v11 = v4 + v16;
-    if ((v11 - v8) >= v5) { goto after129; }
-    v10 = v5 & 3ull;
-    v3 = 0ull;
-    if (v5 < 4ull) { goto after130; }
-    v21 = v5 & 252ull;
-    v3 = 0ull;
-again131:;
-    v6 = v11 + v3;
-    v5 = v8 + v3;
-    p1722 = held(m, v5, 4);
-    p1723 = held(m, v6, 4);
-    put_held8(p1723, 0, m, v6, held8(p1722, 0, m, v5));
-    put_held8(p1723, 1, m, v6, held8(p1722, 1, m, v5));
-    put_held8(p1723, 2, m, v6, held8(p1722, 2, m, v5));
-    put_held8(p1723, 3, m, v6, held8(p1722, 3, m, v5));
-    v3 = v3 + 4ull;
-    if (v21 != v3) { goto again131; }
-    if (v10 == 0) { goto after128; }
-after130:;
-    v6 = v8 + v3;
-    v8 = v4 + (v3 + v16);
-again132:;
-    store8(m, v8, 0, load8(m, v6, 0));
-    v8 = v8 + 1ull;
-    v6 = v6 + 1ull;
-    v10 = v10 + 0xFFFFFFFFFFFFFFFFull;
-    if (v10 != 0ull) { goto again132; }
-    goto after128;
-after129:;
-    if (v5 == 0) { goto after128; }
-    copy(m, v11, v8, v5);
-after128:;
-    v30 = 1u;
-    v27 = (u32)(v27 == 0);
-    v21 = 0ull;
-    v26 = 0u;
-    if ((v31 & 1u) == 0) { goto after133; }
-    v29 = 2u;
-    v23 = 3u;
-    v22 = 0u;
-    v14 = 0u;
-    v16 = v35;
-    v13 = 0u;
-    goto after81;
-after133:;
-    v20 = 1u;
-    v23 = 0u;
-    v22 = 0u;
-    v14 = 0u;
-    v16 = v35;
-    v13 = 1u;
-    v29 = 0u;
-    v30 = 0u;
-    goto after79;
-after127:;
-    v29 = 2u;
-    if ((v26 & 255u) > 2u) { goto after80; }
-    goto after83;
-after124:;
-    switch (v30) {
-        case 1: goto after135;
-        case 3: goto after134;
-        default: goto after123;
-    }
-after135:;
-    v13 = 0u;
-    v15 = load8(m, v8, 0);
-    v12 = (u32)(v5 == 0);
-    v31 = v12 ? 0u : v15;
-    v32 = v12 ? 0u : 0x10000u;
-    v34 = 1u;
-    v29 = 2u;
-    v23 = 3u;
-    v30 = 3u;
-    v12 = 0u;
-    goto after77;
-after134:;
-    v29 = 2u;
-    v23 = 3u;
-    if (v5) { goto after136; }
-    v13 = 0u;
-    v30 = 3u;
-    v34 = 3u;
-    v12 = 0u;
-    goto after78;
-after136:;
-    v31 = load8(m, v8, 0);
-    v32 = 0x10000u;
-    v13 = 0u;
-    v30 = 3u;
-    v34 = 3u;
-    v12 = 0u;
-    goto after77;
-after123:;
-    v29 = 2u;
-    if ((v26 & 255u) > 2u) { goto after80; }
-    goto after83;
-after122:;
-    v29 = 2u;
-    if ((v26 & 255u) > 2u) { goto after80; }
-    v12 = v13 << 8;
-    v30 = 1u;
-    v26 = v26 + 1u;
-    v13 = 0u;
-    goto after82;
-after93:;
-    if (v13) { goto after140; }
-    if (v12 != 3u) { goto after140; }
-    if (v30 != 1u) { goto after140; }
-    if (load8(m, v8, 0) != v22) { goto after140; }
-    v26 = 0u;
-    v13 = 2u;
-    v21 = 0ull;
-    v25 = v22;
-    v23 = 0u;
-    v22 = 0u;
-    v14 = 0u;
-    v30 = 0u;
-    goto after139;
-after140:;
-    v30 = 2u;
-    if ((v26 & 255u) <= 2u) { goto after138; }
-    v14 = 0u;
-    v21 = 0ull;
-    v22 = 1u;
-    v23 = 5u;
-    v13 = 0u;
-after139:;
-    v12 = 0u;
-    v29 = 0u;
-    goto after137;
-after138:;
-    v29 = v22 << 24;
-    v12 = 1u;
-    v26 = v26 + 1u;
-    v13 = 0u;
-    v23 = 4u;
-after137:;
-    v12 = ((v12 << 16) | v29) | v12;
-    v29 = v30;
-    goto after68;
-after92:;
-    if (v13) { goto after88; }
-    if (v12 != 3u) { goto after87; }
-    if (v30) { goto after87; }
-    v13 = 3u;
-    v21 = 0ull;
-    v25 = 32u;
-    v28 = 0u;
-    v27 = 0u;
-    v26 = 0u;
-    v31 = v24;
-    v23 = 0u;
-    v22 = 0u;
-    goto after85;
-after91:;
-    v29 = 0u;
-after90:;
-    v6 = 0ull;
-    v13 = 0u;
-    v31 = v15;
-    v15 = v14;
-    v30 = 0u;
-    if (1u == 0) { goto after4; }
-    goto after3;
-after89:;
-    v23 = 1u;
-    v26 = v26 + 1u;
-    v30 = 0u;
-    v31 = v15;
-    v12 = 0u;
-    v29 = 0u;
-    goto after63;
-after88:;
-    if (v22 >= 3u) { goto after86; }
-    goto after84;
-after87:;
-    if (v22 < 3u) { goto after84; }
-after86:;
-    v13 = 4u;
-    v21 = 0ull;
-    v22 = 0u;
-    v23 = 6u;
-    v31 = v15;
-after85:;
-    v15 = 0u;
-    v29 = 0u;
-    v6 = 0ull;
-    v30 = 0u;
-    if (0u == 0) { goto after4; }
-    goto after3;
-after84:;
-    v14 = 0u;
-    p2147 = held(m, v7, 3);
-    put_held8(p2147, 2, m, v7, 0u);
-    put_held16(p2147, 0, m, v7, 49152u);
-    put32(f36 + 98, 0u);
-    put16(f36 + 96, 514u);
-    v11 = v7 + 3ull;
-    v30 = 1u;
-    v22 = v22 + 1u;
-    v10 = 0x10000ull;
-    v13 = 192u;
-    v23 = 5u;
-    v21 = 0ull;
-    v31 = v15;
-    v29 = 0u;
-    v4 = 0ull;
-    goto after6;
-after83:;
-    v30 = 1u;
-    v26 = v26 + 1u;
-    v13 = 0u;
-    v12 = 512u;
-after82:;
-    v23 = 3u;
-    v34 = v27;
-    goto after78;
-after81:;
-    v34 = v27;
-    v12 = 0u;
-    goto after78;
-after80:;
-    v14 = 0u;
-    v21 = 0ull;
-    v22 = 1u;
-    v23 = 5u;
-    v13 = 0u;
-    v30 = 2u;
-after79:;
-    v34 = 0u;
-    v12 = 0u;
-after78:;
-    v32 = 0u;
-    v31 = 0u;
-after77:;
-    v12 = ((v12 | v34) | v32) | (v31 << 24);
-    goto after68;
-after76:;
-    v30 = 1u;
-    v26 = v26 + 1u;
-    v13 = 0u;
-    v12 = 512u;
-after75:;
-    v23 = 2u;
-    v29 = 2u;
-    v34 = v27;
-    goto after70;
-after74:;
-    v34 = v27;
-    v12 = 0u;
-    goto after70;
-after73:;
-    v30 = 0u;
-    goto after71;
-after72:;
-    v14 = 0u;
-    v21 = 0ull;
-    v22 = 1u;
-    v23 = 5u;
-    v13 = 0u;
-    v30 = 2u;
-after71:;
-    v34 = 0u;
-    v12 = 0u;
-after70:;
-    v32 = 0u;
-    v31 = 0u;
-after69:;
-    v12 = ((v12 | v34) | v32) | (v31 << 24);
-after68:;
-    if (v13) { goto after141; }
-    v31 = v15;
-    goto after63;
-after141:;
-    v6 = 0ull;
-    v29 = 0u;
-    v31 = v15;
-    v15 = v14;
-    v30 = 0u;
-    if (0u == 0) { goto after4; }
-    goto after3;
-after67:;
-    v14 = 0u;
-    v21 = 0ull;
-    v22 = 1u;
-    v23 = 5u;
-    v31 = v15;
-    v30 = 2u;
-after66:;
-    v15 = 0u;
-    v13 = 0u;
-after65:;
-    v32 = 0u;
-    v12 = 0u;
-after64:;
-    v12 = ((v13 | v15) | v32) | (v12 << 24);
-after63:;
-    put8(f36 + 97, v30);
-    put32(f36 + 98, v12);
-    put8(f36 + 96, v29);
-    switch (v29) {
-        case 1: goto after143;
-        case 2: goto after142;
-        default: goto after144;
-    }
-after144:;
-    v13 = 32u;
-    if ((v23 + 0xFFFFFFFFu) > 1u) { goto after10; }
-    v6 = ((u64)v14) & 255ull;
-    v8 = v17 - v21;
-    v4 = (v6 < v8) ? v6 : v8;
-    if (v4 == 255ull) { goto after12; }
-    goto after11;
-after143:;
-    v13 = 0u;
-    if ((v23 + 0xFFFFFFFFu) > 1u) { goto after10; }
-    v6 = ((u64)v14) & 255ull;
-    v8 = v17 - v21;
-    v4 = (v6 < v8) ? v6 : v8;
-    if (v4 != 255ull) { goto after11; }
-    goto after12;
-after142:;
-    v29 = v12 >> 24;
-    v15 = v12 >> 8;
-    v13 = v12 & 0xFF0000u;
-    v10 = v36 + 101ull;
-    switch (v30) {
-        case 1: goto after150;
-        case 2: goto after152;
-        case 3: goto after151;
-        default: goto after146;
-    }
-after152:;
-    switch ((u32)(((u64)v12) & 255ull)) {
-        case 1: goto after153;
-        case 3: goto after154;
-        default: goto after155;
-    }
-after155:;
-    if (v13 == 0x10000u) { goto after12; }
-    v10 = 0x10000ull;
-    v4 = 0ull;
-    goto after145;
-after154:;
-    if (v13 != 0x10000u) { goto after12; }
-    v13 = 195u;
-    v30 = 1u;
-    v4 = 1ull;
-    goto after7;
-after153:;
-    if (v13 != 0x10000u) { goto after12; }
-    if (((v29 + 0xFFFFFFFFu) & 255u) >= 254u) { goto after12; }
-    v4 = 1ull;
-    goto after145;
-after151:;
-    switch ((u32)(((u64)v12) & 255ull)) {
-        case 1: goto after156;
-        case 3: goto after149;
-        default: goto after148;
-    }
-after156:;
-    if (v13 != 0x10000u) { goto after12; }
-    if (((v29 + 0xFFFFFFFFu) & 255u) >= 254u) { goto after12; }
-    goto after147;
-after150:;
-    if (v13 == 0x10000u) { goto after12; }
-    v29 = 0u;
-    p2534 = held(m, v7, 3);
-    put_held8(p2534, 2, m, v7, 0u);
-    put_held8(p2534, 0, m, v7, 0u);
-    v13 = ((v12 & 255u) ? 0xFFFFFF90u : 0xFFFFFF80u) + v15;
-    put_held8(p2534, 1, m, v7, v13);
-    v11 = v7 + 3ull;
-    v4 = 0ull;
-    v10 = 0x10000ull;
-    v30 = 1u;
-    goto after6;
-after149:;
-    if (v13 != 0x10000u) { goto after12; }
-    v30 = (v29 > 1u) ? v29 : 1u;
-    v13 = 227u;
-    v4 = 1ull;
-    goto after7;
-after148:;
-    if (v13 == 0x10000u) { goto after12; }
-after147:;
-    v15 = (u32)(v13 == 0x10000u);
-    v10 = v15 ? v10 : 0x10000ull;
-    v13 = v12 | 0xFFFFFFE0u;
-    v4 = (u64)v15;
-    goto after8;
-after146:;
-    v29 = (u32)(v13 == 0x10000u);
-    v10 = v29 ? v10 : 0x10000ull;
-    v13 = (v15 << 5) & 32u;
-    v4 = (u64)v29;
-    goto after9;
-after145:;
-    v13 = v12 | 0xFFFFFFC0u;
-    goto after8;
-after12:;
-    UNREACHABLE;
-after11:;
-    v10 = v2 + v21;
-    v12 = v28;
-    goto after9;
-after10:;
-    v4 = 0ull;
-    v10 = 0x10000ull;
-    v12 = v28;
-after9:;
-    v13 = ((v12 & 255u) ? 64u : 0u) | v13;
-after8:;
-    v30 = 1u;
-after7:;
-    p2657 = held(m, v7, 3);
-    put_held8(p2657, 1, m, v7, v13);
-    put_held8(p2657, 0, m, v7, 0u);
-    v29 = (u32)v4;
-    put_held8(p2657, 2, m, v7, v29);
-    v11 = v7 + 3ull;
-    if ((v11 - v10) >= v4) { goto after6; }
-    v3 = v4 & 3ull;
-    v6 = 0ull;
-    if (v4 < 4ull) { goto after157; }
-    v2 = v4 & 0xFFFFFFFFFFFFFFFCull;
-    v6 = 0ull;
-again158:;
-    v8 = v7 + v6;
-    v5 = v10 + v6;
-    p2703 = held(m, v5, 4);
-    p2704 = held(m, v8 + 3ull, 4);
-    put_held8(p2704, 0, m, v8 + 3ull, held8(p2703, 0, m, v5));
-    put_held8(p2704, 1, m, v8 + 3ull, held8(p2703, 1, m, v5));
-    put_held8(p2704, 2, m, v8 + 3ull, held8(p2703, 2, m, v5));
-    put_held8(p2704, 3, m, v8 + 3ull, held8(p2703, 3, m, v5));
-    v6 = v6 + 4ull;
-    if (v2 != v6) { goto again158; }
-    if (v3 == 0) { goto after5; }
-after157:;
-again159:;
-    store8(m, v11 + v6, 0, load8(m, v10 + v6, 0));
-    v6 = v6 + 1ull;
-    v3 = v3 + 0xFFFFFFFFFFFFFFFFull;
-    if (v3 != 0ull) { goto again159; }
-    goto after5;
-after6:;
-    if (v4 == 0) { goto after5; }
-    copy(m, v11, v10, v4);
-after5:;
-    v15 = v14;
-    t2 = block_core_block_ref_sum_of(m, v10, v4);
-    store8(m, (v7 + v4) + 3ull, 0, (v13 ^ v29) ^ t2);
-    v6 = v4 + 4ull;
-    v29 = 0u;
-    v13 = 0u;
-after4:;
-    v12 = 1u << (v23 & 31);
-    if ((v12 & 73u) == 0) { goto after162; }
-    v15 = 0u;
-    goto after161;
-after162:;
-    if (v12 & 6u) { goto after160; }
-    v15 = v22;
-after161:;
-    v21 = 0ull;
-after160:;
-    p2825 = held(m, v1, 56);
-    put_held32(p2825, 9, m, v1, 0u);
-    put_held8(p2825, 8, m, v1, v20);
-    put_held8(p2825, 7, m, v1, v15);
-    put_held8(p2825, 6, m, v1, v23);
-    put_held8(p2825, 5, m, v1, v24);
-    put_held8(p2825, 4, m, v1, v25);
-    put_held8(p2825, 3, m, v1, v31);
-    put_held8(p2825, 2, m, v1, v26);
-    put_held8(p2825, 1, m, v1, v27);
-    put_held8(p2825, 0, m, v1, v28);
-    put_held32(p2825, 12, m, v1, 0u);
-    put_held64(p2825, 48, m, v1, v16);
-    put_held64(p2825, 40, m, v1, v17);
-    put_held64(p2825, 32, m, v1, v18);
-    put_held64(p2825, 24, m, v1, v19);
-    put_held64(p2825, 16, m, v1, v21);
-    put32(f36 + 8, 0u);
-    put16(f36 + 12, 0u);
-    v6 = v13 ? 0ull : v6;
-    v12 = v13 ? 0u : v30;
+    p14 = held(m, v6, 24);
+    v10 = held64(p14, 16, m, v6);
+    v11 = held64(p14, 8, m, v6);
+    v12 = held8(p14, 1, m, v6);
+    v13 = held8(p14, 0, m, v6);
+    memset(f17 + 16, (int)(0u & 255u), 80);
+    if (v8 >= 258ull) { goto after3; }
+    p43 = held(m, v0, 16);
+    put_held32(p43, 1, m, v0, 0u);
+    put_held8(p43, 0, m, v0, 33u);
+    put_held32(p43, 4, m, v0, 0u);
+    put_held64(p43, 8, m, v0, 258ull);
     goto after2;
 after3:;
-    v12 = 0u;
-    put16(f36 + 12, 0u);
-    put32(f36 + 8, 0u);
-    v13 = v29 | 16u;
+    c_lent_kept_CTerminal_fitting(m, v17 + 16ull, v1, v3, v5);
+    if (get8(f17 + 16) != 1u) { goto after8; }
+    copy(m, v17 + 96ull, v17 + 24ull, 72ull);
     v6 = 0ull;
+    put64(f17 + 192, 0ull);
+    put64(f17 + 184, 0ull);
+    put64(f17 + 176, 0ull);
+    put64(f17 + 168, 0ull);
+    switch (v13) {
+        case 1: goto after12;
+        case 2: goto after11;
+        case 3: goto after10;
+        default: goto after13;
+    }
+after13:;
+    v12 = 0u;
+    v14 = get8(f17 + 104);
+    if ((v14 + 0xFFFFFFFFu) < 5u) { goto after16; }
+    v15 = 1u;
+    v13 = 0u;
+    switch (v14) {
+        case 1: goto after1;
+        case 2: goto after1;
+        case 3: goto after1;
+        case 4: goto after1;
+        case 5: goto after1;
+        case 6: goto after14;
+        default: goto after15;
+    }
+after16:;
+    v15 = 1u;
+    v13 = 1u;
+    goto after14;
+after15:;
+    v13 = 2u;
+    if (get64(f17 + 136) < v10) { goto after14; }
+    if ((v2 - v11) >= v10) { goto after18; }
+    v3 = v10 & 3ull;
+    v8 = 0ull;
+    if (v10 < 4ull) { goto after19; }
+    v4 = v10 & 0xFFFFFFFFFFFFFFFCull;
+    v8 = 0ull;
+again20:;
+    v6 = v2 + v8;
+    v5 = v11 + v8;
+    p169 = held(m, v5, 4);
+    p170 = held(m, v6, 4);
+    put_held8(p170, 0, m, v6, held8(p169, 0, m, v5));
+    put_held8(p170, 1, m, v6, held8(p169, 1, m, v5));
+    put_held8(p170, 2, m, v6, held8(p169, 2, m, v5));
+    put_held8(p170, 3, m, v6, held8(p169, 3, m, v5));
+    v8 = v8 + 4ull;
+    if (v4 != v8) { goto again20; }
+    if (v3 == 0) { goto after17; }
+after19:;
+    v6 = v2 + v8;
+    v8 = v11 + v8;
+again21:;
+    store8(m, v6, 0, load8(m, v8, 0));
+    v6 = v6 + 1ull;
+    v8 = v8 + 1ull;
+    v3 = v3 + 0xFFFFFFFFFFFFFFFFull;
+    if (v3 != 0ull) { goto again21; }
+    goto after17;
+after18:;
+    if (v10 == 0) { goto after17; }
+    copy(m, v2, v11, v10);
+after17:;
+    v13 = 0u;
+    put8(f17 + 128, 0u);
+    put8(f17 + 98, 0u);
+    put64(f17 + 160, 0ull);
+    v12 = get8(f17 + 99);
+    put8(f17 + 120, v12);
+    put64(f17 + 112, 0ull);
+    put8(f17 + 105, 0u);
+    put64(f17 + 152, v10);
+    v6 = ((u64)v12) & 255ull;
+    put8(f17 + 104, (v10 > v6) ? 1u : 2u);
+    v11 = (v6 < v10) ? v6 : v10;
+    if (v10 <= v6) { goto after23; }
+    v13 = 32u;
+    if (v11 != 255ull) { goto after22; }
+    goto after1;
+after23:;
+    if (v11 == 255ull) { goto after1; }
+after22:;
+    p311 = held(m, v7, 3);
+    put_held8(p311, 0, m, v7, 0u);
+    v12 = (u32)v11;
+    put_held8(p311, 2, m, v7, v12);
+    v13 = ((get8(f17 + 96)) ? 64u : 0u) | v13;
+    put_held8(p311, 1, m, v7, v13);
+    v6 = v7 + 3ull;
+    if ((v6 - v2) >= v11) { goto after25; }
+    v3 = v11 & 3ull;
+    v8 = 0ull;
+    if (v11 < 4ull) { goto after26; }
+    v10 = v11 & 252ull;
+    v8 = 0ull;
+again27:;
+    v6 = v7 + v8;
+    v5 = v2 + v8;
+    p366 = held(m, v5, 4);
+    p367 = held(m, v6 + 3ull, 4);
+    put_held8(p367, 0, m, v6 + 3ull, held8(p366, 0, m, v5));
+    put_held8(p367, 1, m, v6 + 3ull, held8(p366, 1, m, v5));
+    put_held8(p367, 2, m, v6 + 3ull, held8(p366, 2, m, v5));
+    put_held8(p367, 3, m, v6 + 3ull, held8(p366, 3, m, v5));
+    v8 = v8 + 4ull;
+    if (v10 != v8) { goto again27; }
+    if (v3 == 0) { goto after24; }
+after26:;
+    v6 = v2 + v8;
+    v8 = (v8 + v7) + 3ull;
+again28:;
+    store8(m, v8, 0, load8(m, v6, 0));
+    v8 = v8 + 1ull;
+    v6 = v6 + 1ull;
+    v3 = v3 + 0xFFFFFFFFFFFFFFFFull;
+    if (v3 != 0ull) { goto again28; }
+    goto after24;
+after25:;
+    if (v11 == 0) { goto after24; }
+    copy(m, v6, v2, v11);
+after24:;
+    t1 = block_core_block_ref_sum_of(m, v2, v11);
+    store8(m, (v7 + v11) + 3ull, 0, (t1 ^ v12) ^ v13);
+    v6 = v11 + 4ull;
+    v12 = 1u;
+    v15 = 0u;
+    v13 = 0u;
+after14:;
+    put8(f17 + 192, v12);
+    put64(f17 + 184, v6);
+    put64(f17 + 176, 0ull);
+    put8(f17 + 169, v13);
+    put8(f17 + 168, v15);
+    goto after9;
+after12:;
+    t1_core_lent_LentTerminal_received_into(m, v17 + 168ull, v17 + 96ull, v2, v4, v11, v10, v7);
+    goto after9;
+after11:;
+    t1_core_lent_LentTerminal_quiet_into(m, v17 + 168ull, v17 + 96ull, v7);
+    goto after9;
+after10:;
+    v15 = get8(f17 + 104);
+    if ((v15 + 0xFFFFFFFFu) < 5u) { goto after33; }
+    v13 = 0u;
+    switch (v15) {
+        case 1: goto after1;
+        case 2: goto after1;
+        case 3: goto after1;
+        case 4: goto after1;
+        case 5: goto after1;
+        case 6: goto after31;
+        default: goto after32;
+    }
+after33:;
+    v13 = 1u;
+    goto after31;
+after32:;
+    v15 = 1u;
+    if (((v12 + 1u) & 255u) > 1u) { goto after30; }
+    v13 = 3u;
+after31:;
+    v15 = 0u;
+    v6 = 0ull;
+    v14 = 1u;
+    goto after29;
+after30:;
+    put8(f17 + 105, v12);
+    put8(f17 + 104, 4u);
+    v14 = 0u;
+    put8(f17 + 98, 0u);
+    p568 = held(m, v7, 5);
+    put_held8(p568, 3, m, v7, v12);
+    put_held8(p568, 2, m, v7, 1u);
+    put_held16(p568, 0, m, v7, 49408u);
+    put8(f17 + 207, v12);
+    put8(f17 + 206, 1u);
+    put32(f17 + 202, 0x10202u);
+    v6 = 5ull;
+    t1 = block_core_block_ref_sum_of(m, (v17 + 202ull) + 5ull, 1ull);
+    put_held8(p568, 4, m, v7, t1 ^ 192u);
+    v13 = 0u;
+after29:;
+    put8(f17 + 192, v15);
+    put64(f17 + 184, v6);
+    put64(f17 + 176, 0ull);
+    put8(f17 + 169, v13);
+    put8(f17 + 168, v14);
+after9:;
+    if (get8(f17 + 168)) { goto after5; }
+    v15 = get8(f17 + 192);
+    v8 = get64(f17 + 184);
+    v13 = get8(f17 + 176);
+    v6 = 0ull;
+    v12 = 0u;
+    v14 = get8(f17 + 104);
+    v16 = 1u << (v14 & 31);
+    if (v16 & 73u) { goto after6; }
+    if ((v16 & 6u) == 0) { goto after7; }
+    v6 = get64(f17 + 112);
+    v12 = get8(f17 + 120);
+    goto after6;
+after8:;
+    p658 = held(m, v0, 16);
+    put_held64(p658, 1, m, v0, 0ull);
+    put_held8(p658, 0, m, v0, 32u);
+    put_held64(p658, 8, m, v0, 0ull);
+    goto after2;
+after7:;
+    v12 = get8(f17 + 105);
+after6:;
+    p674 = held(m, v1, 56);
+    put_held8(p674, 8, m, v1, get8(f17 + 128));
+    put_held8(p674, 7, m, v1, v12);
+    put_held8(p674, 6, m, v1, v14);
+    put_held16(p674, 4, m, v1, get16(f17 + 100));
+    put_held32(p674, 0, m, v1, get32(f17 + 96));
+    put_held32(p674, 9, m, v1, 0u);
+    put_held32(p674, 12, m, v1, 0u);
+    put_held64(p674, 16, m, v1, v6);
+    put_held64(p674, 24, m, v1, get64(f17 + 136));
+    put_held64(p674, 32, m, v1, get64(f17 + 144));
+    put_held64(p674, 40, m, v1, get64(f17 + 152));
+    put_held64(p674, 48, m, v1, get64(f17 + 160));
+    put16(f17 + 12, 0u);
+    put32(f17 + 8, 0u);
+    v12 = v13 & 255u;
+    v6 = v12 ? 0ull : v8;
+    v12 = v12 ? 0u : v15;
+    goto after4;
+after5:;
+    v13 = get8(f17 + 169);
+    v12 = 0u;
+    put16(f17 + 12, 0u);
+    put32(f17 + 8, 0u);
+    v13 = v13 + 16u;
+    v6 = 0ull;
+after4:;
+    p755 = held(m, v0, 16);
+    put_held8(p755, 1, m, v0, v12);
+    put_held8(p755, 0, m, v0, v13);
+    put_held32(p755, 2, m, v0, get32(f17 + 8));
+    put_held16(p755, 6, m, v0, get16(f17 + 12));
+    put_held64(p755, 8, m, v0, v6);
 after2:;
-    p2906 = held(m, v0, 16);
-    put_held8(p2906, 1, m, v0, v12);
-    put_held8(p2906, 0, m, v0, v13);
-    put_held32(p2906, 2, m, v0, get32(f36 + 8));
-    put_held16(p2906, 6, m, v0, get16(f36 + 12));
-    put_held64(p2906, 8, m, v0, v6);
+    m->g0 = v17 + 208ull;
+    return;
 after1:;
-    m->g0 = v36 + 128ull;
+    UNREACHABLE;
 }
 
 static void tlv_core_part_walk_next_part(struct call *m, u64 v0, u64 v1, u64 v2, u64 v3)
@@ -17850,6 +19295,649 @@ after1:;
     m->g0 = v11 + 48ull;
 }
 
+static void module_scard_lent_card_session_ask_ifs(struct call *m, u64 v0, u64 v1, u64 v2, u64 v3, u64 v4, u64 v5, u32
+    v6, u64 v7, u64 v8, u64 v9)
+{
+    u32 t0 = 0;
+    (void)v2;
+    t0 = rattle_enter(m);
+    if (t0 == 0) { goto after1; }
+    rattle_trap(m);
+    UNREACHABLE;
+after1:;
+    rattle_export_scard_lent_card_session_ask_ifs(m, v0, v1, v3, v4, v5, v6, v7, v8, v9);
+    rattle_leave(m);
+}
+
+static void rattle_export_scard_lent_card_session_ask_ifs(struct call *m, u64 v0, u64 v1, u64 v2, u64 v3, u64 v4, u32
+    v5, u64 v6, u64 v7, u64 v8)
+{
+    u64 v9 = 0;
+    u64 v10 = 0;
+    u8 *f10 = NULL;
+    u8 *p61 = NULL;
+    v10 = m->g0 - 48ull;
+    f10 = at(m, v10, 48);
+    v9 = v10;
+    m->g0 = v9;
+    if ((v10 ^ 0x8000000000000000ull) > (15ull ^ 0x8000000000000000ull)) { goto after1; }
+    UNREACHABLE;
+after1:;
+    put64(f10, 2ull);
+    put64(f10 + 24, 0ull);
+    put64(f10 + 32, 0ull);
+    put64(f10 + 40, 0ull);
+    put64(f10 + 8, 0ull);
+    put64(f10 + 16, 0ull);
+    put8(f10 + 1, v5);
+    c_lent_card_session_host_turn(m, v10 + 24ull, v1, v2, v3 + ((v3 == 0) ? 4096ull : 0ull), v4, v10, v6, v7 + ((v7 ==
+        0) ? 4096ull : 0ull), v8);
+    p61 = held(m, v0, 24);
+    put_held64(p61, 16, m, v0, get64(f10 + 40));
+    put_held64(p61, 8, m, v0, get64(f10 + 32));
+    put_held64(p61, 0, m, v0, get64(f10 + 24));
+    m->g0 = v10 + 48ull;
+}
+
+static void module_scard_lent_card_session_begin(struct call *m, u64 v0, u64 v1, u64 v2, u64 v3, u64 v4, u64 v5, u64
+    v6)
+{
+    u32 t0 = 0;
+    t0 = rattle_enter(m);
+    if (t0 == 0) { goto after1; }
+    rattle_trap(m);
+    UNREACHABLE;
+after1:;
+    rattle_export_scard_lent_card_session_begin(m, v0, v1, v2, v3, v4, v5, v6);
+    rattle_leave(m);
+}
+
+static void rattle_export_scard_lent_card_session_begin(struct call *m, u64 v0, u64 v1, u64 v2, u64 v3, u64 v4, u64
+    v5, u64 v6)
+{
+    u64 v7 = 0;
+    u64 v8 = 0;
+    u64 v12 = 0;
+    u64 v13 = 0;
+    u64 v14 = 0;
+    u32 v9 = 0;
+    u32 v10 = 0;
+    u32 v11 = 0;
+    u8 *f14 = NULL;
+    u8 *p53 = NULL;
+    u8 *p170 = NULL;
+    u8 *p202 = NULL;
+    u8 *p219 = NULL;
+    u8 *p292 = NULL;
+    v14 = m->g0 - 80ull;
+    f14 = at(m, v14, 80);
+    v7 = v14;
+    m->g0 = v7;
+    put64(f14 + 64, 0ull);
+    put64(f14 + 56, 0ull);
+    put64(f14 + 48, 0ull);
+    put64(f14 + 40, 0ull);
+    put64(f14 + 32, 0ull);
+    put64(f14 + 24, 0ull);
+    put64(f14 + 16, 0ull);
+    put64(f14 + 8, 0ull);
+    v8 = 4ull;
+    v9 = load8(m, v6 + 28ull, 0);
+    if (((v9 + 1u) & 255u) < 2u) { goto after2; }
+    p53 = held(m, v6 + 29ull, 2);
+    v10 = held8(p53, 1, m, v6 + 29ull);
+    v11 = held8(p53, 0, m, v6 + 29ull);
+    if (((v10 | v11) & 255u) > 15u) { goto after2; }
+    put8(f14 + 79, v10);
+    put8(f14 + 78, v11);
+    put8(f14 + 77, v9);
+    session_core_setup_Setup_rules(m, v14 + 8ull, v6, v14 + 77ull, 1u);
+    if (get8(f14 + 8) != 1u) { goto after2; }
+    v12 = get64(f14 + 32);
+    if (v3 == 0) { goto after3; }
+    v8 = v2 + ((v2 == 0) ? 4096ull : 0ull);
+    v2 = v3 + 0xFFFFFFFFFFFFFFFFull;
+    v10 = (u32)(v2 == 0);
+    if (v10) { goto after4; }
+    if (v10) { goto after4; }
+    fill(m, v8, 0u, v2);
+after4:;
+    store8(m, v8 + v2, 0, 0u);
+after3:;
+    v2 = v14 + 40ull;
+    v13 = v14 + 16ull;
+    if (v5 == 0) { goto after5; }
+    v8 = v4 + ((v4 == 0) ? 4096ull : 0ull);
+    v4 = v5 + 0xFFFFFFFFFFFFFFFFull;
+    v10 = (u32)(v4 == 0);
+    if (v10) { goto after6; }
+    if (v10) { goto after6; }
+    fill(m, v8, 0u, v4);
+after6:;
+    store8(m, v8 + v4, 0, 0u);
+after5:;
+    v8 = 0ull;
+    p170 = held(m, v1, 497);
+    put_held64(p170, 7, m, v1, 0ull);
+    put_held8(p170, 6, m, v1, v9);
+    put_held8(p170, 5, m, v1, 32u);
+    put_held8(p170, 4, m, v1, v9);
+    put_held32(p170, 0, m, v1, 0u);
+    put_held64(p170, 15, m, v1, 0ull);
+    put_held64(p170, 23, m, v1, 0ull);
+    put_held8(p170, 31, m, v1, 0u);
+    put_held64(p170, 48, m, v1, 0ull);
+    put_held64(p170, 56, m, v1, 0ull);
+    p202 = held(m, v13, 16);
+    put_held64(p170, 64, m, v1, held64(p202, 0, m, v13));
+    put_held64(p170, 72, m, v1, held64(p202, 8, m, v13));
+    put_held64(p170, 80, m, v1, v12);
+    p219 = held(m, v2, 32);
+    put_held64(p170, 112, m, v1, held64(p219, 24, m, v2));
+    put_held64(p170, 104, m, v1, held64(p219, 16, m, v2));
+    put_held64(p170, 96, m, v1, held64(p219, 8, m, v2));
+    put_held64(p170, 88, m, v1, held64(p219, 0, m, v2));
+    put_held64(p170, 40, m, v1, (v5 < 0x10002ull) ? v5 : 0x10002ull);
+    put_held64(p170, 32, m, v1, (v3 < 0x10008ull) ? v3 : 0x10008ull);
+    put_held64(p170, 128, m, v1, 0xFFFFFFFFFFFFFFFFull);
+    put_held64(p170, 120, m, v1, v12);
+    fill(m, v1 + 136ull, 0u, 80ull);
+    put_held64(p170, 488, m, v1, 0ull);
+    put_held64(p170, 480, m, v1, 0ull);
+    put_held8(p170, 496, m, v1, load8(m, v6 + 34ull, 0));
+after2:;
+    p292 = held(m, v0, 16);
+    put_held64(p292, 8, m, v0, 0ull);
+    put_held64(p292, 0, m, v0, v8);
+    m->g0 = v14 + 80ull;
+    return;
+}
+
+static void module_scard_lent_card_session_more_time(struct call *m, u64 v0, u64 v1, u64 v2, u64 v3, u64 v4, u64 v5,
+    u32 v6, u64 v7, u64 v8, u64 v9)
+{
+    u32 t0 = 0;
+    (void)v2;
+    t0 = rattle_enter(m);
+    if (t0 == 0) { goto after1; }
+    rattle_trap(m);
+    UNREACHABLE;
+after1:;
+    rattle_export_scard_lent_card_session_more_time(m, v0, v1, v3, v4, v5, v6, v7, v8, v9);
+    rattle_leave(m);
+}
+
+static void rattle_export_scard_lent_card_session_more_time(struct call *m, u64 v0, u64 v1, u64 v2, u64 v3, u64 v4,
+    u32 v5, u64 v6, u64 v7, u64 v8)
+{
+    u64 v9 = 0;
+    u64 v10 = 0;
+    u8 *f10 = NULL;
+    u8 *p61 = NULL;
+    v10 = m->g0 - 48ull;
+    f10 = at(m, v10, 48);
+    v9 = v10;
+    m->g0 = v9;
+    if ((v10 ^ 0x8000000000000000ull) > (15ull ^ 0x8000000000000000ull)) { goto after1; }
+    UNREACHABLE;
+after1:;
+    put64(f10, 1ull);
+    put64(f10 + 24, 0ull);
+    put64(f10 + 32, 0ull);
+    put64(f10 + 40, 0ull);
+    put64(f10 + 8, 0ull);
+    put64(f10 + 16, 0ull);
+    put8(f10 + 1, v5);
+    c_lent_card_session_host_turn(m, v10 + 24ull, v1, v2, v3 + ((v3 == 0) ? 4096ull : 0ull), v4, v10, v6, v7 + ((v7 ==
+        0) ? 4096ull : 0ull), v8);
+    p61 = held(m, v0, 24);
+    put_held64(p61, 16, m, v0, get64(f10 + 40));
+    put_held64(p61, 8, m, v0, get64(f10 + 32));
+    put_held64(p61, 0, m, v0, get64(f10 + 24));
+    m->g0 = v10 + 48ull;
+}
+
+static void module_scard_lent_card_session_reply(struct call *m, u64 v0, u64 v1, u64 v2, u64 v3, u64 v4, u64 v5, u64
+    v6, u64 v7, u64 v8, u64 v9, u64 v10)
+{
+    u32 t0 = 0;
+    (void)v2;
+    t0 = rattle_enter(m);
+    if (t0 == 0) { goto after1; }
+    rattle_trap(m);
+    UNREACHABLE;
+after1:;
+    rattle_export_scard_lent_card_session_reply(m, v0, v1, v3, v4, v5, v6, v7, v8, v9, v10);
+    rattle_leave(m);
+}
+
+static void rattle_export_scard_lent_card_session_reply(struct call *m, u64 v0, u64 v1, u64 v2, u64 v3, u64 v4, u64
+    v5, u64 v6, u64 v7, u64 v8, u64 v9)
+{
+    u64 v10 = 0;
+    u64 v11 = 0;
+    u8 *f11 = NULL;
+    u8 *p64 = NULL;
+    v11 = m->g0 - 48ull;
+    f11 = at(m, v11, 48);
+    v10 = v11;
+    m->g0 = v10;
+    if ((v11 ^ 0x8000000000000000ull) > (15ull ^ 0x8000000000000000ull)) { goto after1; }
+    UNREACHABLE;
+after1:;
+    put64(f11 + 24, 0ull);
+    put64(f11 + 32, 0ull);
+    put64(f11 + 40, 0ull);
+    put64(f11 + 16, v6);
+    put64(f11, 0ull);
+    put64(f11 + 8, v5 + ((v5 == 0) ? 4096ull : 0ull));
+    c_lent_card_session_host_turn(m, v11 + 24ull, v1, v2, v3 + ((v3 == 0) ? 4096ull : 0ull), v4, v11, v7, v8 + ((v8 ==
+        0) ? 4096ull : 0ull), v9);
+    p64 = held(m, v0, 24);
+    put_held64(p64, 16, m, v0, get64(f11 + 40));
+    put_held64(p64, 8, m, v0, get64(f11 + 32));
+    put_held64(p64, 0, m, v0, get64(f11 + 24));
+    m->g0 = v11 + 48ull;
+}
+
+static void module_scard_lent_card_session_serve(struct call *m, u64 v0, u64 v1, u64 v2, u64 v3, u64 v4, u64 v5, u64
+    v6)
+{
+    u32 t0 = 0;
+    (void)v2;
+    (void)v4;
+    t0 = rattle_enter(m);
+    if (t0 == 0) { goto after1; }
+    rattle_trap(m);
+    UNREACHABLE;
+after1:;
+    rattle_export_scard_lent_card_session_serve(m, v0, v1, v3, v5, v6);
+    rattle_leave(m);
+}
+
+static void rattle_export_scard_lent_card_session_serve(struct call *m, u64 v0, u64 v1, u64 v2, u64 v3, u64 v4)
+{
+    u64 v5 = 0;
+    u64 v7 = 0;
+    u32 v6 = 0;
+    u8 *f7 = NULL;
+    u8 *p35 = NULL;
+    u8 *p108 = NULL;
+    v7 = m->g0 - 144ull;
+    f7 = at(m, v7, 144);
+    v5 = v7;
+    m->g0 = v5;
+    memset(f7 + 40, (int)(0u & 255u), 104);
+    c_lent_kept_CCard_fitting(m, v7 + 40ull, v1, v2, v3);
+    if (get8(f7 + 40) != 1u) { goto after2; }
+    p35 = held(m, v1 + 80ull, 408);
+    put_held64(p35, 48, m, v1 + 80ull, 0xFFFFFFFFFFFFFFFFull);
+    put_held64(p35, 400, m, v1 + 80ull, 0ull);
+    v3 = v1 + 64ull;
+    v2 = v1 + 120ull;
+    if (held64(p35, 0, m, v1 + 80ull) >= load64(m, v2, 0)) { goto after5; }
+    session_core_progress_Progress_drop_octets(m, v7, v2, v3, 7u, v4);
+    v1 = get64(f7 + 8);
+    goto after4;
+after5:;
+    session_core_progress_Progress_await_block(m, v7 + 16ull, v2, v3, v1 + 208ull, v4);
+    v1 = get64(f7 + 24);
+after4:;
+    put32(f7 + 35, 0u);
+    put32(f7 + 32, 0u);
+    v6 = 68u;
+    goto after1;
+after2:;
+    put32(f7 + 35, 0u);
+    put32(f7 + 32, 0u);
+    v1 = 0ull;
+    v6 = 32u;
+after1:;
+    p108 = held(m, v0, 24);
+    put_held8(p108, 0, m, v0, v6);
+    put_held32(p108, 1, m, v0, get32(f7 + 32));
+    put_held32(p108, 4, m, v0, get32(f7 + 35));
+    put_held64(p108, 16, m, v0, v1);
+    put_held64(p108, 8, m, v0, 0ull);
+    m->g0 = v7 + 144ull;
+}
+
+static void module_scard_lent_card_session_step(struct call *m, u64 v0, u64 v1, u64 v2, u64 v3, u64 v4, u64 v5, u32
+    v6, u64 v7, u64 v8, u64 v9, u64 v10, u64 v11)
+{
+    u32 t0 = 0;
+    t0 = rattle_enter(m);
+    if (t0 == 0) { goto after1; }
+    rattle_trap(m);
+    UNREACHABLE;
+after1:;
+    rattle_export_scard_lent_card_session_step(m, v0, v1, v2, v3, v4, v5, v6, v7, v8, v9, v10, v11);
+    rattle_leave(m);
+}
+
+static void rattle_export_scard_lent_card_session_step(struct call *m, u64 v0, u64 v1, u64 v2, u64 v3, u64 v4, u64 v5,
+    u32 v6, u64 v7, u64 v8, u64 v9, u64 v10, u64 v11)
+{
+    u64 v12 = 0;
+    u64 v17 = 0;
+    u32 v13 = 0;
+    u32 v14 = 0;
+    u32 v15 = 0;
+    u32 v16 = 0;
+    u64 w0 = 0;
+    u64 w3 = 0;
+    u8 *f17 = NULL;
+    u8 *p190 = NULL;
+    u8 *p359 = NULL;
+    u8 *p548 = NULL;
+    u8 *p749 = NULL;
+    v17 = m->g0 - 320ull;
+    f17 = at(m, v17, 320);
+    v12 = v17;
+    m->g0 = v12;
+    memset(f17 + 64, (int)(0u & 255u), 104);
+    if (v11 > 257ull) { goto after8; }
+    put32(f17 + 267, 0u);
+    put32(f17 + 264, 0u);
+    v11 = 0ull;
+    v1 = 258ull;
+    v6 = 33u;
+    goto after1;
+after8:;
+    c_lent_kept_CCard_fitting(m, v17 + 64ull, v1, v3, v5);
+    if (get8(f17 + 64) != 1u) { goto after6; }
+    v5 = v4 + ((v4 == 0) ? 4096ull : 0ull);
+    v3 = v2 + ((v2 == 0) ? 4096ull : 0ull);
+    copy(m, v17 + 168ull, v17 + 72ull, 96ull);
+    v13 = load8(m, v1 + 496ull, 0);
+    v4 = v1 + 64ull;
+    v2 = v10 + ((v10 == 0) ? 4096ull : 0ull);
+    w3 = v7 + ((v7 == 0) ? 4096ull : 0ull);
+    v7 = v1 + 480ull;
+    v10 = load64(m, v7, 0);
+    session_core_lines_Line_happen(m, v17 + 48ull, v4, v6, w3, v8, v9, v2, (v11 < v10) ? v11 : v10);
+    v10 = get64(f17 + 56);
+    v14 = 1u;
+    v6 = get8(f17 + 48);
+    if ((1u << (v6 & 31)) & 243u) { goto after9; }
+    if (v6 != 2u) { goto after10; }
+    put64(f17 + 280, 0ull);
+    put64(f17 + 272, 0ull);
+    put64(f17 + 264, 0ull);
+    v6 = get8(f17 + 208);
+    v8 = v1 + 216ull;
+    v10 = v1 + 208ull;
+    v11 = load64(m, v10, 0);
+    t1_core_lent_LentCard_received_into(m, v17 + 264ull, v17 + 168ull, v3, v5, v8, (v11 < 259ull) ? v11 : 259ull, v2);
+    if (get8(f17 + 264)) { goto after5; }
+    if (get8(f17 + 272)) { goto after11; }
+    v11 = get64(f17 + 280);
+    p190 = held(m, v1 + 128ull, 360);
+    put_held64(p190, 0, m, v1 + 128ull, 0xFFFFFFFFFFFFFFFFull);
+    put_held64(p190, 352, m, v1 + 128ull, v11);
+    session_core_progress_Progress_talk(m, v17, v1 + 120ull, v4, v10, v9);
+    v7 = get64(f17 + 8);
+    v6 = get8(f17);
+    if (v6 != 2u) { goto after12; }
+    if ((held8(p190, 72, m, v1 + 128ull) & 255u) == 0) { goto after12; }
+    store64(m, v10, 0, 4ull);
+    store32(m, v8, 0, 0x1000000u);
+    goto after3;
+after12:;
+    v14 = 1u;
+    v15 = v6;
+    switch (v6) {
+        case 1: goto after16;
+        case 2: goto after3;
+        case 3: goto after3;
+        case 4: goto after15;
+        case 5: goto after14;
+        case 6: goto after13;
+        case 7: goto after3;
+        default: goto after2;
+    }
+after16:;
+    v14 = 1u;
+    v6 = 0u;
+    v15 = 1u;
+    v11 = v7;
+    goto after2;
+after15:;
+    v15 = 8u;
+    goto after4;
+after14:;
+    v15 = 9u;
+    goto after4;
+after13:;
+    v15 = 10u;
+    goto after4;
+after11:;
+    v11 = 0ull;
+    v10 = v1 + 488ull;
+    w0 = v10;
+    v10 = load64(m, v10, 0) + 1ull;
+    store64(m, w0, 0, ((v6 & 255u) == 4u) ? ((v10 == 0) ? 0xFFFFFFFFFFFFFFFFull : v10) : 0ull);
+    put64(f17 + 296, 0ull);
+    put64(f17 + 304, 0ull);
+    put64(f17 + 312, 0ull);
+    put16(f17 + 294, 103u);
+    v14 = 1u;
+    if ((1u << (get8(f17 + 208) & 31)) & 11u) { goto after17; }
+    v11 = get64(f17 + 248);
+after17:;
+    v15 = 7u;
+    v6 = 0u;
+    if (v13 & 255u) { goto after2; }
+    if (v11 > 3ull) { goto after2; }
+    session_core_card_reply(m, v17 + 296ull, v17 + 168ull, v4, v7, v5, v17 + 294ull, 2ull, v9, v2);
+    v14 = (u32)(get8(f17 + 296) == 0);
+    v11 = get64(f17 + 312);
+    v15 = get8(f17 + 304);
+    v6 = get8(f17 + 297);
+    goto after2;
+after10:;
+    p359 = held(m, v1 + 80ull, 56);
+    put_held64(p359, 48, m, v1 + 80ull, 0xFFFFFFFFFFFFFFFFull);
+    v11 = v1 + 120ull;
+    if (held64(p359, 0, m, v1 + 80ull) >= load64(m, v11, 0)) { goto after19; }
+    session_core_progress_Progress_drop_octets(m, v17 + 16ull, v11, v4, 7u, v9);
+    v11 = get64(f17 + 24);
+    goto after18;
+after19:;
+    session_core_progress_Progress_await_block(m, v17 + 32ull, v11, v4, v1 + 208ull, v9);
+    v11 = get64(f17 + 40);
+after18:;
+    v14 = 1u;
+    v6 = 0u;
+    v15 = 1u;
+    goto after2;
+after9:;
+    v11 = load64(m, v7, 0);
+    v15 = v6;
+    switch (v6) {
+        case 1: goto after25;
+        case 2: goto after21;
+        case 3: goto after21;
+        case 4: goto after24;
+        case 5: goto after23;
+        case 6: goto after22;
+        case 7: goto after21;
+        default: goto after2;
+    }
+after25:;
+    v15 = 1u;
+    v6 = 0u;
+    v14 = 1u;
+    v11 = v10;
+    goto after2;
+after24:;
+    v11 = 0ull;
+    v15 = 8u;
+    goto after20;
+after23:;
+    v11 = 0ull;
+    v15 = 9u;
+    goto after20;
+after22:;
+    v11 = 0ull;
+    v15 = 10u;
+    goto after20;
+after21:;
+    v11 = 0ull;
+    v15 = 11u;
+after20:;
+    v6 = 0u;
+    goto after2;
+after6:;
+    put32(f17 + 267, 0u);
+    put32(f17 + 264, 0u);
+    v1 = 0ull;
+    v6 = 32u;
+    v11 = 0ull;
+    goto after1;
+after5:;
+    v14 = 0u;
+    v6 = get8(f17 + 265);
+    v15 = 0u;
+    v11 = 0ull;
+    goto after2;
+after4:;
+    v6 = 0u;
+    v11 = 0ull;
+    goto after2;
+after3:;
+    v15 = 11u;
+    v6 = 0u;
+    v14 = 1u;
+    v11 = 0ull;
+after2:;
+    v13 = get8(f17 + 208);
+    v16 = v13;
+    v10 = 0ull;
+    switch ((u32)(((u64)v13) & 255ull)) {
+        case 1: goto after30;
+        case 2: goto after30;
+        case 3: goto after29;
+        case 4: goto after28;
+        default: goto after26;
+    }
+after30:;
+    v16 = 0u;
+    goto after27;
+after29:;
+    v13 = 3u;
+    v10 = get64(f17 + 216);
+    v16 = get8(f17 + 224);
+    goto after26;
+after28:;
+    v13 = (get8(f17 + 209)) ? 5u : 4u;
+    v16 = get8(f17 + 210);
+after27:;
+    v10 = 0ull;
+after26:;
+    p548 = held(m, v1, 64);
+    put_held8(p548, 8, m, v1, v16);
+    put_held8(p548, 7, m, v1, v13);
+    put_held8(p548, 6, m, v1, get8(f17 + 202));
+    put_held16(p548, 4, m, v1, get16(f17 + 200));
+    put_held16(p548, 0, m, v1, get16(f17 + 168));
+    v13 = get8(f17 + 176);
+    put_held8(p548, 2, m, v1, v13 & 1u);
+    v13 = (u32)(v13 == 1u);
+    put_held8(p548, 3, m, v1, v13 ? get8(f17 + 192) : 0u);
+    v7 = get64(f17 + 256);
+    v4 = get64(f17 + 248);
+    v2 = get64(f17 + 240);
+    v5 = get64(f17 + 232);
+    v3 = get64(f17 + 184);
+    put_held32(p548, 12, m, v1, 0u);
+    put_held32(p548, 9, m, v1, 0u);
+    put_held64(p548, 16, m, v1, v13 ? v3 : 0ull);
+    put_held64(p548, 24, m, v1, v10);
+    put_held64(p548, 32, m, v1, v5);
+    put_held64(p548, 40, m, v1, v2);
+    put_held64(p548, 48, m, v1, v4);
+    put_held64(p548, 56, m, v1, v7);
+    if (v14 == 0) { goto after32; }
+    v1 = 0ull;
+    v6 = 68u;
+    switch ((u32)(((u64)v15) & 255ull)) {
+        case 1: goto after33;
+        case 2: goto after36;
+        case 3: goto after38;
+        case 4: goto after44;
+        case 5: goto after43;
+        case 6: goto after42;
+        case 7: goto after36;
+        case 8: goto after40;
+        case 9: goto after39;
+        case 10: goto after37;
+        case 11: goto after41;
+        default: goto after45;
+    }
+after45:;
+    v6 = 0u;
+    goto after35;
+after44:;
+    v1 = 0ull;
+    v6 = 2u;
+    goto after34;
+after43:;
+    v1 = 0ull;
+    v6 = 3u;
+    goto after34;
+after42:;
+    v1 = 0ull;
+    v6 = 4u;
+    goto after34;
+after41:;
+    v1 = 0ull;
+    v6 = 21u;
+    goto after34;
+after40:;
+    v1 = 0ull;
+    v6 = 64u;
+    goto after34;
+after39:;
+    v1 = 0ull;
+    v6 = 65u;
+    goto after34;
+after38:;
+    v6 = 66u;
+    goto after35;
+after37:;
+    v1 = 0ull;
+    v6 = 67u;
+    goto after34;
+after36:;
+    v6 = 1u;
+after35:;
+    v1 = v11;
+after34:;
+    v11 = 0ull;
+after33:;
+    put32(f17 + 299, 0u);
+    put32(f17 + 296, 0u);
+    goto after31;
+after32:;
+    put32(f17 + 299, 0u);
+    put32(f17 + 296, 0u);
+    v6 = 0x131215u >> (((v6 & 255u) << 3) & 31);
+    v1 = 0ull;
+    v11 = 0ull;
+after31:;
+    put32(f17 + 267, get32(f17 + 299));
+    put32(f17 + 264, get32(f17 + 296));
+after1:;
+    p749 = held(m, v0, 24);
+    put_held8(p749, 0, m, v0, v6);
+    put_held32(p749, 1, m, v0, get32(f17 + 264));
+    put_held32(p749, 4, m, v0, get32(f17 + 267));
+    put_held64(p749, 16, m, v0, v11);
+    put_held64(p749, 8, m, v0, v1);
+    m->g0 = v17 + 320ull;
+}
+
 static void module_scard_lent_check_begin(struct call *m, u64 v0, u64 v1, u64 v2)
 {
     u32 t0 = 0;
@@ -18409,8 +20497,8 @@ static void rattle_export_scard_lent_judge_begin(struct call *m, u64 v0, u64 v1,
     u8 *f5 = NULL;
     u8 *p113 = NULL;
     u8 *p120 = NULL;
-    v5 = m->g0 - 1760ull;
-    f5 = at(m, v5, 1760);
+    v5 = m->g0 - 1776ull;
+    f5 = at(m, v5, 1776);
     v3 = v5;
     m->g0 = v3;
     v4 = 4ull;
@@ -18421,19 +20509,19 @@ static void rattle_export_scard_lent_judge_begin(struct call *m, u64 v0, u64 v1,
     put8(f5 + 15, 1u);
     put8(f5 + 14, v2);
     put8(f5 + 13, v2);
-    memset(f5 + 16, (int)(0u & 255u), 280);
-    put64(f5 + 297, 0ull);
-    put8(f5 + 296, 1u);
-    put8(f5 + 313, 4u);
-    put64(f5 + 305, 0x1202000000000ull);
-    memset(f5 + 314, (int)(0u & 255u), 294);
-    memset(f5 + 896, (int)(0u & 255u), 288);
-    memset(f5 + 608, (int)(0u & 255u), 288);
-    c_lent_kept_judge_CWatched_of(m, v5 + 896ull, v5);
-    c_lent_kept_judge_CWatched_of(m, v5 + 608ull, v5 + 296ull);
-    copy(m, v5 + 1184ull, v5 + 896ull, 288ull);
-    copy(m, (v5 + 1184ull) + 288ull, v5 + 608ull, 288ull);
-    copy(m, v1, v5 + 1184ull, 576ull);
+    memset(f5 + 16, (int)(0u & 255u), 288);
+    put64(f5 + 305, 0ull);
+    put8(f5 + 304, 1u);
+    put8(f5 + 321, 4u);
+    put64(f5 + 313, 0x1202000000000ull);
+    memset(f5 + 322, (int)(0u & 255u), 302);
+    memset(f5 + 912, (int)(0u & 255u), 288);
+    memset(f5 + 624, (int)(0u & 255u), 288);
+    c_lent_kept_judge_CWatched_of(m, v5 + 912ull, v5);
+    c_lent_kept_judge_CWatched_of(m, v5 + 624ull, v5 + 304ull);
+    copy(m, v5 + 1200ull, v5 + 912ull, 288ull);
+    copy(m, (v5 + 1200ull) + 288ull, v5 + 624ull, 288ull);
+    copy(m, v1, v5 + 1200ull, 576ull);
     p113 = held(m, v1 + 576ull, 16);
     put_held64(p113, 8, m, v1 + 576ull, 0ull);
     put_held64(p113, 0, m, v1 + 576ull, 0ull);
@@ -18441,7 +20529,7 @@ after2:;
     p120 = held(m, v0, 16);
     put_held64(p120, 8, m, v0, 0ull);
     put_held64(p120, 0, m, v0, v4);
-    m->g0 = v5 + 1760ull;
+    m->g0 = v5 + 1776ull;
     return;
 }
 
@@ -18483,403 +20571,465 @@ static void rattle_export_scard_lent_judge_block(struct call *m, u64 v0, u64 v1,
     u32 v27 = 0;
     u32 v28 = 0;
     u8 *f29 = NULL;
-    u8 *p88 = NULL;
-    u8 *p847 = NULL;
-    u8 *p1068 = NULL;
-    u8 *p1107 = NULL;
-    v29 = m->g0 - 2400ull;
-    f29 = at(m, v29, 2400);
+    u8 *p86 = NULL;
+    u8 *p1088 = NULL;
+    u8 *p1309 = NULL;
+    u8 *p1348 = NULL;
+    v29 = m->g0 - 2448ull;
+    f29 = at(m, v29, 2448);
     v9 = v29;
     m->g0 = v9;
     v10 = 0u;
     v11 = 4ull;
     switch ((u32)(((u64)v2) & 255ull)) {
-        case 0: goto after7;
-        case 1: goto after8;
+        case 0: goto after5;
+        case 1: goto after6;
         default: goto after1;
     }
-after8:;
+after6:;
     v10 = 1u;
-after7:;
+after5:;
     v12 = 0ull;
     v13 = 0ull;
     v14 = 0ull;
     v15 = (u64)v5;
     switch ((u32)(v15 & 255ull)) {
-        case 0: goto after9;
-        case 1: goto after9;
-        case 2: goto after10;
+        case 0: goto after7;
+        case 1: goto after7;
+        case 2: goto after8;
         default: goto after1;
     }
-after10:;
+after8:;
     v13 = v6 + ((v6 == 0) ? 4096ull : 0ull);
     v14 = v7;
-after9:;
+after7:;
     v16 = 0u;
-    memset(f29 + 912, (int)(0u & 255u), 296);
-    memset(f29 + 616, (int)(0u & 255u), 296);
-    c_lent_kept_judge_CWatched_watched(m, v29 + 912ull, v1);
-    c_lent_kept_judge_CWatched_watched(m, v29 + 616ull, v1 + 288ull);
-    p88 = held(m, v1 + 576ull, 10);
-    v11 = held64(p88, 0, m, v1 + 576ull);
-    v17 = held8(p88, 9, m, v1 + 576ull);
-    v18 = held8(p88, 8, m, v1 + 576ull);
-    copy(m, v29 + 1208ull, v29 + 912ull, 296ull);
-    copy(m, (v29 + 1208ull) + 296ull, v29 + 616ull, 296ull);
-    copy(m, v29 + 8ull, v29 + 1208ull, 592ull);
-    put32(f29 + 602, 0u);
+    memset(f29 + 936, (int)(0u & 255u), 304);
+    memset(f29 + 632, (int)(0u & 255u), 304);
+    c_lent_kept_judge_CWatched_watched(m, v29 + 936ull, v1);
+    c_lent_kept_judge_CWatched_watched(m, v29 + 632ull, v1 + 288ull);
+    p86 = held(m, v1 + 576ull, 10);
+    v11 = held64(p86, 0, m, v1 + 576ull);
+    v17 = held8(p86, 9, m, v1 + 576ull);
+    v18 = held8(p86, 8, m, v1 + 576ull);
+    copy(m, v29 + 1240ull, v29 + 936ull, 304ull);
+    copy(m, (v29 + 1240ull) + 304ull, v29 + 632ull, 304ull);
+    copy(m, v29 + 8ull, v29 + 1240ull, 608ull);
+    put32(f29 + 618, 0u);
     v19 = v18 ? v17 : 0u;
-    put8(f29 + 601, v19);
-    v2 = (u32)(v18 != 0u);
-    put8(f29 + 600, v2);
-    put16(f29 + 606, 0u);
-    put64(f29 + 912, 0ull);
-    put64(f29 + 616, 0ull);
-    put64(f29 + 624, 0ull);
+    put8(f29 + 617, v19);
+    v20 = (u32)(v18 != 0u);
+    put8(f29 + 616, v20);
+    put16(f29 + 622, 0u);
+    put64(f29 + 936, 0ull);
     put64(f29 + 632, 0ull);
     put64(f29 + 640, 0ull);
-    judge_core_class_class_of(m, v29 + 616ull, v3 + ((v3 == 0) ? 4096ull : 0ull), v4);
-    v20 = get8(f29 + 616);
-    put8(f29 + 912, v20);
-    put8(f29 + 913, get8(f29 + 617));
-    put64(f29 + 920, get64(f29 + 624));
-    put64(f29 + 928, get64(f29 + 632));
-    put64(f29 + 936, get64(f29 + 640));
-    put64(f29 + 1232, 0ull);
-    put64(f29 + 1224, 0ull);
-    put64(f29 + 1216, 0ull);
-    put64(f29 + 1208, 0ull);
+    put64(f29 + 648, 0ull);
+    put64(f29 + 656, 0ull);
+    judge_core_class_class_of(m, v29 + 632ull, v3 + ((v3 == 0) ? 4096ull : 0ull), v4);
+    v2 = get8(f29 + 632);
+    put8(f29 + 936, v2);
+    put8(f29 + 937, get8(f29 + 633));
+    put64(f29 + 944, get64(f29 + 640));
+    put64(f29 + 952, get64(f29 + 648));
+    put64(f29 + 960, get64(f29 + 656));
+    put64(f29 + 1264, 0ull);
+    put64(f29 + 1256, 0ull);
+    put64(f29 + 1248, 0ull);
+    put64(f29 + 1240, 0ull);
     v21 = 1u;
     v22 = 0u;
     v23 = 0u;
     v24 = 0u;
-    v25 = 1u;
+    v25 = 0u;
     v26 = 1u;
-    if ((v5 & 255u) != 2u) { goto after11; }
-    judge_core_class_class_of(m, v29 + 1208ull, v13, v14);
-    v25 = (u32)(get64(f29 + 1232) == 0);
-    v26 = (u32)(get8(f29 + 1208) == 0);
-    v12 = get64(f29 + 1224);
-    v24 = get8(f29 + 1219);
-    v23 = get8(f29 + 1218);
-    v22 = get8(f29 + 1217);
-    v16 = get8(f29 + 1216);
-after11:;
-    put64(f29 + 1208, 0ull);
-    put64(f29 + 1216, 0ull);
-    put64(f29 + 1223, 0ull);
-    put64(f29 + 1800, 0ull);
-    put64(f29 + 1808, 0ull);
-    put64(f29 + 1815, 0ull);
+    v27 = 1u;
+    if ((v5 & 255u) != 2u) { goto after9; }
+    judge_core_class_class_of(m, v29 + 1240ull, v13, v14);
+    v26 = (u32)(get64(f29 + 1264) == 0);
+    v12 = get64(f29 + 1256);
+    v25 = get8(f29 + 1251);
+    v24 = get8(f29 + 1250);
+    v23 = get8(f29 + 1249);
+    v22 = get8(f29 + 1248);
+    v16 = (u32)(get8(f29 + 1240) == 0);
+    v27 = v16;
+after9:;
+    put64(f29 + 1240, 0ull);
+    put64(f29 + 1248, 0ull);
+    put64(f29 + 1255, 0ull);
+    put64(f29 + 1848, 0ull);
+    put64(f29 + 1856, 0ull);
+    put64(f29 + 1863, 0ull);
+    if (v2 & 255u) { goto after10; }
+    v5 = get8(f29 + 944);
+    v28 = v5 & 0xFFFFFF88u;
+    if (v18 == 0) { goto after11; }
+    v21 = 0u;
+    if (v28 & 255u) { goto after10; }
+    v18 = v5 & 255u;
     if (v18 == 0) { goto after12; }
-    if (v20 & 255u) { goto after12; }
-    v18 = get8(f29 + 920);
-    v21 = (u32)(((v10 ? ((v18 << 4) | (v18 >> 4)) : v18) & 255u) == (v17 & 255u));
+    if ((v18 >> 4) == (v5 & 7u)) { goto after10; }
 after12:;
+    v21 = (u32)(((v10 ? ((v5 << 4) | ((v5 & 240u) >> 4)) : v5) & 255u) == (v17 & 255u));
+    goto after10;
+after11:;
+    v21 = 0u;
+    if (v28 & 255u) { goto after10; }
+    v18 = v5 & 255u;
+    v21 = ((u32)(v18 == 0)) | ((u32)((v18 >> 4) != (v5 & 7u)));
+after10:;
     v11 = v11 + 1ull;
     v11 = (v11 == 0) ? 0xFFFFFFFFFFFFFFFFull : v11;
-    put64(f29 + 608, v11);
-    if ((v20 | v2) & 255u) { goto after13; }
-    v2 = get8(f29 + 920);
-    v19 = v10 ? ((v2 << 4) | (v2 >> 4)) : v2;
-    v2 = 1u;
-after13:;
-    put8(f29 + 601, v19);
-    put8(f29 + 600, v2);
-    if ((v5 & 255u) != 2u) { goto after23; }
-    if (v26 & v2) { goto after22; }
-after23:;
-    if (v10 == 0) { goto after21; }
-    v5 = 0u;
-    v10 = 3u;
-    switch ((u32)(v15 & 255ull)) {
-        case 1: goto after3;
-        case 2: goto after15;
-        default: goto after16;
-    }
-after22:;
-    v5 = (v10 ? ((v16 << 4) | ((v16 & 240u) >> 4)) : v16) & 255u;
-    v2 = v19 & 255u;
-    if (v10) { goto after20; }
-    v26 = (u32)(v5 == v2);
-after21:;
-    v10 = 2u;
-    v3 = get64(f29 + 296);
-    switch ((u32)(u64)get8(f29 + 321)) {
-        case 1: goto after17;
-        case 2: goto after19;
-        default: goto after18;
-    }
-after20:;
-    if (v5 == v2) { goto after14; }
-    goto after5;
-after19:;
-    v10 = 1u;
-    goto after17;
-after18:;
-    v3 = 0ull;
-    v10 = 0u;
-after17:;
-    v5 = 0u;
-    v2 = 4u;
-    switch ((u32)(v15 & 255ull)) {
-        case 1: goto after24;
-        case 2: goto after25;
-        default: goto after26;
-    }
-after26:;
-    v5 = 0u;
-    if ((((u32)((v20 & 255u) != 0u)) | (v21 ^ 1u)) == 0) { goto after28; }
-    v2 = 3u;
-    v18 = 0u;
-    v16 = 0u;
+    put64(f29 + 624, v11);
+    if ((v2 | v20) & 255u) { goto after18; }
     v20 = 0u;
-    goto after27;
-after28:;
-    v2 = 2u;
-    v20 = get8(f29 + 923);
-    v16 = get8(f29 + 922);
-    v18 = get8(f29 + 921);
-    if (get64(f29 + 936) == 0) { goto after27; }
-    v5 = load8(m, get64(f29 + 928), 0) << 24;
-after27:;
-    v5 = ((((v16 & 255u) << 8) | (v18 & 255u)) | ((v20 & 255u) << 16)) | v5;
-    goto after24;
+    v5 = get8(f29 + 944);
+    if (v5 & 136u) { goto after18; }
+    v17 = v5 >> 4;
+    if (v5 == 0) { goto after17; }
+    if (v17 != (v5 & 7u)) { goto after17; }
+after18:;
+    put8(f29 + 617, v19);
+    put8(f29 + 616, v20);
+    if (v16) { goto after16; }
+    v18 = 1u;
+    goto after13;
+after17:;
+    v18 = 1u;
+    put8(f29 + 616, 1u);
+    v19 = v10 ? ((v5 << 4) | v17) : v5;
+    put8(f29 + 617, v19);
+    if (v16 == 0) { goto after13; }
+    if ((v22 & 136u) == 0) { goto after15; }
+    v18 = 0u;
+    goto after13;
+after16:;
+    v5 = v22 & 136u;
+    if (v20 == 0) { goto after14; }
+    if (v5 == 0) { goto after15; }
+    v18 = 0u;
+    goto after13;
+after15:;
+    v5 = v22 & 255u;
+    if (v5 == 0) { goto after19; }
+    if ((v5 >> 4) != (v22 & 7u)) { goto after19; }
+    v18 = 0u;
+    goto after13;
+after19:;
+    v18 = (u32)(((v10 ? ((v22 << 4) | ((v22 & 240u) >> 4)) : v22) & 255u) == (v19 & 255u));
+    goto after13;
+after14:;
+    if (v5 == 0) { goto after20; }
+    v18 = 0u;
+    goto after13;
+after20:;
+    v5 = v22 & 255u;
+    v18 = ((u32)(v5 == 0)) | ((u32)((v5 >> 4) != (v22 & 7u)));
+after13:;
+    if (v10) { goto after22; }
+    v5 = 2u;
+    v3 = get64(f29 + 296);
+    switch ((u32)(u64)get8(f29 + 329)) {
+        case 1: goto after23;
+        case 2: goto after25;
+        default: goto after24;
+    }
 after25:;
+    v5 = 1u;
+    goto after23;
+after24:;
+    v3 = 0ull;
     v5 = 0u;
-    if (v26) { goto after30; }
-    v2 = 3u;
+after23:;
+    v4 = get64(f29 + 600);
+    judge_core_monitor_Watched_sent(m, v29 + 1240ull, v29 + 8ull, v21, v29 + 936ull, v11);
+    v10 = 0u;
+    v20 = 4u;
+    switch ((u32)(v15 & 255ull)) {
+        case 1: goto after26;
+        case 2: goto after27;
+        default: goto after28;
+    }
+after28:;
+    v10 = 0u;
+    if ((((u32)((v2 & 255u) != 0u)) | (v21 ^ 1u)) == 0) { goto after30; }
+    v20 = 3u;
+    v18 = 0u;
+    v21 = 0u;
     v22 = 0u;
-    v23 = 0u;
-    v24 = 0u;
     goto after29;
 after30:;
-    v2 = 1u;
-    if (v25) { goto after29; }
-    v5 = load8(m, v12, 0) << 24;
+    v20 = 2u;
+    v22 = get8(f29 + 947);
+    v21 = get8(f29 + 946);
+    v18 = get8(f29 + 945);
+    if (get64(f29 + 960) == 0) { goto after29; }
+    v10 = load8(m, get64(f29 + 952), 0) << 24;
 after29:;
-    v5 = ((((v23 & 255u) << 8) | (v22 & 255u)) | ((v24 & 255u) << 16)) | v5;
-after24:;
-    put32(f29 + 322, v5);
-    put8(f29 + 321, v2);
-    judge_core_monitor_Watched_sent(m, v29 + 1208ull, v29 + 8ull, v21, v29 + 912ull, v11);
-    v11 = v29 + 1208ull;
-    v27 = get8(f29 + 1230);
-    v28 = get8(f29 + 1229);
-    v26 = get8(f29 + 1228);
-    v17 = get8(f29 + 1216);
-    v22 = get16(f29 + 1214);
-    v23 = get8(f29 + 1213);
-    v24 = get8(f29 + 1212);
-    v25 = get8(f29 + 1210);
-    v5 = get8(f29 + 1209);
-    v4 = get64(f29 + 592);
-    goto after2;
-after16:;
-    v5 = 0u;
-    if ((((u32)((v20 & 255u) != 0u)) | (v21 ^ 1u)) == 0) { goto after32; }
-    v10 = 3u;
-    v2 = 0u;
-    v18 = 0u;
-    v16 = 0u;
-    goto after31;
-after32:;
-    v10 = 2u;
-    v16 = get8(f29 + 923);
-    v18 = get8(f29 + 922);
-    v2 = get8(f29 + 921);
-    if (get64(f29 + 936) == 0) { goto after31; }
-    v5 = load8(m, get64(f29 + 928), 0) << 24;
-after31:;
-    v5 = ((((v18 & 255u) << 8) | (v2 & 255u)) | ((v16 & 255u) << 16)) | v5;
-    goto after3;
-after15:;
-    if (v26 == 0) { goto after5; }
-after14:;
-    v10 = 1u;
-    if (v25 == 0) { goto after33; }
-    v5 = 0u;
-    goto after4;
-after33:;
-    v5 = load8(m, v12, 0) << 24;
-    goto after4;
-after5:;
-    v22 = 0u;
-    v10 = 3u;
+    v10 = ((((v21 & 255u) << 8) | (v18 & 255u)) | ((v22 & 255u) << 16)) | v10;
+    goto after26;
+after27:;
+    v20 = 1u;
+    v10 = 0u;
+    if ((v27 & v18) == 1u) { goto after32; }
+    v20 = 3u;
     v23 = 0u;
     v24 = 0u;
-    v5 = 0u;
-after4:;
-    v5 = ((((v23 & 255u) << 8) | (v22 & 255u)) | ((v24 & 255u) << 16)) | v5;
-after3:;
-    put32(f29 + 26, v5);
-    put8(f29 + 25, v10);
-    judge_core_monitor_Watched_sent(m, v29 + 1800ull, v29 + 304ull, v21, v29 + 912ull, v11);
-    v11 = v29 + 1800ull;
-    v3 = 0ull;
-    v10 = 0u;
-    v27 = get8(f29 + 1822);
-    v28 = get8(f29 + 1821);
-    v26 = get8(f29 + 1820);
-    v17 = get8(f29 + 1808);
-    v22 = get16(f29 + 1806);
-    v23 = get8(f29 + 1805);
-    v24 = get8(f29 + 1804);
-    v25 = get8(f29 + 1802);
-    v5 = get8(f29 + 1801);
-    v4 = get64(f29 + 296);
-after2:;
-    v16 = load8(m, v11, 0);
-    v18 = 0u;
-    memset(f29 + 1208, (int)(0u & 255u), 288);
-    memset(f29 + 912, (int)(0u & 255u), 288);
-    v20 = get8(f29 + 601);
-    v2 = get8(f29 + 600);
-    c_lent_kept_judge_CWatched_of(m, v29 + 1208ull, v29 + 8ull);
-    c_lent_kept_judge_CWatched_of(m, v29 + 912ull, v29 + 304ull);
-    v11 = get64(f29 + 608);
-    copy(m, v29 + 1824ull, v29 + 1208ull, 288ull);
-    copy(m, (v29 + 1824ull) + 288ull, v29 + 912ull, 288ull);
-    copy(m, v1, v29 + 1824ull, 576ull);
-    p847 = held(m, v1 + 576ull, 16);
-    put_held32(p847, 10, m, v1 + 576ull, 0u);
-    put_held8(p847, 9, m, v1 + 576ull, (v2 == 1u) ? v20 : 0u);
-    put_held8(p847, 8, m, v1 + 576ull, v2 & 1u);
-    put_held64(p847, 0, m, v1 + 576ull, v11);
-    put_held16(p847, 14, m, v1 + 576ull, 0u);
-    if (v16 == 1u) { goto after36; }
-    v5 = 1u;
-    goto after35;
-after36:;
-    v18 = v5;
-    v2 = v5;
-    v16 = v5;
-    v20 = v5;
-    v19 = v5;
-    v21 = v5;
-    switch ((u32)(((u64)v5) & 255ull)) {
-        case 1: goto after38;
-        case 2: goto after37;
-        default: goto after34;
-    }
-after38:;
-    v5 = 2u;
-    v18 = 0u;
-    goto after35;
-after37:;
-    v2 = 1u;
-    v16 = v26;
-    switch ((u32)(((u64)v26) & 255ull)) {
-        case 1: goto after51;
-        case 2: goto after50;
-        case 3: goto after49;
-        case 4: goto after48;
-        case 5: goto after47;
-        case 6: goto after46;
-        case 7: goto after45;
-        case 8: goto after44;
-        case 9: goto after42;
-        case 10: goto after41;
-        case 11: goto after40;
-        case 12: goto after43;
-        default: goto after39;
-    }
-after51:;
-    v16 = 0u;
-    v2 = 2u;
-    goto after39;
-after50:;
-    v16 = 0u;
-    v2 = 3u;
-    goto after39;
-after49:;
-    v16 = 0u;
-    v2 = 4u;
-    goto after39;
-after48:;
-    v16 = 0u;
-    v2 = 5u;
-    goto after39;
-after47:;
-    v16 = 0u;
-    v2 = 6u;
-    goto after39;
-after46:;
-    v16 = 0u;
-    v2 = 7u;
-    goto after39;
-after45:;
-    v2 = 8u;
-    v16 = v27;
-    switch ((u32)(((u64)v28) & 255ull)) {
-        case 1: goto after54;
-        case 2: goto after53;
-        case 3: goto after52;
-        default: goto after39;
-    }
-after54:;
-    v2 = 9u;
-    v16 = v27;
-    goto after39;
-after53:;
-    v2 = 10u;
-    v16 = v27;
-    goto after39;
-after52:;
-    v2 = 11u;
-    v16 = v27;
-    goto after39;
-after44:;
-    v16 = 0u;
-    v2 = 12u;
-    goto after39;
-after43:;
-    v16 = 0u;
-    v2 = 13u;
-    goto after39;
-after42:;
-    v16 = 0u;
-    v2 = 14u;
-    goto after39;
-after41:;
-    v16 = 0u;
-    v2 = 15u;
-    goto after39;
-after40:;
-    v16 = 0u;
-    v2 = 16u;
-after39:;
-    v18 = v25 + 1u;
-    v21 = ((v22 & 65535u) < 256u) ? 0u : (v17 + 1u);
-    v5 = 3u;
-    v20 = v24;
-    v19 = v23;
-    goto after34;
-after35:;
-    v2 = 0u;
-    v16 = 0u;
-    v20 = 0u;
-    v19 = 0u;
-    v21 = 0u;
+    v25 = 0u;
+    goto after31;
+after32:;
+    if (v26) { goto after31; }
+    v10 = load8(m, v12, 0) << 24;
+after31:;
+    v10 = ((((v24 & 255u) << 8) | (v23 & 255u)) | ((v25 & 255u) << 16)) | v10;
+after26:;
+    v18 = get8(f29 + 329);
+    if (v18 > 2u) { goto after33; }
+    v21 = get8(f29 + 315);
+    v22 = get8(f29 + 314);
+    if (v18 == 0) { goto after34; }
+    if (get8(f29 + 327) & 1u) { goto after34; }
+    v18 = get8(f29 + 330);
+    v21 = v18 ? v21 : 0u;
+    v22 = v18 ? v22 : ((u32)(get8(f29 + 331) == 0));
 after34:;
-    p1068 = held(m, v8, 32);
-    put_held8(p1068, 31, m, v8, v21);
-    put_held8(p1068, 30, m, v8, v19);
-    put_held8(p1068, 29, m, v8, v20);
-    put_held8(p1068, 28, m, v8, v16);
-    put_held8(p1068, 27, m, v8, v2);
-    put_held8(p1068, 26, m, v8, v10);
-    put_held8(p1068, 25, m, v8, v18);
-    put_held8(p1068, 24, m, v8, v5);
-    put_held64(p1068, 8, m, v8, v4);
-    put_held64(p1068, 0, m, v8, v11);
+    put8(f29 + 608, 2u);
+    put8(f29 + 315, v21);
+    put8(f29 + 314, v22);
+after33:;
+    if (v2 & 255u) { goto after36; }
+    if ((get8(f29 + 945) & 255u) != 1u) { goto after35; }
+after36:;
+    put8(f29 + 608, (get8(f29 + 608)) ? 2u : 0u);
+after35:;
+    put32(f29 + 330, v10);
+    put8(f29 + 329, (v20 == 1u) ? ((get8(f29 + 304) == 1u) ? 2u : v20) : v20);
+    v11 = v29 + 1240ull;
+    v26 = get8(f29 + 1262);
+    v28 = get8(f29 + 1261);
+    v19 = get8(f29 + 1260);
+    v17 = get8(f29 + 1248);
+    v23 = get16(f29 + 1246);
+    v24 = get8(f29 + 1245);
+    v25 = get8(f29 + 1244);
+    v27 = get8(f29 + 1242);
+    v2 = get8(f29 + 1241);
+    goto after21;
+after22:;
+    v4 = get64(f29 + 296);
+    judge_core_monitor_Watched_sent(m, v29 + 1848ull, v29 + 312ull, v21, v29 + 936ull, v11);
+    v20 = 0u;
+    v5 = 3u;
+    switch ((u32)(v15 & 255ull)) {
+        case 1: goto after37;
+        case 2: goto after38;
+        default: goto after39;
+    }
+after39:;
+    v20 = 0u;
+    if ((((u32)((v2 & 255u) != 0u)) | (v21 ^ 1u)) == 0) { goto after41; }
+    v5 = 3u;
+    v10 = 0u;
+    v18 = 0u;
+    v21 = 0u;
+    goto after40;
+after41:;
+    v5 = 2u;
+    v21 = get8(f29 + 947);
+    v18 = get8(f29 + 946);
+    v10 = get8(f29 + 945);
+    if (get64(f29 + 960) == 0) { goto after40; }
+    v20 = load8(m, get64(f29 + 952), 0) << 24;
+after40:;
+    v20 = ((((v18 & 255u) << 8) | (v10 & 255u)) | ((v21 & 255u) << 16)) | v20;
+    goto after37;
+after38:;
+    v5 = 1u;
+    v20 = 0u;
+    if ((v27 & v18) == 1u) { goto after43; }
+    v5 = 3u;
+    v23 = 0u;
+    v24 = 0u;
+    v25 = 0u;
+    goto after42;
+after43:;
+    if (v26) { goto after42; }
+    v20 = load8(m, v12, 0) << 24;
+after42:;
+    v20 = ((((v24 & 255u) << 8) | (v23 & 255u)) | ((v25 & 255u) << 16)) | v20;
+after37:;
+    if (v2 & 255u) { goto after45; }
+    if ((get8(f29 + 945) & 255u) != 1u) { goto after44; }
+after45:;
+    put8(f29 + 304, (get8(f29 + 304)) ? 2u : 0u);
+after44:;
+    put32(f29 + 26, v20);
+    put8(f29 + 25, (v5 == 1u) ? ((get8(f29 + 608) == 1u) ? 2u : v5) : v5);
+    v11 = v29 + 1848ull;
+    v3 = 0ull;
+    v5 = 0u;
+    v26 = get8(f29 + 1870);
+    v28 = get8(f29 + 1869);
+    v19 = get8(f29 + 1868);
+    v17 = get8(f29 + 1856);
+    v23 = get16(f29 + 1854);
+    v24 = get8(f29 + 1853);
+    v25 = get8(f29 + 1852);
+    v27 = get8(f29 + 1850);
+    v2 = get8(f29 + 1849);
+after21:;
+    v18 = load8(m, v11, 0);
+    v10 = 0u;
+    memset(f29 + 1240, (int)(0u & 255u), 288);
+    memset(f29 + 936, (int)(0u & 255u), 288);
+    v21 = get8(f29 + 617);
+    v20 = get8(f29 + 616);
+    c_lent_kept_judge_CWatched_of(m, v29 + 1240ull, v29 + 8ull);
+    c_lent_kept_judge_CWatched_of(m, v29 + 936ull, v29 + 312ull);
+    v11 = get64(f29 + 624);
+    copy(m, v29 + 1872ull, v29 + 1240ull, 288ull);
+    copy(m, (v29 + 1872ull) + 288ull, v29 + 936ull, 288ull);
+    copy(m, v1, v29 + 1872ull, 576ull);
+    p1088 = held(m, v1 + 576ull, 16);
+    put_held32(p1088, 10, m, v1 + 576ull, 0u);
+    put_held8(p1088, 9, m, v1 + 576ull, (v20 == 1u) ? v21 : 0u);
+    put_held8(p1088, 8, m, v1 + 576ull, v20 & 1u);
+    put_held64(p1088, 0, m, v1 + 576ull, v11);
+    put_held16(p1088, 14, m, v1 + 576ull, 0u);
+    if (v18 == 1u) { goto after46; }
+    v2 = 1u;
+    goto after3;
+after46:;
+    v10 = v2;
+    v20 = v2;
+    v18 = v2;
+    v21 = v2;
+    v22 = v2;
+    v16 = v2;
+    switch ((u32)(((u64)v2) & 255ull)) {
+        case 1: goto after48;
+        case 2: goto after47;
+        default: goto after2;
+    }
+after48:;
+    v2 = 2u;
+    v10 = 0u;
+    goto after3;
+after47:;
+    v20 = 1u;
+    v18 = v19;
+    switch ((u32)(((u64)v19) & 255ull)) {
+        case 1: goto after61;
+        case 2: goto after60;
+        case 3: goto after59;
+        case 4: goto after58;
+        case 5: goto after57;
+        case 6: goto after56;
+        case 7: goto after55;
+        case 8: goto after54;
+        case 9: goto after52;
+        case 10: goto after51;
+        case 11: goto after50;
+        case 12: goto after53;
+        default: goto after49;
+    }
+after61:;
+    v18 = 0u;
+    v20 = 2u;
+    goto after49;
+after60:;
+    v18 = 0u;
+    v20 = 3u;
+    goto after49;
+after59:;
+    v18 = 0u;
+    v20 = 4u;
+    goto after49;
+after58:;
+    v18 = 0u;
+    v20 = 5u;
+    goto after49;
+after57:;
+    v18 = 0u;
+    v20 = 6u;
+    goto after49;
+after56:;
+    v18 = 0u;
+    v20 = 7u;
+    goto after49;
+after55:;
+    v20 = 8u;
+    v18 = v26;
+    switch ((u32)(((u64)v28) & 255ull)) {
+        case 1: goto after64;
+        case 2: goto after63;
+        case 3: goto after62;
+        default: goto after49;
+    }
+after64:;
+    v20 = 9u;
+    v18 = v26;
+    goto after49;
+after63:;
+    v20 = 10u;
+    v18 = v26;
+    goto after49;
+after62:;
+    v20 = 11u;
+    v18 = v26;
+    goto after49;
+after54:;
+    v18 = 0u;
+    v20 = 12u;
+    goto after49;
+after53:;
+    v18 = 0u;
+    v20 = 13u;
+    goto after49;
+after52:;
+    v18 = 0u;
+    v20 = 14u;
+    goto after49;
+after51:;
+    v18 = 0u;
+    v20 = 15u;
+    goto after49;
+after50:;
+    v18 = 0u;
+    v20 = 16u;
+after49:;
+    v10 = v27 + 1u;
+    v16 = ((v23 & 65535u) < 256u) ? 0u : (v17 + 1u);
+    v2 = 3u;
+    v21 = v25;
+    v22 = v24;
+    goto after2;
+after3:;
+    v20 = 0u;
+    v18 = 0u;
+    v21 = 0u;
+    v22 = 0u;
+    v16 = 0u;
+after2:;
+    p1309 = held(m, v8, 32);
+    put_held8(p1309, 31, m, v8, v16);
+    put_held8(p1309, 30, m, v8, v22);
+    put_held8(p1309, 29, m, v8, v21);
+    put_held8(p1309, 28, m, v8, v18);
+    put_held8(p1309, 27, m, v8, v20);
+    put_held8(p1309, 26, m, v8, v5);
+    put_held8(p1309, 25, m, v8, v10);
+    put_held8(p1309, 24, m, v8, v2);
+    put_held64(p1309, 8, m, v8, v4);
+    put_held64(p1309, 0, m, v8, v11);
     v11 = 0ull;
-    put_held64(p1068, 16, m, v8, v10 ? v3 : 0ull);
+    put_held64(p1309, 16, m, v8, v5 ? v3 : 0ull);
 after1:;
-    p1107 = held(m, v0, 16);
-    put_held64(p1107, 8, m, v0, 0ull);
-    put_held64(p1107, 0, m, v0, v11);
-    m->g0 = v29 + 2400ull;
+    p1348 = held(m, v0, 16);
+    put_held64(p1348, 8, m, v0, 0ull);
+    put_held64(p1348, 0, m, v0, v11);
+    m->g0 = v29 + 2448ull;
 }
 
 static void module_scard_lent_judge_finish(struct call *m, u64 v0, u64 v1)
@@ -18901,15 +21051,15 @@ static void rattle_export_scard_lent_judge_finish(struct call *m, u64 v0, u64 v1
     u32 v3 = 0;
     u8 *f4 = NULL;
     u8 *p57 = NULL;
-    v4 = m->g0 - 592ull;
-    f4 = at(m, v4, 592);
+    v4 = m->g0 - 608ull;
+    f4 = at(m, v4, 608);
     v2 = v4;
     m->g0 = v2;
-    memset(f4 + 296, (int)(0u & 255u), 296);
-    memset(f4, (int)(0u & 255u), 296);
-    c_lent_kept_judge_CWatched_watched(m, v4 + 296ull, v0);
+    memset(f4 + 304, (int)(0u & 255u), 304);
+    memset(f4, (int)(0u & 255u), 304);
+    c_lent_kept_judge_CWatched_watched(m, v4 + 304ull, v0);
     c_lent_kept_judge_CWatched_watched(m, v4, v0 + 288ull);
-    v0 = get64(f4 + 584);
+    v0 = get64(f4 + 592);
     v3 = 2u;
     switch ((u32)(u64)get8(f4 + 17)) {
         case 1: goto after1;
@@ -18931,7 +21081,7 @@ after1:;
     put_held16(p57, 24, m, v1, 0u);
     put_held64(p57, 16, m, v1, v0);
     put_held8(p57, 31, m, v1, 0u);
-    m->g0 = v4 + 592ull;
+    m->g0 = v4 + 608ull;
 }
 
 static void module_scard_lent_judge_quiet(struct call *m, u64 v0, u64 v1)
@@ -18950,83 +21100,116 @@ static void rattle_export_scard_lent_judge_quiet(struct call *m, u64 v0, u64 v1)
 {
     u64 v2 = 0;
     u64 v3 = 0;
-    u64 v4 = 0;
-    u64 v5 = 0;
-    u64 v7 = 0;
-    u64 v10 = 0;
-    u64 v11 = 0;
+    u64 v9 = 0;
+    u64 v13 = 0;
+    u32 v4 = 0;
+    u32 v5 = 0;
     u32 v6 = 0;
+    u32 v7 = 0;
     u32 v8 = 0;
-    u32 v9 = 0;
-    u8 *f11 = NULL;
-    u8 *p131 = NULL;
-    u8 *p224 = NULL;
-    v11 = m->g0 - 2928ull;
-    f11 = at(m, v11, 2928);
-    v2 = v11;
+    u32 v10 = 0;
+    u32 v11 = 0;
+    u32 v12 = 0;
+    u8 *f13 = NULL;
+    u8 *p42 = NULL;
+    u8 *p249 = NULL;
+    u8 *p340 = NULL;
+    v13 = m->g0 - 2960ull;
+    f13 = at(m, v13, 2960);
+    v2 = v13;
     m->g0 = v2;
-    memset(f11, (int)(0u & 255u), 576);
-    memset(f11 + 576, (int)(0u & 255u), 296);
-    memset(f11 + 2352, (int)(0u & 255u), 296);
-    c_lent_kept_judge_CWatched_watched(m, v11 + 576ull, v0);
-    c_lent_kept_judge_CWatched_watched(m, v11 + 2352ull, v0 + 288ull);
-    v3 = v0 + 576ull;
-    v4 = load64(m, v3, 0);
-    v5 = v0 + 585ull;
-    v6 = load8(m, v5, 0);
-    v7 = v0 + 584ull;
-    v8 = load8(m, v7, 0);
-    copy(m, v11 + 1184ull, v11 + 576ull, 296ull);
-    copy(m, (v11 + 1184ull) + 296ull, v11 + 2352ull, 296ull);
-    copy(m, v11 + 576ull, v11 + 1184ull, 592ull);
-    put32(f11 + 1170, 0u);
-    v6 = v8 ? v6 : 0u;
-    put8(f11 + 1169, v6);
-    v9 = (u32)(v8 != 0u);
-    put8(f11 + 1168, v9);
-    put16(f11 + 1174, 0u);
-    put64(f11 + 1176, v4);
+    memset(f13, (int)(0u & 255u), 576);
+    memset(f13 + 576, (int)(0u & 255u), 304);
+    memset(f13 + 2384, (int)(0u & 255u), 304);
+    c_lent_kept_judge_CWatched_watched(m, v13 + 576ull, v0);
+    c_lent_kept_judge_CWatched_watched(m, v13 + 2384ull, v0 + 288ull);
+    p42 = held(m, v0 + 576ull, 10);
+    v3 = held64(p42, 0, m, v0 + 576ull);
+    v4 = held8(p42, 9, m, v0 + 576ull);
+    v5 = held8(p42, 8, m, v0 + 576ull);
+    copy(m, v13 + 1200ull, v13 + 576ull, 304ull);
+    copy(m, (v13 + 1200ull) + 304ull, v13 + 2384ull, 304ull);
+    copy(m, v13 + 576ull, v13 + 1200ull, 608ull);
+    put32(f13 + 1186, 0u);
+    v6 = v5 ? v4 : 0u;
+    put8(f13 + 1185, v6);
+    v7 = (u32)(v5 != 0u);
+    put8(f13 + 1184, v7);
+    put16(f13 + 1190, 0u);
+    put64(f13 + 1192, v3);
     v8 = 2u;
-    v10 = get64(f11 + 864);
-    switch ((u32)(u64)get8(f11 + 889)) {
-        case 1: goto after1;
-        case 2: goto after2;
-        default: goto after4;
+    v9 = get64(f13 + 864);
+    v5 = get8(f13 + 897);
+    switch ((u32)(((u64)v5) & 255ull)) {
+        case 1: goto after2;
+        case 2: goto after4;
+        default: goto after3;
     }
 after4:;
-    v10 = 0ull;
-    v8 = 0u;
-    goto after1;
-after2:;
     v8 = 1u;
-after1:;
-    p131 = held(m, v1, 32);
-    put_held64(p131, 0, m, v1, 0ull);
-    put_held64(p131, 8, m, v1, 0ull);
-    put_held32(p131, 27, m, v1, 0u);
-    put_held8(p131, 26, m, v1, v8);
-    put_held16(p131, 24, m, v1, 0u);
-    put_held64(p131, 16, m, v1, v10);
-    put_held8(p131, 31, m, v1, 0u);
-    put32(f11 + 890, 0u);
-    put8(f11 + 889, 4u);
-    put32(f11 + 594, 0u);
-    put8(f11 + 593, (get8(f11 + 593)) ? 3u : 0u);
-    memset(f11 + 2064, (int)(0u & 255u), 288);
-    memset(f11 + 1776, (int)(0u & 255u), 288);
-    c_lent_kept_judge_CWatched_of(m, v11 + 2064ull, v11 + 576ull);
-    c_lent_kept_judge_CWatched_of(m, v11 + 1776ull, (v11 + 576ull) + 296ull);
-    copy(m, v11 + 2352ull, v11 + 2064ull, 288ull);
-    copy(m, (v11 + 2352ull) + 288ull, v11 + 1776ull, 288ull);
-    copy(m, v11, v11 + 2352ull, 576ull);
-    copy(m, v0, v11, 576ull);
-    p224 = held(m, v0 + 586ull, 6);
-    put_held32(p224, 0, m, v0 + 586ull, 0u);
-    store8(m, v5, 0, v6);
-    store8(m, v7, 0, v9);
-    store64(m, v3, 0, v4);
-    put_held16(p224, 4, m, v0 + 586ull, 0u);
-    m->g0 = v11 + 2928ull;
+    goto after2;
+after3:;
+    v9 = 0ull;
+    v8 = 0u;
+after2:;
+    v10 = get8(f13 + 593);
+    v4 = get8(f13 + 579);
+    v11 = get8(f13 + 578);
+    if (get8(f13 + 591) & 1u) { goto after5; }
+    if (((v10 + 0xFFFFFFFDu) & 255u) < 254u) { goto after5; }
+    v12 = get8(f13 + 594);
+    v4 = v12 ? v4 : 0u;
+    v11 = v12 ? v11 : ((u32)(get8(f13 + 595) == 0));
+after5:;
+    put8(f13 + 579, v4);
+    put8(f13 + 578, v11);
+    v4 = get8(f13 + 872);
+    put8(f13 + 593, 3u);
+    put8(f13 + 872, ((v10 & 255u) < 3u) ? 2u : (v4 ? 2u : 1u));
+    v4 = v5 & 255u;
+    if (v4 < 3u) { goto after7; }
+    v4 = (get8(f13 + 1176)) ? 2u : 0u;
+    goto after6;
+after7:;
+    v11 = get8(f13 + 883);
+    v10 = get8(f13 + 882);
+    if (v4 == 0) { goto after8; }
+    if (get8(f13 + 895) & 1u) { goto after8; }
+    v4 = get8(f13 + 898);
+    v11 = v4 ? v11 : 0u;
+    v10 = v4 ? v10 : ((u32)(get8(f13 + 899) == 0));
+after8:;
+    put8(f13 + 883, v11);
+    put8(f13 + 882, v10);
+    v4 = 2u;
+after6:;
+    p249 = held(m, v1, 32);
+    put_held64(p249, 0, m, v1, 0ull);
+    put_held64(p249, 8, m, v1, 0ull);
+    put_held32(p249, 27, m, v1, 0u);
+    put_held8(p249, 26, m, v1, v8);
+    put_held16(p249, 24, m, v1, 0u);
+    put_held64(p249, 16, m, v1, v9);
+    put_held8(p249, 31, m, v1, 0u);
+    put32(f13 + 898, 0u);
+    put8(f13 + 1176, v4);
+    put8(f13 + 897, ((v5 & 255u) == 4u) ? 4u : 3u);
+    memset(f13 + 2096, (int)(0u & 255u), 288);
+    memset(f13 + 1808, (int)(0u & 255u), 288);
+    c_lent_kept_judge_CWatched_of(m, v13 + 2096ull, v13 + 576ull);
+    c_lent_kept_judge_CWatched_of(m, v13 + 1808ull, v13 + 880ull);
+    copy(m, v13 + 2384ull, v13 + 2096ull, 288ull);
+    copy(m, (v13 + 2384ull) + 288ull, v13 + 1808ull, 288ull);
+    copy(m, v13, v13 + 2384ull, 576ull);
+    copy(m, v0, v13, 576ull);
+    p340 = held(m, v0 + 576ull, 16);
+    put_held32(p340, 10, m, v0 + 576ull, 0u);
+    put_held8(p340, 9, m, v0 + 576ull, v6);
+    put_held8(p340, 8, m, v0 + 576ull, v7);
+    put_held64(p340, 0, m, v0 + 576ull, v3);
+    put_held16(p340, 14, m, v0 + 576ull, 0u);
+    m->g0 = v13 + 2960ull;
+    return;
 }
 
 static void module_scard_lent_line_begin(struct call *m, u64 v0, u64 v1)
@@ -19226,145 +21409,37 @@ static void rattle_export_scard_lent_line_step(struct call *m, u64 v0, u64 v1, u
     u64 v8 = 0;
     u64 v9 = 0;
     u64 v10 = 0;
-    u64 v11 = 0;
-    u64 v12 = 0;
-    u64 v14 = 0;
-    u64 v15 = 0;
-    u32 v13 = 0;
-    u64 w0 = 0;
-    u8 *f15 = NULL;
-    u8 *p373 = NULL;
-    u8 *p441 = NULL;
-    v15 = m->g0 - 128ull;
-    f15 = at(m, v15, 128);
-    v8 = v15;
+    u8 *f10 = NULL;
+    u8 *p71 = NULL;
+    v10 = m->g0 - 16ull;
+    f10 = at(m, v10, 16);
+    v8 = v10;
     m->g0 = v8;
     v9 = 0ull;
-    v10 = v6 + ((v6 == 0) ? 4096ull : 0ull);
-    v11 = v3 + ((v3 == 0) ? 4096ull : 0ull);
-    v12 = v1 + 56ull;
-    v3 = v1 + 144ull;
-    v13 = 7u;
+    session_core_lines_Line_happen(m, v10, v1, v2, v3 + ((v3 == 0) ? 4096ull : 0ull), v4, v5, v6 + ((v6 == 0) ?
+        4096ull : 0ull), v7);
     v6 = 0ull;
+    v2 = get8(f10);
     switch ((u32)(((u64)v2) & 255ull)) {
-        case 0: goto after11;
-        case 1: goto after10;
-        case 2: goto after9;
-        case 3: goto after8;
-        case 4: goto after6;
+        case 1: goto after2;
+        case 2: goto after4;
         default: goto after1;
     }
-after11:;
-    if (load8(m, v1 + 132ull, 0) != 4u) { goto after5; }
-    session_core_progress_Progress_sent(m, v15, v12, v1, v3, v5, v10, v7);
-    v12 = get64(f15 + 8);
-    v13 = get8(f15);
-    goto after7;
-after10:;
-    v2 = load8(m, v1 + 132ull, 0);
-    if (v2 == 0) { goto after5; }
-    if (v2 < 4u) { goto after12; }
-    if (v2 == 4u) { goto after5; }
-    if (v2 > 7u) { goto after5; }
-after12:;
-    v6 = 0ull;
-    if (v4 != 0ull) { goto after13; }
-    session_core_progress_Progress_interrupted(m, v15 + 16ull, v12, v1, v3, v5, v10, v7);
-    v12 = get64(f15 + 24);
-    v13 = get8(f15 + 16);
-    goto after7;
-after13:;
-    if (load64(m, v1 + 24ull, 0) == 0xFFFFFFFFFFFFFFFFull) { goto after14; }
-    v6 = load64(m, v1 + 32ull, 0);
-    multi3(m, v15 + 48ull, v6, 0ull, v4, 0ull);
-    v6 = (v6 == 0) ? 0ull : ((get64(f15 + 56) != 0ull) ? 0xFFFFFFFFFFFFFFFFull : (v6 * v4));
-after14:;
-    v14 = v1 + 96ull;
-    w0 = v14;
-    v14 = v6 + load64(m, v14, 0);
-    store64(m, w0, 0, (v14 < v6) ? 0xFFFFFFFFFFFFFFFFull : v14);
-    session_core_progress_Progress_take_in(m, v15 + 32ull, v12, v1, v3, v11, v4, 0u, v5, v10, v7);
-    v12 = get64(f15 + 40);
-    v13 = get8(f15 + 32);
-    goto after7;
-after9:;
-    v2 = load8(m, v1 + 132ull, 0);
-    if (v2 == 0) { goto after5; }
-    if (v2 < 4u) { goto after15; }
-    if (v2 == 4u) { goto after5; }
-    if (v2 > 7u) { goto after5; }
-after15:;
-    v6 = 0ull;
-    if (v4 != 0ull) { goto after16; }
-    session_core_progress_Progress_interrupted(m, v15 + 64ull, v12, v1, v3, v5, v10, v7);
-    v12 = get64(f15 + 72);
-    v13 = get8(f15 + 64);
-    goto after7;
-after16:;
-    if (load64(m, v1 + 24ull, 0) == 0xFFFFFFFFFFFFFFFFull) { goto after17; }
-    v6 = load64(m, v1 + 32ull, 0);
-    multi3(m, v15 + 96ull, v6, 0ull, v4, 0ull);
-    v6 = (v6 == 0) ? 0ull : ((get64(f15 + 104) != 0ull) ? 0xFFFFFFFFFFFFFFFFull : (v6 * v4));
-after17:;
-    v14 = v1 + 96ull;
-    w0 = v14;
-    v14 = v6 + load64(m, v14, 0);
-    store64(m, w0, 0, (v14 < v6) ? 0xFFFFFFFFFFFFFFFFull : v14);
-    session_core_progress_Progress_take_in(m, v15 + 80ull, v12, v1, v3, v11, v4, 1u, v5, v10, v7);
-    v12 = get64(f15 + 88);
-    v13 = get8(f15 + 80);
-    goto after7;
-after8:;
-    v2 = load8(m, v1 + 132ull, 0);
-    if (v2 == 0) { goto after5; }
-    if (v2 < 4u) { goto after18; }
-    if (v2 == 4u) { goto after5; }
-    if (v2 > 7u) { goto after5; }
-after18:;
-    session_core_progress_Progress_silent(m, v15 + 112ull, v12, v1, v3, v5, v10, v7);
-    v12 = get64(f15 + 120);
-    v13 = get8(f15 + 112);
-after7:;
-    if ((v13 & 255u) != 2u) { goto after4; }
-    if ((load8(m, v1 + 136ull, 0) & 255u) == 0) { goto after4; }
-    v3 = 4ull;
-    p373 = held(m, v1 + 144ull, 12);
-    put_held64(p373, 0, m, v1 + 144ull, 4ull);
-    put_held32(p373, 8, m, v1 + 144ull, 0x1000000u);
-    goto after2;
-after6:;
-    v6 = v1 + 132ull;
-    if (((load8(m, v6, 0) + 0xFFFFFFF8u) & 255u) < 249u) { goto after5; }
-    session_core_progress_Progress_leave(m, v12, v1, v3);
-    store8(m, v6, 0, 0u);
-    v13 = 4u;
-after5:;
-    v6 = 0ull;
-    goto after1;
 after4:;
-    v1 = load64(m, v3, 0);
-    v3 = (v1 < 259ull) ? v1 : 259ull;
-    v6 = 0ull;
-    switch ((u32)(((u64)v13) & 255ull)) {
-        case 1: goto after19;
-        case 2: goto after2;
-        default: goto after1;
-    }
-after19:;
-    v6 = 0ull;
-    v9 = v12;
+    v6 = load64(m, v1 + 144ull, 0);
+    v6 = (v6 < 259ull) ? v6 : 259ull;
     goto after1;
 after2:;
-    v13 = 2u;
-    v6 = v3;
+    v9 = get64(f10 + 8);
+    v6 = 0ull;
 after1:;
-    p441 = held(m, v0, 24);
-    put_held32(p441, 1, m, v0, 0u);
-    put_held8(p441, 0, m, v0, v13);
-    put_held32(p441, 4, m, v0, 0u);
-    put_held64(p441, 16, m, v0, v9);
-    put_held64(p441, 8, m, v0, v6);
-    m->g0 = v15 + 128ull;
+    p71 = held(m, v0, 24);
+    put_held32(p71, 1, m, v0, 0u);
+    put_held8(p71, 0, m, v0, v2);
+    put_held32(p71, 4, m, v0, 0u);
+    put_held64(p71, 16, m, v0, v9);
+    put_held64(p71, 8, m, v0, v6);
+    m->g0 = v10 + 16ull;
 }
 
 static void module_scard_lent_line_talk(struct call *m, u64 v0, u64 v1, u64 v2, u64 v3)
@@ -19961,6 +22036,730 @@ after2:;
     put_held64(p71, 0, m, v0, v2);
     m->g0 = v6 + 64ull;
     return;
+}
+
+static void module_scard_lent_session_ask_ifs(struct call *m, u64 v0, u64 v1, u64 v2, u64 v3, u64 v4, u64 v5, u32 v6,
+    u64 v7, u64 v8, u64 v9)
+{
+    u32 t0 = 0;
+    (void)v4;
+    t0 = rattle_enter(m);
+    if (t0 == 0) { goto after1; }
+    rattle_trap(m);
+    UNREACHABLE;
+after1:;
+    rattle_export_scard_lent_session_ask_ifs(m, v0, v1, v2, v3, v5, v6, v7, v8, v9);
+    rattle_leave(m);
+}
+
+static void rattle_export_scard_lent_session_ask_ifs(struct call *m, u64 v0, u64 v1, u64 v2, u64 v3, u64 v4, u32 v5,
+    u64 v6, u64 v7, u64 v8)
+{
+    u64 v9 = 0;
+    u64 v10 = 0;
+    u8 *f10 = NULL;
+    u8 *p61 = NULL;
+    v10 = m->g0 - 48ull;
+    f10 = at(m, v10, 48);
+    v9 = v10;
+    m->g0 = v9;
+    if ((v10 ^ 0x8000000000000000ull) > (15ull ^ 0x8000000000000000ull)) { goto after1; }
+    UNREACHABLE;
+after1:;
+    put64(f10, 1ull);
+    put64(f10 + 24, 0ull);
+    put64(f10 + 32, 0ull);
+    put64(f10 + 40, 0ull);
+    put64(f10 + 8, 0ull);
+    put64(f10 + 16, 0ull);
+    put8(f10 + 1, v5);
+    c_lent_session_session_turn(m, v10 + 24ull, v1, v2 + ((v2 == 0) ? 4096ull : 0ull), v3, v4, v10, v6, v7 + ((v7 ==
+        0) ? 4096ull : 0ull), v8);
+    p61 = held(m, v0, 24);
+    put_held64(p61, 16, m, v0, get64(f10 + 40));
+    put_held64(p61, 8, m, v0, get64(f10 + 32));
+    put_held64(p61, 0, m, v0, get64(f10 + 24));
+    m->g0 = v10 + 48ull;
+}
+
+static void module_scard_lent_session_begin(struct call *m, u64 v0, u64 v1, u64 v2, u64 v3, u64 v4, u64 v5, u64 v6)
+{
+    u32 t0 = 0;
+    t0 = rattle_enter(m);
+    if (t0 == 0) { goto after1; }
+    rattle_trap(m);
+    UNREACHABLE;
+after1:;
+    rattle_export_scard_lent_session_begin(m, v0, v1, v2, v3, v4, v5, v6);
+    rattle_leave(m);
+}
+
+static void rattle_export_scard_lent_session_begin(struct call *m, u64 v0, u64 v1, u64 v2, u64 v3, u64 v4, u64 v5, u64
+    v6)
+{
+    u64 v7 = 0;
+    u64 v8 = 0;
+    u64 v12 = 0;
+    u64 v13 = 0;
+    u64 v14 = 0;
+    u32 v9 = 0;
+    u32 v10 = 0;
+    u32 v11 = 0;
+    u8 *f14 = NULL;
+    u8 *p53 = NULL;
+    u8 *p170 = NULL;
+    u8 *p202 = NULL;
+    u8 *p245 = NULL;
+    u8 *p277 = NULL;
+    u8 *p297 = NULL;
+    v14 = m->g0 - 80ull;
+    f14 = at(m, v14, 80);
+    v7 = v14;
+    m->g0 = v7;
+    put64(f14 + 64, 0ull);
+    put64(f14 + 56, 0ull);
+    put64(f14 + 48, 0ull);
+    put64(f14 + 40, 0ull);
+    put64(f14 + 32, 0ull);
+    put64(f14 + 24, 0ull);
+    put64(f14 + 16, 0ull);
+    put64(f14 + 8, 0ull);
+    v8 = 4ull;
+    v9 = load8(m, v6 + 28ull, 0);
+    if (((v9 + 1u) & 255u) < 2u) { goto after2; }
+    p53 = held(m, v6 + 29ull, 2);
+    v10 = held8(p53, 1, m, v6 + 29ull);
+    v11 = held8(p53, 0, m, v6 + 29ull);
+    if (((v10 | v11) & 255u) > 15u) { goto after2; }
+    put8(f14 + 79, v10);
+    put8(f14 + 78, v11);
+    put8(f14 + 77, v9);
+    session_core_setup_Setup_rules(m, v14 + 8ull, v6, v14 + 77ull, 0u);
+    if (get8(f14 + 8) != 1u) { goto after2; }
+    v12 = get64(f14 + 32);
+    if (v3 == 0) { goto after3; }
+    v8 = v2 + ((v2 == 0) ? 4096ull : 0ull);
+    v2 = v3 + 0xFFFFFFFFFFFFFFFFull;
+    v10 = (u32)(v2 == 0);
+    if (v10) { goto after4; }
+    if (v10) { goto after4; }
+    fill(m, v8, 0u, v2);
+after4:;
+    store8(m, v8 + v2, 0, 0u);
+after3:;
+    v2 = v14 + 40ull;
+    v13 = v14 + 16ull;
+    if (v5 == 0) { goto after5; }
+    v8 = v4 + ((v4 == 0) ? 4096ull : 0ull);
+    v4 = v5 + 0xFFFFFFFFFFFFFFFFull;
+    v10 = (u32)(v4 == 0);
+    if (v10) { goto after6; }
+    if (v10) { goto after6; }
+    fill(m, v8, 0u, v4);
+after6:;
+    store8(m, v8 + v4, 0, 0u);
+after5:;
+    v8 = 0ull;
+    p170 = held(m, v1, 496);
+    put_held64(p170, 6, m, v1, 0ull);
+    put_held8(p170, 5, m, v1, v9);
+    put_held8(p170, 4, m, v1, 32u);
+    put_held8(p170, 3, m, v1, v9);
+    put_held8(p170, 2, m, v1, 0u);
+    put_held16(p170, 0, m, v1, 0u);
+    put_held64(p170, 14, m, v1, 0ull);
+    put_held16(p170, 22, m, v1, 0u);
+    put_held64(p170, 40, m, v1, 0ull);
+    put_held64(p170, 48, m, v1, 0ull);
+    p202 = held(m, v13, 16);
+    put_held64(p170, 56, m, v1, held64(p202, 0, m, v13));
+    put_held64(p170, 64, m, v1, held64(p202, 8, m, v13));
+    put_held64(p170, 72, m, v1, v12);
+    put_held64(p170, 32, m, v1, (v5 < 0x10002ull) ? v5 : 0x10002ull);
+    put_held64(p170, 24, m, v1, (v3 < 0x10008ull) ? v3 : 0x10008ull);
+    put_held64(p170, 112, m, v1, v12);
+    put_held64(p170, 120, m, v1, 0xFFFFFFFFFFFFFFFFull);
+    p245 = held(m, v2, 32);
+    put_held64(p170, 104, m, v1, held64(p245, 24, m, v2));
+    put_held64(p170, 96, m, v1, held64(p245, 16, m, v2));
+    put_held64(p170, 88, m, v1, held64(p245, 8, m, v2));
+    put_held64(p170, 80, m, v1, held64(p245, 0, m, v2));
+    fill(m, v1 + 128ull, 0u, 80ull);
+    p277 = held(m, v6 + 8ull, 12);
+    put_held64(p170, 472, m, v1, held64(p277, 0, m, v6 + 8ull));
+    v9 = held32(p277, 8, m, v6 + 8ull);
+    put_held64(p170, 488, m, v1, 0ull);
+    put_held32(p170, 480, m, v1, v9);
+after2:;
+    p297 = held(m, v0, 16);
+    put_held64(p297, 8, m, v0, 0ull);
+    put_held64(p297, 0, m, v0, v8);
+    m->g0 = v14 + 80ull;
+    return;
+}
+
+static void module_scard_lent_session_exchange(struct call *m, u64 v0, u64 v1, u64 v2, u64 v3, u64 v4, u64 v5, u64 v6,
+    u64 v7, u64 v8, u64 v9, u64 v10)
+{
+    u32 t0 = 0;
+    (void)v4;
+    t0 = rattle_enter(m);
+    if (t0 == 0) { goto after1; }
+    rattle_trap(m);
+    UNREACHABLE;
+after1:;
+    rattle_export_scard_lent_session_exchange(m, v0, v1, v2, v3, v5, v6, v7, v8, v9, v10);
+    rattle_leave(m);
+}
+
+static void rattle_export_scard_lent_session_exchange(struct call *m, u64 v0, u64 v1, u64 v2, u64 v3, u64 v4, u64 v5,
+    u64 v6, u64 v7, u64 v8, u64 v9)
+{
+    u64 v10 = 0;
+    u64 v11 = 0;
+    u8 *f11 = NULL;
+    u8 *p64 = NULL;
+    v11 = m->g0 - 48ull;
+    f11 = at(m, v11, 48);
+    v10 = v11;
+    m->g0 = v10;
+    if ((v11 ^ 0x8000000000000000ull) > (15ull ^ 0x8000000000000000ull)) { goto after1; }
+    UNREACHABLE;
+after1:;
+    put64(f11 + 24, 0ull);
+    put64(f11 + 32, 0ull);
+    put64(f11 + 40, 0ull);
+    put64(f11 + 16, v6);
+    put64(f11, 0ull);
+    put64(f11 + 8, v5 + ((v5 == 0) ? 4096ull : 0ull));
+    c_lent_session_session_turn(m, v11 + 24ull, v1, v2 + ((v2 == 0) ? 4096ull : 0ull), v3, v4, v11, v7, v8 + ((v8 ==
+        0) ? 4096ull : 0ull), v9);
+    p64 = held(m, v0, 24);
+    put_held64(p64, 16, m, v0, get64(f11 + 40));
+    put_held64(p64, 8, m, v0, get64(f11 + 32));
+    put_held64(p64, 0, m, v0, get64(f11 + 24));
+    m->g0 = v11 + 48ull;
+}
+
+static void module_scard_lent_session_resync(struct call *m, u64 v0, u64 v1, u64 v2, u64 v3, u64 v4, u64 v5, u64 v6,
+    u64 v7, u64 v8, u64 v9)
+{
+    u32 t0 = 0;
+    t0 = rattle_enter(m);
+    if (t0 == 0) { goto after1; }
+    rattle_trap(m);
+    UNREACHABLE;
+after1:;
+    rattle_export_scard_lent_session_resync(m, v0, v1, v2, v3, v4, v5, v6, v7, v8, v9);
+    rattle_leave(m);
+}
+
+static void rattle_export_scard_lent_session_resync(struct call *m, u64 v0, u64 v1, u64 v2, u64 v3, u64 v4, u64 v5,
+    u64 v6, u64 v7, u64 v8, u64 v9)
+{
+    u64 v10 = 0;
+    u64 v14 = 0;
+    u64 v15 = 0;
+    u64 v19 = 0;
+    u32 v11 = 0;
+    u32 v12 = 0;
+    u32 v13 = 0;
+    u32 v16 = 0;
+    u32 v17 = 0;
+    u32 v18 = 0;
+    u64 w7 = 0;
+    u8 *f19 = NULL;
+    u8 *p74 = NULL;
+    u8 *p123 = NULL;
+    u8 *p124 = NULL;
+    u8 *p227 = NULL;
+    u8 *p234 = NULL;
+    u8 *p310 = NULL;
+    u8 *p454 = NULL;
+    u8 *p624 = NULL;
+    v19 = m->g0 - 224ull;
+    f19 = at(m, v19, 224);
+    v10 = v19;
+    m->g0 = v10;
+    put64(f19 + 72, 0ull);
+    put64(f19 + 64, 0ull);
+    put64(f19 + 56, 0ull);
+    put64(f19 + 48, 0ull);
+    put64(f19 + 40, 0ull);
+    put64(f19 + 32, 0ull);
+    put64(f19 + 24, 0ull);
+    put64(f19 + 16, 0ull);
+    if (v9 > 257ull) { goto after7; }
+    put32(f19 + 219, 0u);
+    put32(f19 + 216, 0u);
+    v6 = 0ull;
+    v1 = 258ull;
+    v11 = 33u;
+    goto after1;
+after7:;
+    v11 = load8(m, v6 + 28ull, 0);
+    if (((v11 + 1u) & 255u) < 2u) { goto after4; }
+    p74 = held(m, v6 + 29ull, 2);
+    v12 = held8(p74, 1, m, v6 + 29ull);
+    v13 = held8(p74, 0, m, v6 + 29ull);
+    if (((v12 | v13) & 255u) > 15u) { goto after4; }
+    put8(f19 + 159, v12);
+    put8(f19 + 158, v13);
+    put8(f19 + 157, v11);
+    session_core_setup_Setup_rules(m, v19 + 16ull, v6, v19 + 157ull, 0u);
+    if (get8(f19 + 16) != 1u) { goto after8; }
+    v9 = (v8 == 0) ? 4096ull : 0ull;
+    p123 = held(m, v6 + 8ull, 12);
+    p124 = held(m, v1 + 472ull, 12);
+    put_held64(p124, 0, m, v1 + 472ull, held64(p123, 0, m, v6 + 8ull));
+    put_held32(p124, 8, m, v1 + 472ull, held32(p123, 8, m, v6 + 8ull));
+    v14 = v1 + 488ull;
+    store64(m, v14, 0, 0ull);
+    v15 = get64(f19 + 40);
+    if (v3 == 0) { goto after9; }
+    v6 = v2 + ((v2 == 0) ? 4096ull : 0ull);
+    v2 = v3 + 0xFFFFFFFFFFFFFFFFull;
+    v12 = (u32)(v2 == 0);
+    if (v12) { goto after10; }
+    if (v12) { goto after10; }
+    fill(m, v6, 0u, v2);
+after10:;
+    store8(m, v6 + v2, 0, 0u);
+after9:;
+    v8 = v8 + v9;
+    v9 = v19 + 48ull;
+    v6 = (v19 + 16ull) + 8ull;
+    if (v5 == 0) { goto after11; }
+    v4 = v4 + ((v4 == 0) ? 4096ull : 0ull);
+    v2 = v5 + 0xFFFFFFFFFFFFFFFFull;
+    v12 = (u32)(v2 == 0);
+    if (v12) { goto after12; }
+    if (v12) { goto after12; }
+    fill(m, v4, 0u, v2);
+after12:;
+    store8(m, v4 + v2, 0, 0u);
+after11:;
+    v4 = v1 + 56ull;
+    p227 = held(m, v6, 16);
+    store64(m, v4, 0, held64(p227, 0, m, v6));
+    p234 = held(m, v1 + 64ull, 64);
+    put_held64(p234, 0, m, v1 + 64ull, held64(p227, 8, m, v6));
+    v6 = 0ull;
+    put64(f19 + 86, 0ull);
+    put8(f19 + 85, v11);
+    put8(f19 + 84, 32u);
+    put8(f19 + 83, v11);
+    v16 = 0u;
+    put8(f19 + 82, 0u);
+    put16(f19 + 80, 0u);
+    put64(f19 + 94, 0ull);
+    put64(f19 + 102, 0ull);
+    put64(f19 + 110, 0ull);
+    put16(f19 + 118, 0u);
+    put64(f19 + 136, 0ull);
+    put64(f19 + 144, 0ull);
+    put64(f19 + 128, (v5 < 0x10002ull) ? v5 : 0x10002ull);
+    put64(f19 + 120, (v3 < 0x10008ull) ? v3 : 0x10008ull);
+    put_held64(p234, 8, m, v1 + 64ull, v15);
+    put_held64(p234, 48, m, v1 + 64ull, v15);
+    put_held64(p234, 56, m, v1 + 64ull, 0xFFFFFFFFFFFFFFFFull);
+    p310 = held(m, v9, 32);
+    put_held64(p234, 16, m, v1 + 64ull, held64(p310, 0, m, v9));
+    put_held64(p234, 24, m, v1 + 64ull, held64(p310, 8, m, v9));
+    put_held64(p234, 32, m, v1 + 64ull, held64(p310, 16, m, v9));
+    put_held64(p234, 40, m, v1 + 64ull, held64(p310, 24, m, v9));
+    fill(m, v1 + 128ull, 0u, 80ull);
+    put64(f19 + 96, 0ull);
+    put16(f19 + 88, 5u);
+    put64(f19 + 104, 0ull);
+    put64(f19 + 208, 0ull);
+    put64(f19 + 160, 0ull);
+    put64(f19 + 168, 0ull);
+    put64(f19 + 176, 0ull);
+    put64(f19 + 184, 0ull);
+    t1_core_lent_LentTerminal_quiet_into(m, v19 + 160ull, v19 + 80ull, v8);
+    v13 = get8(f19 + 160);
+    if (v13) { goto after14; }
+    put8(f19 + 208, get8(f19 + 184));
+    put64(f19 + 200, get64(f19 + 176));
+    put64(f19 + 192, (u64)get8(f19 + 168));
+    w7 = (get8(f19 + 112)) ? get64(f19 + 144) : 0ull;
+    session_core_lines_Line_turn(m, v19, v4, v14, 1u, 0xFFFFFFFFFFFFFFFFull, 0xFFFFFFFFu, v19 + 192ull, w7, v7);
+    v11 = 16u;
+    v6 = get64(f19 + 8);
+    v16 = get8(f19);
+    goto after13;
+after14:;
+    v11 = get8(f19 + 161) + 16u;
+after13:;
+    v9 = 0ull;
+    v12 = 0u;
+    v17 = get8(f19 + 88);
+    v18 = 1u << (v17 & 31);
+    if (v18 & 73u) { goto after15; }
+    if ((v18 & 6u) == 0) { goto after16; }
+    v9 = get64(f19 + 96);
+    v12 = get8(f19 + 104);
+    goto after15;
+after16:;
+    v12 = get8(f19 + 89);
+after15:;
+    p454 = held(m, v1, 56);
+    put_held8(p454, 8, m, v1, get8(f19 + 112));
+    put_held8(p454, 7, m, v1, v12);
+    put_held8(p454, 6, m, v1, v17);
+    put_held16(p454, 4, m, v1, get16(f19 + 84));
+    put_held32(p454, 0, m, v1, get32(f19 + 80));
+    put_held32(p454, 9, m, v1, 0u);
+    put_held32(p454, 12, m, v1, 0u);
+    put_held64(p454, 16, m, v1, v9);
+    put_held64(p454, 24, m, v1, get64(f19 + 120));
+    put_held64(p454, 32, m, v1, get64(f19 + 128));
+    put_held64(p454, 40, m, v1, get64(f19 + 136));
+    put_held64(p454, 48, m, v1, get64(f19 + 144));
+    if (v13) { goto after5; }
+    v1 = 0ull;
+    v11 = 68u;
+    switch ((u32)(((u64)v16) & 255ull)) {
+        case 1: goto after17;
+        case 2: goto after20;
+        case 3: goto after22;
+        case 4: goto after28;
+        case 5: goto after27;
+        case 6: goto after26;
+        case 7: goto after20;
+        case 8: goto after24;
+        case 9: goto after23;
+        case 10: goto after21;
+        case 11: goto after25;
+        default: goto after29;
+    }
+after29:;
+    v11 = 0u;
+    goto after19;
+after28:;
+    v1 = 0ull;
+    v11 = 2u;
+    goto after18;
+after27:;
+    v1 = 0ull;
+    v11 = 3u;
+    goto after18;
+after26:;
+    v1 = 0ull;
+    v11 = 4u;
+    goto after18;
+after25:;
+    v1 = 0ull;
+    v11 = 21u;
+    goto after18;
+after24:;
+    v1 = 0ull;
+    v11 = 64u;
+    goto after18;
+after23:;
+    v1 = 0ull;
+    v11 = 65u;
+    goto after18;
+after22:;
+    v11 = 66u;
+    goto after19;
+after21:;
+    v1 = 0ull;
+    v11 = 67u;
+    goto after18;
+after20:;
+    v11 = 1u;
+after19:;
+    v1 = v6;
+after18:;
+    v6 = 0ull;
+after17:;
+    put32(f19 + 219, 0u);
+    put32(f19 + 216, 0u);
+    goto after1;
+after8:;
+    put32(f19 + 219, 0u);
+    put32(f19 + 216, 0u);
+    goto after3;
+after5:;
+    put32(f19 + 219, 0u);
+    put32(f19 + 216, 0u);
+    v1 = 0ull;
+    goto after2;
+after4:;
+    put32(f19 + 219, 0u);
+    put32(f19 + 216, 0u);
+after3:;
+    v1 = 0ull;
+    v11 = 32u;
+after2:;
+    v6 = 0ull;
+after1:;
+    p624 = held(m, v0, 24);
+    put_held8(p624, 0, m, v0, v11);
+    put_held32(p624, 1, m, v0, get32(f19 + 216));
+    put_held32(p624, 4, m, v0, get32(f19 + 219));
+    put_held64(p624, 16, m, v0, v6);
+    put_held64(p624, 8, m, v0, v1);
+    m->g0 = v19 + 224ull;
+}
+
+static void module_scard_lent_session_step(struct call *m, u64 v0, u64 v1, u64 v2, u64 v3, u64 v4, u64 v5, u32 v6, u64
+    v7, u64 v8, u64 v9, u64 v10, u64 v11)
+{
+    u32 t0 = 0;
+    t0 = rattle_enter(m);
+    if (t0 == 0) { goto after1; }
+    rattle_trap(m);
+    UNREACHABLE;
+after1:;
+    rattle_export_scard_lent_session_step(m, v0, v1, v2, v3, v4, v5, v6, v7, v8, v9, v10, v11);
+    rattle_leave(m);
+}
+
+static void rattle_export_scard_lent_session_step(struct call *m, u64 v0, u64 v1, u64 v2, u64 v3, u64 v4, u64 v5, u32
+    v6, u64 v7, u64 v8, u64 v9, u64 v10, u64 v11)
+{
+    u64 v12 = 0;
+    u64 v18 = 0;
+    u32 v13 = 0;
+    u32 v14 = 0;
+    u32 v15 = 0;
+    u32 v16 = 0;
+    u32 v17 = 0;
+    u32 t5 = 0;
+    u64 w3 = 0;
+    u64 w4 = 0;
+    u64 w7 = 0;
+    u8 *f18 = NULL;
+    u8 *p197 = NULL;
+    u8 *p272 = NULL;
+    u8 *p397 = NULL;
+    u8 *p562 = NULL;
+    v18 = m->g0 - 272ull;
+    f18 = at(m, v18, 272);
+    v12 = v18;
+    m->g0 = v12;
+    memset(f18 + 56, (int)(0u & 255u), 80);
+    if (v11 > 257ull) { goto after5; }
+    put32(f18 + 267, 0u);
+    put32(f18 + 264, 0u);
+    v11 = 0ull;
+    v1 = 258ull;
+    v6 = 33u;
+    goto after1;
+after5:;
+    c_lent_kept_CTerminal_fitting(m, v18 + 56ull, v1, v3, v5);
+    if (get8(f18 + 56) != 1u) { goto after6; }
+    v5 = v4 + ((v4 == 0) ? 4096ull : 0ull);
+    v2 = v2 + ((v2 == 0) ? 4096ull : 0ull);
+    copy(m, v18 + 136ull, v18 + 64ull, 72ull);
+    v3 = v1 + 56ull;
+    v4 = v10 + ((v10 == 0) ? 4096ull : 0ull);
+    w3 = v7 + ((v7 == 0) ? 4096ull : 0ull);
+    v7 = v1 + 488ull;
+    v10 = load64(m, v7, 0);
+    session_core_lines_Line_happen(m, v18 + 40ull, v3, v6, w3, v8, v9, v4, (v11 < v10) ? v11 : v10);
+    v10 = get64(f18 + 48);
+    v6 = get8(f18 + 40);
+    if ((1u << (v6 & 31)) & 243u) { goto after9; }
+    if (v6 != 2u) { goto after11; }
+    v11 = 0ull;
+    put64(f18 + 256, 0ull);
+    put64(f18 + 208, 0ull);
+    put64(f18 + 216, 0ull);
+    put64(f18 + 224, 0ull);
+    put64(f18 + 232, 0ull);
+    v10 = load64(m, v1 + 200ull, 0);
+    t1_core_lent_LentTerminal_received_into(m, v18 + 208ull, v18 + 136ull, v2, v5, v1 + 208ull, (v10 < 259ull) ? v10 :
+        259ull, v4);
+    if (get8(f18 + 208)) { goto after10; }
+    put8(f18 + 256, get8(f18 + 232));
+    put64(f18 + 248, get64(f18 + 224));
+    put64(f18 + 240, (u64)get8(f18 + 216));
+    p197 = held(m, v1 + 96ull, 12);
+    w4 = held64(p197, 0, m, v1 + 96ull);
+    t5 = held32(p197, 8, m, v1 + 96ull);
+    w7 = (get8(f18 + 168)) ? get64(f18 + 200) : 0ull;
+    session_core_lines_Line_turn(m, v18 + 8ull, v3, v7, 2u, w4, t5, v18 + 240ull, w7, v9);
+    v6 = 0u;
+    v11 = get64(f18 + 16);
+    v13 = get8(f18 + 8);
+    goto after8;
+after11:;
+    v11 = 0ull;
+    put64(f18 + 256, 0ull);
+    put64(f18 + 208, 0ull);
+    put64(f18 + 216, 0ull);
+    put64(f18 + 224, 0ull);
+    put64(f18 + 232, 0ull);
+    t1_core_lent_LentTerminal_quiet_into(m, v18 + 208ull, v18 + 136ull, v4);
+    if (get8(f18 + 208)) { goto after10; }
+    put8(f18 + 256, get8(f18 + 232));
+    put64(f18 + 248, get64(f18 + 224));
+    put64(f18 + 240, (u64)get8(f18 + 216));
+    p272 = held(m, v1 + 96ull, 12);
+    w4 = held64(p272, 0, m, v1 + 96ull);
+    t5 = held32(p272, 8, m, v1 + 96ull);
+    w7 = (get8(f18 + 168)) ? get64(f18 + 200) : 0ull;
+    session_core_lines_Line_turn(m, v18 + 24ull, v3, v7, 2u, w4, t5, v18 + 240ull, w7, v9);
+    v6 = 0u;
+    v11 = get64(f18 + 32);
+    v13 = get8(f18 + 24);
+    goto after8;
+after10:;
+    v13 = 0u;
+    v6 = 1u;
+    v14 = get8(f18 + 209);
+    goto after7;
+after9:;
+    v11 = load64(m, v7, 0);
+    v14 = v6;
+    v13 = v6;
+    switch (v6) {
+        case 1: goto after17;
+        case 2: goto after13;
+        case 3: goto after13;
+        case 4: goto after16;
+        case 5: goto after15;
+        case 6: goto after14;
+        case 7: goto after13;
+        default: goto after7;
+    }
+after17:;
+    v13 = 1u;
+    v6 = 0u;
+    v14 = 0u;
+    v11 = v10;
+    goto after7;
+after16:;
+    v11 = 0ull;
+    v13 = 8u;
+    goto after12;
+after15:;
+    v11 = 0ull;
+    v13 = 9u;
+    goto after12;
+after14:;
+    v11 = 0ull;
+    v13 = 10u;
+    goto after12;
+after13:;
+    v11 = 0ull;
+    v13 = 11u;
+after12:;
+    v6 = 0u;
+after8:;
+    v14 = 0u;
+after7:;
+    v10 = 0ull;
+    v15 = 0u;
+    v16 = get8(f18 + 144);
+    v17 = 1u << (v16 & 31);
+    if (v17 & 73u) { goto after18; }
+    if ((v17 & 6u) == 0) { goto after19; }
+    v10 = get64(f18 + 152);
+    v15 = get8(f18 + 160);
+    goto after18;
+after19:;
+    v15 = get8(f18 + 145);
+after18:;
+    p397 = held(m, v1, 56);
+    put_held8(p397, 8, m, v1, get8(f18 + 168));
+    put_held8(p397, 7, m, v1, v15);
+    put_held8(p397, 6, m, v1, v16);
+    put_held16(p397, 4, m, v1, get16(f18 + 140));
+    put_held32(p397, 0, m, v1, get32(f18 + 136));
+    put_held32(p397, 9, m, v1, 0u);
+    put_held32(p397, 12, m, v1, 0u);
+    put_held64(p397, 16, m, v1, v10);
+    put_held64(p397, 24, m, v1, get64(f18 + 176));
+    put_held64(p397, 32, m, v1, get64(f18 + 184));
+    put_held64(p397, 40, m, v1, get64(f18 + 192));
+    put_held64(p397, 48, m, v1, get64(f18 + 200));
+    if (v6) { goto after3; }
+    v1 = 0ull;
+    v6 = 68u;
+    switch ((u32)(((u64)v13) & 255ull)) {
+        case 1: goto after20;
+        case 2: goto after23;
+        case 3: goto after25;
+        case 4: goto after31;
+        case 5: goto after30;
+        case 6: goto after29;
+        case 7: goto after23;
+        case 8: goto after27;
+        case 9: goto after26;
+        case 10: goto after24;
+        case 11: goto after28;
+        default: goto after32;
+    }
+after32:;
+    v6 = 0u;
+    goto after22;
+after31:;
+    v1 = 0ull;
+    v6 = 2u;
+    goto after21;
+after30:;
+    v1 = 0ull;
+    v6 = 3u;
+    goto after21;
+after29:;
+    v1 = 0ull;
+    v6 = 4u;
+    goto after21;
+after28:;
+    v1 = 0ull;
+    v6 = 21u;
+    goto after21;
+after27:;
+    v1 = 0ull;
+    v6 = 64u;
+    goto after21;
+after26:;
+    v1 = 0ull;
+    v6 = 65u;
+    goto after21;
+after25:;
+    v6 = 66u;
+    goto after22;
+after24:;
+    v1 = 0ull;
+    v6 = 67u;
+    goto after21;
+after23:;
+    v6 = 1u;
+after22:;
+    v1 = v11;
+after21:;
+    v11 = 0ull;
+after20:;
+    put32(f18 + 267, 0u);
+    put32(f18 + 264, 0u);
+    goto after1;
+after6:;
+    put32(f18 + 267, 0u);
+    put32(f18 + 264, 0u);
+    v1 = 0ull;
+    v6 = 32u;
+    goto after2;
+after3:;
+    put32(f18 + 267, 0u);
+    put32(f18 + 264, 0u);
+    v6 = v14 + 16u;
+    v1 = 0ull;
+after2:;
+    v11 = 0ull;
+after1:;
+    p562 = held(m, v0, 24);
+    put_held8(p562, 0, m, v0, v6);
+    put_held32(p562, 1, m, v0, get32(f18 + 264));
+    put_held32(p562, 4, m, v0, get32(f18 + 267));
+    put_held64(p562, 16, m, v0, v11);
+    put_held64(p562, 8, m, v0, v1);
+    m->g0 = v18 + 272ull;
 }
 
 static void module_scard_lent_terminal_answer(struct call *m, u64 v0, u64 v1, u64 v2, u64 v3, u64 v4, u64 v5)
@@ -21205,7 +24004,7 @@ static u64 rattle_export_scard_struct_size(struct call *m, u32 v0)
     u64 v1 = 0;
     v1 = 0ull;
     v0 = v0 + 0xFFFFFFFFu;
-    if ((v0 & 255u) >= 35u) { goto after2; }
+    if ((v0 & 255u) >= 39u) { goto after2; }
     v1 = load64(m, (((u64)v0) & 255ull) << 3, 73240);
 after2:;
     return v1;
@@ -22303,6 +25102,96 @@ typedef char line_next_lies_as_in_the_module[
     scard_line_next, count) == 8 && offsetof(struct scard_line_next, wait) == 16
     ? 1 : -1];
 
+typedef char lent_setup_lies_as_in_the_module[
+    sizeof(struct scard_lent_setup) == 40 && offsetof(struct scard_lent_setup, silence) == 0 &&
+    offsetof(struct scard_lent_setup, most_time) == 8 && offsetof(struct scard_lent_setup, most_blocks) ==
+    16 && offsetof(struct scard_lent_setup, hertz) == 20 && offsetof(struct scard_lent_setup, fi) == 24 &&
+    offsetof(struct scard_lent_setup, di) == 26 && offsetof(struct scard_lent_setup, ifsc) == 28 &&
+    offsetof(struct scard_lent_setup, bwi) == 29 && offsetof(struct scard_lent_setup, cwi) == 30 &&
+    offsetof(struct scard_lent_setup, has_clock) == 31 && offsetof(struct scard_lent_setup, has_echo) == 32
+    && offsetof(struct scard_lent_setup, refuses_empty) == 33 && offsetof(struct scard_lent_setup,
+    host_takes_short) == 34
+    ? 1 : -1];
+
+typedef char lent_session_lies_as_in_the_module[
+    sizeof(struct scard_lent_session) == 496 && offsetof(struct scard_lent_session, terminal.number) == 0 &&
+    offsetof(struct scard_lent_session, terminal.expected) == 1 && offsetof(struct scard_lent_session,
+    terminal.failures) == 2 && offsetof(struct scard_lent_session, terminal.ifsc) == 3 && offsetof(struct
+    scard_lent_session, terminal.ifsd) == 4 && offsetof(struct scard_lent_session, terminal.first_ifsc) == 5
+    && offsetof(struct scard_lent_session, terminal.wait) == 6 && offsetof(struct scard_lent_session,
+    terminal.size) == 7 && offsetof(struct scard_lent_session, terminal.is_answered) == 8 && offsetof(struct
+    scard_lent_session, terminal.place) == 16 && offsetof(struct scard_lent_session, terminal.most_command)
+    == 24 && offsetof(struct scard_lent_session, terminal.most_answer) == 32 && offsetof(struct
+    scard_lent_session, terminal.command_len) == 40 && offsetof(struct scard_lent_session,
+    terminal.answer_len) == 48 && offsetof(struct scard_lent_session, line.rules.bwt) == 56 &&
+    offsetof(struct scard_lent_session, line.rules.cwt) == 64 && offsetof(struct scard_lent_session,
+    line.rules.bgt) == 72 && offsetof(struct scard_lent_session, line.rules.after) == 80 && offsetof(struct
+    scard_lent_session, line.rules.octet) == 88 && offsetof(struct scard_lent_session, line.rules.most_time)
+    == 96 && offsetof(struct scard_lent_session, line.rules.most_blocks) == 104 && offsetof(struct
+    scard_lent_session, line.rules.has_clock) == 108 && offsetof(struct scard_lent_session,
+    line.rules.has_echo) == 109 && offsetof(struct scard_lent_session, line.rules.refuses_empty) == 110 &&
+    offsetof(struct scard_lent_session, line.rules.is_card) == 111 && offsetof(struct scard_lent_session,
+    line.progress.owed) == 112 && offsetof(struct scard_lent_session, line.progress.first) == 120 &&
+    offsetof(struct scard_lent_session, line.progress.asked) == 128 && offsetof(struct scard_lent_session,
+    line.progress.asked_at) == 136 && offsetof(struct scard_lent_session, line.progress.began) == 144 &&
+    offsetof(struct scard_lent_session, line.progress.spent) == 152 && offsetof(struct scard_lent_session,
+    line.progress.late) == 160 && offsetof(struct scard_lent_session, line.progress.own) == 168 &&
+    offsetof(struct scard_lent_session, line.progress.interrupts) == 176 && offsetof(struct
+    scard_lent_session, line.progress.blocks) == 180 && offsetof(struct scard_lent_session,
+    line.progress.left) == 184 && offsetof(struct scard_lent_session, line.progress.phase) == 188 &&
+    offsetof(struct scard_lent_session, line.progress.is_cut) == 189 && offsetof(struct scard_lent_session,
+    line.progress.is_quick) == 190 && offsetof(struct scard_lent_session, line.progress.began_at) == 191 &&
+    offsetof(struct scard_lent_session, line.progress.is_spoiled) == 192 && offsetof(struct
+    scard_lent_session, line.progress.is_whole) == 193 && offsetof(struct scard_lent_session,
+    line.progress.echoes) == 194 && offsetof(struct scard_lent_session, line.framer.count) == 200 &&
+    offsetof(struct scard_lent_session, most_time) == 472 && offsetof(struct scard_lent_session,
+    most_blocks) == 480 && offsetof(struct scard_lent_session, own) == 488
+    ? 1 : -1];
+
+typedef char lent_card_session_lies_as_in_the_module[
+    sizeof(struct scard_lent_card_session) == 504 && offsetof(struct scard_lent_card_session, card.number)
+    == 0 && offsetof(struct scard_lent_card_session, card.expected) == 1 && offsetof(struct
+    scard_lent_card_session, card.has_saved) == 2 && offsetof(struct scard_lent_card_session,
+    card.saved_size) == 3 && offsetof(struct scard_lent_card_session, card.ifsc) == 4 && offsetof(struct
+    scard_lent_card_session, card.ifsd) == 5 && offsetof(struct scard_lent_card_session, card.first_ifsc) ==
+    6 && offsetof(struct scard_lent_card_session, card.wait) == 7 && offsetof(struct
+    scard_lent_card_session, card.size) == 8 && offsetof(struct scard_lent_card_session, card.saved_place)
+    == 16 && offsetof(struct scard_lent_card_session, card.place) == 24 && offsetof(struct
+    scard_lent_card_session, card.most_command) == 32 && offsetof(struct scard_lent_card_session,
+    card.most_reply) == 40 && offsetof(struct scard_lent_card_session, card.command_len) == 48 &&
+    offsetof(struct scard_lent_card_session, card.reply_len) == 56 && offsetof(struct
+    scard_lent_card_session, line.rules.bwt) == 64 && offsetof(struct scard_lent_card_session,
+    line.rules.cwt) == 72 && offsetof(struct scard_lent_card_session, line.rules.bgt) == 80 &&
+    offsetof(struct scard_lent_card_session, line.rules.after) == 88 && offsetof(struct
+    scard_lent_card_session, line.rules.octet) == 96 && offsetof(struct scard_lent_card_session,
+    line.rules.most_time) == 104 && offsetof(struct scard_lent_card_session, line.rules.most_blocks) == 112
+    && offsetof(struct scard_lent_card_session, line.rules.has_clock) == 116 && offsetof(struct
+    scard_lent_card_session, line.rules.has_echo) == 117 && offsetof(struct scard_lent_card_session,
+    line.rules.refuses_empty) == 118 && offsetof(struct scard_lent_card_session, line.rules.is_card) == 119
+    && offsetof(struct scard_lent_card_session, line.progress.owed) == 120 && offsetof(struct
+    scard_lent_card_session, line.progress.first) == 128 && offsetof(struct scard_lent_card_session,
+    line.progress.asked) == 136 && offsetof(struct scard_lent_card_session, line.progress.asked_at) == 144
+    && offsetof(struct scard_lent_card_session, line.progress.began) == 152 && offsetof(struct
+    scard_lent_card_session, line.progress.spent) == 160 && offsetof(struct scard_lent_card_session,
+    line.progress.late) == 168 && offsetof(struct scard_lent_card_session, line.progress.own) == 176 &&
+    offsetof(struct scard_lent_card_session, line.progress.interrupts) == 184 && offsetof(struct
+    scard_lent_card_session, line.progress.blocks) == 188 && offsetof(struct scard_lent_card_session,
+    line.progress.left) == 192 && offsetof(struct scard_lent_card_session, line.progress.phase) == 196 &&
+    offsetof(struct scard_lent_card_session, line.progress.is_cut) == 197 && offsetof(struct
+    scard_lent_card_session, line.progress.is_quick) == 198 && offsetof(struct scard_lent_card_session,
+    line.progress.began_at) == 199 && offsetof(struct scard_lent_card_session, line.progress.is_spoiled) ==
+    200 && offsetof(struct scard_lent_card_session, line.progress.is_whole) == 201 && offsetof(struct
+    scard_lent_card_session, line.progress.echoes) == 202 && offsetof(struct scard_lent_card_session,
+    line.framer.count) == 208 && offsetof(struct scard_lent_card_session, own) == 480 && offsetof(struct
+    scard_lent_card_session, granted) == 488 && offsetof(struct scard_lent_card_session, host_takes_short)
+    == 496
+    ? 1 : -1];
+
+typedef char session_next_lies_as_in_the_module[
+    sizeof(struct scard_session_next) == 24 && offsetof(struct scard_session_next, kind) == 0 &&
+    offsetof(struct scard_session_next, count) == 8 && offsetof(struct scard_session_next, wait) == 16
+    ? 1 : -1];
+
 typedef char judgment_lies_as_in_the_module[
     sizeof(struct scard_judgment) == 32 && offsetof(struct scard_judgment, number) == 0 && offsetof(struct
     scard_judgment, before) == 8 && offsetof(struct scard_judgment, unanswered) == 16 && offsetof(struct
@@ -22327,23 +25216,25 @@ typedef char lent_judge_lies_as_in_the_module[
     offsetof(struct scard_lent_judge, terminal.heard.kind) == 23 && offsetof(struct scard_lent_judge,
     terminal.heard.block) == 24 && offsetof(struct scard_lent_judge, terminal.heard.about) == 25 &&
     offsetof(struct scard_lent_judge, terminal.heard.detail) == 26 && offsetof(struct scard_lent_judge,
-    terminal.heard.octet) == 27 && offsetof(struct scard_lent_judge, terminal.last_len) == 28 &&
-    offsetof(struct scard_lent_judge, card.number) == 288 && offsetof(struct scard_lent_judge,
-    card.sender.side) == 296 && offsetof(struct scard_lent_judge, card.sender.next) == 297 &&
-    offsetof(struct scard_lent_judge, card.sender.expects) == 298 && offsetof(struct scard_lent_judge,
-    card.sender.pending) == 299 && offsetof(struct scard_lent_judge, card.sender.asked) == 300 &&
-    offsetof(struct scard_lent_judge, card.sender.asked_octet) == 301 && offsetof(struct scard_lent_judge,
-    card.sender.before) == 302 && offsetof(struct scard_lent_judge, card.sender.before_octet) == 303 &&
-    offsetof(struct scard_lent_judge, card.sender.tries) == 304 && offsetof(struct scard_lent_judge,
-    card.sender.repeats) == 305 && offsetof(struct scard_lent_judge, card.sender.corrections) == 306 &&
-    offsetof(struct scard_lent_judge, card.sender.room) == 307 && offsetof(struct scard_lent_judge,
-    card.sender.first_room) == 308 && offsetof(struct scard_lent_judge, card.sender.known) == 309 &&
-    offsetof(struct scard_lent_judge, card.sender.aborted) == 310 && offsetof(struct scard_lent_judge,
-    card.heard.kind) == 311 && offsetof(struct scard_lent_judge, card.heard.block) == 312 && offsetof(struct
-    scard_lent_judge, card.heard.about) == 313 && offsetof(struct scard_lent_judge, card.heard.detail) ==
-    314 && offsetof(struct scard_lent_judge, card.heard.octet) == 315 && offsetof(struct scard_lent_judge,
-    card.last_len) == 316 && offsetof(struct scard_lent_judge, blocks) == 576 && offsetof(struct
-    scard_lent_judge, has_nad) == 584 && offsetof(struct scard_lent_judge, nad) == 585
+    terminal.heard.octet) == 27 && offsetof(struct scard_lent_judge, terminal.doubt) == 28 &&
+    offsetof(struct scard_lent_judge, terminal.last_len) == 29 && offsetof(struct scard_lent_judge,
+    card.number) == 288 && offsetof(struct scard_lent_judge, card.sender.side) == 296 && offsetof(struct
+    scard_lent_judge, card.sender.next) == 297 && offsetof(struct scard_lent_judge, card.sender.expects) ==
+    298 && offsetof(struct scard_lent_judge, card.sender.pending) == 299 && offsetof(struct
+    scard_lent_judge, card.sender.asked) == 300 && offsetof(struct scard_lent_judge,
+    card.sender.asked_octet) == 301 && offsetof(struct scard_lent_judge, card.sender.before) == 302 &&
+    offsetof(struct scard_lent_judge, card.sender.before_octet) == 303 && offsetof(struct scard_lent_judge,
+    card.sender.tries) == 304 && offsetof(struct scard_lent_judge, card.sender.repeats) == 305 &&
+    offsetof(struct scard_lent_judge, card.sender.corrections) == 306 && offsetof(struct scard_lent_judge,
+    card.sender.room) == 307 && offsetof(struct scard_lent_judge, card.sender.first_room) == 308 &&
+    offsetof(struct scard_lent_judge, card.sender.known) == 309 && offsetof(struct scard_lent_judge,
+    card.sender.aborted) == 310 && offsetof(struct scard_lent_judge, card.heard.kind) == 311 &&
+    offsetof(struct scard_lent_judge, card.heard.block) == 312 && offsetof(struct scard_lent_judge,
+    card.heard.about) == 313 && offsetof(struct scard_lent_judge, card.heard.detail) == 314 &&
+    offsetof(struct scard_lent_judge, card.heard.octet) == 315 && offsetof(struct scard_lent_judge,
+    card.doubt) == 316 && offsetof(struct scard_lent_judge, card.last_len) == 317 && offsetof(struct
+    scard_lent_judge, blocks) == 576 && offsetof(struct scard_lent_judge, has_nad) == 584 && offsetof(struct
+    scard_lent_judge, nad) == 585
     ? 1 : -1];
 
 
@@ -22740,6 +25631,155 @@ INLINE struct shaped shape_of_lent_line(u32 leads_to)
     one.count = 0;
     one.each = sizeof octets_of_lent_line / sizeof octets_of_lent_line[0];
     one.octet = octets_of_lent_line;
+    one.element = NULL;
+    one.leads_to = leads_to;
+    return one;
+}
+
+
+static const uint16_t octets_of_lent_setup[] = {
+#if HIGHEST_FIRST
+    7, 6, 5, 4, 3, 2, 1, 0, 15, 14, 13, 12, 11, 10, 9, 8, 19, 18, 17, 16, 23, 22, 21, 20, 25, 24, 27, 26, 28, 29,
+    30, 31, 32, 33, 34, 35, 36, 37, 38, 39
+#else
+    0, 1, 2, 3, 4, 5, 6, 7, 8, 9, 10, 11, 12, 13, 14, 15, 16, 17, 18, 19, 20, 21, 22, 23, 24, 25, 26, 27, 28, 29,
+    30, 31, 32, 33, 34, 35, 36, 37, 38, 39
+#endif
+};
+
+INLINE struct shaped shape_of_lent_setup(u32 leads_to)
+{
+    struct shaped one;
+    one.at = NULL;
+    one.count = 0;
+    one.each = sizeof octets_of_lent_setup / sizeof octets_of_lent_setup[0];
+    one.octet = octets_of_lent_setup;
+    one.element = NULL;
+    one.leads_to = leads_to;
+    return one;
+}
+
+
+static const uint16_t octets_of_lent_session[] = {
+#if HIGHEST_FIRST
+    0, 1, 2, 3, 4, 5, 6, 7, 8, 9, 10, 11, 12, 13, 14, 15, 23, 22, 21, 20, 19, 18, 17, 16, 31, 30, 29, 28, 27, 26,
+    25, 24, 39, 38, 37, 36, 35, 34, 33, 32, 47, 46, 45, 44, 43, 42, 41, 40, 55, 54, 53, 52, 51, 50, 49, 48, 63,
+    62, 61, 60, 59, 58, 57, 56, 71, 70, 69, 68, 67, 66, 65, 64, 79, 78, 77, 76, 75, 74, 73, 72, 87, 86, 85, 84,
+    83, 82, 81, 80, 95, 94, 93, 92, 91, 90, 89, 88, 103, 102, 101, 100, 99, 98, 97, 96, 107, 106, 105, 104, 108,
+    109, 110, 111, 119, 118, 117, 116, 115, 114, 113, 112, 127, 126, 125, 124, 123, 122, 121, 120, 135, 134, 133,
+    132, 131, 130, 129, 128, 143, 142, 141, 140, 139, 138, 137, 136, 151, 150, 149, 148, 147, 146, 145, 144, 159,
+    158, 157, 156, 155, 154, 153, 152, 167, 166, 165, 164, 163, 162, 161, 160, 175, 174, 173, 172, 171, 170, 169,
+    168, 179, 178, 177, 176, 183, 182, 181, 180, 187, 186, 185, 184, 188, 189, 190, 191, 192, 193, 194, 195, 196,
+    197, 198, 199, 207, 206, 205, 204, 203, 202, 201, 200, 208, 209, 210, 211, 212, 213, 214, 215, 216, 217, 218,
+    219, 220, 221, 222, 223, 224, 225, 226, 227, 228, 229, 230, 231, 232, 233, 234, 235, 236, 237, 238, 239, 240,
+    241, 242, 243, 244, 245, 246, 247, 248, 249, 250, 251, 252, 253, 254, 255, 256, 257, 258, 259, 260, 261, 262,
+    263, 264, 265, 266, 267, 268, 269, 270, 271, 272, 273, 274, 275, 276, 277, 278, 279, 280, 281, 282, 283, 284,
+    285, 286, 287, 288, 289, 290, 291, 292, 293, 294, 295, 296, 297, 298, 299, 300, 301, 302, 303, 304, 305, 306,
+    307, 308, 309, 310, 311, 312, 313, 314, 315, 316, 317, 318, 319, 320, 321, 322, 323, 324, 325, 326, 327, 328,
+    329, 330, 331, 332, 333, 334, 335, 336, 337, 338, 339, 340, 341, 342, 343, 344, 345, 346, 347, 348, 349, 350,
+    351, 352, 353, 354, 355, 356, 357, 358, 359, 360, 361, 362, 363, 364, 365, 366, 367, 368, 369, 370, 371, 372,
+    373, 374, 375, 376, 377, 378, 379, 380, 381, 382, 383, 384, 385, 386, 387, 388, 389, 390, 391, 392, 393, 394,
+    395, 396, 397, 398, 399, 400, 401, 402, 403, 404, 405, 406, 407, 408, 409, 410, 411, 412, 413, 414, 415, 416,
+    417, 418, 419, 420, 421, 422, 423, 424, 425, 426, 427, 428, 429, 430, 431, 432, 433, 434, 435, 436, 437, 438,
+    439, 440, 441, 442, 443, 444, 445, 446, 447, 448, 449, 450, 451, 452, 453, 454, 455, 456, 457, 458, 459, 460,
+    461, 462, 463, 464, 465, 466, 467, 468, 469, 470, 471, 479, 478, 477, 476, 475, 474, 473, 472, 483, 482, 481,
+    480, 484, 485, 486, 487, 495, 494, 493, 492, 491, 490, 489, 488
+#else
+    0, 1, 2, 3, 4, 5, 6, 7, 8, 9, 10, 11, 12, 13, 14, 15, 16, 17, 18, 19, 20, 21, 22, 23, 24, 25, 26, 27, 28, 29,
+    30, 31, 32, 33, 34, 35, 36, 37, 38, 39, 40, 41, 42, 43, 44, 45, 46, 47, 48, 49, 50, 51, 52, 53, 54, 55, 56,
+    57, 58, 59, 60, 61, 62, 63, 64, 65, 66, 67, 68, 69, 70, 71, 72, 73, 74, 75, 76, 77, 78, 79, 80, 81, 82, 83,
+    84, 85, 86, 87, 88, 89, 90, 91, 92, 93, 94, 95, 96, 97, 98, 99, 100, 101, 102, 103, 104, 105, 106, 107, 108,
+    109, 110, 111, 112, 113, 114, 115, 116, 117, 118, 119, 120, 121, 122, 123, 124, 125, 126, 127, 128, 129, 130,
+    131, 132, 133, 134, 135, 136, 137, 138, 139, 140, 141, 142, 143, 144, 145, 146, 147, 148, 149, 150, 151, 152,
+    153, 154, 155, 156, 157, 158, 159, 160, 161, 162, 163, 164, 165, 166, 167, 168, 169, 170, 171, 172, 173, 174,
+    175, 176, 177, 178, 179, 180, 181, 182, 183, 184, 185, 186, 187, 188, 189, 190, 191, 192, 193, 194, 195, 196,
+    197, 198, 199, 200, 201, 202, 203, 204, 205, 206, 207, 208, 209, 210, 211, 212, 213, 214, 215, 216, 217, 218,
+    219, 220, 221, 222, 223, 224, 225, 226, 227, 228, 229, 230, 231, 232, 233, 234, 235, 236, 237, 238, 239, 240,
+    241, 242, 243, 244, 245, 246, 247, 248, 249, 250, 251, 252, 253, 254, 255, 256, 257, 258, 259, 260, 261, 262,
+    263, 264, 265, 266, 267, 268, 269, 270, 271, 272, 273, 274, 275, 276, 277, 278, 279, 280, 281, 282, 283, 284,
+    285, 286, 287, 288, 289, 290, 291, 292, 293, 294, 295, 296, 297, 298, 299, 300, 301, 302, 303, 304, 305, 306,
+    307, 308, 309, 310, 311, 312, 313, 314, 315, 316, 317, 318, 319, 320, 321, 322, 323, 324, 325, 326, 327, 328,
+    329, 330, 331, 332, 333, 334, 335, 336, 337, 338, 339, 340, 341, 342, 343, 344, 345, 346, 347, 348, 349, 350,
+    351, 352, 353, 354, 355, 356, 357, 358, 359, 360, 361, 362, 363, 364, 365, 366, 367, 368, 369, 370, 371, 372,
+    373, 374, 375, 376, 377, 378, 379, 380, 381, 382, 383, 384, 385, 386, 387, 388, 389, 390, 391, 392, 393, 394,
+    395, 396, 397, 398, 399, 400, 401, 402, 403, 404, 405, 406, 407, 408, 409, 410, 411, 412, 413, 414, 415, 416,
+    417, 418, 419, 420, 421, 422, 423, 424, 425, 426, 427, 428, 429, 430, 431, 432, 433, 434, 435, 436, 437, 438,
+    439, 440, 441, 442, 443, 444, 445, 446, 447, 448, 449, 450, 451, 452, 453, 454, 455, 456, 457, 458, 459, 460,
+    461, 462, 463, 464, 465, 466, 467, 468, 469, 470, 471, 472, 473, 474, 475, 476, 477, 478, 479, 480, 481, 482,
+    483, 484, 485, 486, 487, 488, 489, 490, 491, 492, 493, 494, 495
+#endif
+};
+
+INLINE struct shaped shape_of_lent_session(u32 leads_to)
+{
+    struct shaped one;
+    one.at = NULL;
+    one.count = 0;
+    one.each = sizeof octets_of_lent_session / sizeof octets_of_lent_session[0];
+    one.octet = octets_of_lent_session;
+    one.element = NULL;
+    one.leads_to = leads_to;
+    return one;
+}
+
+
+static const uint16_t octets_of_lent_card_session[] = {
+#if HIGHEST_FIRST
+    0, 1, 2, 3, 4, 5, 6, 7, 8, 9, 10, 11, 12, 13, 14, 15, 23, 22, 21, 20, 19, 18, 17, 16, 31, 30, 29, 28, 27, 26,
+    25, 24, 39, 38, 37, 36, 35, 34, 33, 32, 47, 46, 45, 44, 43, 42, 41, 40, 55, 54, 53, 52, 51, 50, 49, 48, 63,
+    62, 61, 60, 59, 58, 57, 56, 71, 70, 69, 68, 67, 66, 65, 64, 79, 78, 77, 76, 75, 74, 73, 72, 87, 86, 85, 84,
+    83, 82, 81, 80, 95, 94, 93, 92, 91, 90, 89, 88, 103, 102, 101, 100, 99, 98, 97, 96, 111, 110, 109, 108, 107,
+    106, 105, 104, 115, 114, 113, 112, 116, 117, 118, 119, 127, 126, 125, 124, 123, 122, 121, 120, 135, 134, 133,
+    132, 131, 130, 129, 128, 143, 142, 141, 140, 139, 138, 137, 136, 151, 150, 149, 148, 147, 146, 145, 144, 159,
+    158, 157, 156, 155, 154, 153, 152, 167, 166, 165, 164, 163, 162, 161, 160, 175, 174, 173, 172, 171, 170, 169,
+    168, 183, 182, 181, 180, 179, 178, 177, 176, 187, 186, 185, 184, 191, 190, 189, 188, 195, 194, 193, 192, 196,
+    197, 198, 199, 200, 201, 202, 203, 204, 205, 206, 207, 215, 214, 213, 212, 211, 210, 209, 208, 216, 217, 218,
+    219, 220, 221, 222, 223, 224, 225, 226, 227, 228, 229, 230, 231, 232, 233, 234, 235, 236, 237, 238, 239, 240,
+    241, 242, 243, 244, 245, 246, 247, 248, 249, 250, 251, 252, 253, 254, 255, 256, 257, 258, 259, 260, 261, 262,
+    263, 264, 265, 266, 267, 268, 269, 270, 271, 272, 273, 274, 275, 276, 277, 278, 279, 280, 281, 282, 283, 284,
+    285, 286, 287, 288, 289, 290, 291, 292, 293, 294, 295, 296, 297, 298, 299, 300, 301, 302, 303, 304, 305, 306,
+    307, 308, 309, 310, 311, 312, 313, 314, 315, 316, 317, 318, 319, 320, 321, 322, 323, 324, 325, 326, 327, 328,
+    329, 330, 331, 332, 333, 334, 335, 336, 337, 338, 339, 340, 341, 342, 343, 344, 345, 346, 347, 348, 349, 350,
+    351, 352, 353, 354, 355, 356, 357, 358, 359, 360, 361, 362, 363, 364, 365, 366, 367, 368, 369, 370, 371, 372,
+    373, 374, 375, 376, 377, 378, 379, 380, 381, 382, 383, 384, 385, 386, 387, 388, 389, 390, 391, 392, 393, 394,
+    395, 396, 397, 398, 399, 400, 401, 402, 403, 404, 405, 406, 407, 408, 409, 410, 411, 412, 413, 414, 415, 416,
+    417, 418, 419, 420, 421, 422, 423, 424, 425, 426, 427, 428, 429, 430, 431, 432, 433, 434, 435, 436, 437, 438,
+    439, 440, 441, 442, 443, 444, 445, 446, 447, 448, 449, 450, 451, 452, 453, 454, 455, 456, 457, 458, 459, 460,
+    461, 462, 463, 464, 465, 466, 467, 468, 469, 470, 471, 472, 473, 474, 475, 476, 477, 478, 479, 487, 486, 485,
+    484, 483, 482, 481, 480, 495, 494, 493, 492, 491, 490, 489, 488, 496, 497, 498, 499, 500, 501, 502, 503
+#else
+    0, 1, 2, 3, 4, 5, 6, 7, 8, 9, 10, 11, 12, 13, 14, 15, 16, 17, 18, 19, 20, 21, 22, 23, 24, 25, 26, 27, 28, 29,
+    30, 31, 32, 33, 34, 35, 36, 37, 38, 39, 40, 41, 42, 43, 44, 45, 46, 47, 48, 49, 50, 51, 52, 53, 54, 55, 56,
+    57, 58, 59, 60, 61, 62, 63, 64, 65, 66, 67, 68, 69, 70, 71, 72, 73, 74, 75, 76, 77, 78, 79, 80, 81, 82, 83,
+    84, 85, 86, 87, 88, 89, 90, 91, 92, 93, 94, 95, 96, 97, 98, 99, 100, 101, 102, 103, 104, 105, 106, 107, 108,
+    109, 110, 111, 112, 113, 114, 115, 116, 117, 118, 119, 120, 121, 122, 123, 124, 125, 126, 127, 128, 129, 130,
+    131, 132, 133, 134, 135, 136, 137, 138, 139, 140, 141, 142, 143, 144, 145, 146, 147, 148, 149, 150, 151, 152,
+    153, 154, 155, 156, 157, 158, 159, 160, 161, 162, 163, 164, 165, 166, 167, 168, 169, 170, 171, 172, 173, 174,
+    175, 176, 177, 178, 179, 180, 181, 182, 183, 184, 185, 186, 187, 188, 189, 190, 191, 192, 193, 194, 195, 196,
+    197, 198, 199, 200, 201, 202, 203, 204, 205, 206, 207, 208, 209, 210, 211, 212, 213, 214, 215, 216, 217, 218,
+    219, 220, 221, 222, 223, 224, 225, 226, 227, 228, 229, 230, 231, 232, 233, 234, 235, 236, 237, 238, 239, 240,
+    241, 242, 243, 244, 245, 246, 247, 248, 249, 250, 251, 252, 253, 254, 255, 256, 257, 258, 259, 260, 261, 262,
+    263, 264, 265, 266, 267, 268, 269, 270, 271, 272, 273, 274, 275, 276, 277, 278, 279, 280, 281, 282, 283, 284,
+    285, 286, 287, 288, 289, 290, 291, 292, 293, 294, 295, 296, 297, 298, 299, 300, 301, 302, 303, 304, 305, 306,
+    307, 308, 309, 310, 311, 312, 313, 314, 315, 316, 317, 318, 319, 320, 321, 322, 323, 324, 325, 326, 327, 328,
+    329, 330, 331, 332, 333, 334, 335, 336, 337, 338, 339, 340, 341, 342, 343, 344, 345, 346, 347, 348, 349, 350,
+    351, 352, 353, 354, 355, 356, 357, 358, 359, 360, 361, 362, 363, 364, 365, 366, 367, 368, 369, 370, 371, 372,
+    373, 374, 375, 376, 377, 378, 379, 380, 381, 382, 383, 384, 385, 386, 387, 388, 389, 390, 391, 392, 393, 394,
+    395, 396, 397, 398, 399, 400, 401, 402, 403, 404, 405, 406, 407, 408, 409, 410, 411, 412, 413, 414, 415, 416,
+    417, 418, 419, 420, 421, 422, 423, 424, 425, 426, 427, 428, 429, 430, 431, 432, 433, 434, 435, 436, 437, 438,
+    439, 440, 441, 442, 443, 444, 445, 446, 447, 448, 449, 450, 451, 452, 453, 454, 455, 456, 457, 458, 459, 460,
+    461, 462, 463, 464, 465, 466, 467, 468, 469, 470, 471, 472, 473, 474, 475, 476, 477, 478, 479, 480, 481, 482,
+    483, 484, 485, 486, 487, 488, 489, 490, 491, 492, 493, 494, 495, 496, 497, 498, 499, 500, 501, 502, 503
+#endif
+};
+
+INLINE struct shaped shape_of_lent_card_session(u32 leads_to)
+{
+    struct shaped one;
+    one.at = NULL;
+    one.count = 0;
+    one.each = sizeof octets_of_lent_card_session / sizeof octets_of_lent_card_session[0];
+    one.octet = octets_of_lent_card_session;
     one.element = NULL;
     one.leads_to = leads_to;
     return one;
@@ -23445,7 +26485,7 @@ struct scard_turn scard_lent_terminal_transmit(struct scard_lent_terminal *state
     command_room, uint8_t *answer, size_t answer_room, const uint8_t *octets, size_t count, uint8_t *out, size_t room)
 {
     struct call m;
-    u8 stack[224];
+    u8 stack[304];
     SHAPED_HERE
     struct scard_turn result;
     begin(&m, stack, sizeof stack, shaped);
@@ -23458,9 +26498,9 @@ struct scard_turn scard_lent_terminal_transmit(struct scard_lent_terminal *state
     m.g0 -= 16;
     module_scard_lent_terminal_transmit(&m, m.g0, ADDRESS(2), ADDRESS(3), (u64)command_room, ADDRESS(4),
         (u64)answer_room, ADDRESS(5), (u64)count, ADDRESS(6), (u64)room);
-    result.kind = (uint8_t)get8(stack + 208);
-    result.wait = (uint8_t)get8(stack + 208 + 1);
-    result.count = (scard_size)get64(stack + 208 + 8);
+    result.kind = (uint8_t)get8(stack + 288);
+    result.wait = (uint8_t)get8(stack + 288 + 1);
+    result.count = (scard_size)get64(stack + 288 + 8);
     return result;
 }
 
@@ -23468,7 +26508,7 @@ struct scard_turn scard_lent_terminal_received(struct scard_lent_terminal *state
     command_room, uint8_t *answer, size_t answer_room, const uint8_t *octets, size_t count, uint8_t *out, size_t room)
 {
     struct call m;
-    u8 stack[224];
+    u8 stack[304];
     SHAPED_HERE
     struct scard_turn result;
     begin(&m, stack, sizeof stack, shaped);
@@ -23481,9 +26521,9 @@ struct scard_turn scard_lent_terminal_received(struct scard_lent_terminal *state
     m.g0 -= 16;
     module_scard_lent_terminal_received(&m, m.g0, ADDRESS(2), ADDRESS(3), (u64)command_room, ADDRESS(4),
         (u64)answer_room, ADDRESS(5), (u64)count, ADDRESS(6), (u64)room);
-    result.kind = (uint8_t)get8(stack + 208);
-    result.wait = (uint8_t)get8(stack + 208 + 1);
-    result.count = (scard_size)get64(stack + 208 + 8);
+    result.kind = (uint8_t)get8(stack + 288);
+    result.wait = (uint8_t)get8(stack + 288 + 1);
+    result.count = (scard_size)get64(stack + 288 + 8);
     return result;
 }
 
@@ -23491,7 +26531,7 @@ struct scard_turn scard_lent_terminal_quiet(struct scard_lent_terminal *state, u
     uint8_t *answer, size_t answer_room, uint8_t *out, size_t room)
 {
     struct call m;
-    u8 stack[224];
+    u8 stack[304];
     SHAPED_HERE
     struct scard_turn result;
     begin(&m, stack, sizeof stack, shaped);
@@ -23503,9 +26543,9 @@ struct scard_turn scard_lent_terminal_quiet(struct scard_lent_terminal *state, u
     m.g0 -= 16;
     module_scard_lent_terminal_quiet(&m, m.g0, ADDRESS(2), ADDRESS(3), (u64)command_room, ADDRESS(4),
         (u64)answer_room, ADDRESS(5), (u64)room);
-    result.kind = (uint8_t)get8(stack + 208);
-    result.wait = (uint8_t)get8(stack + 208 + 1);
-    result.count = (scard_size)get64(stack + 208 + 8);
+    result.kind = (uint8_t)get8(stack + 288);
+    result.wait = (uint8_t)get8(stack + 288 + 1);
+    result.count = (scard_size)get64(stack + 288 + 8);
     return result;
 }
 
@@ -23513,7 +26553,7 @@ struct scard_turn scard_lent_terminal_ask_ifs(struct scard_lent_terminal *state,
     command_room, uint8_t *answer, size_t answer_room, uint8_t size, uint8_t *out, size_t room)
 {
     struct call m;
-    u8 stack[224];
+    u8 stack[304];
     SHAPED_HERE
     struct scard_turn result;
     begin(&m, stack, sizeof stack, shaped);
@@ -23525,9 +26565,9 @@ struct scard_turn scard_lent_terminal_ask_ifs(struct scard_lent_terminal *state,
     m.g0 -= 16;
     module_scard_lent_terminal_ask_ifs(&m, m.g0, ADDRESS(2), ADDRESS(3), (u64)command_room, ADDRESS(4),
         (u64)answer_room, (u32)size, ADDRESS(5), (u64)room);
-    result.kind = (uint8_t)get8(stack + 208);
-    result.wait = (uint8_t)get8(stack + 208 + 1);
-    result.count = (scard_size)get64(stack + 208 + 8);
+    result.kind = (uint8_t)get8(stack + 288);
+    result.wait = (uint8_t)get8(stack + 288 + 1);
+    result.count = (scard_size)get64(stack + 288 + 8);
     return result;
 }
 
@@ -23535,7 +26575,7 @@ struct scard_turn scard_lent_card_received(struct scard_lent_card *state, uint8_
     uint8_t *reply, size_t reply_room, const uint8_t *octets, size_t count, uint8_t *out, size_t room)
 {
     struct call m;
-    u8 stack[256];
+    u8 stack[352];
     SHAPED_HERE
     struct scard_turn result;
     begin(&m, stack, sizeof stack, shaped);
@@ -23548,9 +26588,9 @@ struct scard_turn scard_lent_card_received(struct scard_lent_card *state, uint8_
     m.g0 -= 16;
     module_scard_lent_card_received(&m, m.g0, ADDRESS(2), ADDRESS(3), (u64)command_room, ADDRESS(4), (u64)reply_room,
         ADDRESS(5), (u64)count, ADDRESS(6), (u64)room);
-    result.kind = (uint8_t)get8(stack + 240);
-    result.wait = (uint8_t)get8(stack + 240 + 1);
-    result.count = (scard_size)get64(stack + 240 + 8);
+    result.kind = (uint8_t)get8(stack + 336);
+    result.wait = (uint8_t)get8(stack + 336 + 1);
+    result.count = (scard_size)get64(stack + 336 + 8);
     return result;
 }
 
@@ -23558,7 +26598,7 @@ struct scard_turn scard_lent_card_reply(struct scard_lent_card *state, uint8_t *
     *reply, size_t reply_room, const uint8_t *octets, size_t count, uint8_t *out, size_t room)
 {
     struct call m;
-    u8 stack[256];
+    u8 stack[352];
     SHAPED_HERE
     struct scard_turn result;
     begin(&m, stack, sizeof stack, shaped);
@@ -23571,9 +26611,9 @@ struct scard_turn scard_lent_card_reply(struct scard_lent_card *state, uint8_t *
     m.g0 -= 16;
     module_scard_lent_card_reply(&m, m.g0, ADDRESS(2), ADDRESS(3), (u64)command_room, ADDRESS(4), (u64)reply_room,
         ADDRESS(5), (u64)count, ADDRESS(6), (u64)room);
-    result.kind = (uint8_t)get8(stack + 240);
-    result.wait = (uint8_t)get8(stack + 240 + 1);
-    result.count = (scard_size)get64(stack + 240 + 8);
+    result.kind = (uint8_t)get8(stack + 336);
+    result.wait = (uint8_t)get8(stack + 336 + 1);
+    result.count = (scard_size)get64(stack + 336 + 8);
     return result;
 }
 
@@ -23581,7 +26621,7 @@ struct scard_turn scard_lent_card_more_time(struct scard_lent_card *state, uint8
     uint8_t *reply, size_t reply_room, uint8_t multiple, uint8_t *out, size_t room)
 {
     struct call m;
-    u8 stack[256];
+    u8 stack[352];
     SHAPED_HERE
     struct scard_turn result;
     begin(&m, stack, sizeof stack, shaped);
@@ -23593,9 +26633,9 @@ struct scard_turn scard_lent_card_more_time(struct scard_lent_card *state, uint8
     m.g0 -= 16;
     module_scard_lent_card_more_time(&m, m.g0, ADDRESS(2), ADDRESS(3), (u64)command_room, ADDRESS(4), (u64)reply_room,
         (u32)multiple, ADDRESS(5), (u64)room);
-    result.kind = (uint8_t)get8(stack + 240);
-    result.wait = (uint8_t)get8(stack + 240 + 1);
-    result.count = (scard_size)get64(stack + 240 + 8);
+    result.kind = (uint8_t)get8(stack + 336);
+    result.wait = (uint8_t)get8(stack + 336 + 1);
+    result.count = (scard_size)get64(stack + 336 + 8);
     return result;
 }
 
@@ -23603,7 +26643,7 @@ struct scard_turn scard_lent_card_ask_ifs(struct scard_lent_card *state, uint8_t
     uint8_t *reply, size_t reply_room, uint8_t size, uint8_t *out, size_t room)
 {
     struct call m;
-    u8 stack[256];
+    u8 stack[352];
     SHAPED_HERE
     struct scard_turn result;
     begin(&m, stack, sizeof stack, shaped);
@@ -23615,9 +26655,9 @@ struct scard_turn scard_lent_card_ask_ifs(struct scard_lent_card *state, uint8_t
     m.g0 -= 16;
     module_scard_lent_card_ask_ifs(&m, m.g0, ADDRESS(2), ADDRESS(3), (u64)command_room, ADDRESS(4), (u64)reply_room,
         (u32)size, ADDRESS(5), (u64)room);
-    result.kind = (uint8_t)get8(stack + 240);
-    result.wait = (uint8_t)get8(stack + 240 + 1);
-    result.count = (scard_size)get64(stack + 240 + 8);
+    result.kind = (uint8_t)get8(stack + 336);
+    result.wait = (uint8_t)get8(stack + 336 + 1);
+    result.count = (scard_size)get64(stack + 336 + 8);
     return result;
 }
 
@@ -24041,7 +27081,7 @@ struct scard_line_next scard_lent_line_step(struct scard_lent_line *line, uint8_
     count, uint64_t now, const uint8_t *block, size_t block_count)
 {
     struct call m;
-    u8 stack[352];
+    u8 stack[368];
     SHAPED_HERE
     struct scard_line_next result;
     begin(&m, stack, sizeof stack, shaped);
@@ -24052,25 +27092,270 @@ struct scard_line_next scard_lent_line_step(struct scard_lent_line *line, uint8_
     m.g0 -= 24;
     module_scard_lent_line_step(&m, m.g0, ADDRESS(2), (u32)event, ADDRESS(3), (u64)count, (u64)now, ADDRESS(4),
         (u64)block_count);
-    result.kind = (uint8_t)get8(stack + 328);
-    result.count = (scard_size)get64(stack + 328 + 8);
-    result.wait = (scard_size)get64(stack + 328 + 16);
+    result.kind = (uint8_t)get8(stack + 344);
+    result.count = (scard_size)get64(stack + 344 + 8);
+    result.wait = (scard_size)get64(stack + 344 + 16);
+    return result;
+}
+
+struct scard_verdict scard_lent_session_begin(struct scard_lent_session *session, uint8_t *command, size_t
+    command_room, uint8_t *answer, size_t answer_room, const struct scard_lent_setup *setup)
+{
+    struct call m;
+    u8 stack[96];
+    SHAPED_HERE
+    struct scard_verdict result;
+    begin(&m, stack, sizeof stack, shaped);
+    lend(&m, 0, first_constants, sizeof first_constants);
+    LEND(&m, 2, session, 1, shape_of_lent_session(0));
+    lend(&m, 3, command, command_room);
+    lend(&m, 4, answer, answer_room);
+    LEND(&m, 5, setup, 1, shape_of_lent_setup(0));
+    m.g0 -= 16;
+    module_scard_lent_session_begin(&m, m.g0, ADDRESS(2), ADDRESS(3), (u64)command_room, ADDRESS(4), (u64)answer_room,
+        ADDRESS(5));
+    result.status = (uint8_t)get8(stack + 80);
+    result.reason = (uint8_t)get8(stack + 80 + 1);
+    result.place = (scard_size)get64(stack + 80 + 8);
+    return result;
+}
+
+struct scard_verdict scard_lent_card_session_begin(struct scard_lent_card_session *session, uint8_t *command, size_t
+    command_room, uint8_t *reply, size_t reply_room, const struct scard_lent_setup *setup)
+{
+    struct call m;
+    u8 stack[96];
+    SHAPED_HERE
+    struct scard_verdict result;
+    begin(&m, stack, sizeof stack, shaped);
+    lend(&m, 0, first_constants, sizeof first_constants);
+    LEND(&m, 2, session, 1, shape_of_lent_card_session(0));
+    lend(&m, 3, command, command_room);
+    lend(&m, 4, reply, reply_room);
+    LEND(&m, 5, setup, 1, shape_of_lent_setup(0));
+    m.g0 -= 16;
+    module_scard_lent_card_session_begin(&m, m.g0, ADDRESS(2), ADDRESS(3), (u64)command_room, ADDRESS(4),
+        (u64)reply_room, ADDRESS(5));
+    result.status = (uint8_t)get8(stack + 80);
+    result.reason = (uint8_t)get8(stack + 80 + 1);
+    result.place = (scard_size)get64(stack + 80 + 8);
+    return result;
+}
+
+struct scard_session_next scard_lent_session_exchange(struct scard_lent_session *session, uint8_t *command, size_t
+    command_room, uint8_t *answer, size_t answer_room, const uint8_t *octets, size_t count, uint64_t now, uint8_t
+    *out, size_t room)
+{
+    struct call m;
+    u8 stack[368];
+    SHAPED_HERE
+    struct scard_session_next result;
+    begin(&m, stack, sizeof stack, shaped);
+    LEND(&m, 2, session, 1, shape_of_lent_session(0));
+    lend(&m, 3, command, command_room);
+    lend(&m, 4, answer, answer_room);
+    lend(&m, 5, octets, count);
+    lend(&m, 6, out, room);
+    m.g0 -= 24;
+    module_scard_lent_session_exchange(&m, m.g0, ADDRESS(2), ADDRESS(3), (u64)command_room, ADDRESS(4),
+        (u64)answer_room, ADDRESS(5), (u64)count, (u64)now, ADDRESS(6), (u64)room);
+    result.kind = (uint8_t)get8(stack + 344);
+    result.count = (scard_size)get64(stack + 344 + 8);
+    result.wait = (scard_size)get64(stack + 344 + 16);
+    return result;
+}
+
+struct scard_session_next scard_lent_session_ask_ifs(struct scard_lent_session *session, uint8_t *command, size_t
+    command_room, uint8_t *answer, size_t answer_room, uint8_t size, uint64_t now, uint8_t *out, size_t room)
+{
+    struct call m;
+    u8 stack[368];
+    SHAPED_HERE
+    struct scard_session_next result;
+    begin(&m, stack, sizeof stack, shaped);
+    LEND(&m, 2, session, 1, shape_of_lent_session(0));
+    lend(&m, 3, command, command_room);
+    lend(&m, 4, answer, answer_room);
+    lend(&m, 5, out, room);
+    m.g0 -= 24;
+    module_scard_lent_session_ask_ifs(&m, m.g0, ADDRESS(2), ADDRESS(3), (u64)command_room, ADDRESS(4),
+        (u64)answer_room, (u32)size, (u64)now, ADDRESS(5), (u64)room);
+    result.kind = (uint8_t)get8(stack + 344);
+    result.count = (scard_size)get64(stack + 344 + 8);
+    result.wait = (scard_size)get64(stack + 344 + 16);
+    return result;
+}
+
+struct scard_session_next scard_lent_session_resync(struct scard_lent_session *session, uint8_t *command, size_t
+    command_room, uint8_t *answer, size_t answer_room, const struct scard_lent_setup *setup, uint64_t now, uint8_t
+    *out, size_t room)
+{
+    struct call m;
+    u8 stack[384];
+    SHAPED_HERE
+    struct scard_session_next result;
+    begin(&m, stack, sizeof stack, shaped);
+    lend(&m, 0, first_constants, sizeof first_constants);
+    LEND(&m, 2, session, 1, shape_of_lent_session(0));
+    lend(&m, 3, command, command_room);
+    lend(&m, 4, answer, answer_room);
+    LEND(&m, 5, setup, 1, shape_of_lent_setup(0));
+    lend(&m, 6, out, room);
+    m.g0 -= 24;
+    module_scard_lent_session_resync(&m, m.g0, ADDRESS(2), ADDRESS(3), (u64)command_room, ADDRESS(4),
+        (u64)answer_room, ADDRESS(5), (u64)now, ADDRESS(6), (u64)room);
+    result.kind = (uint8_t)get8(stack + 360);
+    result.count = (scard_size)get64(stack + 360 + 8);
+    result.wait = (scard_size)get64(stack + 360 + 16);
+    return result;
+}
+
+struct scard_session_next scard_lent_session_step(struct scard_lent_session *session, uint8_t *command, size_t
+    command_room, uint8_t *answer, size_t answer_room, uint8_t event, const uint8_t *octets, size_t count, uint64_t
+    now, uint8_t *out, size_t room)
+{
+    struct call m;
+    u8 stack[624];
+    SHAPED_HERE
+    struct scard_session_next result;
+    begin(&m, stack, sizeof stack, shaped);
+    lend(&m, 0, first_constants, sizeof first_constants);
+    LEND(&m, 2, session, 1, shape_of_lent_session(0));
+    lend(&m, 3, command, command_room);
+    lend(&m, 4, answer, answer_room);
+    lend(&m, 5, octets, count);
+    lend(&m, 6, out, room);
+    m.g0 -= 24;
+    module_scard_lent_session_step(&m, m.g0, ADDRESS(2), ADDRESS(3), (u64)command_room, ADDRESS(4), (u64)answer_room,
+        (u32)event, ADDRESS(5), (u64)count, (u64)now, ADDRESS(6), (u64)room);
+    result.kind = (uint8_t)get8(stack + 600);
+    result.count = (scard_size)get64(stack + 600 + 8);
+    result.wait = (scard_size)get64(stack + 600 + 16);
+    return result;
+}
+
+struct scard_session_next scard_lent_card_session_serve(struct scard_lent_card_session *session, const uint8_t
+    *command, size_t command_room, const uint8_t *reply, size_t reply_room, uint64_t now)
+{
+    struct call m;
+    u8 stack[224];
+    SHAPED_HERE
+    struct scard_session_next result;
+    begin(&m, stack, sizeof stack, shaped);
+    LEND(&m, 2, session, 1, shape_of_lent_card_session(0));
+    lend(&m, 3, command, command_room);
+    lend(&m, 4, reply, reply_room);
+    m.g0 -= 24;
+    module_scard_lent_card_session_serve(&m, m.g0, ADDRESS(2), ADDRESS(3), (u64)command_room, ADDRESS(4),
+        (u64)reply_room, (u64)now);
+    result.kind = (uint8_t)get8(stack + 200);
+    result.count = (scard_size)get64(stack + 200 + 8);
+    result.wait = (scard_size)get64(stack + 200 + 16);
+    return result;
+}
+
+struct scard_session_next scard_lent_card_session_reply(struct scard_lent_card_session *session, uint8_t *command,
+    size_t command_room, uint8_t *reply, size_t reply_room, const uint8_t *octets, size_t count, uint64_t now, uint8_t
+    *out, size_t room)
+{
+    struct call m;
+    u8 stack[400];
+    SHAPED_HERE
+    struct scard_session_next result;
+    begin(&m, stack, sizeof stack, shaped);
+    LEND(&m, 2, session, 1, shape_of_lent_card_session(0));
+    lend(&m, 3, command, command_room);
+    lend(&m, 4, reply, reply_room);
+    lend(&m, 5, octets, count);
+    lend(&m, 6, out, room);
+    m.g0 -= 24;
+    module_scard_lent_card_session_reply(&m, m.g0, ADDRESS(2), ADDRESS(3), (u64)command_room, ADDRESS(4),
+        (u64)reply_room, ADDRESS(5), (u64)count, (u64)now, ADDRESS(6), (u64)room);
+    result.kind = (uint8_t)get8(stack + 376);
+    result.count = (scard_size)get64(stack + 376 + 8);
+    result.wait = (scard_size)get64(stack + 376 + 16);
+    return result;
+}
+
+struct scard_session_next scard_lent_card_session_more_time(struct scard_lent_card_session *session, uint8_t *command,
+    size_t command_room, uint8_t *reply, size_t reply_room, uint8_t multiple, uint64_t now, uint8_t *out, size_t room)
+{
+    struct call m;
+    u8 stack[400];
+    SHAPED_HERE
+    struct scard_session_next result;
+    begin(&m, stack, sizeof stack, shaped);
+    LEND(&m, 2, session, 1, shape_of_lent_card_session(0));
+    lend(&m, 3, command, command_room);
+    lend(&m, 4, reply, reply_room);
+    lend(&m, 5, out, room);
+    m.g0 -= 24;
+    module_scard_lent_card_session_more_time(&m, m.g0, ADDRESS(2), ADDRESS(3), (u64)command_room, ADDRESS(4),
+        (u64)reply_room, (u32)multiple, (u64)now, ADDRESS(5), (u64)room);
+    result.kind = (uint8_t)get8(stack + 376);
+    result.count = (scard_size)get64(stack + 376 + 8);
+    result.wait = (scard_size)get64(stack + 376 + 16);
+    return result;
+}
+
+struct scard_session_next scard_lent_card_session_ask_ifs(struct scard_lent_card_session *session, uint8_t *command,
+    size_t command_room, uint8_t *reply, size_t reply_room, uint8_t size, uint64_t now, uint8_t *out, size_t room)
+{
+    struct call m;
+    u8 stack[400];
+    SHAPED_HERE
+    struct scard_session_next result;
+    begin(&m, stack, sizeof stack, shaped);
+    LEND(&m, 2, session, 1, shape_of_lent_card_session(0));
+    lend(&m, 3, command, command_room);
+    lend(&m, 4, reply, reply_room);
+    lend(&m, 5, out, room);
+    m.g0 -= 24;
+    module_scard_lent_card_session_ask_ifs(&m, m.g0, ADDRESS(2), ADDRESS(3), (u64)command_room, ADDRESS(4),
+        (u64)reply_room, (u32)size, (u64)now, ADDRESS(5), (u64)room);
+    result.kind = (uint8_t)get8(stack + 376);
+    result.count = (scard_size)get64(stack + 376 + 8);
+    result.wait = (scard_size)get64(stack + 376 + 16);
+    return result;
+}
+
+struct scard_session_next scard_lent_card_session_step(struct scard_lent_card_session *session, uint8_t *command,
+    size_t command_room, uint8_t *reply, size_t reply_room, uint8_t event, const uint8_t *octets, size_t count,
+    uint64_t now, uint8_t *out, size_t room)
+{
+    struct call m;
+    u8 stack[672];
+    SHAPED_HERE
+    struct scard_session_next result;
+    begin(&m, stack, sizeof stack, shaped);
+    lend(&m, 0, first_constants, sizeof first_constants);
+    LEND(&m, 2, session, 1, shape_of_lent_card_session(0));
+    lend(&m, 3, command, command_room);
+    lend(&m, 4, reply, reply_room);
+    lend(&m, 5, octets, count);
+    lend(&m, 6, out, room);
+    m.g0 -= 24;
+    module_scard_lent_card_session_step(&m, m.g0, ADDRESS(2), ADDRESS(3), (u64)command_room, ADDRESS(4),
+        (u64)reply_room, (u32)event, ADDRESS(5), (u64)count, (u64)now, ADDRESS(6), (u64)room);
+    result.kind = (uint8_t)get8(stack + 648);
+    result.count = (scard_size)get64(stack + 648 + 8);
+    result.wait = (scard_size)get64(stack + 648 + 16);
     return result;
 }
 
 struct scard_verdict scard_lent_judge_begin(struct scard_lent_judge *state, uint8_t ifsc)
 {
     struct call m;
-    u8 stack[2032];
+    u8 stack[2048];
     SHAPED_HERE
     struct scard_verdict result;
     begin(&m, stack, sizeof stack, shaped);
     LEND(&m, 2, state, 1, shape_of_lent_judge(0));
     m.g0 -= 16;
     module_scard_lent_judge_begin(&m, m.g0, ADDRESS(2), (u32)ifsc);
-    result.status = (uint8_t)get8(stack + 2016);
-    result.reason = (uint8_t)get8(stack + 2016 + 1);
-    result.place = (scard_size)get64(stack + 2016 + 8);
+    result.status = (uint8_t)get8(stack + 2032);
+    result.reason = (uint8_t)get8(stack + 2032 + 1);
+    result.place = (scard_size)get64(stack + 2032 + 8);
     return result;
 }
 
@@ -24078,7 +27363,7 @@ struct scard_verdict scard_lent_judge_block(struct scard_lent_judge *state, uint
     size_t count, uint8_t arrival, const uint8_t *came, size_t came_count, struct scard_judgment *out)
 {
     struct call m;
-    u8 stack[3216];
+    u8 stack[3264];
     SHAPED_HERE
     struct scard_verdict result;
     begin(&m, stack, sizeof stack, shaped);
@@ -24089,16 +27374,16 @@ struct scard_verdict scard_lent_judge_block(struct scard_lent_judge *state, uint
     m.g0 -= 16;
     module_scard_lent_judge_block(&m, m.g0, ADDRESS(2), (u32)from, ADDRESS(3), (u64)count, (u32)arrival, ADDRESS(4),
         (u64)came_count, ADDRESS(5));
-    result.status = (uint8_t)get8(stack + 3200);
-    result.reason = (uint8_t)get8(stack + 3200 + 1);
-    result.place = (scard_size)get64(stack + 3200 + 8);
+    result.status = (uint8_t)get8(stack + 3248);
+    result.reason = (uint8_t)get8(stack + 3248 + 1);
+    result.place = (scard_size)get64(stack + 3248 + 8);
     return result;
 }
 
 void scard_lent_judge_quiet(struct scard_lent_judge *state, struct scard_judgment *out)
 {
     struct call m;
-    u8 stack[3728];
+    u8 stack[3760];
     SHAPED_HERE
     begin(&m, stack, sizeof stack, shaped);
     LEND(&m, 2, state, 1, shape_of_lent_judge(0));
@@ -24109,7 +27394,7 @@ void scard_lent_judge_quiet(struct scard_lent_judge *state, struct scard_judgmen
 void scard_lent_judge_finish(const struct scard_lent_judge *state, struct scard_judgment *out)
 {
     struct call m;
-    u8 stack[1392];
+    u8 stack[1408];
     SHAPED_HERE
     begin(&m, stack, sizeof stack, shaped);
     LEND(&m, 2, state, 1, shape_of_lent_judge(0));

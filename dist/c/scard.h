@@ -2,8 +2,8 @@
  *
  * This header declares codecs for answers to reset, T=1 blocks and chains (ISO/IEC 7816-3), commands and responses
  * (ISO/IEC 7816-4) and data objects (EMV 4.3 Book 3). It also declares readers for octets that arrive in pieces, both
- * ends of a T=1 session, a framer, the line of an end, and a judge of the blocks on a line. Link with libscard.a.
- * docs/C.md says how to link, and what is proved.
+ * ends of a T=1 session, a framer, the line of an end, a session above its line, and a judge of the blocks on a line.
+ * Link with libscard.a. docs/C.md says how to link, and what is proved.
  *
  * Units. A length is a number of octets. A place is the offset of an octet, and starts at 0. The length of an array of
  * structs counts structs. Input is a pointer and a length. An output buffer is a pointer and its room, the capacity. A
@@ -1083,7 +1083,7 @@ size_t scard_lent_framer_burst(const struct scard_lent_framer *framer);
 
 /* A line does everything between one block of an end and the next: it says when to send, how long to wait for octets,
  * when a burst has ended, which octets to drop, and when to give up. It measures no time, waits for nothing and calls
- * nothing. So the same steps serve a blocking loop, an event loop and an interrupt. scard_session.h is such a loop.
+ * nothing. A session, which the next part describes, is an end with its line: it makes these steps by itself.
  *
  * Each call returns one thing to do (enum scard_line_next_kind). The program does it, and passes what happened to
  * scard_lent_line_step. A program keeps to these rules:
@@ -1236,6 +1236,192 @@ SCARD_MUST_USE
 struct scard_line_next scard_lent_line_step(struct scard_lent_line *line, uint8_t event, const uint8_t *octets,
                                             size_t count, uint64_t now, const uint8_t *block, size_t block_count);
 
+/* ---- a session above its line, without an allocator ---- */
+
+/* A session is an end and its line in one struct. It makes all decisions between the octets of a line and the commands
+ * of an application: times, bursts, blocks, repeats and the limits of an exchange. It measures no time, waits for
+ * nothing and calls nothing. So the same steps serve a blocking loop, an event loop and an interrupt. scard_session.h
+ * is such a loop, over two functions of a driver.
+ *
+ * Each call returns one thing to do (enum scard_session_next_kind). After SCARD_SEND and SCARD_SESSION_WAIT the program
+ * does it, and passes what happened to the step of the session. After every other kind the session rests, until the
+ * next call that begins something. A program keeps to three rules:
+ *
+ * A wait may end later than the session said, but never earlier, and it counts from the last octet that was sent or
+ * received. Each octet is passed once, in the order in which the octets came. A block counts as sent once its last bit
+ * is on the line.
+ *
+ * All times are in microseconds, and `now` is the time of the program's clock when the call is made. A clock that goes
+ * back counts as one that stood still. Without a clock, `now` is 0 in each call.
+ *
+ * `out` is the buffer for blocks, of SCARD_BLOCK_ROOM octets at least. Pass the same buffer each time, and leave its
+ * octets unchanged: the session compares what comes with the block that it sent last. As for an end without a line, the
+ * buffers for commands and answers go with the session from call to call.
+ *
+ * A call is safe with any octets in the struct. These calls allocate nothing.
+ */
+
+/* The numbers of a setup, for either end. Set all of it to 0 first. A mark that isn't 0 counts as 1. */
+struct scard_lent_setup {
+    scard_size silence;           /* the silence that ends a burst which is a whole block, at most CWT. 0: BGT.
+                                     UINT64_MAX: none, since the line delivers whole bursts */
+    scard_size most_time;         /* the time limit of one exchange of a terminal. 0: 3,600,000,000. UINT64_MAX: none */
+    uint32_t most_blocks;         /* how many blocks a terminal sends at most in one exchange. 0: 262,144 */
+    uint32_t hertz;               /* the frequency of the card's clock, at least 1,000 */
+    uint16_t fi;                  /* Fi and Di: an etu is Fi/Di cycles of that clock. Di is at most 64 */
+    uint16_t di;
+    uint8_t ifsc;                 /* the T=1 parameters of the card's answer to reset, as in struct scard_t1 */
+    uint8_t bwi;
+    uint8_t cwi;
+    uint8_t has_clock;            /* 1 if `now` is the time of a clock */
+    uint8_t has_echo;             /* 1 if the line returns what is sent on it, as a UART on one wire does */
+    uint8_t refuses_empty;        /* 1 if an I-block without information counts as a damaged block */
+    uint8_t host_takes_short;     /* a card: 1 if the host also gets messages of fewer than four octets. Otherwise the
+                                     session replies 6700 for the host */
+};
+
+/* The caller-owned sessions, 496 octets for a terminal and 504 for a card. `begin` writes the limits, and a program may
+ * change them between two exchanges. It may also make `line.rules.bwt` and `line.rules.cwt` longer while the session
+ * rests, and never shorter. All other fields belong to the library.
+ */
+struct scard_lent_session {
+    struct scard_lent_terminal terminal;
+    struct scard_lent_line line;
+    scard_size most_time; /* the limits of an exchange, as in the setup */
+    uint32_t most_blocks;
+    scard_size own;       /* how many octets at the front of `out` are the block that was sent last */
+};
+
+struct scard_lent_card_session {
+    struct scard_lent_card card;
+    struct scard_lent_line line;
+    scard_size own;               /* how many octets at the front of `out` are the block that was sent last */
+    scard_size granted;           /* how many requests of the host about the current command the terminal granted */
+    uint8_t host_takes_short;
+};
+
+/* What to do next, and how a call ends. The other kinds are those of enum scard_turn_kind, with these meanings:
+ *
+ * - SCARD_SEND: send the first `count` octets of `out`. Then comes the event SENT or FAILED.
+ * - SCARD_DONE: a terminal has an answer of `count` octets, at least two, at the front of the buffer for answers. At a
+ *   card, the host owes a reply to a command of `count` octets at the front of the buffer for commands. If `granted` is
+ *   0, the command is new. Otherwise the host got it before, and the terminal granted what the host asked for.
+ * - SCARD_IFS_SET, SCARD_GIVEN_UP, SCARD_DEAD: as for a terminal without a line.
+ * - SCARD_REFUSED_ kinds: the call was refused, and nothing changed. SCARD_REFUSED_ORDER also: the event doesn't fit
+ *   what the session is doing.
+ * - SCARD_NO_END: the struct isn't such a session over buffers of these sizes, such as one of zeros.
+ * - SCARD_NO_ROOM: `out` has fewer than `count` octets, which is SCARD_BLOCK_ROOM.
+ */
+enum scard_session_next_kind {
+    SCARD_SESSION_FAILED = 64,    /* the line failed. A terminal's exchange isn't over, so only a call that begins the
+                                     session again works. A card goes on with scard_lent_card_session_serve */
+    SCARD_SESSION_USED_UP = 65,   /* one exchange has used up its blocks or its time, and isn't over either */
+    SCARD_SESSION_NO_STATUS = 66, /* the card answered with `count` octets, none or one. A response has at least two.
+                                     The session goes on */
+    SCARD_SESSION_ECHO = 67,      /* the line returns what is sent on it, and the setup doesn't say so. The exchange
+                                     isn't over, and no octet of it is known to come from the other end */
+    SCARD_SESSION_WAIT = 68       /* wait for octets, at most `wait` microseconds, or without limit if it is UINT64_MAX.
+                                     Then comes one of the events other than SENT */
+};
+
+struct scard_session_next {
+    uint8_t kind;     /* enum scard_session_next_kind or enum scard_turn_kind */
+    scard_size count; /* depends on the kind, otherwise 0 */
+    scard_size wait;  /* SCARD_SESSION_WAIT: how long, in microseconds. Otherwise 0 */
+};
+
+/* Begin a session at a reset of the card: a new terminal and a new card, never one without the other. The struct may
+ * hold anything before. The calls compute all times from the setup, and set both buffers to 0. Return OK with place 0;
+ * or ARGUMENT (a parameter or the clock is out of range, or `silence` is above CWT), and then nothing changes.
+ */
+SCARD_MUST_USE
+struct scard_verdict scard_lent_session_begin(struct scard_lent_session *session,
+                                              uint8_t *command, size_t command_room,
+                                              uint8_t *answer, size_t answer_room,
+                                              const struct scard_lent_setup *setup);
+SCARD_MUST_USE
+struct scard_verdict scard_lent_card_session_begin(struct scard_lent_card_session *session,
+                                                   uint8_t *command, size_t command_room,
+                                                   uint8_t *reply, size_t reply_room,
+                                                   const struct scard_lent_setup *setup);
+
+/* Drive a terminal's session. The input and `out` overlap neither the struct nor its buffers. A call other than the
+ * step is refused while an exchange is in progress, and after one that isn't over (BUSY). It is also refused if the
+ * card is dead (DEAD).
+ *
+ * - scard_lent_session_exchange: sends a command, and waits for its answer (also TOO_LONG).
+ * - scard_lent_session_ask_ifs: tells the card the largest field that the terminal accepts, `size`, 1 to 254 octets
+ *   (also RESERVED).
+ * - scard_lent_session_resync: begins the session anew with a card that can't be reset. It first drops octets until the
+ *   line is silent for BWT, and then sends RESYNCH, at most three times. No limit of an exchange applies. At
+ *   SCARD_GIVEN_UP the card answered, so both ends are as at their start. At SCARD_DEAD it didn't. The call is never
+ *   refused, and returns SCARD_NO_END if `begin` would return ARGUMENT: then nothing changes.
+ * - scard_lent_session_step: takes what happened, an enum scard_line_event. Events other than CAME and GARBLED have no
+ *   octets.
+ */
+SCARD_MUST_USE
+struct scard_session_next scard_lent_session_exchange(struct scard_lent_session *session,
+                                                      uint8_t *command, size_t command_room,
+                                                      uint8_t *answer, size_t answer_room,
+                                                      const uint8_t *octets, size_t count, uint64_t now,
+                                                      uint8_t *out, size_t room);
+SCARD_MUST_USE
+struct scard_session_next scard_lent_session_ask_ifs(struct scard_lent_session *session,
+                                                     uint8_t *command, size_t command_room,
+                                                     uint8_t *answer, size_t answer_room,
+                                                     uint8_t size, uint64_t now, uint8_t *out, size_t room);
+SCARD_MUST_USE
+struct scard_session_next scard_lent_session_resync(struct scard_lent_session *session,
+                                                    uint8_t *command, size_t command_room,
+                                                    uint8_t *answer, size_t answer_room,
+                                                    const struct scard_lent_setup *setup, uint64_t now,
+                                                    uint8_t *out, size_t room);
+SCARD_MUST_USE
+struct scard_session_next scard_lent_session_step(struct scard_lent_session *session,
+                                                  uint8_t *command, size_t command_room,
+                                                  uint8_t *answer, size_t answer_room,
+                                                  uint8_t event, const uint8_t *octets, size_t count, uint64_t now,
+                                                  uint8_t *out, size_t room);
+
+/* Drive a card's session. The input and `out` overlap neither the struct nor its buffers.
+ *
+ * - scard_lent_card_session_serve: begins to serve the terminal, or goes on after the line failed. It sends nothing.
+ *   Call it after `begin`, and after SCARD_SESSION_FAILED if the line works again.
+ * - scard_lent_card_session_reply: the reply of the host to the command (ORDER, TOO_LONG). If the session refuses it,
+ *   the host still owes a reply.
+ * - scard_lent_card_session_more_time: asks the terminal for `multiple` block waiting times, any octet (ORDER).
+ * - scard_lent_card_session_ask_ifs: tells the terminal the largest field that the card accepts, `size`, 1 to 254
+ *   octets (ORDER, RESERVED).
+ * - scard_lent_card_session_step: as for a terminal.
+ */
+SCARD_MUST_USE
+struct scard_session_next scard_lent_card_session_serve(struct scard_lent_card_session *session,
+                                                        const uint8_t *command, size_t command_room,
+                                                        const uint8_t *reply, size_t reply_room, uint64_t now);
+SCARD_MUST_USE
+struct scard_session_next scard_lent_card_session_reply(struct scard_lent_card_session *session,
+                                                        uint8_t *command, size_t command_room,
+                                                        uint8_t *reply, size_t reply_room,
+                                                        const uint8_t *octets, size_t count, uint64_t now,
+                                                        uint8_t *out, size_t room);
+SCARD_MUST_USE
+struct scard_session_next scard_lent_card_session_more_time(struct scard_lent_card_session *session,
+                                                            uint8_t *command, size_t command_room,
+                                                            uint8_t *reply, size_t reply_room,
+                                                            uint8_t multiple, uint64_t now,
+                                                            uint8_t *out, size_t room);
+SCARD_MUST_USE
+struct scard_session_next scard_lent_card_session_ask_ifs(struct scard_lent_card_session *session,
+                                                          uint8_t *command, size_t command_room,
+                                                          uint8_t *reply, size_t reply_room,
+                                                          uint8_t size, uint64_t now, uint8_t *out, size_t room);
+SCARD_MUST_USE
+struct scard_session_next scard_lent_card_session_step(struct scard_lent_card_session *session,
+                                                       uint8_t *command, size_t command_room,
+                                                       uint8_t *reply, size_t reply_room,
+                                                       uint8_t event, const uint8_t *octets, size_t count,
+                                                       uint64_t now, uint8_t *out, size_t room);
+
 /* ---- a judge of the blocks on a line, without an allocator ---- */
 
 /* A judge checks each block on a line against the rules of T=1. For a deviation it says which end broke which rule, and
@@ -1385,6 +1571,7 @@ struct scard_lent_watched {
     scard_size number;
     struct scard_lent_sender sender;
     struct scard_lent_heard heard;
+    uint8_t doubt;
     uint8_t last_len;
     uint8_t last[254];
 };
@@ -1468,7 +1655,11 @@ enum scard_struct {
     SCARD_STRUCT_LENT_LINE_RULES = 32,
     SCARD_STRUCT_LENT_LINE_PROGRESS = 33,
     SCARD_STRUCT_LENT_LINE = 34,
-    SCARD_STRUCT_LINE_NEXT = 35
+    SCARD_STRUCT_LINE_NEXT = 35,
+    SCARD_STRUCT_LENT_SETUP = 36,
+    SCARD_STRUCT_LENT_SESSION = 37,
+    SCARD_STRUCT_LENT_CARD_SESSION = 38,
+    SCARD_STRUCT_SESSION_NEXT = 39
 };
 
 /* Returns the size in octets that a struct has in the library, to compare with its sizeof. `number` is an enum

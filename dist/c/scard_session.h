@@ -4,11 +4,11 @@
  * blocks. A driver supplies two functions: one sends octets, and the other receives them within a waiting time. Over
  * these two functions the session exchanges whole commands and answers.
  *
- * This header is C and isn't proved, since a proved crate can't call functions of C. It does what proved calls tell it
- * to: the calls of an end say what the end does with a block, and the calls scard_lent_line_ say when to send, how long
- * to wait, and which octets are a burst. This header has no rule about octets, silences, echoes or the limits of an
- * exchange. If you can't wait in a call, in an event loop for example, write your own loop over the same calls
- * (docs/C.md).
+ * This header is C and isn't proved, since a proved crate can't call functions of C. It is a loop over the proved steps
+ * of a session, scard_lent_session_ and scard_lent_card_session_. It sends the block that a step names, or waits as
+ * long as a step says, and passes what happened to the next step. It decides nothing about times, octets, blocks and
+ * the limits of an exchange. If you can't wait in a call, in an event loop for example, write your own loop over the
+ * same steps (docs/C.md).
  *
  * Begin a session at a reset of its card: a new terminal and a new card, never one without the other. If a card goes on
  * under a new terminal, it takes the first command for a repeat of the one before. It sends the old answer again, as if
@@ -127,22 +127,20 @@ struct scard_setup {
                                    so short (ISO/IEC 7816-4), so otherwise the session replies 6700 for the host */
 };
 
-/* Kinds of turns besides those of scard.h.
+/* These kinds of scard.h end a call of this header:
  *
- * - FAILED: the line failed. The exchange isn't over, so only a call that begins the session again works.
- * - USED_UP: one exchange has used up its blocks or its time. The exchange isn't over either. Continue with a call that
- *   begins the session, such as scard_session_resync. Until then the session refuses every other call, _BUSY.
- * - NO_STATUS: the card answered with `count` octets, none or one. A response has at least two. The session goes on.
- * - ECHO: the line returns what is sent on it, and `echo` of the setup doesn't say so. No octet of the exchange is
- *   known to come from the other end. The exchange isn't over, as after FAILED. Set `echo`, reset the card, and begin
- *   again.
+ * - SCARD_SESSION_FAILED: the line failed. The exchange isn't over, so only a call that begins the session again works.
+ * - SCARD_SESSION_USED_UP: one exchange has used up its blocks or its time. The exchange isn't over either. Continue
+ *   with a call that begins the session, such as scard_session_resync. Until then the session refuses every other call,
+ *   _BUSY.
+ * - SCARD_SESSION_NO_STATUS: the card answered with `count` octets, none or one. A response has at least two. The
+ *   session goes on.
+ * - SCARD_SESSION_ECHO: the line returns what is sent on it, and `echo` of the setup doesn't say so. No octet of the
+ *   exchange is known to come from the other end. The exchange isn't over, as after FAILED. Set `echo`, reset the card,
+ *   and begin again.
  */
-#define SCARD_SESSION_FAILED 64
-#define SCARD_SESSION_USED_UP 65
-#define SCARD_SESSION_NO_STATUS 66
-#define SCARD_SESSION_ECHO 67
 
-/* Returns the name of a kind of turn: of those above, such as "SESSION_FAILED", or of scard_turn_name. */
+/* Returns the name of a kind: of those above, such as "SESSION_FAILED", or of scard_turn_name. */
 static inline const char *scard_session_turn_name(int kind)
 {
     switch (kind) {
@@ -159,28 +157,19 @@ static inline const char *scard_session_turn_name(int kind)
     }
 }
 
-/* Returns a turn without octets. */
-static inline struct scard_turn scard_session_turn(uint8_t kind)
+/* ---- the loop of both ends ---- */
+
+/* Returns what a step said as a turn. */
+static inline struct scard_turn scard_session_turn(struct scard_session_next next)
 {
-    struct scard_turn turn;
-    memset(&turn, 0, sizeof turn);
-    turn.kind = kind;
+    const struct scard_turn turn = {next.kind, 0, next.count};
     return turn;
 }
 
-/* Converts a time to microseconds, rounded up. The unit of `parts` is an etu divided by Fi. */
-static inline uint64_t scard_clock_time(const struct scard_clock *clock, uint64_t parts)
+/* Returns true if both functions of a line that the session needs are there. */
+static inline bool scard_line_is(const struct scard_line *line)
 {
-    uint64_t in_second = (uint64_t)clock->di * clock->hertz;
-    return parts / in_second * 1000000 + (parts % in_second * 1000000 + in_second - 1) / in_second;
-}
-
-/* Returns true if times can be computed from the clock: none of its numbers is 0, Di is at most 64, and its frequency
- * is at least 1,000 hertz.
- */
-static inline bool scard_clock_runs(const struct scard_clock *clock)
-{
-    return clock->fi != 0 && clock->di != 0 && clock->di <= 64 && clock->hertz >= 1000;
+    return line->send != NULL && line->receive != NULL;
 }
 
 /* Returns the time of the line's clock, or 0 if it has none. */
@@ -189,132 +178,92 @@ static inline uint64_t scard_line_now(const struct scard_line *line)
     return line->now != NULL ? line->now(line->context) : 0;
 }
 
-/* Returns true if an end can begin with a setup: both functions are there, times can be computed from the clock and the
- * parameters, and the silence is at most CWT.
- */
-static inline bool scard_setup_is(const struct scard_setup *setup)
+/* Returns the numbers of a setup, as the steps take them. */
+static inline struct scard_lent_setup scard_setup_numbers(const struct scard_setup *setup)
 {
-    uint64_t cwt;
-    if (setup->line.send == NULL || setup->line.receive == NULL || !scard_clock_runs(&setup->clock)) {
-        return false;
-    }
-    cwt = scard_clock_time(&setup->clock, (uint64_t)scard_t1_cwt(&setup->t1) * setup->clock.fi);
-    return cwt > 0 && (setup->silence <= cwt || setup->silence == SCARD_SILENCE_NONE);
+    struct scard_lent_setup numbers;
+    memset(&numbers, 0, sizeof numbers);
+    numbers.silence = setup->silence;
+    numbers.most_time = setup->most_microseconds;
+    numbers.most_blocks = setup->most_blocks;
+    numbers.hertz = setup->clock.hertz;
+    numbers.fi = setup->clock.fi;
+    numbers.di = setup->clock.di;
+    numbers.ifsc = setup->t1.ifsc;
+    numbers.bwi = setup->t1.bwi;
+    numbers.cwi = setup->t1.cwi;
+    numbers.has_clock = setup->line.now != NULL;
+    numbers.has_echo = setup->echo;
+    numbers.refuses_empty = setup->refuses_empty;
+    numbers.host_takes_short = setup->host_takes_short;
+    return numbers;
 }
 
-/* ---- the loop of both ends ---- */
-
-/* The line of an end. The fields belong to the session. */
-struct scard_session_wire {
-    const void *self; /* the session that this struct is in, once begun; a copy of the session isn't valid */
-    uint32_t mark;    /* which end the session is: SCARD_SESSION_TERMINAL or SCARD_SESSION_CARD */
-    struct scard_lent_line line;
+/* What happened on a line, and the octets that came. */
+struct scard_line_came {
+    uint8_t event; /* enum scard_line_event */
+    size_t count;
+    uint8_t octets[SCARD_BURST_ROOM];
 };
 
-#define SCARD_SESSION_TERMINAL UINT32_C(0x5CA2D701)
-#define SCARD_SESSION_CARD UINT32_C(0x5CA2D702)
-
-/* Returns true if a session was begun as this end, and isn't a copy. */
-static inline bool scard_session_is(const struct scard_session_wire *wire, const void *session, uint32_t mark)
+/* Waits for octets, and notes what happened. */
+static inline void scard_line_waits(const struct scard_line *line, uint64_t microseconds, struct scard_line_came *came)
 {
-    return wire->self == session && wire->mark == mark;
+    const int got = line->receive(line->context, came->octets, sizeof came->octets, microseconds);
+    const bool is_count = got > 0 && got <= (int)sizeof came->octets;
+    came->event = is_count || got == SCARD_LINE_INTERRUPTED ? SCARD_EVENT_CAME
+                  : got == 0                                ? SCARD_EVENT_SILENT
+                                                            : SCARD_EVENT_FAILED;
+    came->count = is_count ? (size_t)got : 0;
 }
 
-/* Returns the rules of the line of an end, with the waiting times of its session. */
-static inline struct scard_lent_line_rules scard_setup_rules(const struct scard_setup *setup, uint32_t mark,
-                                                             uint64_t bwt, uint64_t cwt)
+/* Sends the block or waits, as a step says. Returns false if it says neither: then the session rests. */
+static inline bool scard_line_does(const struct scard_line *line, struct scard_session_next next, const uint8_t *out,
+                                   struct scard_line_came *came)
 {
-    const uint64_t bgt = scard_clock_time(&setup->clock, (uint64_t)22 * setup->clock.fi);
-    const uint64_t most = setup->most_microseconds != 0 ? setup->most_microseconds : SCARD_MOST_MICROSECONDS;
-    struct scard_lent_line_rules rules;
-    memset(&rules, 0, sizeof rules);
-    rules.bwt = bwt;
-    rules.cwt = cwt;
-    rules.bgt = setup->silence == SCARD_SILENCE_NONE ? 0 : bgt;
-    rules.after = setup->silence == 0 ? bgt : setup->silence;
-    rules.octet = scard_clock_time(&setup->clock, (uint64_t)12 * setup->clock.fi);
-    rules.most_time = mark == SCARD_SESSION_CARD ? SCARD_LINE_FOREVER : most;
-    rules.most_blocks = setup->most_blocks != 0 ? setup->most_blocks : SCARD_MOST_BLOCKS;
-    rules.has_clock = setup->line.now != NULL;
-    rules.has_echo = setup->echo;
-    rules.refuses_empty = setup->refuses_empty;
-    rules.is_card = mark == SCARD_SESSION_CARD;
-    return rules;
-}
-
-/* Begins the line of a session with a valid setup, and computes its waiting times. It makes BWT at least 4/3 of CWT. A
- * card answers a broken block after three quarters of BWT, so that time is CWT or more.
- */
-static inline void scard_session_wire_begin(struct scard_session_wire *wire, const void *session, uint32_t mark,
-                                            const struct scard_setup *setup, uint64_t *bwt, uint64_t *cwt)
-{
-    const struct scard_clock *clock = &setup->clock;
-    struct scard_lent_line_rules rules;
-    uint64_t least;
-    *cwt = scard_clock_time(clock, (uint64_t)scard_t1_cwt(&setup->t1) * clock->fi);
-    *bwt = scard_clock_time(clock, scard_t1_bwt(&setup->t1, clock->fi, clock->di));
-    least = *cwt / 3 * 4 + 4;
-    *bwt = *bwt < least ? least : *bwt;
-    rules = scard_setup_rules(setup, mark, *bwt, *cwt);
-    wire->self = session;
-    wire->mark = mark;
-    scard_lent_line_begin(&wire->line, &rules);
-}
-
-/* Sends the block or waits, as the line says, and tells the line what happened. Returns what the line says then. */
-static inline struct scard_line_next scard_session_step(struct scard_session_wire *wire,
-                                                        const struct scard_line *line, struct scard_line_next next,
-                                                        const uint8_t *block, size_t count)
-{
-    uint8_t octets[SCARD_BURST_ROOM], event;
-    int got = 0;
-    if (next.kind == SCARD_NEXT_SEND) {
-        event = line->send(line->context, block, count) == 0 ? SCARD_EVENT_SENT : SCARD_EVENT_FAILED;
-    } else {
-        got = line->receive(line->context, octets, sizeof octets, next.wait);
-        event = got == 0 ? SCARD_EVENT_SILENT : SCARD_EVENT_CAME;
+    came->count = 0;
+    switch (next.kind) {
+    case SCARD_SEND:
+        came->event = line->send(line->context, out, (size_t)next.count) == 0 ? SCARD_EVENT_SENT : SCARD_EVENT_FAILED;
+        return true;
+    case SCARD_SESSION_WAIT:
+        scard_line_waits(line, next.wait, came);
+        return true;
+    default:
+        return false;
     }
-    if (got == SCARD_LINE_INTERRUPTED) {
-        got = 0;
-    } else if (got < 0 || got > (int)sizeof octets) {
-        event = SCARD_EVENT_FAILED;
-        got = 0;
-    }
-    return scard_lent_line_step(&wire->line, event, got > 0 ? octets : NULL, (size_t)got, scard_line_now(line), block,
-                                count);
 }
 
-/* Goes on until the line rests: a burst came, none came, or the exchange can't go on. */
-static inline struct scard_line_next scard_session_go(struct scard_session_wire *wire, const struct scard_line *line,
-                                                      struct scard_line_next next, const uint8_t *block, size_t count)
-{
-    while (next.kind == SCARD_NEXT_SEND || next.kind == SCARD_NEXT_WAIT) {
-        next = scard_session_step(wire, line, next, block, count);
-    }
-    return next;
-}
+/* The state and the buffers of a session of either end, as the first five arguments of its steps. */
+#define SCARD_SESSION_END(session)                                                                             \
+    &(session)->lent, (session)->setup.command, (session)->setup.command_room, (session)->setup.answer,        \
+        (session)->setup.answer_room
 
-/* Returns the turn of an end whose line rests without a burst. */
-static inline struct scard_turn scard_session_over(uint8_t kind)
+/* Notes that a session of either end has begun with a setup. */
+#define SCARD_SESSION_BEGUN(session, with)                   \
+    do {                                                     \
+        (session)->setup = *(with);                          \
+        (session)->bwt = (session)->lent.line.rules.bwt;     \
+        (session)->cwt = (session)->lent.line.rules.cwt;     \
+        (session)->self = (session);                         \
+    } while (0)
+
+/* Copies the waiting times to the line of a session. A driver may have made them longer. */
+static inline void scard_session_times(struct scard_lent_line_rules *rules, uint64_t bwt, uint64_t cwt)
 {
-    return scard_session_turn(kind == SCARD_NEXT_USED_UP ? SCARD_SESSION_USED_UP
-                              : kind == SCARD_NEXT_ECHO  ? SCARD_SESSION_ECHO
-                                                         : SCARD_SESSION_FAILED);
+    rules->bwt = bwt;
+    rules->cwt = cwt;
 }
 
 /* ---- the terminal ---- */
 
 struct scard_session {
-    struct scard_lent_terminal terminal;
+    struct scard_lent_session lent;
     struct scard_setup setup;
-    uint64_t bwt; /* BWT and CWT in microseconds; a driver may lengthen them, but never shorten them */
+    uint64_t bwt;     /* BWT and CWT in microseconds; a driver may lengthen them, but never shorten them */
     uint64_t cwt;
-    struct scard_session_wire wire;
+    const void *self; /* this session, once begun; a copy of it isn't valid */
 };
-
-/* The state and the buffers of an end, as the first five arguments of its calls. */
-#define SCARD_SESSION_END(state, setup) \
-    (state), (setup)->command, (setup)->command_room, (setup)->answer, (setup)->answer_room
 
 /* Begins a session with a card that was just reset. The call sends nothing. The caller owns the session, and may not
  * move it: a copy refuses all calls. The session borrows the buffers of the setup, and copies the setup itself. Returns
@@ -324,54 +273,41 @@ struct scard_session {
 SCARD_MUST_USE
 static inline struct scard_verdict scard_session_begin(struct scard_session *session, const struct scard_setup *setup)
 {
+    const struct scard_lent_setup numbers = scard_setup_numbers(setup);
     struct scard_verdict verdict = {SCARD_ARGUMENT, 0, 0};
-    if (!scard_setup_is(setup)) {
-        return verdict;
+    if (scard_line_is(&setup->line)) {
+        verdict = scard_lent_session_begin(&session->lent, setup->command, setup->command_room, setup->answer,
+                                           setup->answer_room, &numbers);
     }
-    verdict = scard_lent_terminal_begin(SCARD_SESSION_END(&session->terminal, setup), setup->t1.ifsc, setup->t1.bwi,
-                                        setup->t1.cwi);
     if (verdict.status == SCARD_OK) {
-        session->setup = *setup;
-        scard_session_wire_begin(&session->wire, session, SCARD_SESSION_TERMINAL, setup, &session->bwt,
-                                 &session->cwt);
+        SCARD_SESSION_BEGUN(session, setup);
     }
     return verdict;
 }
 
-/* Returns the terminal's turn once its line rests. */
-static inline struct scard_turn scard_session_came(struct scard_session *session, struct scard_line_next next,
-                                                   uint8_t out[SCARD_BLOCK_ROOM])
-{
-    struct scard_lent_terminal *terminal = &session->terminal;
-    const struct scard_setup *setup = &session->setup;
-    switch (next.kind) {
-    case SCARD_NEXT_HEARD:
-        return scard_lent_terminal_received(SCARD_SESSION_END(terminal, setup), session->wire.line.framer.octets,
-                                            (size_t)next.count, out, SCARD_BLOCK_ROOM);
-    case SCARD_NEXT_QUIET:
-        return scard_lent_terminal_quiet(SCARD_SESSION_END(terminal, setup), out, SCARD_BLOCK_ROOM);
-    default:
-        return scard_session_over(next.kind);
-    }
-}
-
-/* Sends the block of a turn, and continues until a turn has no block, or a limit of the exchange is reached. */
-static inline struct scard_turn scard_session_run(struct scard_session *session, struct scard_turn turn,
+/* Does what the steps say until the session rests. */
+static inline struct scard_turn scard_session_run(struct scard_session *session, struct scard_session_next next,
                                                   uint8_t out[SCARD_BLOCK_ROOM])
 {
     const struct scard_line *line = &session->setup.line;
-    struct scard_lent_line *state = &session->wire.line;
-    bool is_first = true;
-    state->rules = scard_setup_rules(&session->setup, SCARD_SESSION_TERMINAL, session->bwt, session->cwt);
-    while (turn.kind == SCARD_SEND) {
-        const uint64_t first = session->bwt * turn.wait, now = scard_line_now(line);
-        struct scard_line_next next =
-            is_first ? scard_lent_line_exchange(state, first, now) : scard_lent_line_talk(state, first, now);
-        next = scard_session_go(&session->wire, line, next, out, (size_t)turn.count);
-        turn = scard_session_came(session, next, out);
-        is_first = false;
+    struct scard_line_came came;
+    while (scard_line_does(line, next, out, &came)) {
+        next = scard_lent_session_step(SCARD_SESSION_END(session), came.event, came.octets, came.count,
+                                       scard_line_now(line), out, SCARD_BLOCK_ROOM);
     }
-    return turn;
+    return scard_session_turn(next);
+}
+
+/* Returns true if the session was begun and isn't a copy. Then it copies what may change between two exchanges. */
+static inline bool scard_session_readies(struct scard_session *session)
+{
+    if (session->self != session) {
+        return false;
+    }
+    scard_session_times(&session->lent.line.rules, session->bwt, session->cwt);
+    session->lent.most_blocks = session->setup.most_blocks;
+    session->lent.most_time = session->setup.most_microseconds;
+    return true;
 }
 
 /* Sends a command, and waits for its answer. The command may not overlap the buffers of the session. The results:
@@ -390,22 +326,12 @@ static inline struct scard_turn scard_session_exchange(struct scard_session *ses
                                                        size_t count)
 {
     uint8_t out[SCARD_BLOCK_ROOM];
-    struct scard_turn turn;
-    if (!scard_session_is(&session->wire, session, SCARD_SESSION_TERMINAL)) {
-        return scard_session_turn(SCARD_NO_END);
+    struct scard_session_next next = {SCARD_NO_END, 0, 0};
+    if (scard_session_readies(session)) {
+        next = scard_lent_session_exchange(SCARD_SESSION_END(session), command, count,
+                                           scard_line_now(&session->setup.line), out, sizeof out);
     }
-    turn = scard_lent_terminal_transmit(SCARD_SESSION_END(&session->terminal, &session->setup), command, count, out,
-                                        SCARD_BLOCK_ROOM);
-    turn = scard_session_run(session, turn, out);
-    if (turn.kind == SCARD_DONE) {
-        struct scard_verdict answer =
-            scard_lent_terminal_answer(SCARD_SESSION_END(&session->terminal, &session->setup));
-        turn.count = answer.status == SCARD_OK ? answer.place : 0;
-        if (turn.count < 2) {
-            turn.kind = SCARD_SESSION_NO_STATUS;
-        }
-    }
-    return turn;
+    return scard_session_run(session, next, out);
 }
 
 /* Tells the card the largest field that the terminal accepts from now on: `size`, 1 to 254 octets. A new session
@@ -416,13 +342,12 @@ SCARD_MUST_USE
 static inline struct scard_turn scard_session_ask_ifs(struct scard_session *session, uint8_t size)
 {
     uint8_t out[SCARD_BLOCK_ROOM];
-    struct scard_turn turn;
-    if (!scard_session_is(&session->wire, session, SCARD_SESSION_TERMINAL)) {
-        return scard_session_turn(SCARD_NO_END);
+    struct scard_session_next next = {SCARD_NO_END, 0, 0};
+    if (scard_session_readies(session)) {
+        next = scard_lent_session_ask_ifs(SCARD_SESSION_END(session), size, scard_line_now(&session->setup.line), out,
+                                          sizeof out);
     }
-    turn = scard_lent_terminal_ask_ifs(SCARD_SESSION_END(&session->terminal, &session->setup), size, out,
-                                       SCARD_BLOCK_ROOM);
-    return scard_session_run(session, turn, out);
+    return scard_session_run(session, next, out);
 }
 
 /* Begins a session with a card that can't be reset, and whose state isn't known. It also recovers a session that failed
@@ -436,38 +361,24 @@ static inline struct scard_turn scard_session_ask_ifs(struct scard_session *sess
  * - SCARD_SESSION_FAILED: the line failed. SCARD_SESSION_ECHO: it has an echo.
  * - SCARD_NO_END: scard_session_begin would return ARGUMENT.
  *
- * Unless the card answered, there is no session, and later calls are refused.
+ * After SCARD_NO_END there is no session. After the others, unless the card answered, later calls are refused, as _DEAD
+ * or _BUSY.
  */
 SCARD_MUST_USE
 static inline struct scard_turn scard_session_resync(struct scard_session *session, const struct scard_setup *setup)
 {
-    struct scard_lent_line *state = &session->wire.line;
-    uint8_t out[4], wanted[4];
-    struct scard_verdict asks = scard_block_s_request(0, SCARD_S_RESYNCH, NULL, 0, out, sizeof out);
-    struct scard_verdict answer = scard_block_s_response(0, SCARD_S_RESYNCH, NULL, 0, wanted, sizeof wanted);
-    int asked;
-    session->wire.mark = 0;
-    if (asks.status != SCARD_OK || answer.status != SCARD_OK
-        || scard_session_begin(session, setup).status != SCARD_OK) {
-        return scard_session_turn(SCARD_NO_END);
+    const struct scard_lent_setup numbers = scard_setup_numbers(setup);
+    uint8_t out[SCARD_BLOCK_ROOM];
+    struct scard_session_next next = {SCARD_NO_END, 0, 0};
+    session->self = NULL;
+    if (scard_line_is(&setup->line)) {
+        next = scard_lent_session_resync(&session->lent, setup->command, setup->command_room, setup->answer,
+                                         setup->answer_room, &numbers, scard_line_now(&setup->line), out, sizeof out);
     }
-    session->wire.mark = 0;
-    state->rules.most_time = SCARD_LINE_FOREVER;
-    state->rules.most_blocks = UINT32_MAX;
-    for (asked = 0; asked < 3; asked++) {
-        const uint64_t now = scard_line_now(&setup->line);
-        struct scard_line_next next = asked == 0 ? scard_lent_line_clear(state, session->bwt, now)
-                                                 : scard_lent_line_talk(state, session->bwt, now);
-        next = scard_session_go(&session->wire, &setup->line, next, out, sizeof out);
-        if (next.kind != SCARD_NEXT_HEARD && next.kind != SCARD_NEXT_QUIET) {
-            return scard_session_over(next.kind);
-        }
-        if (next.count == sizeof wanted && memcmp(state->framer.octets, wanted, sizeof wanted) == 0) {
-            session->wire.mark = SCARD_SESSION_TERMINAL;
-            return scard_session_turn(SCARD_GIVEN_UP);
-        }
+    if (next.kind != SCARD_NO_END) {
+        SCARD_SESSION_BEGUN(session, setup);
     }
-    return scard_session_turn(SCARD_DEAD);
+    return scard_session_run(session, next, out);
 }
 
 /* ---- the card ---- */
@@ -499,13 +410,12 @@ struct scard_host {
 };
 
 struct scard_card_session {
-    struct scard_lent_card card;
+    struct scard_lent_card_session lent;
     struct scard_setup setup;
     struct scard_host host;
-    uint64_t cwt; /* in microseconds */
-    size_t granted;
-    uint64_t bwt; /* in microseconds; the terminal expects an answer within it */
-    struct scard_session_wire wire;
+    uint64_t bwt;     /* as in struct scard_session; the terminal expects an answer within BWT */
+    uint64_t cwt;
+    const void *self; /* this session, once begun; a copy of it isn't valid */
 };
 
 /* Begins a session at a reset of the card. The session copies the setup and the host, and borrows the buffers of the
@@ -516,83 +426,44 @@ static inline struct scard_verdict scard_card_session_begin(struct scard_card_se
                                                             const struct scard_setup *setup,
                                                             const struct scard_host *host)
 {
+    const struct scard_lent_setup numbers = scard_setup_numbers(setup);
     struct scard_verdict verdict = {SCARD_ARGUMENT, 0, 0};
-    if (!scard_setup_is(setup) || host->serve == NULL) {
-        return verdict;
+    if (scard_line_is(&setup->line) && host->serve != NULL) {
+        verdict = scard_lent_card_session_begin(&session->lent, setup->command, setup->command_room, setup->answer,
+                                                setup->answer_room, &numbers);
     }
-    verdict = scard_lent_card_begin(SCARD_SESSION_END(&session->card, setup), setup->t1.ifsc, setup->t1.bwi,
-                                    setup->t1.cwi);
     if (verdict.status == SCARD_OK) {
-        session->setup = *setup;
+        SCARD_SESSION_BEGUN(session, setup);
         session->host = *host;
-        session->granted = 0;
-        scard_session_wire_begin(&session->wire, session, SCARD_SESSION_CARD, setup, &session->bwt, &session->cwt);
     }
     return verdict;
 }
 
-/* Returns what the host says to a command of `count` octets. */
-static inline struct scard_host_turn scard_card_session_asks(struct scard_card_session *session, size_t count)
+/* Asks the host about the command of a step, and passes what it said. Returns false if it stops serving. */
+static inline bool scard_card_session_asks(struct scard_card_session *session, struct scard_session_next *next,
+                                           uint8_t out[SCARD_BLOCK_ROOM])
 {
-    static const uint8_t wrong_length[2] = {0x67, 0x00}; /* ISO/IEC 7816-4, clause 5.1.3 */
-    const struct scard_setup *setup = &session->setup;
-    struct scard_host_turn refused = {SCARD_HOST_REPLY, 0, wrong_length, sizeof wrong_length};
-    if (count < 4 && !setup->host_takes_short) {
-        return refused;
-    }
-    return session->host.serve(session->host.context, setup->command, count, session->granted++);
-}
-
-/* Asks the host about the command that it has to reply to, and returns the card's turn. */
-static inline struct scard_turn scard_card_session_host(struct scard_card_session *session,
-                                                        uint8_t out[SCARD_BLOCK_ROOM])
-{
-    const struct scard_setup *setup = &session->setup;
-    struct scard_verdict command = scard_lent_card_command(SCARD_SESSION_END(&session->card, setup));
-    struct scard_host_turn host;
-    if (command.status != SCARD_OK) {
-        return scard_session_turn(SCARD_NO_END);
-    }
-    host = scard_card_session_asks(session, (size_t)command.place);
-    switch (host.kind) {
+    static const struct scard_session_next stopped = {SCARD_DONE, 0, 0};
+    const struct scard_host *host = &session->host;
+    const struct scard_host_turn said = host->serve(host->context, session->setup.command, (size_t)next->count,
+                                                    (size_t)session->lent.granted);
+    const uint64_t now = scard_line_now(&session->setup.line);
+    scard_session_times(&session->lent.line.rules, session->bwt, session->cwt);
+    switch (said.kind) {
     case SCARD_HOST_REPLY:
-        return scard_lent_card_reply(SCARD_SESSION_END(&session->card, setup), host.octets, host.count, out,
-                                     SCARD_BLOCK_ROOM);
+        *next = scard_lent_card_session_reply(SCARD_SESSION_END(session), said.octets, said.count, now, out,
+                                              SCARD_BLOCK_ROOM);
+        return true;
     case SCARD_HOST_TIME:
-        return scard_lent_card_more_time(SCARD_SESSION_END(&session->card, setup), host.number, out, SCARD_BLOCK_ROOM);
+        *next = scard_lent_card_session_more_time(SCARD_SESSION_END(session), said.number, now, out, SCARD_BLOCK_ROOM);
+        return true;
     case SCARD_HOST_IFS:
-        return scard_lent_card_ask_ifs(SCARD_SESSION_END(&session->card, setup), host.number, out, SCARD_BLOCK_ROOM);
+        *next = scard_lent_card_session_ask_ifs(SCARD_SESSION_END(session), said.number, now, out, SCARD_BLOCK_ROOM);
+        return true;
     default:
-        return scard_session_turn(SCARD_DONE);
+        *next = stopped;
+        return false;
     }
-}
-
-/* Passes a burst of `count` octets to the card, calls its host if the host has to reply, and sends the card's block.
- * Returns the card's turn. If that is SCARD_SEND, *next is what the line says after the block.
- */
-static inline struct scard_turn scard_card_session_answer(struct scard_card_session *session, size_t count,
-                                                          uint8_t out[SCARD_BLOCK_ROOM], struct scard_line_next *next)
-{
-    const struct scard_setup *setup = &session->setup;
-    struct scard_lent_line *state = &session->wire.line;
-    struct scard_turn turn = scard_lent_card_received(SCARD_SESSION_END(&session->card, setup), state->framer.octets,
-                                                      count, out, SCARD_BLOCK_ROOM);
-    const bool is_asked = turn.kind == SCARD_DONE;
-    if (is_asked) {
-        turn = scard_card_session_host(session, out);
-    }
-    if (scard_lent_card_command(SCARD_SESSION_END(&session->card, setup)).status != SCARD_OK) {
-        session->granted = 0; /* the host no longer has to reply: a command that comes is a new one */
-    }
-    if (turn.kind == SCARD_SEND) {
-        const uint64_t now = scard_line_now(&setup->line);
-        state->rules.bwt = session->bwt;
-        state->rules.cwt = session->cwt;
-        *next = is_asked ? scard_lent_line_exchange(state, SCARD_LINE_FOREVER, now)
-                         : scard_lent_line_talk(state, SCARD_LINE_FOREVER, now);
-        *next = scard_session_go(&session->wire, &setup->line, *next, out, (size_t)turn.count);
-    }
-    return turn;
 }
 
 /* Serves the terminal: answers its blocks without a time limit. The results:
@@ -613,20 +484,21 @@ SCARD_MUST_USE
 static inline struct scard_turn scard_card_session_serve(struct scard_card_session *session)
 {
     const struct scard_line *line = &session->setup.line;
-    struct scard_lent_line *state = &session->wire.line;
     uint8_t out[SCARD_BLOCK_ROOM] = {0};
-    struct scard_turn turn = scard_session_turn(SCARD_SEND);
-    struct scard_line_next next;
-    if (!scard_session_is(&session->wire, session, SCARD_SESSION_CARD)) {
-        return scard_session_turn(SCARD_NO_END);
+    struct scard_line_came came;
+    struct scard_session_next next = {SCARD_NO_END, 0, 0};
+    if (session->self == session) {
+        scard_session_times(&session->lent.line.rules, session->bwt, session->cwt);
+        next = scard_lent_card_session_serve(SCARD_SESSION_END(session), scard_line_now(line));
     }
-    state->rules.bwt = session->bwt;
-    state->rules.cwt = session->cwt;
-    next = scard_session_go(&session->wire, line, scard_lent_line_serve(state, scard_line_now(line)), out, 0);
-    while (turn.kind == SCARD_SEND && next.kind == SCARD_NEXT_HEARD) {
-        turn = scard_card_session_answer(session, (size_t)next.count, out, &next);
+    for (;;) {
+        if (scard_line_does(line, next, out, &came)) {
+            next = scard_lent_card_session_step(SCARD_SESSION_END(session), came.event, came.octets, came.count,
+                                                scard_line_now(line), out, sizeof out);
+        } else if (next.kind != SCARD_DONE || !scard_card_session_asks(session, &next, out)) {
+            return scard_session_turn(next);
+        }
     }
-    return turn.kind == SCARD_SEND ? scard_session_over(next.kind) : turn;
 }
 
 #ifdef __cplusplus
