@@ -56,7 +56,7 @@ class Program {
 const saved = [];
 let [program, file, runs, waiting] = [null, null, 0, 0];
 
-// Shows only those parts of the form that the subcommand and the kind use.
+// Shows only those parts of the form that the subcommand and the kind use. Long lines aren't broken: that takes long.
 function adjust() {
   const values = given();
   const { flags, reads } = SUBCOMMANDS[values.do];
@@ -66,6 +66,7 @@ function adjust() {
   part("input-part").hidden = !reads;
   part("text-note").textContent = INPUTS[reads]?.join(" ") ?? "";
   part("text").disabled = file !== null;
+  part("text").wrap = part("text").value.length > SHOWN_OCTETS ? "off" : "soft";
   if (!file) part("file").value = "";
   part("file-part").hidden = file === null;
   part("file-name").textContent = file ? `The input is the file ${file.name}, ${file.size} octets. ` : "";
@@ -133,9 +134,9 @@ async function pictures(number, now, head) {
 
 // Shows an answer: its status, its text and its pictures. Lines of the text light up their octets.
 async function answered(number, now, { status, parts }) {
-  const text = new Blob(parts);
-  const head = await text.slice(0, SHOWN_OCTETS).text();
+  const head = await new Blob(parts.map((it) => it.subarray(0, SHOWN_OCTETS))).slice(0, SHOWN_OCTETS).text();
   if (number !== runs) return;
+  const text = new Blob(parts);
   saved.splice(0).forEach((it) => URL.revokeObjectURL(it));
   const { lines, places = [], below = [] } = await pictures(number, now, head);
   if (number !== runs) return;
@@ -145,8 +146,8 @@ async function answered(number, now, { status, parts }) {
   const folded = isPicture ? made("details", {}, made("summary", {}, "Its text"), ...all.splice(0)) : null;
   if (isPicture) all.push(pictured(isCut ? text : drawn(head)), folded);
   const [href, download] = [addressFor(text, "application/octet-stream"), isPicture ? "scard.svg" : "scard.txt"];
-  const link = made("a", { href, download }, `Save this text as ${download} (${text.size} octets)`);
-  if (text.size) all.push(made("p", {}, link));
+  const said = `Save this text as ${download} (${text.size} octets)`;
+  if (text.size) all.push(made("p", {}, made("a", { href, download }, said)));
   show(status === 0 ? "yes" : "no", `Exit status ${status}`, all, below);
   performance.mark("answered");
 }
@@ -221,6 +222,7 @@ function light({ target }) {
 
 function listen() {
   const on = (id, name, call) => part(id).addEventListener(name, call);
+  on("text", "beforeinput", ({ data, target }) => data?.length > SHOWN_OCTETS && (target.wrap = "off"));
   on("asking", "input", later);
   on("file", "change", () => part("file").files.length && take(part("file").files[0]));
   on("no-file", "click", () => take(null));
@@ -233,9 +235,8 @@ function listen() {
   for (const name of ["pointerover", "pointerleave", "focusin"]) on("answer", name, light);
   document.addEventListener("dragover", (event) => event.preventDefault());
   document.addEventListener("drop", (event) => {
-    if (!event.dataTransfer.files.length) return;
-    event.preventDefault();
-    take(event.dataTransfer.files[0]);
+    const [chosen] = event.dataTransfer.files;
+    if (chosen) (event.preventDefault(), take(chosen));
   });
   addEventListener("hashchange", () => put(valuesOf(location.hash.slice(1))));
 }

@@ -95,11 +95,42 @@ static void room_ends(void)
     assert(scard_room(10) != 0);
 }
 
+/* The last block, once it is freed, leaves its room to a block of any size. */
+static void last_block_goes(void)
+{
+    struct tried large = rattle_alloc(1000000, 16), small;
+    rattle_dealloc(large.at);
+    small = rattle_alloc(500000, 16);
+    assert(small.at == large.at);
+    rattle_dealloc(small.at);
+}
+
+/* Each answer begins with an empty heap, whatever the one before left. */
+static void answers_begin_empty(void)
+{
+    unsigned char *words = scard_room(10), *end;
+    int answer, it;
+    size_t octets;
+    for (answer = 0; answer < 100; answer++) {
+        for (it = 0, octets = 20; it < 15; it++, octets = octets * 3 / 2) {
+            struct tried tried = rattle_alloc(octets, 16);
+            assert(tried.is_there);
+            if (random_number() % 2) {
+                rattle_dealloc(tried.at);
+            }
+        }
+        end = heap_end;
+        assert(scard_room(10) == words && heap_end < end);
+    }
+}
+
 int main(void)
 {
     blocks_keep_their_octets();
     last_block_stays();
     room_ends();
-    puts("heap: 3 passed, 0 failed");
+    last_block_goes();
+    answers_begin_empty();
+    puts("heap: 5 passed, 0 failed");
     return 0;
 }

@@ -123,7 +123,7 @@ u64 host_write(u8 *m, u32 stream, u64 at, u64 count)
 int main(void)
 {
     u8 *m = machine_begin();
-    u64 room = 0, size = 0, count;
+    u64 room, count;
     if (m == NULL) {
         return 3;
     }
@@ -137,15 +137,13 @@ int main(void)
         u32 status;
         part_line();
         count = strlen(parts[WORDS]) / 2;
-        if (room == 0 || count > size) {
-            size = count + 1;
-            room = scard_room(m, size);
-        }
+        room = scard_room(m, count);
         copied(piece(m, (u32)room, count), parts[WORDS], count);
         began = clock();
         status = scard_answer(m, room, count);
         text[2 * was_written] = 0;
-        printf("%u\t%s\t%.0f\n", (unsigned)status, text, (double)(clock() - began) * 1e6 / CLOCKS_PER_SEC);
+        printf("%u\t%s\t%.0f\t%u\n", (unsigned)status, text, (double)(clock() - began) * 1e6 / CLOCKS_PER_SEC,
+               (unsigned)pages);
         fflush(stdout);
     }
     return 0;

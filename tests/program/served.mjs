@@ -2,14 +2,17 @@
 //
 // Each line of standard input is a run, in parts with a tab between two: its words and the pieces of its input, in
 // hexadecimal, the pieces with commas between them; how many octets a call of `write` takes at most; and after how many
-// octets a call of `read` and one of `write` fails. Each line of standard output is a status, a text and microseconds.
+// octets a call of `read` and one of `write` fails. Each line of standard output is a status, a text, microseconds, and
+// how many pages of memory the module has.
 import { readFileSync } from 'node:fs';
 import { createInterface } from 'node:readline';
 import { pathToFileURL } from 'node:url';
 
 const [script, module] = process.argv.slice(2);
 const { program } = await import(pathToFileURL(script));
+const PAGE = 65536;
 const answer = program(readFileSync(module));
+let memory;
 
 // The functions of the streams of a run, and the text that was written.
 function streams(pieces, step, readFails, writeFails) {
@@ -29,6 +32,7 @@ function streams(pieces, step, readFails, writeFails) {
             return count;
         },
         write(octets) {
+            memory = octets.buffer;
             const count = Math.min(octets.length, step, writeFails - written);
             if (!count && octets.length) return -1;
             text.push(Buffer.from(octets.subarray(0, count)));
@@ -44,5 +48,5 @@ for await (const line of createInterface({ input: process.stdin })) {
     const began = process.hrtime.bigint();
     const status = answer(Buffer.from(words, 'hex'), read, write);
     const took = (process.hrtime.bigint() - began) / 1000n;
-    process.stdout.write(`${status}\t${Buffer.concat(text).toString('hex')}\t${took}\n`);
+    process.stdout.write(`${status}\t${Buffer.concat(text).toString('hex')}\t${took}\t${memory ? memory.byteLength / PAGE : 0}\n`);
 }

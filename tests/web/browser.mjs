@@ -7,7 +7,8 @@
 // keys, a tree is folded, a file is dropped, a long run is stopped, an address is opened, and a module ends with an
 // error. The page may load and send nothing, and the browser may complain of nothing. The first answer has to come in a
 // second. In Chromium texts are typed too: a forest of 1 MiB has to be shown in a second, and no text of 64 KiB may
-// delay other input for 50 milliseconds. With PICTURES, pictures of each example go into that folder, wide and narrow,
+// delay other input for 50 milliseconds. These two bounds are for a machine that runs LOOP in 150 milliseconds; on a
+// slower one they are as much longer. With PICTURES, pictures of each example go into that folder, wide and narrow,
 // light and dark. A browser in which the test stops early is a failure, with its name. The last line is 'N passed, M
 // failed'.
 import { execFileSync } from "node:child_process";
@@ -31,6 +32,14 @@ const LONGEST = 600000;
 // The milliseconds until a text has to be shown, and for which a text of at most so many characters may delay other
 // input.
 const [SOON, KEPT, SHORT] = [1000, 50, 65536];
+// A loop whose time says how fast a machine is, and the milliseconds that it takes on the machine of these bounds.
+const [LOOP, PACE] = [`(() => {
+  const began = performance.now();
+  let it = 1;
+  for (let at = 0; at < 2e7; at++) it = (Math.imul(it, 1664525) + at) | 0;
+  globalThis.last = it;
+  return performance.now() - began;
+})()`, 150];
 
 const [file, pictures] = process.argv.slice(2);
 const checks = new Checks("browser", 20);
@@ -253,26 +262,37 @@ function typed(page, values) {
   })`);
 }
 
+// Returns how much longer the times of this machine may be, by the quickest of some loops.
+async function slowness(page) {
+  let least = Infinity;
+  for (let tries = 0; tries < TRIES; tries++) least = Math.min(least, await page.value(LOOP));
+  const times = Math.max(1, least / PACE);
+  console.log(`browser: the loop takes ${least.toFixed(0)} ms: each bound ${times.toFixed(2)} times`);
+  return times;
+}
+
 // Returns the smallest times of some tries, since other work on the machine takes time too. A try that is quick enough
 // is the last one.
-async function measured(page, given) {
+async function measured(page, given, soon, keeps) {
   const isShort = given.text.length <= SHORT;
   let least = { all: Infinity, longest: Infinity };
   for (let tries = 0; tries < TRIES; tries++) {
     const { said, ...now } = await typed(page, given);
     least = { said, all: Math.min(least.all, now.all), longest: Math.min(least.longest, now.longest) };
-    if (least.all < SOON && (!isShort || least.longest < KEPT)) break;
+    if (least.all < soon && (!isShort || least.longest < keeps)) break;
   }
   return { ...least, isShort };
 }
 
 async function measure(page) {
+  const times = await slowness(page);
+  const [soon, keeps] = [SOON * times, KEPT * times];
   for (const [what, given] of TEXTS) {
-    const { all, longest, said, isShort } = await measured(page, given);
+    const { all, longest, said, isShort } = await measured(page, given, soon, keeps);
     console.log(`browser: ${what}: ${all.toFixed(0)} ms, ${longest ? `kept for ${longest.toFixed(0)}` : "never kept"}`);
     checks.equal(`${what}: its status`, said, "Exit status 0");
-    checks.equal(`${what}: whether it is shown in a second`, all < SOON, true);
-    if (isShort) checks.equal(`${what}: whether it keeps what is typed`, longest < KEPT, true);
+    checks.equal(`${what}: whether it is shown in a second`, all < soon, true);
+    if (isShort) checks.equal(`${what}: whether it keeps what is typed`, longest < keeps, true);
   }
 }
 

@@ -2,7 +2,9 @@
  *
  * A block has 2^k octets for some k, and begins with a head that holds k. Freed blocks of one size are a list, and the
  * next block of that size comes from it. The last block of all is made longer where it is, so that a growing text isn't
- * copied. A test defines HEAP_FIRST and HEAP_MORE to try the same code over an array. */
+ * copied; once it is freed, the heap ends before it. Each answer begins with an empty heap: the program is a function,
+ * so nothing of an answer is needed for the next one. A test defines HEAP_FIRST and HEAP_MORE to try the same code over
+ * an array. */
 #include "plain.h"
 
 #ifndef HEAP_FIRST
@@ -105,6 +107,10 @@ void rattle_dealloc(void *at)
     unsigned char *old = block_at(at);
     int k = *size_of(old);
     struct free_block *it = (struct free_block *)(void *)old;
+    if (old + ((size_t)1 << k) == heap_end) {
+        heap_end = old;
+        return;
+    }
     it->next = freed[k];
     freed[k] = it;
 }
@@ -130,12 +136,18 @@ struct tried rattle_realloc(void *at, size_t kept, size_t octets, size_t align)
     return tried;
 }
 
-/* For the host: room for words in the memory of the module; null without memory. */
+/* For the host, before each answer: makes the heap empty, and gives room for the words; null without memory. */
 #ifdef __wasm__
 __attribute__((export_name("scard_room")))
 #endif
 void *scard_room(size_t octets)
 {
-    struct tried tried = rattle_alloc(octets, HEAD);
+    struct tried tried;
+    int k;
+    for (k = 0; k <= LARGEST; k++) {
+        freed[k] = NULL;
+    }
+    heap_end = NULL;
+    tried = rattle_alloc(octets, HEAD);
     return tried.is_there ? tried.at : NULL;
 }
