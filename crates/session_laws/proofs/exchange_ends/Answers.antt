@@ -1,0 +1,47 @@
+use Rattle.std.proofs.Common.{rules, ◌≡◌, ◌+◌, true}
+use Rattle.session_laws.specs.Ending.{goes, sends}
+use Rattle.session_laws.proofs.Sessions.{begun-within, stepped-within, front-fits, front-short}
+use Rattle.session_laws.proofs.Waits.{begun-waited, stepped-waited}
+use Rattle.session_laws.proofs.exchange_ends.Goals as goal
+
+pub loop-out-init : goal.loop-out-init
+loop-out-init g c = (
+  c.exchange.ensures.fit,
+  begun-within _ _ c.args.limits c.args.line.now _ _ _ _ _ _ _ _ _
+      c.requires.terminal (search rules) (c.in_ok-action.ensures.turn _ c.requires.burst.1),
+  begun-waited _ _ c.args.limits c.args.line.now _ _ _ _ _ _ _ _ _ c.requires.clock
+      (c.in_ok-action.ensures.turn _ c.requires.burst.1),
+  search rules,
+  c.requires.room,
+)
+
+pub loop-out-smaller : goal.loop-out-smaller
+loop-out-smaller g c =
+    let on : goes c.loop-out.action ≡ true = search rules in
+    let count : c.loop-out.blocks + c.sends-blocks.result ≡ c.loop-out.blocks + sends c.loop-out.action =
+    search rules in
+    (stepped-within c.args.limits.blocks c.loop-out.blocks (c.loop-out.blocks + c.sends-blocks.result) _ c.loop-out.line
+    _ _ _ _ _ _ _ _ _ _ _ c.loop-out.action _ c.loop-out.invariant.1 on count c.loop-out.invariant.1.burst.1
+    (c.in_ok-action-2.ensures.step _ c.loop-out.invariant.1.burst.1)
+    (front-fits _ _ _ c.done-event.ensures.fits c.done-event.ensures.some)
+    (front-short _ _ c.loop-out.invariant.3)).1
+
+pub loop-out-preserved : goal.loop-out-preserved
+loop-out-preserved g c =
+    let on : goes c.loop-out.action ≡ true = search rules in
+    let count : c.loop-out.blocks + c.sends-blocks.result ≡ c.loop-out.blocks + sends c.loop-out.action =
+    search rules in (
+      c.step.ensures.fit,
+      (stepped-within c.args.limits.blocks c.loop-out.blocks
+          (c.loop-out.blocks + c.sends-blocks.result) _ c.loop-out.line
+          _ _ _ _ _ _ _ _ _ _ _ c.loop-out.action _ c.loop-out.invariant.1 on count c.loop-out.invariant.1.burst.1
+          (c.in_ok-action-2.ensures.step _ c.loop-out.invariant.1.burst.1)
+          (front-fits _ _ _ c.done-event.ensures.fits c.done-event.ensures.some)
+          (front-short _ _ c.loop-out.invariant.3)).0,
+      (λ limited. stepped-waited c.args.limits.time c.loop-out.time _ _ c.loop-out.line _ _ _ _ _ _ _ _ _ _ _
+          c.loop-out.action _ (c.loop-out.invariant.2 limited) on (search rules) (search rules) limited
+          (c.in_ok-action-2.ensures.step _ c.loop-out.invariant.1.burst.1)
+          (front-fits _ _ _ c.done-event.ensures.fits c.done-event.ensures.some)),
+      search rules,
+      search rules,
+    )

@@ -1,0 +1,15 @@
+use Rattle.std.proofs.Common.{◌≡◌, ◌≤◌, length}
+use Rattle.t1_core.specs.Views.{IsLentTerminal}
+use Rattle.session_laws.specs.Ending.{IsWithin, HasWaited, is_limited, fuel}
+use Rattle.session_laws.proofs.exchange_ends.Given as goal
+
+abbrev pub invariant-loop-out : goal.invariant-loop-out
+invariant-loop-out g l =
+    IsLentTerminal l.«end» (length l.command) (length l.answer)
+    × IsWithin l.fn.limits.blocks l.blocks l.line l.action
+    × (is_limited l.fn.limits.time → HasWaited l.fn.limits.time l.time l.line l.action)
+    × (length l.out ≡ 258)
+    × (1 ≤ length l.room)
+
+abbrev pub decreases-loop-out : goal.decreases-loop-out
+decreases-loop-out g l = fuel l.line l.action

@@ -1,0 +1,148 @@
+//! What a caller can know of a session that runs in a loop over its steps, only from their public contracts.
+//!
+//! [`exchange_ends`] is such a loop, and its contract is the law: whatever the device does, an exchange of a terminal
+//! ends within its limits. `specs/Ending.antt` has the number that each octet, silence and failure makes smaller.
+#![tactic(auto)]
+
+ghost use Rattle.std.specs.Prelude.{◌≡◌, ◌≤◌, length, false, IfOk};
+ghost use Rattle.t1_core.specs.Views.{IsLentTerminal};
+ghost use Rattle.session_core.specs.Wire.{is_set};
+ghost use Rattle.session_laws.specs.Ending.{HasBurst, goes, sends, waited_by, is_limited, events_in};
+
+use line_core::TimedDevice;
+use session_core::terminal::{self, step};
+use session_core::{Action, Limits, Line};
+use t1_core::{LentTerminal, TerminalFault};
+
+/// The numbers of what happened on the line, for [`step`].
+const SENT: u8 = 0;
+
+const CAME: u8 = 1;
+
+const SILENT: u8 = 3;
+
+const FAILED: u8 = 4;
+
+/// The longest block has 258 octets (ISO/IEC 7816-3, clause 11.3).
+const LONGEST_BLOCK: usize = 258;
+
+/// How an exchange ended.
+#[derive(Clone, Copy, Debug)]
+pub struct Ended {
+    /// The last action: what came of the exchange.
+    pub action: Action,
+    /// How many blocks the terminal sent.
+    pub blocks: u32,
+    /// How long it waited in silences that were as long as it asked for, in microseconds, or the greatest number if that
+    /// is more.
+    pub waited: u64,
+}
+
+/// Whether the session goes on after this action.
+fn goes(action: &Action) -> bool
+    ensures { result ≡ goes action.now }
+{
+    matches!(action, Action::Send(_) | Action::Wait(_))
+}
+
+/// Returns how many blocks are sent by this action.
+fn sends(action: &Action) -> u32
+    ensures { result ≡ sends action.now }
+{
+    match action {
+        Action::Send(_) => 1,
+        _ => 0,
+    }
+}
+
+/// Returns how long the terminal has waited by this event after this action.
+fn waited(event: u8, action: &Action) -> u64
+    ensures { result ≡ waited_by event action.now }
+{
+    match action {
+        Action::Wait(time) if event == SILENT => *time,
+        _ => 0,
+    }
+}
+
+/// Exchanges a command for its answer over a device: does what each action says, and passes on what came of it.
+///
+/// This always returns. The terminal sends at most as many blocks as its limit permits. The silences for which it waited
+/// in full are together no longer than its limit of time, which the waits themselves count, since a device has no clock.
+/// What comes is put into `room` first. The answer is at the front of `answer` if the last action is
+/// [`Action::Answered`].
+pub fn exchange_ends<D: TimedDevice>(
+    end: &mut LentTerminal,
+    line: &mut Line,
+    limits: Limits,
+    command: &mut [u8],
+    answer: &mut [u8],
+    octets: &[u8],
+    device: &mut D,
+    room: &mut [u8],
+) -> Result<Ended, TerminalFault>
+    requires fit { IsLentTerminal end.old (length command.old) (length answer.old) }
+    requires terminal { is_set line.old.rules.is_card ≡ false }
+    requires clock { is_set line.old.rules.has_clock ≡ false }
+    requires burst { HasBurst line.old }
+    requires room { 1 ≤ length room.old }
+    ensures fit { IsLentTerminal end.new (length command.new) (length answer.new) }
+    ensures again { IfOk result (λ _. (is_set line.new.rules.is_card ≡ false) × HasBurst line.new) }
+    ensures few { IfOk result (λ ended. ended.blocks ≤ limits.blocks) }
+    ensures soon { is_limited limits.time → IfOk result (λ ended. ended.waited ≤ limits.time) }
+    ensures over { IfOk result (λ ended. goes ended.action ≡ false) }
+{
+    let mut out = [0; LONGEST_BLOCK];
+    let mut own = 0;
+    let mut blocks: u32 = 0;
+    let mut time: u64 = 0;
+    let mut action = terminal::exchange(
+        end, line, &mut own, limits, command, answer, octets, 0, &mut out,
+    )?;
+    while goes(&action) {
+        let (event, count) = done(&action, device, &out, room);
+        blocks += sends(&action);
+        time = time.saturating_add(waited(event, &action));
+        action = step(
+            end,
+            line,
+            &mut own,
+            command,
+            answer,
+            event,
+            &room[..count],
+            0,
+            &mut out,
+        )?;
+    }
+    Ok(Ended {
+        action,
+        blocks,
+        waited: time,
+    })
+}
+
+/// Does what an action says, and returns the number of what came of it and how many octets are at the front of `room`.
+fn done<D: TimedDevice>(
+    action: &Action,
+    device: &mut D,
+    out: &[u8; LONGEST_BLOCK],
+    room: &mut [u8],
+) -> (u8, usize)
+    requires { 1 ≤ length room.old }
+    ensures fits { result.1 ≤ length room.new }
+    ensures some { events_in result.0 result.1 }
+{
+    match action {
+        Action::Send(count) => match device.send(&out[..(*count).min(LONGEST_BLOCK)]) {
+            Ok(()) => (SENT, 0),
+            Err(_) => (FAILED, 0),
+        },
+        Action::Wait(time) => match device.receive(room, *time) {
+            Ok(0) => (SILENT, 0),
+            Ok(count) => (CAME, count),
+            Err(_) => (FAILED, 0),
+        },
+        _ => (FAILED, 0),
+    }
+}
