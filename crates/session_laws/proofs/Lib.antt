@@ -2,3 +2,4 @@ pub mod Steps
 pub mod Sessions
 pub mod Times
 pub mod Waits
+pub mod Runs

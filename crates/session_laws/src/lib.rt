@@ -4,10 +4,12 @@
 //! ends within its limits. `specs/Ending.antt` has the number that each octet, silence and failure makes smaller.
 #![tactic(auto)]
 
-ghost use Rattle.std.specs.Prelude.{◌≡◌, ◌≤◌, length, false, IfOk};
-ghost use Rattle.t1_core.specs.Views.{IsLentTerminal};
+ghost use Rattle.std.specs.Prelude.{◌≡◌, ◌≤◌, ℕ, List, [], ◌∷◌, length, take, true, false, IfOk};
+ghost use Rattle.t1_core.specs.Views.{terminal_held, IsLentTerminal};
+ghost use Rattle.line_core.specs.Timed.{Sound, Sounds};
 ghost use Rattle.session_core.specs.Wire.{is_set};
 ghost use Rattle.session_laws.specs.Ending.{HasBurst, goes, sends, waited_by, is_limited, events_in};
+ghost use Rattle.session_laws.specs.Running.{IsAsked, Ran, event_of, octets_of, standing};
 
 use line_core::TimedDevice;
 use session_core::terminal::{self, step};
@@ -90,6 +92,10 @@ pub fn exchange_ends<D: TimedDevice>(
     ensures again { IfOk result (λ _. (is_set line.new.rules.is_card ≡ false) × HasBurst line.new) }
     ensures few { IfOk result (λ ended. ended.blocks ≤ limits.blocks) }
     ensures soon { is_limited limits.time → IfOk result (λ ended. ended.waited ≤ limits.time) }
+    ensures run { IfOk result (λ ended. (own : ℕ) × (out : List ℕ)
+        × Ran (D.heard device.old) (D.heard device.new) (terminal_held end.old command.old answer.old) line.old
+        octets.now limits
+        (standing (terminal_held end.new command.new answer.new) line.new own out ended.action)) }
     ensures over { IfOk result (λ ended. goes ended.action ≡ false) }
 {
     let mut out = [0; LONGEST_BLOCK];
@@ -129,12 +135,16 @@ fn done<D: TimedDevice>(
     out: &[u8; LONGEST_BLOCK],
     room: &mut [u8],
 ) -> (u8, usize)
-    requires { 1 ≤ length room.old }
+    requires room { 1 ≤ length room.old }
+    requires goes { goes action.now ≡ true }
     ensures fits { result.1 ≤ length room.new }
     ensures some { events_in result.0 result.1 }
+    ensures called { (sound : Sound) × Sounds (D.heard device.old) (D.heard device.new) (sound ∷ [])
+        × IsAsked action.now out.now sound × (result.0 ≡ event_of sound)
+        × (take result.1 room.new ≡ octets_of sound) }
 {
     match action {
-        Action::Send(count) => match device.send(&out[..(*count).min(LONGEST_BLOCK)]) {
+        Action::Send(count) => match device.send(&out[..(*count).min(out.len())]) {
             Ok(()) => (SENT, 0),
             Err(_) => (FAILED, 0),
         },

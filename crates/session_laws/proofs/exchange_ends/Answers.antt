@@ -1,6 +1,7 @@
 use Rattle.std.proofs.Common.{rules, ◌≡◌, ◌+◌, true}
 use Rattle.session_laws.specs.Ending.{goes, sends}
 use Rattle.session_laws.proofs.Sessions.{begun-within, stepped-within, front-fits, front-short}
+use Rattle.session_laws.proofs.Runs.{begun-ran, more-ran, turn-of}
 use Rattle.session_laws.proofs.Waits.{begun-waited, stepped-waited}
 use Rattle.session_laws.proofs.exchange_ends.Goals as goal
 
@@ -13,6 +14,12 @@ loop-out-init g c = (
       (c.in_ok-action.ensures.turn _ c.requires.burst.1),
   search rules,
   c.requires.room,
+  begun-ran (g.D.TimedDevice.heard c.args.device.now) _ _ _ _ _ record {
+    out = _;
+    burst = _;
+    heard = c.requires.burst.1;
+    turns = c.in_ok-action.ensures.turn _ c.requires.burst.1;
+  },
 )
 
 pub loop-out-smaller : goal.loop-out-smaller
@@ -44,4 +51,8 @@ loop-out-preserved g c =
           (front-fits _ _ _ c.done-event.ensures.fits c.done-event.ensures.some)),
       search rules,
       search rules,
+      more-ran _ (g.D.TimedDevice.heard c.loop-out.device) _ _ _ _ _ _ _ _ c.loop-out.invariant.5
+          c.done-event.ensures.called.1
+          (turn-of _ _ _ _ _ _ c.done-event.ensures.called.2 c.done-event.ensures.called.3 c.done-event.ensures.called.4
+          c.loop-out.invariant.1.burst.1 (c.in_ok-action-2.ensures.step _ c.loop-out.invariant.1.burst.1)),
     )

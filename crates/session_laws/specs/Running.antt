@@ -1,0 +1,84 @@
+-- What a loop over the steps of a terminal's session does: each action becomes a call of the device, and what came of it
+-- is the next event.
+use Rattle.std.specs.Prelude.{◌≡◌, ℕ, List, [], ◌∷◌, ◌++◌, take, Ok}
+use Rattle.t1_core.specs.Terminal.{TerminalState, transmit}
+use Rattle.line_core.specs.Timed.{Sound, Sounds, came, deaf, said, unsaid}
+use Rattle.line_core.specs.Bursts.{HasHeard}
+use Rattle.session_core.specs.declared.lines.Line.{Line}
+use Rattle.session_core.specs.declared.lines.Start.TheVariants.{Exchange}
+use Rattle.session_core.specs.declared.setup.Limits.{Limits}
+use Rattle.session_core.specs.declared.action.Action.{Action}
+use Rattle.session_core.specs.declared.action.Action.TheVariants as action
+use Rattle.session_core.specs.Wire.{ruled, seen}
+use Rattle.session_core.specs.Lines.{stepped}
+use Rattle.session_core.specs.Terminals.{IsStepped, TurnsTo}
+
+-- a session before its next action
+pub record Standing : Type 0 where
+  pub terminal : TerminalState
+  pub line : Line
+  pub own : ℕ
+  pub out : List ℕ
+  pub next : Action
+
+-- the number of the event that a call of the device is (the numbers are those of `stepped`)
+abbrev pub event_of : Sound → ℕ
+event_of (came limit []) = 3
+event_of (came limit (octet ∷ octets)) = 1
+event_of (deaf limit fault) = 4
+event_of (said octets) = 0
+event_of (unsaid octets fault) = 4
+
+-- the octets that came
+abbrev pub octets_of : Sound → List ℕ
+octets_of (came limit octets) = octets
+octets_of (deaf limit fault) = []
+octets_of (said octets) = []
+octets_of (unsaid octets fault) = []
+
+-- The call is the one that the action asks for: the octets at the front of `out` are sent, or the device waits so long.
+abbrev pub IsAsked : Action → List ℕ → Sound → Type 0
+IsAsked (action.Send count) out (said octets) = octets ≡ take count out
+IsAsked (action.Send count) out (unsaid octets fault) = octets ≡ take count out
+IsAsked (action.Wait time) out (came limit octets) = limit ≡ time
+IsAsked (action.Wait time) out (deaf limit fault) = limit ≡ time
+IsAsked other out sound = ⊥
+
+-- one turn of the loop: a call of the device, and the step of the session that follows from it
+pub record IsTurn (before : Standing) (sound : Sound) (after : Standing) : Type 0 where
+  pub asked : IsAsked before.next before.out sound
+  pub burst : List ℕ
+  pub heard : HasHeard before.line.framer burst
+  pub stepped_so : IsStepped (stepped (event_of sound) (ruled before.line.rules) (seen before.line.progress) burst
+      (octets_of sound) 0 (take before.own before.out)).next
+      (stepped (event_of sound) (ruled before.line.rules) (seen before.line.progress) burst (octets_of sound) 0
+      (take before.own before.out)) before.line.rules before.terminal 0 after.terminal after.line before.own after.own
+      before.out after.out (Ok after.next)
+
+-- the turns of the loop since it began, with the calls of the device in their order
+pub data Turns (first : Standing) : List Sound → Standing → Type 0 where
+  none : Turns first [] first
+  more : (sounds : List Sound) (before : Standing) (sound : Sound) (after : Standing) → Turns first sounds before
+      → IsTurn before sound after → Turns first (sounds ++ sound ∷ []) after
+
+-- the exchange began by these limits
+pub record IsBegun (terminal : TerminalState) (line : Line) (octets : List ℕ) (limits : Limits) (first : Standing)
+    : Type 0 where
+  pub out : List ℕ
+  pub burst : List ℕ
+  pub heard : HasHeard line.framer burst
+  pub turns : TurnsTo terminal (transmit octets) Exchange limits line.rules (seen line.progress) burst 0 first.terminal
+      first.line 0 first.own out first.out (Ok first.next)
+
+-- What the loop has done: the calls of the device since it began, as turns that lead to where the session stands.
+pub record Ran {A : Type 0} (old new : A → List Sound → Type 0) (terminal : TerminalState) (line : Line)
+    (octets : List ℕ) (limits : Limits) (last : Standing) : Type 0 where
+  pub first : Standing
+  pub begun : IsBegun terminal line octets limits first
+  pub sounds : List Sound
+  pub adds : Sounds old new sounds
+  pub turns : Turns first sounds last
+
+abbrev pub standing : TerminalState → Line → ℕ → List ℕ → Action → Standing
+standing terminal line own out next =
+    record { terminal = terminal; line = line; own = own; out = out; next = next }
