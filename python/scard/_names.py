@@ -199,6 +199,7 @@ class Rule(enum.IntEnum):
     EARLY_RESYNCH = 20
     TOO_MANY_REPEATS = 21
     SILENCE = 22
+    CHECK_OCTET = 23
 
     @property
     def text(self) -> str:

@@ -144,8 +144,12 @@ static void deviations(void)
          {'t', "00000400A40001", NULL, "repeat with other octets, due 4 10 0 00"}, LAST_ROW},
         {{'t', COMMAND, NULL, "permitted"}, {'c', "008100", NULL, "unseen 1"},
          {'t', "00C200", NULL, "no repeat, due 4 10 0 00"}, LAST_ROW},
-        {{'t', COMMAND, NULL, "permitted"}, {'c', "008100", NULL, "unseen 1"},
-         {'t', "00C000", NULL, "RESYNCH too early, due 4 10 0 00"}, LAST_ROW},
+        {{'t', "00200100", NULL, "permitted"}, {'c', "009000", "009000", "permitted"},
+         {'t', "00C000", NULL, "RESYNCH too early, due 2 10 0 00"}, LAST_ROW},
+        {{'t', COMMAND, COMMAND, "permitted"},
+         {'c', "000002900093!", "000002900093!", "check octet, due 1 01 0 00"}, LAST_ROW},
+        {{'t', COMMAND, COMMAND, "permitted"},
+         {'c', "0000029092!", "0000029092!", "length, due 1 01 0 00"}, LAST_ROW},
         {{'t', COMMAND, NULL, "permitted"}, {'q', NULL, NULL, "possible silence after 1"},
          {'t', COMMAND, NULL, "no R-block, due 5 10 0 00"}, LAST_ROW},
         {{'t', "00C10140", NULL, "permitted"}, {'q', NULL, NULL, "possible silence after 1"},
@@ -248,7 +252,7 @@ static void names(void)
     struct scard_text text;
     int rule;
     for (rule = 0; rule < 256; rule++) {
-        int is_rule = rule >= SCARD_RULE_NODE_ADDRESS && rule <= SCARD_RULE_SILENCE;
+        int is_rule = rule >= SCARD_RULE_NODE_ADDRESS && rule <= SCARD_RULE_CHECK_OCTET;
         CHECK((strlen(rule_of(rule)) > 0) == is_rule);
         scard_judge_clause_text((uint8_t)rule, &text);
         CHECK((strlen(text.text) > 0) == is_rule && text.size == strlen(text.text) + 1);
@@ -263,7 +267,7 @@ static int is_told(const struct scard_judgment *it)
 {
     int deviates = it->verdict == SCARD_JUDGED_DEVIATION;
     return it->verdict <= SCARD_JUDGED_DEVIATION && it->silence <= SCARD_SILENCE_CERTAIN
-        && (deviates ? it->rule >= 1 && it->rule <= SCARD_RULE_SILENCE : it->rule == 0)
+        && (deviates ? it->rule >= 1 && it->rule <= SCARD_RULE_CHECK_OCTET : it->rule == 0)
         && (deviates ? it->due.owed >= 1 && it->due.owed <= SCARD_OWED_ANY_BLOCK : it->due.owed == 0)
         && it->due.next <= 1 && it->due.expects <= 1 && it->due.asked <= SCARD_ASKED_RESYNCH;
 }

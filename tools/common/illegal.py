@@ -4,6 +4,8 @@ from legal import ABORT, CARD, IFS, RESPONSE, RESYNCH, TERMINAL, WTX, GivesUp, e
 from tapped import QUIET, Line, Row
 
 I_BLOCKS = ("message", "next", "repeat")
+# how often a terminal repeats and corrects at most before RESYNCH
+MOST_REPEATS = 3
 # the kinds of blocks of which an end owes exactly one; after ABORT, two are possible, and a refusal is free
 OWED = ("message", "next", "acknowledgment", "correction", "repeat", "request again", "response")
 # Kinds that damage permits which nobody saw, if the trace doesn't say how blocks arrived: an end that got no block whole
@@ -13,6 +15,7 @@ HIDDEN = {
     "number of an acknowledgment": "an R-block after an error has the number of the block that came damaged",
     "R-block for a response": "an R-block after an error has the same octets",
     "silence": "the card may not have got the block",
+    "RESYNCH too early": "RESYNCH may come after an error",
 }
 # kinds that no trace shows
 NEVER_SEEN = {"silence after damage": "a card may take damaged octets for noise, and send nothing"}
@@ -47,6 +50,8 @@ def in_message(end, block, line):
         yield "field too long", (pcb, end.rng.randbytes(end.room + 1))
     if end.due == "message":
         yield "ABORT outside a chain", (ABORT, b"")
+    elif end.side == TERMINAL:
+        yield "RESYNCH too early", (RESYNCH, b"")
 
 
 def in_acknowledgment(end, block, line):
@@ -54,6 +59,8 @@ def in_acknowledgment(end, block, line):
     yield "number of an acknowledgment", (block[0] ^ 0x10, b"")
     yield "error code", (block[0] | end.rng.choice((1, 2)), b"")
     yield "I-block for an acknowledgment", information(end)
+    if end.side == TERMINAL and end.earlier < MOST_REPEATS:
+        yield "RESYNCH too early", (RESYNCH, b"")
     yield "response to no request", (WTX | RESPONSE, b"\x01")
 
 
@@ -64,8 +71,6 @@ def in_correction(end, block, line):
     yield "number of a correction", (block[0] ^ 0x10, b"")
     yield "I-block for a correction", information(end)
     yield "response to no request", (IFS | RESPONSE, b"\x20")
-    if end.side == TERMINAL and end.fails == 1:
-        yield "RESYNCH too early", (RESYNCH, b"")
 
 
 def in_repeat(end, block, line):

@@ -219,9 +219,17 @@ def rows(steps, clause):
     """Traces, each with one block more than a history, and the lines that the judge prints for them."""
     session = Session(steps)
     for octets in dict.fromkeys(next_blocks(session)):
-        block = f"{session.turn} {octets.hex().upper()} lost"
         assert block_of(octets)
-        yield [*session.trace, block], said(session.line, SIDES[session.turn], octets, clause)
+        yield row(session, octets, "lost", clause)
+    whole = octets_of(session.turn, "R0.1", session.address(session.turn))
+    for octets in (damaged(whole), whole[:-1]):
+        yield row(session, octets, f"as {octets.hex().upper()}", clause)
+
+
+def row(session, octets, arrival, clause):
+    """A trace with octets more that arrive so, and the lines that the judge prints for it."""
+    last = f"{session.turn} {octets.hex().upper()} {arrival}"
+    return [*session.trace, last], said(session.line, SIDES[session.turn], octets, clause)
 
 
 def vector(trace, lines):
@@ -233,7 +241,7 @@ def vector(trace, lines):
 
 REMARK = """\
 # Every block after these: traces of a line that say of each block how it arrived, and end with one block of each kind
-# by the end whose turn it is. Written by tools/daily/vectors. What comes is what tools/common/t1_rules.py says, a
+# by the end whose turn it is, or with octets that it made wrong. Written by tools/daily/vectors. What comes is what tools/common/t1_rules.py says, a
 # second reading of the rules beside the program's.
 """
 

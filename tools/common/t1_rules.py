@@ -13,8 +13,8 @@ PAGE = pathlib.Path(__file__).resolve().parents[2] / "docs/JUDGE.md"
 SUBJECTS = "RESYNCH", "IFS", "ABORT", "WTX"
 # the requests that one end alone may make
 FOREIGN = {"terminal": "WTX", "card": "RESYNCH"}
-# how often a terminal repeats or corrects in a row, how often it has to before RESYNCH, and how often it sends RESYNCH
-MOST, LEAST, RESYNCHS = 3, 2, 3
+# how often a terminal repeats or corrects in a row, and how often it sends RESYNCH
+MOST, RESYNCHS = 3, 3
 USUAL_SIZE = 32
 
 
@@ -68,6 +68,11 @@ def block_of(octets):
     """Decodes octets as a block, or returns None if they are damaged."""
     whole = len(octets) >= 4 and len(octets) == octets[2] + 4 and with_check(octets[:-1]) == octets
     return Block(octets) if whole else None
+
+
+def made_wrong(octets):
+    """The rule that octets break which are no block, if their sender made them so (11.3.2.3, 11.3.4)."""
+    return "check octet" if len(octets) > 2 and len(octets) == octets[2] + 4 else "length"
 
 
 class End:
@@ -205,9 +210,9 @@ class End:
         return self.may_refuse and block.number != self.expects and block.code == 2 and not is_often
 
     def breaks_in_order(self, block):
-        """A request in place of the block that is due in order; RESYNCH if the block before may be refused again."""
+        """A request in place of the block that is due in order; RESYNCH if the block before may be refused too often."""
         if block.subject == "RESYNCH":
-            return None if self.may_refuse and self.earlier[0] >= LEAST else "RESYNCH too early"
+            return None if self.may_refuse and self.earlier[0] >= MOST else "RESYNCH too early"
         if block.subject == "ABORT" and not (self.in_chain or self.hears_chain):
             return "ABORT outside a chain"
         return None
@@ -227,9 +232,7 @@ class End:
         return self.breaks_either(block)
 
     def breaks_often(self, block, otherwise):
-        """Another block in place of a repeat or a correction. Only RESYNCH may come, and not too early."""
-        if block.is_request("RESYNCH") and self.tries < LEAST:
-            return "RESYNCH too early"
+        """Another block in place of a repeat or a correction. Only RESYNCH may come."""
         return None if block.is_request("RESYNCH") else otherwise
 
     def too_many(self, count):
@@ -348,8 +351,10 @@ class Line:
         return nad != (self.nads if side == "terminal" else swapped(self.nads))
 
     def broken(self, side, octets):
-        """The rule that a block of an end would break now, or None, and what is due."""
+        """The rule that octets of an end would break now, if the line changes none, or None; and what is due."""
         block, end = block_of(octets), self.ends[side]
+        if block is None:
+            return made_wrong(octets), end.due()
         if block.fault or not self.is_foreign(side, block.nad):
             return end.breaks(block), end.due()
         return "node address", end.due()

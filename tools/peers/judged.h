@@ -4,7 +4,7 @@
 
 #include <stdint.h>
 
-enum { ENDS = 2, RULES = 23 };
+enum { ENDS = 2, RULES = 24 };
 
 /* What the judge said about many runs. The ends are those of enum scard_end, the rules those of enum scard_rule. */
 struct judged {

@@ -20,8 +20,8 @@ use Rattle.judge_core.specs.declared.end.Owed.TheVariants.{NewMessage, NextBlock
 use Rattle.judge_core.specs.declared.end.End.{End}
 use Rattle.judge_core.specs.declared.courses.Heard.{Heard}
 use Rattle.judge_core.specs.declared.courses.Heard.TheVariants.{Beginning, Whole, Perhaps, Broken, Nothing}
-use Rattle.judge_core.specs.declared.monitor.Doubt.{Doubt}
-use Rattle.judge_core.specs.declared.monitor.Doubt.TheVariants.{Clear, Refusable, Open}
+use Rattle.judge_core.specs.declared.doubt.Doubt.{Doubt}
+use Rattle.judge_core.specs.declared.doubt.Doubt.TheVariants.{Clear, Refusable, Open}
 use Rattle.judge_core.specs.declared.monitor.Watched.{Watched}
 use Rattle.judge_core.specs.declared.monitor.Monitor.{Monitor}
 use Rattle.c_lent.specs.Number.{number_of, fault_of, subject_of}

@@ -54,12 +54,14 @@ rule_number rule.NoChain = 19
 rule_number rule.EarlyResynch = 20
 rule_number rule.TooManyRepeats = 21
 rule_number rule.Silence = 22
+rule_number rule.CheckOctet = 23
 
 abbrev pub all_rules : List Rule
 all_rules = rule.NodeAddress ∷ rule.ControlOctet ∷ rule.Length ∷ rule.ReservedSize ∷ rule.FieldSize ∷ rule.Turn
     ∷ rule.ForeignRequest ∷ rule.SequenceNumber ∷ rule.BlockDue ∷ rule.AcknowledgmentDue ∷ rule.ErrorCode
     ∷ rule.RepeatDue ∷ rule.RepeatedOctets ∷ rule.CorrectionDue ∷ rule.RequestDue ∷ rule.ResponseDue
-    ∷ rule.ResponseOctet ∷ rule.Unasked ∷ rule.NoChain ∷ rule.EarlyResynch ∷ rule.TooManyRepeats ∷ rule.Silence ∷ []
+    ∷ rule.ResponseOctet ∷ rule.Unasked ∷ rule.NoChain ∷ rule.EarlyResynch ∷ rule.TooManyRepeats ∷ rule.Silence
+    ∷ rule.CheckOctet ∷ []
 
 -- by the number of a rule: what breaks it, in a few words, and its clause
 abbrev pub rule_words : ℕ → List ℕ

@@ -130,6 +130,7 @@ pub fn judge_rule_text(rule: u8, out: &mut CText)
         20 => b"RESYNCH too early\0",
         21 => b"too many repeats\0",
         22 => b"no block\0",
+        23 => b"check octet\0",
         _ => b"\0",
     };
     *out = CText { octets };
@@ -143,20 +144,26 @@ pub fn judge_clause_text(rule: u8, out: &mut CText)
         1 => b"11.3.2.1\0",
         2 => b"11.3.2.2\0",
         3 => b"11.3.2.3\0",
-        4 | 5 => b"11.4.2\0",
-        6 | 22 => b"11.6.2.3 rule 1\0",
+        4 => b"11.4.2\0",
+        5 => b"11.4.2\0",
+        6 => b"11.6.2.3 rule 1\0",
         7 => b"11.6.2.3 rule 3, 11.6.3.2 rule 6\0",
         8 => b"11.6.2.3 rule 2.1, 11.6.3.2 rule 7.1\0",
         9 => b"11.6.2.3 rule 2.1\0",
-        10 | 11 => b"11.6.2.3 rule 2.2\0",
-        12 | 13 => b"11.6.3.2 rule 7.1\0",
+        10 => b"11.6.2.3 rule 2.2\0",
+        11 => b"11.6.2.3 rule 2.2\0",
+        12 => b"11.6.3.2 rule 7.1\0",
+        13 => b"11.6.3.2 rule 7.1\0",
         14 => b"11.6.3.2 rules 7.1 and 7.2\0",
         15 => b"11.6.3.2 rule 7.3\0",
         16 => b"11.6.2.3 rules 3 and 4, 11.6.3.2 rules 6 and 9\0",
-        17 | 18 => b"11.6.2.3 rules 3 and 4\0",
+        17 => b"11.6.2.3 rules 3 and 4\0",
+        18 => b"11.6.2.3 rules 3 and 4\0",
         19 => b"11.6.3.2 rule 9\0",
         20 => b"11.6.3.2 rule 6\0",
         21 => b"11.6.3.2 rule 7.4\0",
+        22 => b"11.6.2.3 rule 1\0",
+        23 => b"11.3.4\0",
         _ => b"\0",
     };
     *out = CText { octets };
@@ -200,6 +207,7 @@ impl Numbered for Rule {
             Rule::EarlyResynch => 20,
             Rule::TooManyRepeats => 21,
             Rule::Silence => 22,
+            Rule::CheckOctet => 23,
         }
     }
 }

@@ -10,6 +10,7 @@ use Rattle.block_core.specs.declared.pcb.S.TheVariants.{Resynch, Ifs, Abort, Wtx
 use Rattle.block_core.specs.declared.pcb.Pcb.{Pcb}
 use Rattle.block_core.specs.declared.pcb.Pcb.TheVariants.{Info, Ready, Request, Response}
 use Rattle.t1_core.specs.Came.{same, carried}
+use Rattle.t1_core.specs.Terminal.{most_repeats}
 use Rattle.block_core.specs.declared.side.Side.{Side}
 use Rattle.block_core.specs.declared.side.Side.TheVariants.{Terminal, Card}
 use Rattle.judge_core.specs.declared.end.Pending.{Pending}
@@ -25,7 +26,7 @@ use Rattle.judge_core.specs.declared.rule.Rule.TheVariants.{CorrectionDue, Reque
 use Rattle.judge_core.specs.declared.courses.Heard.{Heard}
 use Rattle.judge_core.specs.declared.courses.Heard.TheVariants.{Beginning, Whole, Perhaps, Broken, Nothing}
 use Rattle.judge_core.specs.Ends.{after, begun, no_row, answered, answers, hears, hears_info, hears_ready, hears_free, hears_asking, hears_request, hears_unknown, due_after, begins_again, missed}
-use Rattle.judge_core.specs.Sends.{Sent, sends, sends_owed, is_foreign, asking, resynchs, repeats_request, sends_ready, least_repeats, asked_again}
+use Rattle.judge_core.specs.Sends.{Sent, sends, sends_owed, is_foreign, asking, repeats_request, sends_ready, asked_again}
 use Rattle.judge_core.specs.Courses.{attempted, got_whole, got_none, perhaps_answers, uncounted, untaken}
 
 -- two blocks' ends are the same, where both are permitted
@@ -81,7 +82,8 @@ correction_refusal e last (Info number more) inf = tt
 correction_refusal e last (Ready number Free) inf = by_first (sends_ready (free e) number) _
 correction_refusal e last (Ready number Redundancy) inf = by_first (sends_ready (free e) number) _
 correction_refusal e last (Ready number Other) inf = itself (sends_ready (free e) number)
-correction_refusal e last (Request Resynch) inf = itself (resynchs (free e) Resynch CorrectionDue)
+correction_refusal e last (Request Resynch) inf =
+    where_then (nat_le most_repeats e.tries) (asking (free e) NewMessage Resynch 0) _
 correction_refusal e last (Request Ifs) inf = tt
 correction_refusal e last (Request Abort) inf = tt
 correction_refusal e last (Request Wtx) inf = tt
@@ -130,8 +132,7 @@ message_correction : (e : End) (next expects : Number) (pending : Pending) (abor
     (after (free e) Correction)
 message_correction e next expects pending aborted last (Info number more) inf = by_first _ _
 message_correction e next expects pending aborted last (Ready number fault) inf = tt
-message_correction e next expects pending aborted last (Request Resynch) inf =
-    where_then (nat_le least_repeats e.tries) (asking (free e) NewMessage Resynch 0) _
+message_correction e next expects pending aborted last (Request Resynch) inf = refl
 message_correction e next expects pending aborted last (Request Ifs) inf = tt
 message_correction e next expects pending aborted last (Request Abort) inf = tt
 message_correction e next expects pending aborted last (Request Wtx) inf = tt
@@ -144,7 +145,7 @@ message_refusal : (e : End) (next expects : Number) (pending : Pending) (aborted
 message_refusal e next expects pending aborted last (Info number more) inf = by_first _ _
 message_refusal e next expects pending aborted last (Ready number fault) inf = tt
 message_refusal e next expects pending aborted last (Request Resynch) inf =
-    where_then (nat_le least_repeats e.tries) (asking (free e) NewMessage Resynch 0) _
+    where_then (nat_le most_repeats e.tries) (asking (free e) NewMessage Resynch 0) _
 message_refusal e next expects pending aborted last (Request Ifs) inf = tt
 message_refusal e next expects pending aborted last (Request Abort) inf = tt
 message_refusal e next expects pending aborted last (Request Wtx) inf = tt
@@ -163,7 +164,7 @@ next_correction e pending last (Response s) inf = tt
 repeat_correction : (e : End) → Alike (after (free e) SameBlock) (after (free e) Correction)
 repeat_correction e last (Info number more) inf = by_first _ _
 repeat_correction e last (Ready number fault) inf = tt
-repeat_correction e last (Request Resynch) inf = itself (resynchs (free e) Resynch CorrectionDue)
+repeat_correction e last (Request Resynch) inf = refl
 repeat_correction e last (Request Ifs) inf = tt
 repeat_correction e last (Request Abort) inf = tt
 repeat_correction e last (Request Wtx) inf = tt
@@ -172,8 +173,7 @@ repeat_correction e last (Response s) inf = tt
 either_correction : (e : End) → Alike (after (free e) MessageOrCorrection) (after (free e) Correction)
 either_correction e last (Info number more) inf = by_first _ _
 either_correction e last (Ready number fault) inf = itself (sends_ready (free e) number)
-either_correction e last (Request Resynch) inf =
-    where_then (nat_le least_repeats e.tries) (asking (free e) NewMessage Resynch 0) _
+either_correction e last (Request Resynch) inf = refl
 either_correction e last (Request Ifs) inf = tt
 either_correction e last (Request Abort) inf = tt
 either_correction e last (Request Wtx) inf = tt
@@ -254,14 +254,12 @@ resynch_row : (e : End) (asked : Asked) (owed : Owed) (last inf : List ℕ) → 
 resynch_row e asked NewMessage last inf = refl
 resynch_row e asked NextBlock last inf = tt
 resynch_row e asked Acknowledgment last inf = tt
-resynch_row e asked SameBlock last inf =
-    then_where (nat_le least_repeats e.tries) (asking (free e) NewMessage Resynch 0) _
-resynch_row e asked Correction last inf =
-    then_where (nat_le least_repeats e.tries) (asking (free e) NewMessage Resynch 0) _
+resynch_row e asked SameBlock last inf = refl
+resynch_row e asked Correction last inf = refl
 resynch_row e asked Refusal last inf =
-    then_where (nat_le least_repeats e.tries) (asking (free e) NewMessage Resynch 0) _
+    then_where (nat_le most_repeats e.tries) (asking (free e) NewMessage Resynch 0) _
 resynch_row e asked SameRequest last inf =
-    then_where (nat_le least_repeats e.tries) (asking (free e) NewMessage Resynch 0) _
+    then_where (nat_le most_repeats e.tries) (asking (free e) NewMessage Resynch 0) _
 resynch_row e asked (Answer s n) last inf = tt
 resynch_row e asked EitherBlock last inf = refl
 resynch_row e asked MessageOrCorrection last inf = refl

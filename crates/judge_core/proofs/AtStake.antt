@@ -24,7 +24,7 @@ use Rattle.judge_core.specs.declared.end.Row.{Row}
 use Rattle.judge_core.specs.declared.end.End.{End}
 use Rattle.judge_core.specs.declared.rule.Rule.{Rule}
 use Rattle.judge_core.specs.declared.rule.Rule.TheVariants as rule
-use Rattle.judge_core.specs.Sends.{Sent, acknowledged, acknowledges, again_as, any_block, asked_again, asks, asks_again, begins_or_corrects, corrects, corrects_again, either, is_asked, is_between, is_foreign, is_pending, is_refusal, is_waiting, is_within, least_repeats, messages, most_asked, or_refuses, refuses, refuses_with, repeats, repeats_again, repeats_info, repeats_request, responds, resynchs, resynchs_asking, same_subject, sends, sends_info, sends_owed, sends_ready}
+use Rattle.judge_core.specs.Sends.{Sent, acknowledged, acknowledges, again_as, any_block, asked_again, asks, asks_again, begins_or_corrects, corrects, corrects_again, either, is_asked, is_between, is_foreign, is_pending, is_refusal, is_waiting, is_within, messages, most_asked, or_refuses, refuses, refuses_with, repeats, repeats_again, repeats_info, repeats_request, responds, resynchs, resynchs_refusing, same_subject, sends, sends_info, sends_owed, sends_ready}
 use Rattle.std.specs.Prelude.{bytes_eq}
 use Rattle.judge_core.specs.Stakes.{acknowledgment_breaks, any_breaks, asked_so_often, begun_or_corrected_breaks, can_break, carries, correction_breaks, either_breaks, is_asked_out, is_corrected_out, is_early, is_early_alone, is_repeated_out, is_terminal, is_unsettled, message_breaks, or_refusal_breaks, owed_breaks, refusal_breaks, repeat_breaks, request_breaks, response_breaks, takes_less}
 
@@ -116,23 +116,23 @@ asks-known breaks e owed Abort n own h g =
     on-test breaks (is_within owed) (Ok _) (Err rule.NoChain) (λ _. tt) (λ no. g (ap not no))
 asks-known breaks e owed Wtx n own h g = tt
 
-resynchs-known : (breaks : Rule → Bool) (e : End) (s : S) (broken : Rule) → is_foreign e.side (Request s) ≡ false
-    → breaks broken ≡ true → (is_early e ≡ true → breaks rule.EarlyResynch ≡ true)
+resynchs-known : (breaks : Rule → Bool) (e : End) (s : S) (broken : Rule) → breaks broken ≡ true
     → IsKnown breaks (resynchs e s broken)
-resynchs-known breaks e Resynch broken own h g =
-    on-test breaks (nat_le least_repeats e.tries) (Ok _) (Err rule.EarlyResynch) (λ _. tt)
-    (λ no. g (both (is_terminal e.side) (not (nat_le least_repeats e.tries)) (resynch-of-terminal e.side own)
-    (ap not no)))
-resynchs-known breaks e Ifs broken own h g = h
-resynchs-known breaks e Abort broken own h g = h
-resynchs-known breaks e Wtx broken own h g = h
+resynchs-known breaks e Resynch broken h = tt
+resynchs-known breaks e Ifs broken h = h
+resynchs-known breaks e Abort broken h = h
+resynchs-known breaks e Wtx broken h = h
 
-resynchs_asking-known : (breaks : Rule → Bool) (e : End) (s : S) (broken : Rule) → breaks broken ≡ true
-    → IsKnown breaks (resynchs_asking e s broken)
-resynchs_asking-known breaks e Resynch broken h = tt
-resynchs_asking-known breaks e Ifs broken h = h
-resynchs_asking-known breaks e Abort broken h = h
-resynchs_asking-known breaks e Wtx broken h = h
+resynchs_refusing-known : (breaks : Rule → Bool) (e : End) (s : S) (broken : Rule)
+    → is_foreign e.side (Request s) ≡ false → breaks broken ≡ true
+    → (is_early e ≡ true → breaks rule.EarlyResynch ≡ true) → IsKnown breaks (resynchs_refusing e s broken)
+resynchs_refusing-known breaks e Resynch broken own h g =
+    on-test breaks (nat_le most_repeats e.tries) (Ok _) (Err rule.EarlyResynch) (λ _. tt)
+    (λ no. g (both (is_terminal e.side) (not (nat_le most_repeats e.tries)) (resynch-of-terminal e.side own)
+    (ap not no)))
+resynchs_refusing-known breaks e Ifs broken own h g = h
+resynchs_refusing-known breaks e Abort broken own h g = h
+resynchs_refusing-known breaks e Wtx broken own h g = h
 
 asked_again-known : (breaks : Rule → Bool) (side : Side) (e : End) (s : S) (octet : ℕ)
     → (is_terminal side && not (nat_lt e.tries (most_asked s)) ≡ true → breaks rule.TooManyRepeats ≡ true)
@@ -168,11 +168,11 @@ repeats_request-known : (breaks : Rule → Bool) (e : End) (s : S) (octet : ℕ)
     → (is_early_alone e ≡ true → breaks rule.EarlyResynch ≡ true) → IsKnown breaks (repeats_request e s octet broken)
 repeats_request-known breaks e s octet broken own h out early =
     on-test breaks (is_asked e.asked s octet) (asked_again e.side e s octet)
-    (if is_waiting e.asked then resynchs_asking e s broken else resynchs e s broken)
+    (if is_waiting e.asked then resynchs e s broken else resynchs_refusing e s broken)
     (λ is. asked_again-known breaks e.side e s octet (λ often. out (asked-out e e.asked s octet own is often)))
-    (λ _. on-test breaks (is_waiting e.asked) (resynchs_asking e s broken) (resynchs e s broken)
-    (λ _. resynchs_asking-known breaks e s broken h)
-    (λ no. resynchs-known breaks e s broken own h
+    (λ _. on-test breaks (is_waiting e.asked) (resynchs e s broken) (resynchs_refusing e s broken)
+    (λ _. resynchs-known breaks e s broken h)
+    (λ no. resynchs_refusing-known breaks e s broken own h
     (λ soon. early (both (is_early e) (not (is_waiting e.asked)) soon (ap not no)))))
 
 -- ---- what is owed
@@ -224,13 +224,13 @@ repeats-known : (e : End) (last : List ℕ) (pcb : Pcb) (inf : List ℕ) → is_
     → IsKnown (repeat_breaks e) (repeats e last pcb inf)
 repeats-known e last (Info number more) inf own = repeats_info-known e last number more inf
 repeats-known e last (Ready number fault) inf own = refl
-repeats-known e last (Request s) inf own = resynchs-known (repeat_breaks e) e s rule.RepeatDue own refl (λ h. h)
+repeats-known e last (Request s) inf own = resynchs-known (repeat_breaks e) e s rule.RepeatDue refl
 repeats-known e last (Response s) inf own = refl
 
 corrects-known : (e : End) (pcb : Pcb) → is_foreign e.side pcb ≡ false → IsKnown (correction_breaks e) (corrects e pcb)
 corrects-known e (Info number more) own = refl
 corrects-known e (Ready number fault) own = ready-known (correction_breaks e) e number refl (λ h. h)
-corrects-known e (Request s) own = resynchs-known (correction_breaks e) e s rule.CorrectionDue own refl (λ h. h)
+corrects-known e (Request s) own = resynchs-known (correction_breaks e) e s rule.CorrectionDue refl
 corrects-known e (Response s) own = refl
 
 refuses_with-known : (e : End) (number : Number) (fault : Fault)

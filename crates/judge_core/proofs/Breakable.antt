@@ -27,7 +27,7 @@ use Rattle.judge_core.specs.declared.end.Row.{Row}
 use Rattle.judge_core.specs.declared.end.End.{End}
 use Rattle.judge_core.specs.declared.rule.Rule.{Rule}
 use Rattle.judge_core.specs.declared.rule.Rule.TheVariants as rule
-use Rattle.judge_core.specs.Sends.{Sent, acknowledges, again_as, asked_again, is_asked, is_foreign, is_pending, is_refusal, is_waiting, is_within, is_between, least_repeats, messages, most_asked, or_refuses, sends_owed, sends_info, sends_ready, repeats_request}
+use Rattle.judge_core.specs.Sends.{Sent, acknowledges, again_as, asked_again, is_asked, is_foreign, is_pending, is_refusal, is_waiting, is_within, is_between, messages, most_asked, or_refuses, sends_owed, sends_info, sends_ready, repeats_request}
 use Rattle.judge_core.specs.Stakes.{acknowledgment_breaks, any_breaks, asked_so_often, begun_or_corrected_breaks, can_break, carries, correction_breaks, either_breaks, is_asked_out, is_corrected_out, is_early, is_terminal, is_unsettled, message_breaks, or_refusal_breaks, owed_breaks, refusal_breaks, repeat_breaks, request_breaks, response_breaks, takes_less, CanBeSent, IsBreakable}
 use Rattle.judge_core.proofs.AtStake.{both, first, second}
 
@@ -241,8 +241,8 @@ module _ (e : End) (last : List ℕ) (short : length last ≤ 254) (sized : CanB
       yes (same e.expects e.expects) _ _ (same-self e.expects)
       ∙ again-out e.side e e.row.corrections _ h
 
-  early-so : is_early e ≡ true → nat_le least_repeats e.tries ≡ false
-  early-so h = not-so (nat_le least_repeats e.tries) (second (is_terminal e.side) _ h)
+  early-so : is_early e ≡ true → nat_le most_repeats e.tries ≡ false
+  early-so h = not-so (nat_le most_repeats e.tries) (second (is_terminal e.side) _ h)
 
   -- where no refusal comes in between
   abbrev Plainly : Owed → (Pcb → List ℕ → Sent) → Type 0
@@ -289,9 +289,6 @@ module _ (e : End) (last : List ℕ) (short : length last ≤ 254) (sized : CanB
       (no (same (other e.next) e.next) _ _ (not-same e.next)
       ∙ no (is_pending e.pending (wrong-more e.pending)) _ _ (wrong-pending e.pending))
   repeat-shown rule.Unasked h = response SameBlock rule.Unasked refl
-  repeat-shown rule.EarlyResynch h =
-      resynch SameBlock rule.EarlyResynch (first (is_terminal e.side) _ h)
-      (no (nat_le least_repeats e.tries) _ _ (early-so h))
   repeat-shown rule.TooManyRepeats h =
       let rest = second (is_terminal e.side) (not (nat_lt e.row.repeats most_repeats) && is_unsettled e.pending) h in
       let often = first (not (nat_lt e.row.repeats most_repeats)) (is_unsettled e.pending) rest in
@@ -309,9 +306,6 @@ module _ (e : End) (last : List ℕ) (short : length last ≤ 254) (sized : CanB
   correction-shown rule.SequenceNumber h = free Correction rule.SequenceNumber (other e.expects) ready-wrong
   correction-shown rule.CorrectionDue h = info Correction rule.CorrectionDue Zero false refl
   correction-shown rule.Unasked h = response Correction rule.Unasked refl
-  correction-shown rule.EarlyResynch h =
-      resynch Correction rule.EarlyResynch (first (is_terminal e.side) _ h)
-      (no (nat_le least_repeats e.tries) _ _ (early-so h))
   correction-shown rule.TooManyRepeats h = free Correction rule.TooManyRepeats e.expects (ready-out h)
   correction-shown r h = absurd (cc h)
 
@@ -324,7 +318,7 @@ module _ (e : End) (last : List ℕ) (short : length last ≤ 254) (sized : CanB
       let alone = not-so (is_waiting e.asked) (second (is_early e) (not (is_waiting e.asked)) h) in
       resynch owed rule.EarlyResynch (first (is_terminal e.side) _ early)
       (is ∙ no (is_asked e.asked Resynch 0) _ _ (none-asked e.asked Resynch 0 alone)
-      ∙ no (is_waiting e.asked) _ _ alone ∙ no (nat_le least_repeats e.tries) _ _ (early-so early))
+      ∙ no (is_waiting e.asked) _ _ alone ∙ no (nat_le most_repeats e.tries) _ _ (early-so early))
 
   -- the request once more
   request-again : (owed : Owed) (broken : Rule)

@@ -10,3 +10,4 @@ pub mod AtStake
 pub mod Staked
 pub mod Places
 pub mod Breakable
+pub mod Missing

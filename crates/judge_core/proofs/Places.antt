@@ -7,10 +7,11 @@ use Rattle.judge_core.specs.declared.state.State.TheVariants as state
 use Rattle.judge_core.specs.Rules.{rule_place}
 use Rattle.judge_core.specs.States.{state_place}
 
-pub rule-below : (r : Rule) → rule_place r < 22
+pub rule-below : (r : Rule) → rule_place r < 23
 rule-below rule.NodeAddress = lit< tt
 rule-below rule.ControlOctet = lit< tt
 rule-below rule.Length = lit< tt
+rule-below rule.CheckOctet = lit< tt
 rule-below rule.ReservedSize = lit< tt
 rule-below rule.FieldSize = lit< tt
 rule-below rule.Turn = lit< tt

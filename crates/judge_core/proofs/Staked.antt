@@ -1,5 +1,5 @@
 -- What a block of a trace breaks was at stake.
-use Rattle.std.proofs.Common.{inl, inr, ◌≡◌, ◌&&◌, not, ℕ, List, refl, subst}
+use Rattle.std.proofs.Common.{inl, inr, ◌≡◌, ◌&&◌, not, ℕ, List, refl, subst, sym}
 use Rattle.std.specs.Prelude.{Bool, true, false, if◌then◌else◌, Option, Some, None, Ok, Err}
 use Rattle.octet_core.specs.declared.stop.Stop.{Stop}
 use Rattle.octet_core.specs.declared.stop.Stop.TheVariants.{At, Short}
@@ -25,6 +25,7 @@ use Rattle.judge_core.specs.declared.courses.Verdict.TheVariants.{Permitted, Uns
 use Rattle.judge_core.specs.declared.courses.Judged.{Judged}
 use Rattle.judge_core.specs.declared.monitor.Watched.{Watched}
 use Rattle.judge_core.specs.declared.monitor.Monitor.{Monitor}
+use Rattle.judge_core.specs.declared.monitor.Arrival.{Arrival}
 use Rattle.judge_core.specs.declared.monitor.Said.{Said}
 use Rattle.judge_core.specs.declared.monitor.Said.TheVariants.{Damage, Block}
 use Rattle.judge_core.specs.declared.stakes.Stakes.{Stakes}
@@ -32,7 +33,8 @@ use Rattle.judge_core.specs.declared.exercise.Exercise.TheVariants.{Breaks}
 use Rattle.judge_core.specs.Sends.{Sent, sends}
 use Rattle.judge_core.specs.Ends.{after, hears, missed}
 use Rattle.judge_core.specs.Courses.{attempted, by_damage, chosen, first_course, got_none, got_whole, judges, uncounted, untaken}
-use Rattle.judge_core.specs.Monitored.{addressed_by, is_open, only_openly, openly, sent_openly, refused_as, rule_at, said_of, IsSeen, Seen, whole, malformed, damage}
+use Rattle.judge_core.specs.Doubts.{is_open, only_openly, openly, sent_openly}
+use Rattle.judge_core.specs.Monitored.{addressed_by, has_length, is_unchanged, made_as, refused_as, rule_at, rule_made, said_of, IsSeen, IsSent, Seen, whole, malformed, damage}
 use Rattle.judge_core.specs.Stakes.{at_stake, can_break, exercise_by, exercise_of, fitting, is_card, is_nothing, owed_breaks, sender, stakes_of}
 use Rattle.judge_core.proofs.AtStake.{in-right, sends-known, IsKnown}
 
@@ -59,6 +61,7 @@ ordinary : (s : Stakes) → is_nothing s.heard ≡ false → (r : Rule) → can_
 ordinary s turn rule.NodeAddress h = absurd (no-address s.due.«end» s.due.owed h)
 ordinary s turn rule.ControlOctet h = refl
 ordinary s turn rule.Length h = refl
+ordinary s turn rule.CheckOctet h = refl
 ordinary s turn rule.ReservedSize h = refl
 ordinary s turn rule.Turn h = absurd (no-turn s.due.«end» s.due.owed h)
 ordinary s turn rule.Silence h = absurd (no-silence s.due.«end» s.due.owed h)
@@ -204,10 +207,31 @@ broken-staked s (Block Unseen) broken state h e = absurd (cc e)
 broken-staked s (Block (Deviates r owing)) broken state h e =
     let same : r ≡ broken = cc e in subst (λ (q : Rule). at_stake s q ≡ true) same h
 
-pub broken-at-stake : (m : Monitor) (from : Side) (octets : List ℕ) (seen : Seen) (broken : Rule) (state : Option State)
-    → IsSeen octets seen → exercise_of m from seen ≡ Breaks broken state
+-- octets that their sender made wrong
+made-staked : (s : Stakes) (right : Bool) → at_stake s (if right then rule.CheckOctet else rule.Length) ≡ true
+made-staked s true = refl
+made-staked s false = refl
+
+made-seen-staked : (nad : Option ℕ) (w : Watched) (from : Side) (octets : List ℕ) (seen : Seen) (made : Bool)
+    → IsSeen octets seen
+    → IsSaidStaked (said_of w (addressed_by from nad (made_as seen made (rule_made octets)))
+    (made_as seen made (rule_made octets))) (stakes_of w (made_as seen made (rule_made octets)))
+made-seen-staked nad w from octets (whole block) made is = seen-staked nad w from octets (whole block) is
+made-seen-staked nad w from octets (malformed broken) made is = seen-staked nad w from octets (malformed broken) is
+made-seen-staked nad w from octets damage true is =
+    made-staked (stakes_of w (malformed (rule_made octets))) (has_length octets)
+made-seen-staked nad w from octets damage false is = tt
+
+sent-staked : (nad : Option ℕ) (w : Watched) (from : Side) (octets : List ℕ) (arrival : Arrival) (seen : Seen)
+    → IsSent octets arrival seen → IsSaidStaked (said_of w (addressed_by from nad seen) seen) (stakes_of w seen)
+sent-staked nad w from octets arrival seen (was, is, e) =
+    subst (λ (it : Seen). IsSaidStaked (said_of w (addressed_by from nad it) it) (stakes_of w it)) (sym e)
+    (made-seen-staked nad w from octets was (is_unchanged octets arrival) is)
+
+pub broken-at-stake : (m : Monitor) (from : Side) (octets : List ℕ) (arrival : Arrival) (seen : Seen) (broken : Rule)
+    (state : Option State) → IsSent octets arrival seen → exercise_of m from seen ≡ Breaks broken state
     → at_stake (stakes_of (sender m from) seen) broken ≡ true
-broken-at-stake m from octets seen broken state is e =
+broken-at-stake m from octets arrival seen broken state is e =
     broken-staked (stakes_of (sender m from) seen)
     (said_of (sender m from) (addressed_by from m.nad seen) seen) broken state
-    (seen-staked m.nad (sender m from) from octets seen is) e
+    (sent-staked m.nad (sender m from) from octets arrival seen is) e

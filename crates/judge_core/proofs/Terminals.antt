@@ -28,7 +28,7 @@ use Rattle.judge_core.specs.declared.rule.Rule.TheVariants.{TooManyRepeats}
 use Rattle.judge_core.specs.declared.courses.Heard.{Heard}
 use Rattle.judge_core.specs.declared.courses.Heard.TheVariants.{Whole, Perhaps, Broken}
 use Rattle.judge_core.specs.Ends.{no_row, after, due_after, hears, hears_info, hears_ready, is_chain}
-use Rattle.judge_core.specs.Sends.{sends, sends_info as judge_info, least_repeats, one_more, is_pending, pending_of}
+use Rattle.judge_core.specs.Sends.{sends, sends_info as judge_info, one_more, is_pending, pending_of}
 use Rattle.judge_core.specs.Courses.{got_whole}
 use Rattle.judge_core.specs.Followed.{last_after}
 use Rattle.judge_core.specs.Watched.{Watched, after_sending, hearing, judged_of}
@@ -182,7 +182,7 @@ said w b t e h plain busy_now fits = (
 
 -- ---- failures
 
-early : (n : ℕ) → nat_lt n most_repeats ≡ false → nat_le least_repeats n ≡ true
+early : (n : ℕ) → nat_lt n most_repeats ≡ false → nat_le most_repeats n ≡ true
 early n h = grind (arith, nat_tests)
 
 failing : (w : Watched) (t : TerminalState) (b : Parts) (e1 : End) (due : After) (room first : ℕ)
@@ -250,7 +250,7 @@ correcting t k x heard fault course =
     x.spare.first_ok
     (λ h. is_then (same t.expected t.expected) _ _ (same_self t.expected)
     ∙ once_more t x.row.corrections (corrected_once t x).row e x.fewer h)
-    (λ h. is_then (nat_le least_repeats t.failures) _ _ (early t.failures h))
+    (λ h. refl)
     (fits_talk (record t { failures = t.failures + 1 }) k (corrected_once t x))
 
 -- an I-block is refused, as one that came, or as one that didn't
@@ -267,7 +267,7 @@ refusing t k x certain number goes_on inf =
     x.spare.first_ok
     (λ h. is_then (same t.expected t.expected) _ _ (same_self t.expected)
     ∙ once_more t x.row.corrections (corrected_once t x).row e x.fewer h)
-    (λ h. is_then (nat_le least_repeats t.failures) _ _ (early t.failures h))
+    (λ h. is_then (nat_le most_repeats t.failures) _ _ (early t.failures h))
     (fits_talk (record t { failures = t.failures + 1 }) k (corrected_once t x))
 refusing t k x (maybe sent octet) number goes_on inf =
     correcting t k x (Perhaps (Info number goes_on) (carried inf)) Other (inr refl)
@@ -288,7 +288,7 @@ repeating t k x heard goes_on course other_number pending =
     ∙ is_then (is_pending (pending_with k) goes_on) _ _ pending
     ∙ is_then (bytes_eq (last_of k) (last_of k)) _ _ (bytes_self (last_of k))
     ∙ once_more t x.row.repeats (repeated_once t x).row e x.few h)
-    (λ h. is_then (nat_le least_repeats t.failures) _ _ (early t.failures h))
+    (λ h. refl)
     (fits_talk (record t { failures = t.failures + 1 }) k (repeated_once t x))
 
 -- ---- a block of a message

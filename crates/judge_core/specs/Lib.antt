@@ -4,7 +4,9 @@ pub mod Sends
 pub mod Courses
 pub mod Followed
 pub mod Watched
+pub mod Doubts
 pub mod Monitored
+pub mod Missed
 pub mod Rules
 pub mod States
 pub mod Stakes

@@ -1,6 +1,6 @@
 -- What a monitor keeps of a trace, and its report on each block: as the block was on the line, and as it reached the
 -- other end if the trace says so. The clauses are those of ISO/IEC 7816-3:2006.
-use Rattle.std.specs.Prelude.{◌≡◌, ◌≢◌, ◌⊎◌, ℕ, ◌+◌, ◌*◌, ◌/◌, ◌%◌, ◌==◌, ◌&&◌, ◌||◌, not, bit_and, min, List, [], length, Bool, true, false, if◌then◌else◌, Option, Some, None, Ok, Err}
+use Rattle.std.specs.Prelude.{◌≡◌, ◌≢◌, ◌⊎◌, ℕ, ◌+◌, ◌*◌, ◌/◌, ◌%◌, ◌==◌, ◌&&◌, ◌||◌, not, bit_and, bytes_eq, min, List, [], length, slice_index, Bool, true, false, if◌then◌else◌, Option, Some, None}
 use Rattle.octet_core.specs.Grammar.{self_ended, Accepts, Refuses}
 use Rattle.octet_core.specs.declared.stop.Stop.{Stop}
 use Rattle.octet_core.specs.declared.stop.Stop.TheVariants.{At, Short}
@@ -14,18 +14,13 @@ use Rattle.t1_core.specs.Came.{carried}
 use Rattle.t1_core.specs.Terminal.{first_ifsd}
 use Rattle.block_core.specs.declared.side.Side.{Side}
 use Rattle.block_core.specs.declared.side.Side.TheVariants.{Terminal, Card}
-use Rattle.judge_core.specs.declared.end.End.{End}
 use Rattle.judge_core.specs.declared.end.After.{After}
-use Rattle.judge_core.specs.declared.end.Owed.TheVariants.{AnyBlock}
 use Rattle.judge_core.specs.declared.rule.Rule.{Rule}
-use Rattle.judge_core.specs.declared.rule.Rule.TheVariants.{NodeAddress, ControlOctet, Length, ReservedSize}
+use Rattle.judge_core.specs.declared.rule.Rule.TheVariants.{NodeAddress, ControlOctet, Length, CheckOctet, ReservedSize}
 use Rattle.judge_core.specs.declared.courses.Heard.{Heard}
 use Rattle.judge_core.specs.declared.courses.Heard.TheVariants.{Beginning, Whole, Perhaps, Broken, Nothing}
-use Rattle.judge_core.specs.declared.courses.Verdict.{Verdict}
-use Rattle.judge_core.specs.declared.courses.Verdict.TheVariants.{Permitted, Unseen, Deviates}
-use Rattle.judge_core.specs.declared.courses.Judged.{Judged}
-use Rattle.judge_core.specs.declared.monitor.Doubt.{Doubt}
-use Rattle.judge_core.specs.declared.monitor.Doubt.TheVariants.{Clear, Refusable, Open}
+use Rattle.judge_core.specs.declared.courses.Verdict.TheVariants.{Deviates}
+use Rattle.judge_core.specs.declared.doubt.Doubt.TheVariants.{Clear}
 use Rattle.judge_core.specs.declared.monitor.Watched.{Watched}
 use Rattle.judge_core.specs.declared.monitor.Monitor.{Monitor}
 use Rattle.judge_core.specs.declared.monitor.Silence.{Silence}
@@ -35,10 +30,10 @@ use Rattle.judge_core.specs.declared.monitor.Arrival.TheVariants.{Unsaid, Lost, 
 use Rattle.judge_core.specs.declared.monitor.Said.{Said}
 use Rattle.judge_core.specs.declared.monitor.Said.TheVariants.{Damage, Block}
 use Rattle.judge_core.specs.declared.monitor.Report.{Report}
-use Rattle.judge_core.specs.Ends.{hears_unknown, new_end}
+use Rattle.judge_core.specs.Ends.{new_end}
 use Rattle.judge_core.specs.Followed.{last_after}
-use Rattle.judge_core.specs.Sends.{Sent, sends}
-use Rattle.judge_core.specs.Courses.{got_whole, got_none, first_course, judges, judgment}
+use Rattle.judge_core.specs.Courses.{got_whole, got_none, first_course}
+use Rattle.judge_core.specs.Doubts.{corrected, doubt_after, doubted_by, judged_of, passed_over, presumed, unknown_end, waited}
 
 -- the most octets that a field can have (11.3.2.3)
 abbrev pub most_size : ℕ
@@ -78,6 +73,35 @@ IsSeen octets seen =
     × (seen ≡ damage))
     ⊎ ((stop : Stop BlockReason) × Refuses self_ended (IsBlock 254) (IsReason 254) octets stop
     × (seen ≡ refused_as (is_whole octets) (rule_at stop)))
+
+-- ---- octets that their sender made wrong
+
+-- whether LEN says how many octets there are (11.3.2.3)
+abbrev pub has_length : List ℕ → Bool
+has_length octets = length octets == slice_index octets 2 + 4
+
+-- The rule that octets break which aren't a block, if their sender made them so: the length, or else the check octet,
+-- which makes the exclusive-or of all octets 00 (11.3.4).
+abbrev pub rule_made : List ℕ → Rule
+rule_made octets = if has_length octets then CheckOctet else Length
+
+-- whether the trace says that the very same octets reached the other end, so that the line changed none
+abbrev pub is_unchanged : List ℕ → Arrival → Bool
+is_unchanged octets Unsaid = false
+is_unchanged octets Lost = false
+is_unchanged octets (Came arrived) = bytes_eq arrived.now octets
+
+-- damage that the line didn't make is a deviation of the sender
+abbrev pub made_as : Seen → Bool → Rule → Seen
+made_as (whole block) made broken = whole block
+made_as (malformed other) made broken = malformed other
+made_as damage true broken = malformed broken
+made_as damage false broken = damage
+
+-- what octets are as their sender made them
+abbrev pub IsSent : List ℕ → Arrival → Seen → Type 0
+IsSent octets arrival sent = (seen : Seen) × IsSeen octets seen
+    × (sent ≡ made_as seen (is_unchanged octets arrival) (rule_made octets))
 
 -- ---- node addresses
 
@@ -154,55 +178,12 @@ new_monitor ifsc = record {
 abbrev pub due : Watched → After
 due w = first_course w.«end» (got_whole w.«end» w.heard) (got_none w.«end» w.heard)
 
--- ---- an end that may have sent another block than the one that was seen
-
-abbrev pub is_open : Doubt → Bool
-is_open Clear = false
-is_open Refusable = false
-is_open Open = true
-
--- the end as if nobody knew its last block
-abbrev pub unknown_end : End → End
-unknown_end e = record e { known = false; before = AnyBlock }
-
--- whether only an unknown last block permits the block
-abbrev pub only_openly : Verdict → Sent → Bool
-only_openly Permitted sent = false
-only_openly Unseen sent = false
-only_openly (Deviates broken owed) (Ok e) = true
-only_openly (Deviates broken owed) (Err q) = false
-
-abbrev pub openly : Judged → Sent → Judged
-openly judged (Ok e) = judgment Permitted e
-openly judged (Err q) = judged
-
-abbrev pub or_openly : Bool → Judged → Sent → Judged
-or_openly is_free judged sent = if is_free && only_openly judged.verdict sent then openly judged sent else judged
-
--- the block as one of an end whose last block nobody knows
-abbrev pub sent_openly : Watched → Parts → Sent
-sent_openly w block = sends (unknown_end w.«end») AnyBlock w.last.items block.pcb block.inf
-
--- The verdict on a block. If no course permits it, and its sender may have sent a block that the tap didn't see, or may
--- correct its own, then it may be any block.
-abbrev pub judged_of : Watched → Parts → Judged
-judged_of w block = or_openly (is_open w.doubt) (judges w.«end» w.heard w.last.items block.pcb block.inf)
-    (sent_openly w block)
-
 -- What the monitor says about octets of this end. Damage is nobody's deviation.
 abbrev pub said_of : Watched → Bool → Seen → Said
 said_of w addressed damage = Damage
 said_of w addressed (malformed broken) = Block (Deviates broken (due w))
 said_of w true (whole block) = Block (judged_of w block).verdict
 said_of w false (whole block) = Block (Deviates NodeAddress (due w))
-
--- the end as if it took the I-block that it heard; if it sends an I-block next, it did
-abbrev pub presumed : End → Heard → End
-presumed e Beginning = e
-presumed e (Whole pcb octet) = (hears_unknown e pcb).«end»
-presumed e (Perhaps pcb octet) = (hears_unknown e pcb).«end»
-presumed e Broken = e
-presumed e Nothing = e
 
 -- an end whose last block nobody knows: it was damaged, wasn't a block, or had another address
 abbrev pub unknown_after : Watched → ℕ → Watched
@@ -212,22 +193,6 @@ unknown_after w number = record w {
   number = number;
   doubt = Clear;
 }
-
--- An end that may have sent a block which the tap didn't see shows by its next I-block where it is. An R-block or an
--- S-block doesn't show that.
-abbrev pub still_open : Doubt → Pcb → Doubt
-still_open Clear pcb = Clear
-still_open Refusable pcb = Clear
-still_open Open (Info number more) = Clear
-still_open Open (Ready number fault) = Open
-still_open Open (Request s) = Open
-still_open Open (Response s) = Open
-
--- the other end may refuse a block that breaks a rule
-abbrev pub doubt_after : Doubt → Pcb → Verdict → Doubt
-doubt_after doubt pcb Permitted = still_open doubt pcb
-doubt_after doubt pcb Unseen = still_open doubt pcb
-doubt_after doubt pcb (Deviates broken owed) = Refusable
 
 abbrev pub known_after : Watched → Parts → ℕ → Watched
 known_after w block number = record w {
@@ -247,24 +212,7 @@ sender_after w false (whole block) number = unknown_after w number
 abbrev pub listens : Watched → Heard → Watched
 listens w heard = record w { heard = heard }
 
--- ---- what the tap didn't see
-
--- whether it was this end's turn: it heard a block, or may have, or begins
-abbrev pub is_turn : Heard → Bool
-is_turn Beginning = true
-is_turn (Whole pcb octet) = true
-is_turn (Perhaps pcb octet) = true
-is_turn Broken = false
-is_turn Nothing = false
-
--- what is kept of a block that the end heard, or may have, if nobody knows the end's own last block: its number
-abbrev pub overlooked : End → Heard → End
-overlooked e heard = if e.known then e else presumed e heard
-
--- An end whose turn passed without a block. It may have sent one that was lost before the tap, or that came late (rules
--- 1 and 7 of 11.6). So it may send any block next, and its silence is said once.
-abbrev pub passed_over : Watched → Watched
-passed_over w = if is_turn w.heard then record w { «end» = overlooked w.«end» w.heard; doubt = Open } else w
+-- ---- refusals and silences
 
 -- whether these octets may say that their sender refused the block before: an R-block (rule 7.1), or no block
 abbrev pub may_refuse : Pcb → Bool
@@ -277,30 +225,6 @@ abbrev pub is_refusing : Seen → Bool
 is_refusing (whole block) = may_refuse block.pcb
 is_refusing (malformed broken) = true
 is_refusing damage = true
-
--- An end after octets of the other end that may refuse its block. If that block broke a rule, what it sends next may
--- correct it.
-abbrev pub refused_doubt : Doubt → Doubt
-refused_doubt Clear = Clear
-refused_doubt Refusable = Open
-refused_doubt Open = Open
-
-abbrev pub corrected : Watched → Bool → Watched
-corrected w refused = if refused then record w { doubt = refused_doubt w.doubt } else w
-
--- What an end heard of a block that breaks a rule, whatever the trace says of its arrival: the end may take it or refuse
--- it.
-abbrev pub in_doubt : Heard → Heard
-in_doubt Beginning = Beginning
-in_doubt (Whole pcb octet) = Perhaps pcb octet
-in_doubt (Perhaps pcb octet) = Perhaps pcb octet
-in_doubt Broken = Broken
-in_doubt Nothing = Nothing
-
-abbrev pub doubted_by : Doubt → Heard → Heard
-doubted_by Clear heard = heard
-doubted_by Refusable heard = in_doubt heard
-doubted_by Open heard = heard
 
 -- the silence of a card that heard a block, or may have, and sent none
 abbrev pub silence_of : Heard → ℕ → Silence
@@ -382,7 +306,7 @@ IsReaching (Came octets) reaching = (seen : Seen) × IsSeen octets.now seen × (
 pub record Takes (m : Monitor) (from : Side) (octets : List ℕ) (arrival : Arrival) (m' : Monitor) (report : Report)
     : Type 0 where
   pub seen : Seen
-  pub is_seen : IsSeen octets seen
+  pub is_sent : IsSent octets arrival seen
   pub reaching : Reaching
   pub is_reaching : IsReaching arrival reaching
   pub after : m' ≡ monitor_after m from seen reaching
@@ -395,22 +319,6 @@ heard_in_time (Whole pcb octet) = Broken
 heard_in_time (Perhaps pcb octet) = Broken
 heard_in_time Broken = Broken
 heard_in_time Nothing = Nothing
-
--- The terminal's waiting time ended: it heard nothing, whatever the card sent. A terminal waits only after a block of its
--- own. So if it was its turn, or if another waiting time ended since its last block, it sent a block that the tap didn't
--- see.
-abbrev pub waited_doubt : Bool → Doubt → Doubt
-waited_doubt true doubt = Open
-waited_doubt false Clear = Refusable
-waited_doubt false Refusable = Open
-waited_doubt false Open = Open
-
-abbrev pub waited : Watched → Watched
-waited w = record w {
-  «end» = overlooked w.«end» w.heard;
-  heard = Broken;
-  doubt = waited_doubt (is_turn w.heard) w.doubt;
-}
 
 abbrev pub quiet_after : Monitor → Monitor
 quiet_after m = record m {

@@ -8,6 +8,7 @@ abbrev pub rule_name : Rule → List ℕ
 rule_name rule.NodeAddress = codes "node address"
 rule_name rule.ControlOctet = codes "control octet"
 rule_name rule.Length = codes "length"
+rule_name rule.CheckOctet = codes "check octet"
 rule_name rule.ReservedSize = codes "reserved size"
 rule_name rule.FieldSize = codes "field too long"
 rule_name rule.Turn = codes "out of turn"
@@ -32,6 +33,7 @@ abbrev pub rule_clause : Rule → List ℕ
 rule_clause rule.NodeAddress = codes "11.3.2.1"
 rule_clause rule.ControlOctet = codes "11.3.2.2"
 rule_clause rule.Length = codes "11.3.2.3"
+rule_clause rule.CheckOctet = codes "11.3.4"
 rule_clause rule.ReservedSize = codes "11.4.2"
 rule_clause rule.FieldSize = codes "11.4.2"
 rule_clause rule.Turn = codes "11.6.2.3 rule 1"
@@ -55,8 +57,8 @@ rule_clause rule.Silence = codes "11.6.2.3 rule 1"
 -- all rules
 abbrev pub rules : List Rule
 rules =
-    rule.NodeAddress ∷ rule.ControlOctet ∷ rule.Length ∷ rule.ReservedSize ∷ rule.FieldSize ∷ rule.Turn ∷
-    rule.ForeignRequest ∷ rule.SequenceNumber ∷ rule.BlockDue ∷ rule.AcknowledgmentDue ∷ rule.ErrorCode ∷
+    rule.NodeAddress ∷ rule.ControlOctet ∷ rule.Length ∷ rule.CheckOctet ∷ rule.ReservedSize ∷ rule.FieldSize ∷
+    rule.Turn ∷ rule.ForeignRequest ∷ rule.SequenceNumber ∷ rule.BlockDue ∷ rule.AcknowledgmentDue ∷ rule.ErrorCode ∷
     rule.RepeatDue ∷ rule.RepeatedOctets ∷ rule.CorrectionDue ∷ rule.RequestDue ∷ rule.ResponseDue ∷
     rule.ResponseOctet ∷ rule.Unasked ∷ rule.NoChain ∷ rule.EarlyResynch ∷ rule.TooManyRepeats ∷ rule.Silence ∷ []
 
@@ -65,22 +67,23 @@ abbrev pub rule_place : Rule → ℕ
 rule_place rule.NodeAddress = 0
 rule_place rule.ControlOctet = 1
 rule_place rule.Length = 2
-rule_place rule.ReservedSize = 3
-rule_place rule.FieldSize = 4
-rule_place rule.Turn = 5
-rule_place rule.ForeignRequest = 6
-rule_place rule.SequenceNumber = 7
-rule_place rule.BlockDue = 8
-rule_place rule.AcknowledgmentDue = 9
-rule_place rule.ErrorCode = 10
-rule_place rule.RepeatDue = 11
-rule_place rule.RepeatedOctets = 12
-rule_place rule.CorrectionDue = 13
-rule_place rule.RequestDue = 14
-rule_place rule.ResponseDue = 15
-rule_place rule.ResponseOctet = 16
-rule_place rule.Unasked = 17
-rule_place rule.NoChain = 18
-rule_place rule.EarlyResynch = 19
-rule_place rule.TooManyRepeats = 20
-rule_place rule.Silence = 21
+rule_place rule.CheckOctet = 3
+rule_place rule.ReservedSize = 4
+rule_place rule.FieldSize = 5
+rule_place rule.Turn = 6
+rule_place rule.ForeignRequest = 7
+rule_place rule.SequenceNumber = 8
+rule_place rule.BlockDue = 9
+rule_place rule.AcknowledgmentDue = 10
+rule_place rule.ErrorCode = 11
+rule_place rule.RepeatDue = 12
+rule_place rule.RepeatedOctets = 13
+rule_place rule.CorrectionDue = 14
+rule_place rule.RequestDue = 15
+rule_place rule.ResponseDue = 16
+rule_place rule.ResponseOctet = 17
+rule_place rule.Unasked = 18
+rule_place rule.NoChain = 19
+rule_place rule.EarlyResynch = 20
+rule_place rule.TooManyRepeats = 21
+rule_place rule.Silence = 22

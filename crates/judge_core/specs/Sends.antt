@@ -31,11 +31,9 @@ Sent = Result End Rule
 -- ---- what may be repeated, and how often
 
 -- The limits of a terminal; a card has none. It repeats an I-block at most so many times in a row before it asks for
--- RESYNCH, and corrects at most as often (rule 7.4). It asks for RESYNCH at most so many times. RESYNCH may come after
--- two repeats and corrections together since the last new block. A response to a request of the card ends both rows,
--- but not that count. So each limit follows the reading that permits more.
-abbrev pub least_repeats : ℕ
-least_repeats = 2
+-- RESYNCH, and corrects at most as often (rule 7.4). It asks for RESYNCH at most so many times. A response to a request
+-- of the card ends both rows. Rule 7.4 doesn't say how few repeats are enough, so RESYNCH may come at once after an
+-- error. So each limit follows the reading that permits more.
 
 -- a count stays at its greatest value
 abbrev pub one_more : ℕ → ℕ
@@ -122,13 +120,21 @@ asks e owed Ifs n = Ok (asking e owed Ifs n)
 asks e owed Abort n = if is_within owed then Ok (asking e owed Abort n) else Err rule.NoChain
 asks e owed Wtx n = Ok (asking e owed Wtx n)
 
--- RESYNCH instead of a repeat, once enough repeats failed (rules 6.1 and 7.4); no other request is permitted
+-- RESYNCH instead of what is due after an error (rules 6.1 and 7.4); no other request is permitted
 abbrev pub resynchs : End → S → Rule → Sent
-resynchs e Resynch broken =
-    if nat_le least_repeats e.tries then Ok (asking e NewMessage Resynch 0) else Err rule.EarlyResynch
+resynchs e Resynch broken = Ok (asking e NewMessage Resynch 0)
 resynchs e Ifs broken = Err broken
 resynchs e Abort broken = Err broken
 resynchs e Wtx broken = Err broken
+
+-- RESYNCH instead of the refusal of an I-block that came whole. A block without an error ends the attempts of rule 7.4.
+-- So the end must have repeated and corrected as often as a terminal does, together since its last new block.
+abbrev pub resynchs_refusing : End → S → Rule → Sent
+resynchs_refusing e Resynch broken =
+    if nat_le most_repeats e.tries then Ok (asking e NewMessage Resynch 0) else Err rule.EarlyResynch
+resynchs_refusing e Ifs broken = Err broken
+resynchs_refusing e Abort broken = Err broken
+resynchs_refusing e Wtx broken = Err broken
 
 -- whether it is the request that the end sent before
 abbrev pub is_asked : Option Asked → S → ℕ → Bool
@@ -157,18 +163,11 @@ asked_again Terminal e s octet =
     else Err rule.TooManyRepeats
 asked_again Card e s octet = Ok (asking e e.before s octet)
 
--- RESYNCH instead of a request may come at any time, since nobody sees how often the request failed.
-abbrev pub resynchs_asking : End → S → Rule → Sent
-resynchs_asking e Resynch broken = Ok (asking e NewMessage Resynch 0)
-resynchs_asking e Ifs broken = Err broken
-resynchs_asking e Abort broken = Err broken
-resynchs_asking e Wtx broken = Err broken
-
--- The end sends the same request again (rule 7.3), or RESYNCH.
+-- The end sends the same request again (rule 7.3), or RESYNCH. It may also refuse an I-block that came whole.
 abbrev pub repeats_request : End → S → ℕ → Rule → Sent
 repeats_request e s octet broken =
     if is_asked e.asked s octet then asked_again e.side e s octet
-    else (if is_waiting e.asked then resynchs_asking e s broken else resynchs e s broken)
+    else (if is_waiting e.asked then resynchs e s broken else resynchs_refusing e s broken)
 
 -- ---- messages
 

@@ -24,14 +24,16 @@ use Rattle.judge_core.specs.declared.courses.Heard.TheVariants.{Beginning, Whole
 use Rattle.judge_core.specs.declared.courses.Verdict.TheVariants.{Permitted, Unseen, Deviates}
 use Rattle.judge_core.specs.declared.monitor.Watched.{Watched}
 use Rattle.judge_core.specs.declared.monitor.Monitor.{Monitor}
+use Rattle.judge_core.specs.declared.monitor.Arrival.{Arrival}
 use Rattle.judge_core.specs.declared.monitor.Said.{Said}
 use Rattle.judge_core.specs.declared.monitor.Said.TheVariants.{Damage, Block}
 use Rattle.judge_core.specs.declared.stakes.Stakes.{Stakes}
 use Rattle.judge_core.specs.declared.exercise.Exercise.{Exercise}
 use Rattle.judge_core.specs.declared.exercise.Exercise.TheVariants as exercise
-use Rattle.judge_core.specs.Sends.{Sent, is_between, is_within, is_waiting, least_repeats, most_asked, sends}
+use Rattle.judge_core.specs.Sends.{Sent, is_between, is_within, is_waiting, most_asked, sends}
 use Rattle.judge_core.specs.Courses.{attempted, got_none, got_whole, judges}
-use Rattle.judge_core.specs.Monitored.{addressed_by, due, is_open, only_openly, said_of, sent_openly, unknown_end, IsSeen, Seen, whole, malformed, damage}
+use Rattle.judge_core.specs.Doubts.{is_open, only_openly, sent_openly, unknown_end}
+use Rattle.judge_core.specs.Monitored.{addressed_by, due, said_of, IsSent, Seen, whole, malformed, damage}
 use Rattle.judge_core.specs.Ends.{after}
 use Rattle.judge_core.specs.States.{state_of}
 
@@ -72,10 +74,11 @@ is_asked_out e (Some (Time n)) = false
 is_asked_out e (Some Stop) = asked_so_often e Abort
 is_asked_out e (Some Anew) = asked_so_often e Resynch
 
+-- RESYNCH would be too early in place of the refusal of an I-block that came whole
 abbrev pub is_early : End → Bool
-is_early e = is_terminal e.side && not (nat_le least_repeats e.tries)
+is_early e = is_terminal e.side && not (nat_le most_repeats e.tries)
 
--- RESYNCH would be too early; while a request waits for its response, RESYNCH may replace it at any time
+-- the same; while a request waits for its response, RESYNCH may replace it at any time
 abbrev pub is_early_alone : End → Bool
 is_early_alone e = is_early e && not (is_waiting e.asked)
 
@@ -102,7 +105,6 @@ repeat_breaks e rule.SequenceNumber = true
 repeat_breaks e rule.RepeatDue = true
 repeat_breaks e rule.RepeatedOctets = true
 repeat_breaks e rule.Unasked = true
-repeat_breaks e rule.EarlyResynch = is_early e
 repeat_breaks e rule.TooManyRepeats = is_repeated_out e
 repeat_breaks e r = false
 
@@ -110,7 +112,6 @@ abbrev pub correction_breaks : End → Rule → Bool
 correction_breaks e rule.SequenceNumber = true
 correction_breaks e rule.CorrectionDue = true
 correction_breaks e rule.Unasked = true
-correction_breaks e rule.EarlyResynch = is_early e
 correction_breaks e rule.TooManyRepeats = is_corrected_out e
 correction_breaks e r = false
 
@@ -226,6 +227,7 @@ abbrev pub at_stake : Stakes → Rule → Bool
 at_stake s rule.NodeAddress = true
 at_stake s rule.ControlOctet = true
 at_stake s rule.Length = true
+at_stake s rule.CheckOctet = true
 at_stake s rule.ReservedSize = true
 at_stake s rule.Turn = is_card s.due.«end».side || is_nothing s.heard
 at_stake s rule.Silence = is_card s.due.«end».side && is_whole s.heard
@@ -274,5 +276,5 @@ abbrev pub exercise_of : Monitor → Side → Seen → Exercise
 exercise_of m from seen = exercise_by (stakes_of (sender m from) seen)
     (said_of (sender m from) (addressed_by from m.nad seen) seen)
 
-abbrev pub Exercises : Monitor → Side → List ℕ → Exercise → Type 0
-Exercises m from octets x = (seen : Seen) × IsSeen octets seen × (x ≡ exercise_of m from seen)
+abbrev pub Exercises : Monitor → Side → List ℕ → Arrival → Exercise → Type 0
+Exercises m from octets arrival x = (seen : Seen) × IsSent octets arrival seen × (x ≡ exercise_of m from seen)

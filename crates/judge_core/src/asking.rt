@@ -1,16 +1,13 @@
 //! Which requests an end may make (ISO/IEC 7816-3:2006, clause 11.6): about a size or time, ABORT and RESYNCH.
 
 ghost use Rattle.std.specs.Prelude.{◌≡◌, Some, true};
-ghost use Rattle.judge_core.specs.Sends.{after_answer, asked_again, asking, asks, asks_for, first_tries, is_asked, is_between, is_foreign, is_within, most_asked, repeats_request, resynchs, resynchs_asking};
+ghost use Rattle.judge_core.specs.Sends.{after_answer, asked_again, asking, asks, asks_for, first_tries, is_asked, is_between, is_foreign, is_within, most_asked, repeats_request, resynchs, resynchs_refusing};
 
 use crate::end::{Asked, End, Owed, Row};
 use crate::rule::Rule;
 use crate::step::Sent;
 use block_core::{Pcb, S, Side};
 use t1_core::{MOST_REPEATS, MOST_RESYNCHS};
-
-/// How many repeats and corrections together have to come before RESYNCH.
-pub(crate) const LEAST_REPEATS: u8 = 2;
 
 impl End {
     /// Sends the same request again, or RESYNCH. Another request breaks this rule.
@@ -20,9 +17,9 @@ impl End {
         if is_asked(self.asked, about, octet) {
             self.asked_again(about, octet)
         } else if self.asked.is_some() {
-            self.resynchs_asking(about, broken)
-        } else {
             self.resynchs(about, broken)
+        } else {
+            self.resynchs_refusing(about, broken)
         }
     }
 
@@ -41,11 +38,12 @@ impl End {
         }
     }
 
-    /// Sends RESYNCH instead of a request. It may come at any time, since nobody sees how often the request failed.
-    fn resynchs_asking(self, about: S, broken: Rule) -> Sent
-        ensures { result ≡ resynchs_asking self about broken }
+    /// Sends RESYNCH instead of the refusal of an I-block that came whole. Another request breaks this rule.
+    fn resynchs_refusing(self, about: S, broken: Rule) -> Sent
+        ensures { result ≡ resynchs_refusing self about broken }
     {
         match about {
+            S::Resynch if self.tries < MOST_REPEATS => Err(Rule::EarlyResynch),
             S::Resynch => Ok(self.asking(Owed::NewMessage, S::Resynch, 0)),
             S::Ifs | S::Abort | S::Wtx => Err(broken),
         }
@@ -86,12 +84,11 @@ impl End {
         }
     }
 
-    /// Sends RESYNCH instead of a repeat. Another request breaks this rule.
+    /// Sends RESYNCH instead of what is due after an error. Another request breaks this rule.
     pub(crate) fn resynchs(self, about: S, broken: Rule) -> Sent
         ensures { result ≡ resynchs self about broken }
     {
         match about {
-            S::Resynch if self.tries < LEAST_REPEATS => Err(Rule::EarlyResynch),
             S::Resynch => Ok(self.asking(Owed::NewMessage, S::Resynch, 0)),
             S::Ifs | S::Abort | S::Wtx => Err(broken),
         }

@@ -1,11 +1,12 @@
 //! What octets on the line are.
 
-ghost use Rattle.std.specs.Prelude.{◌≡◌, ◌+◌, ◌==◌, ◌&&◌, length, slice_index};
+ghost use Rattle.std.specs.Prelude.{◌≡◌, ◌+◌, ◌==◌, ◌&&◌, bytes_eq, length, slice_index};
 ghost use Rattle.octet_core.specs.Octets.{xor_of};
 ghost use Rattle.line_core.specs.Bursts.{is_whole};
-ghost use Rattle.judge_core.specs.Monitored.{IsSeen, refused_as, rule_at, rule_of};
+ghost use Rattle.judge_core.specs.Monitored.{has_length, is_unchanged, made_as, refused_as, rule_at, rule_made, rule_of, IsSeen, IsSent};
 ghost use Rattle.judge_core.specs.Classes.{seen_of};
 
+use crate::monitor::Arrival;
 use crate::rule::Rule;
 use block_core::{BlockReason, BlockRef};
 use octet_core::{Stop, lrc};
@@ -19,6 +20,44 @@ pub(crate) enum Class<'a> {
     Malformed(Rule),
     /// Anything else.
     Damage,
+}
+
+/// Returns what these octets are as their sender made them. Damage that the line didn't make breaks a rule.
+pub(crate) fn class_sent<'a>(octets: &'a [u8], arrival: Arrival<'_>) -> Class<'a>
+    ensures { IsSent octets.now arrival.entry (seen_of result) }
+{
+    let made = is_unchanged(octets, arrival);
+    made_as(class_of(octets), made, rule_made(octets))
+}
+
+fn made_as(class: Class<'_>, made: bool, broken: Rule) -> Class<'_>
+    ensures { seen_of result ≡ made_as (seen_of class.entry) made broken }
+{
+    match class {
+        Class::Damage if made => Class::Malformed(broken),
+        class => class,
+    }
+}
+
+/// Whether the trace says that the very same octets reached the other end.
+fn is_unchanged(octets: &[u8], arrival: Arrival<'_>) -> bool
+    ensures { result ≡ is_unchanged octets.now arrival.entry }
+{
+    match arrival {
+        Arrival::Unsaid | Arrival::Lost => false,
+        Arrival::Came(arrived) => arrived == octets,
+    }
+}
+
+/// Returns the rule that octets break which aren't a block, if their sender made them so (11.3.2.3, 11.3.4).
+fn rule_made(octets: &[u8]) -> Rule
+    ensures { result ≡ rule_made octets.now }
+{
+    if has_length(octets) {
+        Rule::CheckOctet
+    } else {
+        Rule::Length
+    }
 }
 
 /// Returns what these octets are.
@@ -41,12 +80,19 @@ fn refused_as(is_whole: bool, broken: Option<Rule>) -> Class<'static>
     }
 }
 
+/// Whether LEN says how many octets there are.
+fn has_length(octets: &[u8]) -> bool
+    ensures { result ≡ has_length octets.now }
+{
+    let len = octets.get(2).copied().unwrap_or(0);
+    octets.len() == usize::from(len) + 4
+}
+
 /// Whether LEN and the check octet are right.
 fn is_whole(octets: &[u8]) -> bool
     ensures { result ≡ is_whole octets.now }
 {
-    let len = octets.get(2).copied().unwrap_or(0);
-    octets.len() == usize::from(len) + 4 && lrc(octets) == 0
+    has_length(octets) && lrc(octets) == 0
 }
 
 fn rule_at(stop: Stop<BlockReason>) -> Option<Rule>

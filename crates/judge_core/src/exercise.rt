@@ -5,10 +5,12 @@ ghost use Rattle.judge_core.specs.Classes.{seen_of};
 ghost use Rattle.judge_core.specs.Monitored.{said_of};
 ghost use Rattle.judge_core.specs.Stakes.{course_of, exercise_by, exercise_of, fitting, stakes_of, Exercises};
 
-use crate::class::{Class, class_of};
+use crate::address::addressed_by;
+use crate::class::{Class, class_sent};
 use crate::courses::{Attempt, Verdict, attempted};
+use crate::doubt::unknown_end;
 use crate::end::{After, Owed};
-use crate::monitor::{Monitor, Said, Watched, addressed_by, unknown_end};
+use crate::monitor::{Arrival, Monitor, Said, Watched};
 use crate::rule::Rule;
 use crate::stakes::Stakes;
 use crate::state::State;
@@ -27,10 +29,10 @@ pub enum Exercise {
 
 impl Monitor {
     /// Returns what the next octets of an end exercise. It doesn't take them; [`Monitor::block`] does.
-    pub fn exercise(&self, from: Side, octets: &[u8]) -> Exercise
-        ensures { Exercises self.now from octets.now result }
+    pub fn exercise(&self, from: Side, octets: &[u8], arrival: Arrival<'_>) -> Exercise
+        ensures { Exercises self.now from octets.now arrival.entry result }
     {
-        let class = class_of(octets);
+        let class = class_sent(octets, arrival);
         self.exercise_of(from, &class)
     }
 

@@ -11,10 +11,14 @@ ghost use Rattle.judge_core.specs.Watched.{EndsArePermitted, NobodyIsAccused};
 ghost use Rattle.judge_core.specs.Followed.{Follows, PermitsSurely, Sending, followed, permitted};
 ghost use Rattle.block_core.specs.declared.side.Side.{Side};
 ghost use Rattle.judge_core.specs.declared.exercise.Exercise.TheVariants.{Breaks};
+ghost use Rattle.judge_core.specs.declared.monitor.Arrival.{Arrival};
 ghost use Rattle.judge_core.specs.declared.monitor.Monitor.{Monitor};
+ghost use Rattle.judge_core.specs.declared.monitor.Watched.{Watched};
 ghost use Rattle.judge_core.specs.declared.rule.Rule.{Rule};
 ghost use Rattle.judge_core.specs.declared.state.State.{State};
-ghost use Rattle.judge_core.specs.Monitored.{IsSeen, Seen};
+ghost use Rattle.judge_core.specs.Doubts.{is_open};
+ghost use Rattle.judge_core.specs.Missed.{Forgives, MaySendAny};
+ghost use Rattle.judge_core.specs.Monitored.{IsSent, Seen};
 ghost use Rattle.judge_core.specs.Stakes.{at_stake, can_break, exercise_of, sender, stakes_of, CanBeSent, IsBreakable};
 ghost use Rattle.judge_core.specs.declared.end.Owed.{Owed};
 
@@ -52,9 +56,16 @@ pub fn nobody_is_accused()
 
 /// The rule that a block breaks was at stake. A permitted block keeps each rule that was at stake.
 pub fn broken_was_at_stake()
-    ensures { (m : Monitor) (from : Side) (octets : List ℕ) (seen : Seen) (broken : Rule)
-        (state : Option State) → IsSeen octets seen → exercise_of m from seen ≡ Breaks broken state
+    ensures { (m : Monitor) (from : Side) (octets : List ℕ) (arrival : Arrival) (seen : Seen)
+        (broken : Rule) (state : Option State) → IsSent octets arrival seen → exercise_of m from seen ≡ Breaks broken state
         → at_stake (stakes_of (sender m from) seen) broken ≡ true }
+{}
+
+/// A tap that misses a lost block accuses nobody for that. With the block and without it, the judge knows the same of the
+/// other end. The end that sent the block may then send any block.
+pub fn missed_blocks_are_forgiven()
+    ensures forgiven { (m : Monitor) (from : Side) (seen : Seen) → Forgives m from seen }
+    ensures any { (w : Watched) → is_open w.doubt ≡ true → MaySendAny w }
 {}
 
 /// The stakes name no rule without reason. If an end that owes this can break a rule, as they say, then some block

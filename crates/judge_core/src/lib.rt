@@ -8,9 +8,11 @@
 //! rule, and `specs/Courses.antt` has the courses.
 #![tactic(auto)]
 
+mod address;
 mod asking;
 mod class;
 pub mod courses;
+pub mod doubt;
 pub mod end;
 pub mod exercise;
 mod hearing;
@@ -24,9 +26,10 @@ mod step;
 
 pub use block_core::Side;
 pub use courses::{Heard, Verdict};
+pub use doubt::Doubt;
 pub use end::{After, Asked, End, Owed, Pending, Row};
 pub use exercise::Exercise;
-pub use monitor::{Arrival, Doubt, Monitor, Report, Said, Silence, Watched};
+pub use monitor::{Arrival, Monitor, Report, Said, Silence, Watched};
 pub use rule::{RULES, Rule};
 pub use stakes::Stakes;
 pub use state::{STATES, State};

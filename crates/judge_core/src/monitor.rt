@@ -1,34 +1,24 @@
 //! Each block of a trace, judged as it comes.
 
-ghost use Rattle.std.specs.Prelude.{◌≡◌, ◌&&◌, true};
+ghost use Rattle.std.specs.Prelude.{◌≡◌, true};
 ghost use Rattle.block_core.specs.Block.{Parts};
 ghost use Rattle.judge_core.specs.Classes.{reaching_of, seen_of};
-ghost use Rattle.judge_core.specs.Courses.{judges};
 ghost use Rattle.judge_core.specs.Followed.{last_after};
 ghost use Rattle.judge_core.specs.Monitored as seen;
-ghost use Rattle.judge_core.specs.Monitored.{addressed_by, after_silence, came_by, corrected, doubt_after, doubted_by, due, heard_in_time, heard_of, is_address, is_addressed, is_open, is_refusing, is_turn, judged_of, known_after, listens, met, midway_after, monitor_after, nad_after, nad_of, nad_set, new_monitor, new_watched, number_after, only_openly, overlooked, passed_over, perhaps_heard, presumed, quiet_after, report_of, refused_doubt, reset_after, said_of, sender_after, sent_openly, silence_of, still_open, surely_heard, unknown_after, unknown_end, waited, waited_doubt, IsReaching, Takes};
+ghost use Rattle.judge_core.specs.Doubts.{corrected, doubt_after, doubted_by, judged_of, passed_over, presumed, unknown_end, waited};
+ghost use Rattle.judge_core.specs.Monitored.{addressed_by, after_silence, came_by, due, heard_in_time, heard_of, is_refusing, known_after, listens, met, midway_after, monitor_after, nad_after, new_monitor, new_watched, number_after, perhaps_heard, quiet_after, report_of, reset_after, said_of, sender_after, silence_of, surely_heard, unknown_after, IsReaching, Takes};
 
-use crate::class::{Class, class_of};
-use crate::courses::{Heard, Judged, Verdict, first_course};
-use crate::end::{After, End, Owed};
+use crate::address::{addressed_by, nad_after};
+use crate::class::{Class, class_of, class_sent};
+use crate::courses::{Heard, Verdict, first_course};
+use crate::doubt::{Doubt, doubt_after, doubted_by, presumed, unknown_end};
+use crate::end::{After, End};
 use crate::rule::Rule;
 use crate::sending::carried;
-use crate::step::Sent;
 use arrayvec::ArrayVec;
 use block_core::{BlockRef, LONGEST_INF, Pcb, Side};
 use std::fmt::{self, Debug, Formatter, Write};
 use t1_core::FIRST_IFSD;
-
-/// Whether an end may have sent another block than the last one that was seen.
-#[derive(Clone, Copy, Debug)]
-pub enum Doubt {
-    /// It sent no other.
-    Clear,
-    /// Its block broke a rule, and the other end may refuse it. Or a terminal's waiting time ended once since then.
-    Refusable,
-    /// It may have sent one that wasn't seen, or may correct its own. So any block may come next.
-    Open,
-}
 
 /// An end of the line that the monitor watches.
 #[derive(Drop)]
@@ -210,69 +200,6 @@ impl Watched {
         self.number = number;
         self.doubt = Doubt::Clear;
     }
-
-    /// Judges a block of the end.
-    pub(crate) fn judged(&self, block: &BlockRef<'_>) -> Judged
-        ensures { result ≡ judged_of self.now block.now }
-    {
-        let last = self.last.as_slice();
-        let judged = self.end.judges(self.heard, last, block.pcb(), block.inf());
-        let sent = self.sent_openly(block);
-        match sent {
-            Ok(end) if is_open(self.doubt) && only_openly(judged.verdict, sent) => Judged {
-                verdict: Verdict::Permitted,
-                end,
-            },
-            _ => judged,
-        }
-    }
-
-    /// Whether only an unknown last block permits the block.
-    pub(crate) fn is_only_open(&self, block: &BlockRef<'_>) -> bool
-        ensures { result ≡ (is_open self.now.doubt && only_openly
-            (judges self.now.«end» self.now.heard self.now.last.items block.now.pcb
-            block.now.inf).verdict (sent_openly self.now block.now)) }
-    {
-        let last = self.last.as_slice();
-        let judged = self.end.judges(self.heard, last, block.pcb(), block.inf());
-        is_open(self.doubt) && only_openly(judged.verdict, self.sent_openly(block))
-    }
-
-    /// Returns the end after a block, as one of an end whose last block nobody knows.
-    fn sent_openly(&self, block: &BlockRef<'_>) -> Sent
-        ensures { result ≡ sent_openly self.now block.now }
-    {
-        let last = self.last.as_slice();
-        unknown_end(self.end).sends(Owed::AnyBlock, last, block.pcb(), block.inf())
-    }
-
-    /// Takes it that the end sent no block that was seen, if it was its turn.
-    fn pass_over(&mut self)
-        ensures { self.new ≡ passed_over self.old }
-    {
-        if is_turn(self.heard) {
-            self.end = overlooked(self.end, self.heard);
-            self.doubt = Doubt::Open;
-        }
-    }
-
-    /// Takes the end of a terminal's waiting time.
-    fn wait(&mut self)
-        ensures { self.new ≡ waited self.old }
-    {
-        self.end = overlooked(self.end, self.heard);
-        self.doubt = waited_doubt(is_turn(self.heard), self.doubt);
-        self.heard = Heard::Broken;
-    }
-
-    /// Takes it that the other end may have refused the end's last block.
-    fn correct(&mut self, refused: bool)
-        ensures { self.new ≡ corrected self.old refused }
-    {
-        if refused {
-            self.doubt = refused_doubt(self.doubt);
-        }
-    }
 }
 
 impl Monitor {
@@ -293,7 +220,7 @@ impl Monitor {
     pub fn block(&mut self, from: Side, octets: &[u8], arrival: Arrival<'_>) -> Report
         ensures { Takes self.old from octets.now arrival.entry self.new result }
     {
-        let class = class_of(octets);
+        let class = class_sent(octets, arrival);
         let reached = reached_by(arrival);
         self.saw(from, &class, &reached)
     }
@@ -391,23 +318,6 @@ fn reached_by(arrival: Arrival<'_>) -> Reached<'_>
     }
 }
 
-/// Returns the end as if it took the I-block that it heard. If it sends an I-block next, it did.
-fn presumed(end: End, heard: Heard) -> End
-    ensures { result ≡ presumed end heard }
-{
-    match heard {
-        Heard::Whole(pcb, _) | Heard::Perhaps(pcb, _) => end.hears_unknown(pcb).end,
-        Heard::Beginning | Heard::Broken | Heard::Nothing => end,
-    }
-}
-
-/// Returns the end with the number of the block that it heard, if nobody knows its own last block.
-fn overlooked(end: End, heard: Heard) -> End
-    ensures { result ≡ overlooked end heard }
-{
-    if end.known { end } else { presumed(end, heard) }
-}
-
 /// Returns what an end has heard after a block of the other end.
 fn heard_of(
     side: Side,
@@ -473,16 +383,6 @@ fn heard_in_time(heard: Heard) -> Heard
     }
 }
 
-/// Whether it is the turn of an end that heard this.
-fn is_turn(heard: Heard) -> bool
-    ensures { result ≡ is_turn heard }
-{
-    match heard {
-        Heard::Beginning | Heard::Whole(..) | Heard::Perhaps(..) => true,
-        Heard::Broken | Heard::Nothing => false,
-    }
-}
-
 /// Whether octets may say that their sender refused the block before.
 fn is_refusing(class: &Class<'_>) -> bool
     ensures { result ≡ is_refusing (seen_of class.now) }
@@ -493,80 +393,6 @@ fn is_refusing(class: &Class<'_>) -> bool
     }
 }
 
-/// Returns what an end heard of a block, which it may refuse if the block broke a rule.
-fn doubted_by(doubt: Doubt, heard: Heard) -> Heard
-    ensures { result ≡ doubted_by doubt heard }
-{
-    match (doubt, heard) {
-        (Doubt::Refusable, Heard::Whole(pcb, octet)) => Heard::Perhaps(pcb, octet),
-        _ => heard,
-    }
-}
-
-/// Returns what is doubtful about an end that was in this doubt, after a block with this verdict.
-fn doubt_after(doubt: Doubt, pcb: Pcb, verdict: Verdict) -> Doubt
-    ensures { result ≡ doubt_after doubt pcb verdict }
-{
-    match verdict {
-        Verdict::Permitted | Verdict::Unseen => still_open(doubt, pcb),
-        Verdict::Deviates(..) => Doubt::Refusable,
-    }
-}
-
-/// Returns what is doubtful about an end after a permitted block: an I-block shows where the end is.
-fn still_open(doubt: Doubt, pcb: Pcb) -> Doubt
-    ensures { result ≡ still_open doubt pcb }
-{
-    match (doubt, pcb) {
-        (Doubt::Clear | Doubt::Refusable, _) | (Doubt::Open, Pcb::Info { .. }) => Doubt::Clear,
-        (Doubt::Open, Pcb::Ready { .. } | Pcb::Request(_) | Pcb::Response(_)) => Doubt::Open,
-    }
-}
-
-/// Returns what is doubtful about a block that the other end may have refused.
-fn refused_doubt(doubt: Doubt) -> Doubt
-    ensures { result ≡ refused_doubt doubt }
-{
-    match doubt {
-        Doubt::Clear => Doubt::Clear,
-        Doubt::Refusable | Doubt::Open => Doubt::Open,
-    }
-}
-
-/// Returns what is doubtful about a terminal's block after its waiting time. `is_turn` says whether it had to send.
-fn waited_doubt(is_turn: bool, doubt: Doubt) -> Doubt
-    ensures { result ≡ waited_doubt is_turn doubt }
-{
-    match doubt {
-        Doubt::Clear if !is_turn => Doubt::Refusable,
-        Doubt::Clear | Doubt::Refusable | Doubt::Open => Doubt::Open,
-    }
-}
-
-fn is_open(doubt: Doubt) -> bool
-    ensures { result ≡ is_open doubt }
-{
-    matches!(doubt, Doubt::Open)
-}
-
-/// Returns the end as if nobody knew its last block.
-pub(crate) fn unknown_end(end: End) -> End
-    ensures { result ≡ unknown_end end }
-{
-    End {
-        known: false,
-        before: Owed::AnyBlock,
-        ..end
-    }
-}
-
-/// Whether a block is a deviation that an unknown last block permits.
-fn only_openly(verdict: Verdict, sent: Sent) -> bool
-    ensures { result ≡ only_openly verdict sent }
-{
-    matches!((verdict, sent), (Verdict::Deviates(..), Ok(_)))
-}
-
 fn silence_of(heard: Heard, number: u64) -> Silence
     ensures { result ≡ silence_of heard number }
 {
@@ -574,45 +400,5 @@ fn silence_of(heard: Heard, number: u64) -> Silence
         Heard::Whole(..) => Silence::Certain(number),
         Heard::Perhaps(..) => Silence::Possible(number),
         Heard::Beginning | Heard::Broken | Heard::Nothing => Silence::No,
-    }
-}
-
-/// Whether a block has the node address that the first block set.
-pub(crate) fn addressed_by(from: Side, nad: Option<u8>, class: &Class<'_>) -> bool
-    ensures { result ≡ addressed_by from nad (seen_of class.now) }
-{
-    match (class, nad) {
-        (Class::Whole(block), Some(first)) => {
-            is_address(block.nad()) && nad_of(from, block.nad()) == first
-        }
-        (Class::Whole(block), None) => is_address(block.nad()),
-        (Class::Malformed(_) | Class::Damage, _) => true,
-    }
-}
-
-fn nad_after(from: Side, nad: Option<u8>, class: &Class<'_>) -> Option<u8>
-    ensures { result ≡ nad_after from nad (seen_of class.now) }
-{
-    match (class, nad) {
-        (Class::Whole(block), None) if is_address(block.nad()) => Some(nad_of(from, block.nad())),
-        _ => nad,
-    }
-}
-
-/// Whether both addresses in a node address differ or are 0, and bits 4 and 8 are 0 (11.3.2.1).
-fn is_address(nad: u8) -> bool
-    ensures { result ≡ is_address nad }
-{
-    nad & 0x88 == 0 && (nad == 0 || nad / 16 != nad % 16)
-}
-
-/// Returns the node address of the terminal's blocks, from that of a block of this end. An answer has its halves
-/// swapped (11.3.2.1).
-fn nad_of(from: Side, nad: u8) -> u8
-    ensures { result ≡ nad_of from nad }
-{
-    match from {
-        Side::Terminal => nad,
-        Side::Card => (nad % 16) * 16 + nad / 16,
     }
 }

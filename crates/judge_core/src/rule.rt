@@ -14,6 +14,8 @@ pub enum Rule {
     ControlOctet,
     /// No block of its kind has a field of this length.
     Length,
+    /// The check octet is wrong, and its sender made it so.
+    CheckOctet,
     /// A size of 0 or 255 octets is reserved.
     ReservedSize,
     /// A field with more octets than the other end takes.
@@ -55,10 +57,11 @@ pub enum Rule {
 }
 
 /// All rules, in the order of their places.
-pub const RULES: [Rule; 22] = [
+pub const RULES: [Rule; 23] = [
     Rule::NodeAddress,
     Rule::ControlOctet,
     Rule::Length,
+    Rule::CheckOctet,
     Rule::ReservedSize,
     Rule::FieldSize,
     Rule::Turn,
@@ -84,7 +87,7 @@ impl Rule {
     /// Returns its place among [`RULES`], from 0.
     pub fn place(self) -> usize
         ensures place { result ≡ rule_place self }
-        ensures below { result < 22 }
+        ensures below { result < 23 }
     {
         self as usize
     }
@@ -97,6 +100,7 @@ impl Rule {
             Rule::NodeAddress => "11.3.2.1",
             Rule::ControlOctet => "11.3.2.2",
             Rule::Length => "11.3.2.3",
+            Rule::CheckOctet => "11.3.4",
             Rule::ReservedSize => "11.4.2",
             Rule::FieldSize => "11.4.2",
             Rule::Turn => "11.6.2.3 rule 1",
@@ -129,6 +133,7 @@ impl Named for Rule {
             Rule::NodeAddress => "node address",
             Rule::ControlOctet => "control octet",
             Rule::Length => "length",
+            Rule::CheckOctet => "check octet",
             Rule::ReservedSize => "reserved size",
             Rule::FieldSize => "field too long",
             Rule::Turn => "out of turn",

@@ -3,7 +3,7 @@
 ghost use Rattle.std.specs.Prelude.{◌≡◌};
 ghost use Rattle.judge_core.specs.Stakes.{acknowledgment_breaks, any_breaks, asked_so_often, at_stake, begun_or_corrected_breaks, came_in, can_break, carries, correction_breaks, either_breaks, is_asked_out, is_card, is_corrected_out, is_early, is_early_alone, is_nothing, is_repeated_out, is_terminal, is_unsettled, is_whole, message_breaks, or_refusal_breaks, owed_breaks, refusal_breaks, repeat_breaks, request_breaks, response_breaks, takes_less};
 
-use crate::asking::{LEAST_REPEATS, is_between, is_within, most_asked};
+use crate::asking::{is_between, is_within, most_asked};
 use crate::courses::Heard;
 use crate::end::{After, Asked, End, Owed, Pending};
 use crate::rule::Rule;
@@ -28,7 +28,11 @@ impl Stakes {
     {
         let end = self.due.end;
         match rule {
-            Rule::NodeAddress | Rule::ControlOctet | Rule::Length | Rule::ReservedSize => true,
+            Rule::NodeAddress
+            | Rule::ControlOctet
+            | Rule::Length
+            | Rule::CheckOctet
+            | Rule::ReservedSize => true,
             Rule::Turn => is_card(end.side) || is_nothing(self.heard),
             Rule::Silence => is_card(end.side) && is_whole(self.heard),
             _ => !is_nothing(self.heard) && end.can_break(self.due.owed, rule),
@@ -109,7 +113,6 @@ impl End {
     {
         match rule {
             Rule::SequenceNumber | Rule::RepeatDue | Rule::RepeatedOctets | Rule::Unasked => true,
-            Rule::EarlyResynch => self.is_early(),
             Rule::TooManyRepeats => self.is_repeated_out(),
             _ => false,
         }
@@ -120,7 +123,6 @@ impl End {
     {
         match rule {
             Rule::SequenceNumber | Rule::CorrectionDue | Rule::Unasked => true,
-            Rule::EarlyResynch => self.is_early(),
             Rule::TooManyRepeats => self.is_corrected_out(),
             _ => false,
         }
@@ -230,11 +232,11 @@ impl End {
         is_terminal(self.side) && self.tries >= most_asked(about)
     }
 
-    /// Whether it is a terminal that may not ask for RESYNCH yet.
+    /// Whether it is a terminal that may not ask for RESYNCH yet instead of a refusal.
     fn is_early(self) -> bool
         ensures { result ≡ is_early self }
     {
-        is_terminal(self.side) && self.tries < LEAST_REPEATS
+        is_terminal(self.side) && self.tries < MOST_REPEATS
     }
 
     /// Whether it is a terminal that may not ask for RESYNCH yet, and waits for no response.

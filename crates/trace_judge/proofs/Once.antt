@@ -14,6 +14,7 @@ use Rattle.exchange_text.specs.declared.fault.ExchangeFault.{ExchangeFault}
 use Rattle.exchange_text.specs.declared.fault.ExchangeFault.TheVariants.{Falls, Memory, Word}
 use Rattle.block_core.specs.declared.side.Side.{Side}
 use Rattle.block_core.specs.declared.side.Side.TheVariants as side
+use Rattle.judge_core.specs.declared.monitor.Arrival.{Arrival}
 use Rattle.judge_core.specs.declared.monitor.Monitor.{Monitor}
 use Rattle.judge_core.specs.declared.monitor.Report.{Report}
 use Rattle.judge_core.specs.declared.exercise.Exercise.{Exercise}
@@ -28,8 +29,8 @@ use Rattle.trace_judge.specs.declared.standing.Judgment.{Judgment}
 use Rattle.trace_judge.specs.declared.standing.Scope.{Scope}
 use Rattle.trace_judge.specs.Waiting.{Offered}
 use Rattle.trace_judge.specs.Reading.{◌>>=◌, block_said, entry_said, hex_said, is_empty, moment_by, named_said, octets_by, reach_said, words_of, Words, is_unknown}
-use Rattle.trace_judge.specs.Judging.{at_moment, is_before, is_ok, is_line_end, judged_text, start, told_before, told_block, Concludes, ExercisesIf, Fails, IsBlockTold, IsEntered, IsFalling, IsTold, Judges, JudgesLine, JudgesLines, Standing}
-use Rattle.trace_judge.proofs.SeenOnce.{one-seen, one-taking, some-arrival, some-seen, IsOfOctets}
+use Rattle.trace_judge.specs.Judging.{at_moment, is_before, is_ok, is_line_end, judged_text, start, told_before, told_block, Concludes, ExercisesIf, Fails, IsArrival, IsBlockTold, IsEntered, IsFalling, IsTold, Judges, JudgesLine, JudgesLines, Standing}
+use Rattle.trace_judge.proofs.SeenOnce.{one-sent, one-taking, some-arrival, some-sent, IsOfOctets}
 
 -- ---- what a line says
 
@@ -97,24 +98,27 @@ entry-read number w = either HasOctets _ (Ok Nothing) (named_said number w) tt (
 
 -- ---- a line
 
-one-exercise : (counted : Bool) (m : Monitor) (from : Side) (b : List ℕ) → AreOctets b → (x y : Exercise)
-    → ExercisesIf counted m from b x → ExercisesIf counted m from b y → x ≡ y
-one-exercise true m from b octets x y h g =
-    h.2 ∙ ap (exercise_of m from) (one-seen b octets h.0 g.0 h.1 g.1) ∙ sym g.2
-one-exercise false m from b octets x y h g = h ∙ sym g
+one-exercise : (counted : Bool) (m : Monitor) (from : Side) (b : List ℕ) → AreOctets b → (reach : Reach)
+    (a c : Arrival) → IsArrival reach a → IsArrival reach c → (x y : Exercise)
+    → ExercisesIf counted m from b a x → ExercisesIf counted m from b c y → x ≡ y
+one-exercise true m from b octets reach a c is also x y h g =
+    h.2 ∙ ap (exercise_of m from) (one-sent b octets reach a c is also h.0 g.0 h.1 g.1) ∙ sym g.2
+one-exercise false m from b octets reach a c is also x y h g = h ∙ sym g
 
-some-exercise : (counted : Bool) (m : Monitor) (from : Side) (b : List ℕ) → AreOctets b
-    → (x : Exercise) × ExercisesIf counted m from b x
-some-exercise true m from b octets =
-    let seen = some-seen b octets in (exercise_of m from seen.0, (seen.0, seen.1, refl))
-some-exercise false m from b octets = (Unknown, refl)
+some-exercise : (counted : Bool) (m : Monitor) (from : Side) (b : List ℕ) → AreOctets b → (a : Arrival)
+    → (x : Exercise) × ExercisesIf counted m from b a x
+some-exercise true m from b octets a =
+    let sent = some-sent b octets a in (exercise_of m from sent.0, (sent.0, sent.1, refl))
+some-exercise false m from b octets a = (Unknown, refl)
 
 one-told : (s : Standing) (from : Side) (b : List ℕ) → AreOctets b → (reach : Reach) → IsOfOctets reach
     → (t u : Standing) → IsTold s from b reach t → IsTold s from b reach u → t ≡ u
 one-told s from b octets reach came t u h g =
     let both = one-taking s.monitor from b octets reach came h.arrival g.arrival h.monitor g.monitor h.report g.report
     h.is_arrival g.is_arrival h.takes g.takes in
-    let exercise = one-exercise s.scope.rules s.monitor from b octets h.exercise g.exercise h.exercises g.exercises in
+    let exercise = one-exercise s.scope.rules s.monitor from b octets reach h.arrival g.arrival h.is_arrival
+    g.is_arrival
+    h.exercise g.exercise h.exercises g.exercises in
     h.told
     ∙ ap (λ (m : Monitor). told_block s m from (length b) h.exercise h.report) both.0
     ∙ ap (λ (x : Exercise). told_block s g.monitor from (length b) x h.report) exercise
@@ -141,11 +145,11 @@ some-block : (before : Bool) (s : Standing) (from : Side) (b : List ℕ) → Are
     → IsOfOctets reach → (t : Standing) × IsBlockTold before s from b reach t
 some-block true s from b octets reach came = (told_before s from b, refl)
 some-block false s from b octets reach came =
-    let seen = some-seen b octets in
     let arrival = some-arrival reach came in
-    let after = monitor_after s.monitor from seen.0 arrival.2 in
-    let says = report_of s.monitor from seen.0 in
-    let exercise = some-exercise s.scope.rules s.monitor from b octets in (
+    let sent = some-sent b octets arrival.0 in
+    let after = monitor_after s.monitor from sent.0 arrival.2 in
+    let says = report_of s.monitor from sent.0 in
+    let exercise = some-exercise s.scope.rules s.monitor from b octets arrival.0 in (
       told_block s after from (length b) exercise.0 says,
       record {
         arrival = arrival.0;
@@ -153,8 +157,8 @@ some-block false s from b octets reach came =
         monitor = after;
         report = says;
         takes = record {
-          seen = seen.0;
-          is_seen = seen.1;
+          seen = sent.0;
+          is_sent = sent.1;
           reaching = arrival.2;
           is_reaching = arrival.3;
           after = refl;

@@ -1,6 +1,7 @@
 -- That octets on the line are one thing, and a monitor makes one thing of them.
 use Rattle.std.proofs.Common.{◌≡◌, ◌≢◌, ◌<◌, ◌⊎◌, ◌∙◌, inl, inr, ℕ, List, length, Bool, true, false, Option, Some, None, ap, arith, refl, subst, sym}
 use Rattle.std.proofs.lemmas.Bool.{cases_order}
+use Rattle.std.specs.Str.{bytes_eq}
 use denote.Ref.{Bor}
 use Rattle.octet_core.specs.Octets.{AreOctets}
 use Rattle.octet_core.specs.Grammar.{self_ended, Accepts, OneVerdict, Refuses}
@@ -15,7 +16,7 @@ use Rattle.judge_core.specs.declared.monitor.Arrival.TheVariants as arrived
 use Rattle.judge_core.specs.declared.monitor.Monitor.{Monitor}
 use Rattle.judge_core.specs.declared.monitor.Report.{Report}
 use Rattle.judge_core.specs.declared.rule.Rule.{Rule}
-use Rattle.judge_core.specs.Monitored.{came, damage, lost, malformed, monitor_after, refused_as, report_of, rule_at, unsaid, whole, IsReaching, IsSeen, Reaching, Seen, Takes}
+use Rattle.judge_core.specs.Monitored.{came, damage, is_unchanged, lost, made_as, malformed, monitor_after, refused_as, report_of, rule_at, rule_made, unsaid, whole, IsReaching, IsSeen, IsSent, Reaching, Seen, Takes}
 use Rattle.trace_judge.specs.declared.entry.Reach.{Reach}
 use Rattle.trace_judge.specs.declared.entry.Reach.TheVariants.{Unsaid, Lost, Came}
 use Rattle.trace_judge.specs.Judging.{IsArrival}
@@ -127,6 +128,31 @@ some-arrival (Came b) octets =
     let seen = some-seen b octets in
     (arrived.Came slice, (slice, refl, refl), came seen.0, (seen.0, seen.1, refl))
 
+-- ---- octets as their sender made them
+
+came-unchanged : (b octets : List ℕ) (a : Arrival) → IsArrival (Came octets) a → is_unchanged b a ≡ bytes_eq octets b
+came-unchanged b octets a (slice, now, is) =
+    ap (is_unchanged b) is ∙ ap (λ (l : List ℕ). bytes_eq l b) now
+
+-- the trace says one way whether the line changed them
+one-unchanged : (reach : Reach) (b : List ℕ) (a c : Arrival) → IsArrival reach a → IsArrival reach c
+    → is_unchanged b a ≡ is_unchanged b c
+one-unchanged Unsaid b a c is also = ap (is_unchanged b) is ∙ sym (ap (is_unchanged b) also)
+one-unchanged Lost b a c is also = ap (is_unchanged b) is ∙ sym (ap (is_unchanged b) also)
+one-unchanged (Came octets) b a c is also = came-unchanged b octets a is ∙ sym (came-unchanged b octets c also)
+
+pub one-sent : (b : List ℕ) → AreOctets b → (reach : Reach) (a c : Arrival) → IsArrival reach a → IsArrival reach c
+    → (s t : Seen) → IsSent b a s → IsSent b c t → s ≡ t
+one-sent b octets reach a c is also s t (was, seen, e) (other, seen_too, f) =
+    e ∙ ap (λ (made : Bool). made_as was made (rule_made b)) (one-unchanged reach b a c is also)
+    ∙ ap (λ (it : Seen). made_as it (is_unchanged b c) (rule_made b)) (one-seen b octets was other seen seen_too)
+    ∙ sym f
+
+pub some-sent : (b : List ℕ) → AreOctets b → (a : Arrival) → (s : Seen) × IsSent b a s
+some-sent b octets a =
+    let seen = some-seen b octets in
+    (made_as seen.0 (is_unchanged b a) (rule_made b), (seen.0, seen.1, refl))
+
 -- ---- a monitor
 
 -- it is one afterwards, and says one thing
@@ -134,7 +160,7 @@ pub one-taking : (m : Monitor) (from : Side) (b : List ℕ) → AreOctets b → 
     → (a c : Arrival) (after other : Monitor) (says tells : Report) → IsArrival reach a → IsArrival reach c
     → Takes m from b a after says → Takes m from b c other tells → (after ≡ other) × (says ≡ tells)
 one-taking m from b octets reach came_octets a c after other says tells is also h g =
-    let seen : h.seen ≡ g.seen = one-seen b octets h.seen g.seen h.is_seen g.is_seen in
+    let seen : h.seen ≡ g.seen = one-sent b octets reach a c is also h.seen g.seen h.is_sent g.is_sent in
     let reaching : h.reaching ≡ g.reaching =
     one-reaching reach came_octets a c h.reaching g.reaching is also h.is_reaching g.is_reaching in (
       h.after ∙ ap (λ (s : Seen). monitor_after m from s h.reaching) seen

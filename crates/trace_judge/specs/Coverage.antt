@@ -22,7 +22,7 @@ use Rattle.trace_judge.specs.declared.coverage.Coverage.{Coverage}
 -- ---- counting
 
 abbrev pub no_counts : Counts
-no_counts = record { kept = replicate 22 0; broken = replicate 22 0; states = replicate 16 0 }
+no_counts = record { kept = replicate 23 0; broken = replicate 23 0; states = replicate 16 0 }
 
 abbrev pub nothing_covered : Coverage
 nothing_covered = record { terminal = no_counts; card = no_counts }

@@ -202,9 +202,9 @@ IsArrival Lost arrival = arrival ≡ arrived.Lost
 IsArrival (Came octets) arrival = (slice : Bor (List ℕ)) × (slice.now ≡ octets) × (arrival ≡ arrived.Came slice)
 
 -- what octets of an end exercise, if that is counted
-abbrev pub ExercisesIf : Bool → Monitor → Side → List ℕ → Exercise → Type 0
-ExercisesIf true monitor from octets exercise = Exercises monitor from octets exercise
-ExercisesIf false monitor from octets exercise = exercise ≡ Unknown
+abbrev pub ExercisesIf : Bool → Monitor → Side → List ℕ → Arrival → Exercise → Type 0
+ExercisesIf true monitor from octets arrival exercise = Exercises monitor from octets arrival exercise
+ExercisesIf false monitor from octets arrival exercise = exercise ≡ Unknown
 
 -- The standing after a block: it counts what the block exercised, reports what the monitor says, and then whether the
 -- block was late.
@@ -222,7 +222,7 @@ pub record IsTold (s : Standing) (from : Side) (octets : List ℕ) (reach : Reac
   pub report : Report
   pub takes : Takes s.monitor from octets arrival monitor report
   pub exercise : Exercise
-  pub exercises : ExercisesIf s.scope.rules s.monitor from octets exercise
+  pub exercises : ExercisesIf s.scope.rules s.monitor from octets arrival exercise
   pub told : s' ≡ told_block s monitor from (length octets) exercise report
 
 abbrev pub IsBlockTold : Bool → Standing → Side → List ℕ → Reach → Standing → Type 0

@@ -17,8 +17,8 @@ use std::alloc::{AllocError, Global};
 /// How often an end kept each rule and broke it, and how often each state came, in the order of their places.
 #[derive(Clone, Copy)]
 pub(crate) struct Counts {
-    pub(crate) kept: [u64; 22],
-    pub(crate) broken: [u64; 22],
+    pub(crate) kept: [u64; 23],
+    pub(crate) broken: [u64; 23],
     pub(crate) states: [u64; 16],
 }
 
@@ -27,8 +27,8 @@ impl Counts {
         ensures { result ≡ no_counts }
     {
         Counts {
-            kept: [0; 22],
-            broken: [0; 22],
+            kept: [0; 23],
+            broken: [0; 23],
             states: [0; 16],
         }
     }
@@ -182,7 +182,7 @@ impl Coverage {
 }
 
 /// Adds one at the place of each of these rules that was at stake.
-fn keep(kept: &mut [u64; 22], stakes: &Stakes, rules: &[Rule])
+fn keep(kept: &mut [u64; 23], stakes: &Stakes, rules: &[Rule])
     ensures { kept.new ≡ kept_of stakes.now rules.now kept.old }
 {
     for rule in rules {
@@ -190,7 +190,7 @@ fn keep(kept: &mut [u64; 22], stakes: &Stakes, rules: &[Rule])
     }
 }
 
-fn keep_one(kept: &mut [u64; 22], stakes: &Stakes, rule: Rule)
+fn keep_one(kept: &mut [u64; 23], stakes: &Stakes, rule: Rule)
     ensures { kept.new ≡ kept_one stakes.now rule kept.old }
 {
     if stakes.has(rule) {
@@ -208,7 +208,7 @@ fn come(counts: &mut [u64; 16], state: Option<State>)
     }
 }
 
-fn bump_rule(counts: &mut [u64; 22], rule: Rule)
+fn bump_rule(counts: &mut [u64; 23], rule: Rule)
     ensures { counts.new ≡ bumped (rule_place rule) counts.old }
 {
     let count = &mut counts[rule.place()];

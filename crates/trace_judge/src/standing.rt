@@ -15,7 +15,7 @@ use crate::telling::{
 };
 use crate::timing::{Late, Offer, Timing, lateness};
 use exchange_text::ExchangeFault;
-use judge_core::{Exercise, Monitor, Report, Rule, Said, Side, Silence, Verdict};
+use judge_core::{Arrival, Exercise, Monitor, Report, Rule, Said, Side, Silence, Verdict};
 use layouts::Layout;
 use octet_core::{Octets, Text};
 use std::alloc::{AllocError, Global};
@@ -251,7 +251,7 @@ impl Standing {
         let arrival = reach.arrival();
         let late = self.late_from(from);
         let before = self.monitor.terminal.number;
-        let exercise = self.exercise(from, octets);
+        let exercise = self.exercise(from, octets, arrival);
         let report = self.monitor.block(from, octets, arrival);
         self.begun = true;
         self.timing = self.timing.timed(from, octets.len());
@@ -262,11 +262,12 @@ impl Standing {
     }
 
     /// Returns what the octets of an end exercise, if that is counted.
-    fn exercise(&self, from: Side, octets: &[u8]) -> Exercise
-        ensures { ExercisesIf self.now.scope.rules self.now.monitor from octets.now result }
+    fn exercise(&self, from: Side, octets: &[u8], arrival: Arrival<'_>) -> Exercise
+        ensures { ExercisesIf self.now.scope.rules self.now.monitor from octets.now arrival.entry
+            result }
     {
         if self.scope.rules {
-            self.monitor.exercise(from, octets)
+            self.monitor.exercise(from, octets, arrival)
         } else {
             Exercise::Unknown
         }

@@ -14,7 +14,7 @@ returns-clause-said c =
       takes = c.block-report.ensures;
       exercise = c.exercise-exercise.result;
       exercises = subst (λ (s : Standing). ExercisesIf s.scope.rules s.monitor c.args.from c.args.octets.now
-          c.exercise-exercise.result) (sym c.self.view_is) c.exercise-exercise.ensures;
+          c.arrival-arrival.result c.exercise-exercise.result) (sym c.self.view_is) c.exercise-exercise.ensures;
       told = told-by _ c.args.self.now _ _ _ c.block-report.new.self c.args.from _ c.exercise-exercise.result
           c.block-report.result _ _ c.self.view_is
           c.timed-self-inside.ensures c.cover.ensures.said c.in_ok-report.ensures.said c.late_from-late.ensures

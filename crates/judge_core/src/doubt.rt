@@ -1,0 +1,217 @@
+//! What is doubtful about an end: whether its last block was the one that was seen.
+
+ghost use Rattle.std.specs.Prelude.{◌≡◌, ◌&&◌, true};
+ghost use Rattle.judge_core.specs.Courses.{judges};
+ghost use Rattle.judge_core.specs.Doubts.{corrected, doubt_after, doubted_by, is_open, is_turn, judged_of, only_openly, overlooked, passed_over, presumed, refused_doubt, sent_openly, sized, sized_by, still_open, unknown_end, waited, waited_doubt};
+
+use crate::courses::{Heard, Judged, Verdict};
+use crate::end::{End, Owed};
+use crate::monitor::Watched;
+use crate::step::Sent;
+use block_core::{BlockRef, Pcb, S};
+
+/// Whether an end may have sent another block than the last one that was seen.
+#[derive(Clone, Copy, Debug)]
+pub enum Doubt {
+    /// It sent no other.
+    Clear,
+    /// Its block broke a rule, and the other end may refuse it. Or a terminal's waiting time ended once since then.
+    Refusable,
+    /// It may have sent one that wasn't seen, or may correct its own. So any block may come next.
+    Open,
+}
+
+impl Watched {
+    /// Judges a block of the end.
+    pub(crate) fn judged(&self, block: &BlockRef<'_>) -> Judged
+        ensures { result ≡ judged_of self.now block.now }
+    {
+        let last = self.last.as_slice();
+        let judged = self.end.judges(self.heard, last, block.pcb(), block.inf());
+        let sent = self.sent_openly(block);
+        match sent {
+            Ok(end) if is_open(self.doubt) && only_openly(judged.verdict, sent) => Judged {
+                verdict: Verdict::Permitted,
+                end,
+            },
+            _ => judged,
+        }
+    }
+
+    /// Whether only an unknown last block permits the block.
+    pub(crate) fn is_only_open(&self, block: &BlockRef<'_>) -> bool
+        ensures { result ≡ (is_open self.now.doubt && only_openly
+            (judges self.now.«end» self.now.heard self.now.last.items block.now.pcb
+            block.now.inf).verdict (sent_openly self.now block.now)) }
+    {
+        let last = self.last.as_slice();
+        let judged = self.end.judges(self.heard, last, block.pcb(), block.inf());
+        is_open(self.doubt) && only_openly(judged.verdict, self.sent_openly(block))
+    }
+
+    /// Returns the end after a block, as one of an end whose last block nobody knows.
+    fn sent_openly(&self, block: &BlockRef<'_>) -> Sent
+        ensures { result ≡ sent_openly self.now block.now }
+    {
+        let last = self.last.as_slice();
+        unknown_end(self.end).sends(Owed::AnyBlock, last, block.pcb(), block.inf())
+    }
+
+    /// Takes it that the end sent no block that was seen, if it was its turn.
+    pub(crate) fn pass_over(&mut self)
+        ensures { self.new ≡ passed_over self.old }
+    {
+        if is_turn(self.heard) {
+            self.end = overlooked(self.end, self.heard);
+            self.doubt = Doubt::Open;
+        }
+    }
+
+    /// Takes the end of a terminal's waiting time.
+    pub(crate) fn wait(&mut self)
+        ensures { self.new ≡ waited self.old }
+    {
+        self.end = overlooked(self.end, self.heard);
+        self.doubt = waited_doubt(is_turn(self.heard), self.doubt);
+        self.heard = Heard::Broken;
+    }
+
+    /// Takes it that the other end may have refused the end's last block.
+    pub(crate) fn correct(&mut self, refused: bool)
+        ensures { self.new ≡ corrected self.old refused }
+    {
+        if refused {
+            self.doubt = refused_doubt(self.doubt);
+        }
+    }
+}
+
+/// Returns the end as if it took the I-block or the request that it heard. If it sends an I-block next, it did.
+pub(crate) fn presumed(end: End, heard: Heard) -> End
+    ensures { result ≡ presumed end heard }
+{
+    match heard {
+        Heard::Whole(pcb, octet) | Heard::Perhaps(pcb, octet) => {
+            sized_by(end.hears_unknown(pcb).end, pcb, octet)
+        }
+        Heard::Beginning | Heard::Broken | Heard::Nothing => end,
+    }
+}
+
+/// Returns the end with the size that it heard, and with the number of the block if nobody knows its own last block.
+fn overlooked(end: End, heard: Heard) -> End
+    ensures { result ≡ overlooked end heard }
+{
+    if end.known {
+        sized(end, heard)
+    } else {
+        presumed(end, heard)
+    }
+}
+
+/// Returns the end as if it answered the request for a size that it heard.
+fn sized(end: End, heard: Heard) -> End
+    ensures { result ≡ sized end heard }
+{
+    match heard {
+        Heard::Whole(pcb, octet) | Heard::Perhaps(pcb, octet) => sized_by(end, pcb, octet),
+        Heard::Beginning | Heard::Broken | Heard::Nothing => end,
+    }
+}
+
+/// Returns the end as if it answered this block, if that asks about a size: then it may send longer fields.
+fn sized_by(end: End, pcb: Pcb, octet: u8) -> End
+    ensures { result ≡ sized_by end pcb octet }
+{
+    match pcb {
+        Pcb::Request(S::Ifs) => End {
+            room: end.room.max(octet),
+            ..end
+        },
+        Pcb::Info { .. } | Pcb::Ready { .. } | Pcb::Request(_) | Pcb::Response(_) => end,
+    }
+}
+
+/// Whether it is the turn of an end that heard this.
+fn is_turn(heard: Heard) -> bool
+    ensures { result ≡ is_turn heard }
+{
+    match heard {
+        Heard::Beginning | Heard::Whole(..) | Heard::Perhaps(..) => true,
+        Heard::Broken | Heard::Nothing => false,
+    }
+}
+
+/// Returns what an end heard of a block, which it may refuse if the block broke a rule.
+pub(crate) fn doubted_by(doubt: Doubt, heard: Heard) -> Heard
+    ensures { result ≡ doubted_by doubt heard }
+{
+    match (doubt, heard) {
+        (Doubt::Refusable, Heard::Whole(pcb, octet)) => Heard::Perhaps(pcb, octet),
+        _ => heard,
+    }
+}
+
+/// Returns what is doubtful about an end that was in this doubt, after a block with this verdict.
+pub(crate) fn doubt_after(doubt: Doubt, pcb: Pcb, verdict: Verdict) -> Doubt
+    ensures { result ≡ doubt_after doubt pcb verdict }
+{
+    match verdict {
+        Verdict::Permitted | Verdict::Unseen => still_open(doubt, pcb),
+        Verdict::Deviates(..) => Doubt::Refusable,
+    }
+}
+
+/// Returns what is doubtful about an end after a permitted block: an I-block shows where the end is.
+fn still_open(doubt: Doubt, pcb: Pcb) -> Doubt
+    ensures { result ≡ still_open doubt pcb }
+{
+    match (doubt, pcb) {
+        (Doubt::Clear | Doubt::Refusable, _) | (Doubt::Open, Pcb::Info { .. }) => Doubt::Clear,
+        (Doubt::Open, Pcb::Ready { .. } | Pcb::Request(_) | Pcb::Response(_)) => Doubt::Open,
+    }
+}
+
+/// Returns what is doubtful about a block that the other end may have refused.
+fn refused_doubt(doubt: Doubt) -> Doubt
+    ensures { result ≡ refused_doubt doubt }
+{
+    match doubt {
+        Doubt::Clear => Doubt::Clear,
+        Doubt::Refusable | Doubt::Open => Doubt::Open,
+    }
+}
+
+/// Returns what is doubtful about a terminal's block after its waiting time. `is_turn` says whether it had to send.
+fn waited_doubt(is_turn: bool, doubt: Doubt) -> Doubt
+    ensures { result ≡ waited_doubt is_turn doubt }
+{
+    match doubt {
+        Doubt::Clear if !is_turn => Doubt::Refusable,
+        Doubt::Clear | Doubt::Refusable | Doubt::Open => Doubt::Open,
+    }
+}
+
+fn is_open(doubt: Doubt) -> bool
+    ensures { result ≡ is_open doubt }
+{
+    matches!(doubt, Doubt::Open)
+}
+
+/// Returns the end as if nobody knew its last block.
+pub(crate) fn unknown_end(end: End) -> End
+    ensures { result ≡ unknown_end end }
+{
+    End {
+        known: false,
+        before: Owed::AnyBlock,
+        ..end
+    }
+}
+
+/// Whether a block is a deviation that an unknown last block permits.
+fn only_openly(verdict: Verdict, sent: Sent) -> bool
+    ensures { result ≡ only_openly verdict sent }
+{
+    matches!((verdict, sent), (Verdict::Deviates(..), Ok(_)))
+}
