@@ -1,5 +1,5 @@
--- What a loop over the steps of a terminal's session does: each action becomes a call of the device, and what came of it
--- is the next event.
+-- What a loop over the steps of a terminal's session does: each action becomes a call of the device, and its result is
+-- the next event.
 use Rattle.std.specs.Prelude.{◌≡◌, ℕ, List, [], ◌∷◌, ◌++◌, take, Ok}
 use Rattle.t1_core.specs.Terminal.{TerminalState, transmit}
 use Rattle.line_core.specs.Timed.{Sound, Sounds, came, deaf, said, unsaid}

@@ -31,7 +31,7 @@ const LONGEST_BLOCK: usize = 258;
 /// How an exchange ended.
 #[derive(Clone, Copy, Debug)]
 pub struct Ended {
-    /// The last action: what came of the exchange.
+    /// The last action: how the exchange ended.
     pub action: Action,
     /// How many blocks the terminal sent.
     pub blocks: u32,
@@ -67,7 +67,7 @@ fn waited(event: u8, action: &Action) -> u64
     }
 }
 
-/// Exchanges a command for its answer over a device: does what each action says, and passes on what came of it.
+/// Exchanges a command for its answer over a device: does what each action says, and passes the result to the session.
 ///
 /// This always returns. The terminal sends at most as many blocks as its limit permits. The silences for which it waited
 /// in full are together no longer than its limit of time, which the waits themselves count, since a device has no clock.
@@ -128,7 +128,8 @@ pub fn exchange_ends<D: TimedDevice>(
     })
 }
 
-/// Does what an action says, and returns the number of what came of it and how many octets are at the front of `room`.
+/// Does what an action says. Returns the number of the event that follows, and how many octets are at the front of
+/// `room`.
 fn done<D: TimedDevice>(
     action: &Action,
     device: &mut D,
