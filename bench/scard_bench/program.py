@@ -1,0 +1,52 @@
+"""The program `scard`, which decides."""
+from __future__ import annotations
+
+import pathlib
+import shutil
+import subprocess
+from typing import List, Optional, Sequence, Tuple
+
+from .errors import Wrong
+
+BESIDE = pathlib.Path(__file__).resolve().parents[2] / "scard"
+STATUSES = (0, 1, 2)
+# how many values one call checks
+AT_ONCE = 20_000
+
+
+class Program:
+    """The program at a path, beside this checkout, or on the PATH."""
+
+    def __init__(self, path: Optional[str] = None) -> None:
+        found = path or (str(BESIDE) if BESIDE.exists() else shutil.which("scard"))
+        if not found:
+            raise Wrong("there is no program scard beside the folder bench or on the PATH: name it by --scard")
+        self.path = found
+
+    def answers(self, words: Sequence[str], text: str = "") -> Tuple[str, int]:
+        """What the program prints for words and standard input, and its status."""
+        try:
+            ran = subprocess.run([self.path, *words], input=text.encode(), stdout=subprocess.PIPE, check=False)
+        except OSError as error:
+            raise Wrong(f"{self.path}: {error.strerror}") from error
+        if ran.returncode not in STATUSES:
+            raise Wrong(f"{self.path} ended with status {ran.returncode}")
+        return ran.stdout.decode(), ran.returncode
+
+    def checked(self, kind: str, values: Sequence[bytes]) -> List[str]:
+        """The line that `scard check KIND` prints for each value."""
+        pieces = (values[at:at + AT_ONCE] for at in range(0, len(values), AT_ONCE))
+        return [line for piece in pieces for line in self.lines(kind, piece)]
+
+    def lines(self, kind: str, values: Sequence[bytes]) -> List[str]:
+        """The same for some values, by one call."""
+        text = "".join(f"{value.hex()}\n" for value in values)
+        lines = self.answers(["check", kind, "--stdin", "lines"], text)[0].splitlines()
+        if len(lines) != len(values):
+            raise Wrong(f"{self.path} answered {len(lines)} of {len(values)} lines")
+        return lines
+
+    def whole(self, kind: str, values: Sequence[bytes]) -> List[int]:
+        """How many octets of each value the program takes as one value of this kind, 0 if it takes none."""
+        words = [line.split() for line in self.checked(kind, values)]
+        return [int(it[1]) if it[:1] == ["ok"] else 0 for it in words]

@@ -1,0 +1,106 @@
+"""What a played scenario is worth: the judge names nothing, and the outcome is right."""
+from __future__ import annotations
+
+import re
+from typing import Dict, List, NamedTuple, Tuple
+
+from ..program import Program
+from .play import Play
+from .scenario import Scenario
+
+PASS, FAIL, INCONCLUSIVE, NOT_APPLICABLE = "pass", "fail", "inconclusive", "not applicable"
+SIDES = {"card": "c", "terminal": "t"}
+CLOCK = "3571200"
+MOST_REASONS = 6
+COUNTED = re.compile(r"(rule|state) ([^:]+): (?:never|(?:terminal|card) .*)$")
+
+
+class Result(NamedTuple):
+    """A scenario with its verdict: why, the answer to reset, the trace, and what of the rules it exercised."""
+
+    scenario: Scenario
+    verdict: str
+    reasons: Tuple[str, ...] = ()
+    atr: str = ""
+    trace: Tuple[str, ...] = ()
+    exercised: Tuple[str, ...] = ()
+    listed: Tuple[str, ...] = ()
+
+    @property
+    def blocks(self) -> int:
+        """How many blocks were sent."""
+        return sum(line[:2] in ("t ", "c ") for line in self.trace)
+
+
+class Judged(NamedTuple):
+    """What the judge says: its lines about blocks, its last line, and what was exercised."""
+
+    lines: Tuple[str, ...]
+    last: str
+    exercised: Tuple[str, ...]
+    listed: Tuple[str, ...]
+
+
+MEMORY: Dict[Tuple[str, str, str], Judged] = {}
+
+
+def judged(program: Program, role: str, atr: str, trace: List[str]) -> Judged:
+    """What the judge says about one end of a trace."""
+    text = "".join(f"{line}\n" for line in trace)
+    key = (role, atr, text)
+    if key not in MEMORY:
+        words = ["judge", atr, "--end", role, "--clock", CLOCK, "--rules"]
+        *lines, last = program.answers(words, text)[0].splitlines() or ["nothing"]
+        counted = [line for line in lines if COUNTED.match(line)]
+        MEMORY[key] = Judged(tuple(line for line in lines if not COUNTED.match(line)), last,
+                             tuple(line.split(":")[0] for line in counted if is_exercised(line, role)),
+                             tuple(line.split(":")[0] for line in counted))
+    return MEMORY[key]
+
+
+def is_exercised(line: str, role: str) -> bool:
+    """Whether a line of `--rules` counts blocks of this end."""
+    found = re.search(rf"{role} (?:kept )?(\d+)(?: broken (\d+))?", line)
+    return found is not None and any(int(it) for it in found.groups("0"))
+
+
+def not_whole(program: Program, blocks: List[bytes]) -> List[str]:
+    """The blocks of the device that aren't blocks: their LEN or their check octet is wrong."""
+    lines = program.checked("block", blocks)
+    return [f"it sent {it.hex().upper()[:80]}, which isn't a block: {line}" for it, line in zip(blocks, lines)
+            if line != f"ok {len(it)} octets"]
+
+
+def unsure(play: Play, found: Judged) -> List[str]:
+    """Why nothing can be said: the judge isn't sure, or a fault of the scenario never came."""
+    late = [at for at in play.scenario.faults.at if at > play.line.count]
+    lines = [] if found.last.startswith("ok ") else [*found.lines, found.last]
+    return lines + ([f"fault at block {min(late)} of {play.line.count}: it never came"] if late else [])
+
+
+def shortened(lines: List[str]) -> List[str]:
+    """The first lines, each once, and how many more there are."""
+    lines = list(dict.fromkeys(lines))
+    more = len(lines) - MOST_REASONS
+    return [*lines[:MOST_REASONS], f"and {more} more"] if more > 0 else lines
+
+
+def result(program: Program, play: Play) -> Result:
+    """The verdict on a scenario that was played to its end."""
+    scenario, line = play.scenario, play.line
+    atr = play.atr.hex().upper()
+    found = judged(program, scenario.role, atr, line.lines)
+    reasons = list(found.lines if not found.last.startswith(("ok ", "unsure ")) else ())
+    reasons += [found.last] if found.last.startswith(("refused", "fault")) else []
+    reasons += play.problems + not_whole(program, line.sent_by(SIDES[scenario.role]))
+    if scenario.most is not None and line.count > scenario.most:
+        reasons.append(f"{line.count} blocks were sent, where {scenario.most} are enough")
+    open_ = unsure(play, found)
+    verdict = FAIL if reasons else INCONCLUSIVE if open_ else PASS
+    said = shortened(reasons or open_)
+    return Result(scenario, verdict, tuple(said), atr, tuple(line.lines), found.exercised, found.listed)
+
+
+def broken(play: Play, why: str) -> Result:
+    """The verdict on a scenario in which the device broke off."""
+    return Result(play.scenario, FAIL, (why,), play.atr.hex().upper(), tuple(play.line.lines))
