@@ -74,3 +74,10 @@ _scard() {
 }
 # Where none of these words fits, a file's name may.
 complete -o bashdefault -o default -F _scard scard
+
+# For other shells: run as a script, this file prints the words that can come in the place of its last argument.
+if [ "${BASH_SOURCE[0]}" = "$0" ]; then
+    COMP_WORDS=("$@") COMP_CWORD=$(($# - 1))
+    _scard
+    [ ${#COMPREPLY[@]} -eq 0 ] || printf '%s\n' "${COMPREPLY[@]}"
+fi

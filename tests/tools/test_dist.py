@@ -25,7 +25,7 @@ class Dist(unittest.TestCase):
             (self.top / name).mkdir(parents=True)
         for folder in (self.bin, kit / "bin"):
             folder.mkdir(parents=True)
-        for name in ("tools/release/dist", "tools/common/stack.py", "tools/common/words.py"):
+        for name in ("tools/release/dist", "tools/release/api", "tools/common/stack.py", "tools/common/words.py"):
             shutil.copy(TOP / name, self.top / name)
         for name in ("translator", "everywhere"):
             shutil.copytree(TOP / "tools/release" / name, self.top / "tools/release" / name)
@@ -39,7 +39,7 @@ class Dist(unittest.TestCase):
             self.script(self.top / "tools/release" / name, 'cat "${0%/*}/../../module" >"$1"')
         self.script(self.top / "web/make", 'cat "$2" >"$1"')
         self.script(kit / "bin/rt", "exit 9")
-        self.script(self.bin / "wasm-opt", "echo wasm-opt version 0")
+        self.script(self.bin / "wasm-opt", '[ "$1" = --version ] && echo wasm-opt version 0 || [ "$5" ]')
         (self.bin / "rt").symlink_to(kit / "bin/rt")
         for name in COMMANDS:
             (self.bin / name).symlink_to(shutil.which(name))
@@ -77,7 +77,8 @@ class Dist(unittest.TestCase):
     def test_dist_is_made(self):
         done = self.made()
         self.assertEqual((done.returncode, done.stderr), (0, ""))
-        files = "README.md SHA256SUMS scard.c scard.h scard.html scard.mjs scard.sources scard.wasm scard_session.h"
+        files = """README.md SHA256SUMS api.json libscard.wasm scard.c scard.h scard.html scard.mjs scard.sources scard.wasm
+        scard_session.h"""
         self.assertEqual(self.left(), (files.split(), []))
         self.assertIn("a toolchain", (self.top / "dist/README.md").read_text())
         for name, times in (("scard.h", 1), ("scard_session.h", 0)):
@@ -102,6 +103,7 @@ class Dist(unittest.TestCase):
 
     def test_a_step_that_fails(self):
         for file, words in (("tools/release/wasm", "wasm failed: no"), ("web/make", "make failed: no"),
+                            ("tools/release/api", "api failed: no"),
                             ("tools/release/program", "program failed: no")):
             text = (self.top / file).read_text()
             self.script(self.top / file, "echo no >&2; exit 1")

@@ -1,10 +1,7 @@
 // The program scard in node, over its module, which lies beside this file: node scard.mjs WORD..
 //
-// Another script calls `program` and hands over two functions for the streams. This file decides nothing about octets:
-// it hands words, input and text from one side to the other.
-import { readFileSync, readSync, realpathSync, writeSync } from 'node:fs';
-import { isatty } from 'node:tty';
-import { fileURLToPath } from 'node:url';
+// Another script calls `program`, in node or in another host, and hands over two functions for the streams. This file
+// decides nothing about octets: it hands words, input and text from one side to the other.
 
 const NOTICE = 'scard: reading standard input, which is this terminal, up to its end (Ctrl-D)\n';
 const WAIT = 5;
@@ -49,7 +46,9 @@ function moved(call) {
     }
 }
 
-function main(words) {
+async function main(words) {
+    const { readFileSync, readSync, writeSync } = await import('node:fs');
+    const { isatty } = await import('node:tty');
     const answer = program(readFileSync(new URL('scard.wasm', import.meta.url)));
     let isRead = false;
     const read = (octets) => {
@@ -60,6 +59,12 @@ function main(words) {
     return answer(octetsOf(['scard', ...words]), read, (octets) => moved(() => writeSync(1, octets)));
 }
 
-if (process.argv[1] && realpathSync(process.argv[1]) === fileURLToPath(import.meta.url)) {
-    process.exitCode = main(process.argv.slice(2));
+// Whether this file is what node runs.
+async function isRun() {
+    if (!globalThis.process?.versions?.node || !process.argv[1]) return false;
+    const { realpathSync } = await import('node:fs');
+    const { fileURLToPath } = await import('node:url');
+    return import.meta.url.startsWith('file:') && realpathSync(process.argv[1]) === fileURLToPath(import.meta.url);
 }
+
+if (await isRun()) process.exitCode = await main(process.argv.slice(2));

@@ -1,4 +1,4 @@
-"""Reads the calls and the structs of include/scard.h, and lays the structs out as the module has them."""
+"""Reads the calls, structs, enums and constants of include/scard.h, and lays the structs out as the module has them."""
 
 import dataclasses
 import re
@@ -8,6 +8,10 @@ from wasm import Unfit
 COMMENT = re.compile(r"/\*.*?\*/", re.S)
 STRUCT = re.compile(r"^struct (\w+) \{\n(.*?)^\};", re.M | re.S)
 CONSTANT = re.compile(r"^#define (\w+) (\d+)\s*$", re.M)
+ENUM = re.compile(r"^enum (\w+)\s*\{([^}]*)\};", re.M)
+NUMBERED = re.compile(r"\s*(\w+) = (\d+)\s*")
+# the part of a header that a library without memory lacks
+GUARDED = re.compile(r"^#ifndef SCARD_NO_HANDLES\n(.*?)^#endif /\* SCARD_NO_HANDLES \*/\n", re.M | re.S)
 CALL = re.compile(r"^((?:struct \w+|u?int\d+_t|bool|void|size_t)) (scard_\w+)\(([^;{]*?)\);", re.M)
 # the octets of each type; a pointer has as many as a size
 NUMBERS = {"uint8_t": 1, "bool": 1, "char": 1, "uint16_t": 2, "uint32_t": 4, "uint64_t": 8, "size_t": 8,
@@ -29,14 +33,32 @@ class Field:
 
 
 @dataclasses.dataclass
+class Member:
+    """What a struct declares: a type and a name, how many elements an array has, and its first octet in the module."""
+
+    type: str
+    name: str
+    count: int
+    place: int
+    is_pointer: bool
+    is_const: bool
+
+    def said(self):
+        """The type and the name in C."""
+        kind = f"{'const ' if self.is_const else ''}{self.type}{' *' if self.is_pointer else ''}"
+        return kind, self.name + (f"[{self.count}]" if self.count else "")
+
+
+@dataclasses.dataclass
 class Struct:
-    """A struct: its numbers and pointers, those of structs and arrays in it too; its octets and alignment; and the types
-    and names that it is declared with."""
+    """A struct: its numbers and pointers, those of structs and arrays in it too; its octets and alignment; what it
+    declares; and the types and names in C of that."""
 
     name: str
     fields: list
     octets: int
     aligned: int
+    members: list
     said: list
 
     def has_pointers(self):
@@ -85,28 +107,27 @@ def placed(kind, path, known):
     return [("", 0, NUMBERS[kind], False, kind)], NUMBERS[kind], NUMBERS[kind]
 
 
-def struct_of(name, body, known):
+def struct_of(name, body, known, pointer):
     """A struct by its declaration."""
-    fields, place, most, said = [], 0, 1, []
+    fields, place, most, members = [], 0, 1, []
     for line in filter(None, (it.strip() for it in body.split(";"))):
-        constant = "const " if line.startswith("const ") else ""
-        for kind, field, count in declared(line):
-            star = " *" if field.startswith("*") else ""
-            said.append((f"{constant}{kind}{star}", field.lstrip("*") + (f"[{count}]" if count else "")))
+        for kind, said, count in declared(line):
+            field = said.lstrip("*")
             if kind in ("size_t", "uint64_t"):
                 raise Unfit(f"struct {name}: {field} has the type {kind}, whose octets or alignment differ from machine to "
                             "machine: take scard_size")
-            if field.startswith("*"):
-                parts, octets, aligned = [("", 0, POINTER, True, kind)], POINTER, POINTER
+            if said.startswith("*"):
+                parts, octets, aligned = [("", 0, pointer, True, kind)], pointer, pointer
             else:
                 parts, octets, aligned = placed(kind, f"{name}.{field}", known)
             place = -(-place // aligned) * aligned
+            members.append(Member(kind, field, count, place, said.startswith("*"), line.startswith("const ")))
             for at in range(1 if count is None else count):
-                path = field.lstrip("*") + ("" if count is None else f"[{at}]")
+                path = field + ("" if count is None else f"[{at}]")
                 fields += [Field(path + (f".{it[0]}" if it[0] else ""), place + it[1], *it[2:]) for it in parts]
                 place += octets
             most = max(most, aligned)
-    return Struct(name, fields, -(-place // most) * most, most, said)
+    return Struct(name, fields, -(-place // most) * most, most, members, [it.said() for it in members])
 
 
 def taken(text):
@@ -122,13 +143,34 @@ def taken(text):
     return found
 
 
-def read(text):
-    """The structs of a header by their names, and its calls in their order."""
+def constants_of(text):
+    """The constants of a header that are numbers, by their names."""
+    return {name: int(value) for name, value in CONSTANT.findall(COMMENT.sub("", text))}
+
+
+def enums_of(text):
+    """The enums of a header by their names: the numbers of each, by name."""
+    found = {}
+    for name, body in ENUM.findall(COMMENT.sub("", text)):
+        rows = [NUMBERED.fullmatch(it) for it in body.split(",")]
+        if not all(rows):
+            raise Unfit(f"enum {name} has a name without a number")
+        found[name] = {it[1]: int(it[2]) for it in rows}
+    return found
+
+
+def guarded(text):
+    """The names of the calls that a library without memory lacks."""
+    return {it.name for part in GUARDED.findall(text) for it in read(part)[1]}
+
+
+def read(text, pointer=POINTER):
+    """The structs of a header by their names, and its calls in their order. A pointer has so many octets."""
+    constants = constants_of(text)
     text = COMMENT.sub("", text)
-    constants = dict(CONSTANT.findall(text))
     text = re.sub(r"\[(\w+)\]", lambda it: f"[{constants.get(it[1], it[1])}]", text)
     structs = {}
     for name, body in STRUCT.findall(text):
-        structs[name] = struct_of(name, body, structs)
+        structs[name] = struct_of(name, body, structs, pointer)
     calls = [Call(gives, name, taken(args), re.sub(r"\s+", " ", args).strip()) for gives, name, args in CALL.findall(text)]
     return structs, calls
