@@ -19,13 +19,9 @@ export function program(octets) {
         write: (_, at, count) => BigInt(streams.write(view(at, count))),
     };
     const scard = new WebAssembly.Instance(new WebAssembly.Module(octets), { env }).exports;
-    let room = 0n, size = 0;
     return (words, read, write) => {
-        if (words.length > size || !room) {
-            size = words.length + 1;
-            room = scard.scard_room(BigInt(size));
-            if (!room) throw new Error('there is no memory for the words');
-        }
+        const room = scard.scard_room(BigInt(words.length));
+        if (!room) throw new Error('there is no memory for the words');
         view(room, words.length).set(words);
         Object.assign(streams, { read, write });
         return scard.scard_answer(room, BigInt(words.length));

@@ -1461,7 +1461,8 @@ enum scard_rule {
     SCARD_RULE_NODE_ADDRESS = 1,        /* the node address differs from that of the first block, or isn't swapped in
                                            an answer */
     SCARD_RULE_CONTROL_OCTET = 2,       /* no block has this control octet */
-    SCARD_RULE_LENGTH = 3,              /* no block of this kind has a field of this length */
+    SCARD_RULE_LENGTH = 3,              /* no block of this kind has a field of this length, or LEN doesn't say how
+                                           many octets its sender sent */
     SCARD_RULE_RESERVED_SIZE = 4,       /* a size of 0 or 255 octets */
     SCARD_RULE_FIELD_SIZE = 5,          /* a field with more octets than the other end accepts */
     SCARD_RULE_TURN = 6,                /* it is the other end's turn to send */
@@ -1478,9 +1479,10 @@ enum scard_rule {
     SCARD_RULE_RESPONSE_OCTET = 17,     /* a response carries a different size or multiple from its request */
     SCARD_RULE_UNASKED = 18,            /* a response without a request */
     SCARD_RULE_NO_CHAIN = 19,           /* ABORT outside a chain */
-    SCARD_RULE_EARLY_RESYNCH = 20,      /* RESYNCH before a block was repeated twice */
+    SCARD_RULE_EARLY_RESYNCH = 20,      /* RESYNCH within a chain although no block had an error */
     SCARD_RULE_TOO_MANY_REPEATS = 21,   /* a block was already repeated as often as the standard permits */
-    SCARD_RULE_SILENCE = 22             /* no block where one is due */
+    SCARD_RULE_SILENCE = 22,            /* no block where one is due */
+    SCARD_RULE_CHECK_OCTET = 23         /* a wrong check octet that its sender sent */
 };
 
 /* The block that an end owed. */
@@ -1592,8 +1594,9 @@ struct scard_verdict scard_lent_judge_begin(struct scard_lent_judge *state, uint
 
 /* Judges the octets that were on the line as one block, and writes the judgment to *out. `from` is an enum scard_end:
  * the end that sent them. `arrival` is an enum scard_arrival: how they reached the other end. The call reads `came`
- * only if `arrival` is SCARD_ARRIVAL_CAME. Returns OK with place 0; or ARGUMENT (another end or arrival), and then
- * nothing changes.
+ * only if `arrival` is SCARD_ARRIVAL_CAME. Octets that aren't a block are damage, unless `came` has the same octets:
+ * then the end itself sent them wrong. Returns OK with place 0; or ARGUMENT (another end or arrival), and then nothing
+ * changes.
  */
 SCARD_MUST_USE
 struct scard_verdict scard_lent_judge_block(struct scard_lent_judge *state, uint8_t from,
