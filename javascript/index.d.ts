@@ -53,7 +53,7 @@ export declare const Rule: {
     readonly BLOCK_DUE: 9; readonly ACKNOWLEDGMENT_DUE: 10; readonly ERROR_CODE: 11; readonly REPEAT_DUE: 12;
     readonly REPEATED_OCTETS: 13; readonly CORRECTION_DUE: 14; readonly REQUEST_DUE: 15; readonly RESPONSE_DUE: 16;
     readonly RESPONSE_OCTET: 17; readonly UNASKED: 18; readonly NO_CHAIN: 19; readonly EARLY_RESYNCH: 20;
-    readonly TOO_MANY_REPEATS: 21; readonly SILENCE: 22;
+    readonly TOO_MANY_REPEATS: 21; readonly SILENCE: 22; readonly CHECK_OCTET: 23;
 };
 export declare const Owed: {
     readonly NOTHING_SAID: 0; readonly NEW_MESSAGE: 1; readonly NEXT_BLOCK: 2; readonly ACKNOWLEDGMENT: 3;

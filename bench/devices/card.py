@@ -4,6 +4,7 @@
 usage: PYTHONPATH=DIR bench/devices/card.py
 """
 import sys
+from typing import List
 
 import scard
 from application import Application
@@ -18,7 +19,8 @@ class Device:
 
     def __init__(self) -> None:
         self.card, self.application = scard.Card(scard.Atr.decode(ATR).t1()), Application()
-        self.asked, self.wait = [], 0
+        self.asked: List[bytes] = []
+        self.wait = 0
 
     def hears(self, octets: bytes) -> bytes:
         """The block that the card sends after it received these octets."""

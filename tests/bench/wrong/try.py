@@ -4,9 +4,11 @@
 usage: tests/bench/wrong/try.py [--all|--write] card|terminal [WORD..]
 
 A WORD chooses the devices whose name has it. Without --all the scenarios of a device end at the first that fails. With
---write that one goes into failed_by.json beside this file. The status is 1 if a device passes.
+--write that one goes into failed_by.json beside this file. The variable SCARD_OF_TESTS may name the built program. The
+status is 1 if a device passes.
 """
 import json
+import os
 import pathlib
 import sys
 import tempfile
@@ -68,7 +70,7 @@ def main(words):
     options, words = set(words) & {"--all", "--write"}, [it for it in words if it not in ("--all", "--write")]
     if not words or words[0] not in CHANGES:
         sys.exit(__doc__)
-    role, program, passed = words[0], Program(), 0
+    role, program, passed = words[0], Program(os.environ.get("SCARD_OF_TESTS")), 0
     found = scenario.scenarios(role, "iso")
     for name in CHANGES[role]:
         if any(it not in name for it in words[1:]):
