@@ -3,3 +3,4 @@ pub mod Sessions
 pub mod Times
 pub mod Waits
 pub mod Runs
+pub mod Links

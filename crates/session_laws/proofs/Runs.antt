@@ -1,5 +1,5 @@
 -- The turns of a loop, from what its calls ensure.
-use Rattle.std.proofs.Common.{◌≡◌, ◌≤◌, ℕ, zero, suc, List, [], ◌∷◌, ◌++◌, length, take, min, Ok, refl, sym, subst, arith}
+use Rattle.std.proofs.Common.{◌≡◌, ◌≤◌, ℕ, zero, suc, List, [], ◌∷◌, ◌++◌, length, take, min, true, Ok, refl, sym, subst, arith}
 use Rattle.std.specs.declared.io.Error.{Error}
 use Rattle.std.proofs.lemmas.List.{append-nil, append_assoc, take_min, length-take-le}
 use Rattle.session_core.specs.declared.action.Action.TheVariants as action
@@ -12,7 +12,9 @@ use Rattle.session_core.specs.declared.action.Action.{Action}
 use Rattle.session_core.specs.Wire.{ruled, seen}
 use Rattle.session_core.specs.Lines.{stepped}
 use Rattle.session_core.specs.Terminals.{IsStepped}
-use Rattle.session_laws.specs.Running.{Standing, event_of, octets_of, IsAsked, IsTurn, none, more, IsBegun, Ran}
+use Rattle.session_laws.specs.Running.{Standing, event_of, octets_of, IsAsked, IsTurn, spoken_by, none, more, IsBegun, Ran}
+use Rattle.session_laws.specs.Ending.{goes}
+use Rattle.session_laws.specs.Talking.{Spoken}
 
 pub no-sounds : {A : Type 0} (heard : A → List Sound → Type 0) → Sounds heard heard []
 no-sounds heard first before h = subst (heard first) (sym (append-nil before)) h
@@ -24,21 +26,22 @@ then-sounds old now new sounds after f g first before h =
 
 pub begun-ran : {A : Type 0} (heard : A → List Sound → Type 0) (terminal : TerminalState) (line : Line)
     (octets : List ℕ) (limits : Limits) (first : Standing) → IsBegun terminal line octets limits first
-    → Ran heard heard terminal line octets limits first
+    → Ran heard heard terminal line octets limits [] first
 begun-ran heard terminal line octets limits first begun =
     record { first = first; begun = begun; sounds = []; adds = no-sounds heard; turns = none }
 
 pub turn-of : (before : Standing) (sound : Sound) (after : Standing) (event : ℕ) (octets burst : List ℕ)
-    → IsAsked before.next before.out sound → event ≡ event_of sound → octets ≡ octets_of sound
-    → HasHeard before.line.framer burst
+    → IsAsked before.next before.out sound → goes before.next ≡ true → event ≡ event_of sound
+    → octets ≡ octets_of sound → HasHeard before.line.framer burst
     → IsStepped (stepped event (ruled before.line.rules) (seen before.line.progress) burst octets 0
     (take before.own before.out)).next
     (stepped event (ruled before.line.rules) (seen before.line.progress) burst octets 0 (take before.own before.out))
     before.line.rules before.terminal 0 after.terminal after.line before.own after.own before.out after.out
     (Ok after.next)
     → IsTurn before sound after
-turn-of before sound after event octets burst asked is same heard h = record {
+turn-of before sound after event octets burst asked on is same heard h = record {
   asked = asked;
+  goes_on = on;
   burst = burst;
   heard = heard;
   stepped_so = subst (λ (o : List ℕ). IsStepped (stepped (event_of sound) (ruled before.line.rules)
@@ -54,15 +57,16 @@ turn-of before sound after event octets burst asked is same heard h = record {
 }
 
 pub more-ran : {A : Type 0} (old now new : A → List Sound → Type 0) (terminal : TerminalState) (line : Line)
-    (octets : List ℕ) (limits : Limits) (before : Standing) (sound : Sound) (after : Standing)
-    → Ran old now terminal line octets limits before → Sounds now new (sound ∷ []) → IsTurn before sound after
-    → Ran old new terminal line octets limits after
-more-ran old now new terminal line octets limits before sound after ran adds turn = record {
+    (octets : List ℕ) (limits : Limits) (spoken : List Spoken) (before : Standing) (sound : Sound) (after : Standing)
+    → Ran old now terminal line octets limits spoken before → Sounds now new (sound ∷ [])
+    → (turn : IsTurn before sound after)
+    → Ran old new terminal line octets limits (spoken ++ spoken_by before sound turn.burst) after
+more-ran old now new terminal line octets limits spoken before sound after ran adds turn = record {
   first = ran.first;
   begun = ran.begun;
   sounds = ran.sounds ++ sound ∷ [];
   adds = then-sounds old now new ran.sounds (sound ∷ []) ran.adds adds;
-  turns = more ran.sounds before sound after ran.turns turn;
+  turns = more ran.sounds spoken before sound after ran.turns turn;
 }
 
 -- ---- a call of the device

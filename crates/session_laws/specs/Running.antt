@@ -1,6 +1,6 @@
 -- What a loop over the steps of a terminal's session does: each action becomes a call of the device, and its result is
 -- the next event.
-use Rattle.std.specs.Prelude.{◌≡◌, ℕ, List, [], ◌∷◌, ◌++◌, take, Ok}
+use Rattle.std.specs.Prelude.{◌≡◌, ℕ, List, [], ◌∷◌, ◌++◌, take, true, Ok}
 use Rattle.t1_core.specs.Terminal.{TerminalState, transmit}
 use Rattle.line_core.specs.Timed.{Sound, Sounds, came, deaf, said, unsaid}
 use Rattle.line_core.specs.Bursts.{HasHeard}
@@ -9,9 +9,11 @@ use Rattle.session_core.specs.declared.lines.Start.TheVariants.{Exchange}
 use Rattle.session_core.specs.declared.setup.Limits.{Limits}
 use Rattle.session_core.specs.declared.action.Action.{Action}
 use Rattle.session_core.specs.declared.action.Action.TheVariants as action
-use Rattle.session_core.specs.Wire.{ruled, seen}
+use Rattle.session_core.specs.Wire.{Step, ruled, seen}
 use Rattle.session_core.specs.Lines.{stepped}
 use Rattle.session_core.specs.Terminals.{IsStepped, TurnsTo}
+use Rattle.session_laws.specs.Ending.{goes}
+use Rattle.session_laws.specs.Talking.{Spoken, spoken_in}
 
 -- a session before its next action
 pub record Standing : Type 0 where
@@ -44,22 +46,31 @@ IsAsked (action.Wait time) out (came limit octets) = limit ≡ time
 IsAsked (action.Wait time) out (deaf limit fault) = limit ≡ time
 IsAsked other out sound = ⊥
 
+-- what the line makes of a call of the device
+abbrev pub step_by : Standing → Sound → List ℕ → Step
+step_by before sound burst = stepped (event_of sound) (ruled before.line.rules) (seen before.line.progress) burst
+    (octets_of sound) 0 (take before.own before.out)
+
 -- one turn of the loop: a call of the device, and the step of the session that follows from it
 pub record IsTurn (before : Standing) (sound : Sound) (after : Standing) : Type 0 where
   pub asked : IsAsked before.next before.out sound
+  pub goes_on : goes before.next ≡ true
   pub burst : List ℕ
   pub heard : HasHeard before.line.framer burst
-  pub stepped_so : IsStepped (stepped (event_of sound) (ruled before.line.rules) (seen before.line.progress) burst
-      (octets_of sound) 0 (take before.own before.out)).next
-      (stepped (event_of sound) (ruled before.line.rules) (seen before.line.progress) burst (octets_of sound) 0
-      (take before.own before.out)) before.line.rules before.terminal 0 after.terminal after.line before.own after.own
-      before.out after.out (Ok after.next)
+  pub stepped_so : IsStepped (step_by before sound burst).next (step_by before sound burst) before.line.rules
+      before.terminal 0 after.terminal after.line before.own after.own before.out after.out (Ok after.next)
 
--- the turns of the loop since it began, with the calls of the device in their order
-pub data Turns (first : Standing) : List Sound → Standing → Type 0 where
-  none : Turns first [] first
-  more : (sounds : List Sound) (before : Standing) (sound : Sound) (after : Standing) → Turns first sounds before
-      → IsTurn before sound after → Turns first (sounds ++ sound ∷ []) after
+-- the block that this turn ends, and what came after it
+abbrev pub spoken_by : (before : Standing) (sound : Sound) (burst : List ℕ) → List Spoken
+spoken_by before sound burst =
+    spoken_in (step_by before sound burst).next (step_by before sound burst) (take before.own before.out)
+
+-- the turns of the loop since it began, with the calls of the device and the talks in their order
+pub data Turns (first : Standing) : List Sound → List Spoken → Standing → Type 0 where
+  none : Turns first [] [] first
+  more : (sounds : List Sound) (spoken : List Spoken) (before : Standing) (sound : Sound) (after : Standing)
+      → Turns first sounds spoken before → (turn : IsTurn before sound after)
+      → Turns first (sounds ++ sound ∷ []) (spoken ++ spoken_by before sound turn.burst) after
 
 -- the exchange began by these limits
 pub record IsBegun (terminal : TerminalState) (line : Line) (octets : List ℕ) (limits : Limits) (first : Standing)
@@ -72,12 +83,12 @@ pub record IsBegun (terminal : TerminalState) (line : Line) (octets : List ℕ) 
 
 -- What the loop has done: the calls of the device since it began, as turns that lead to where the session stands.
 pub record Ran {A : Type 0} (old new : A → List Sound → Type 0) (terminal : TerminalState) (line : Line)
-    (octets : List ℕ) (limits : Limits) (last : Standing) : Type 0 where
+    (octets : List ℕ) (limits : Limits) (spoken : List Spoken) (last : Standing) : Type 0 where
   pub first : Standing
   pub begun : IsBegun terminal line octets limits first
   pub sounds : List Sound
   pub adds : Sounds old new sounds
-  pub turns : Turns first sounds last
+  pub turns : Turns first sounds spoken last
 
 abbrev pub standing : TerminalState → Line → ℕ → List ℕ → Action → Standing
 standing terminal line own out next =

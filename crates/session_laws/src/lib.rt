@@ -9,6 +9,8 @@ ghost use Rattle.t1_core.specs.Views.{terminal_held, IsLentTerminal};
 ghost use Rattle.line_core.specs.Timed.{Sound, Sounds};
 ghost use Rattle.session_core.specs.Wire.{is_set};
 ghost use Rattle.session_laws.specs.Ending.{HasBurst, goes, sends, waited_by, is_limited, events_in};
+ghost use Rattle.std.specs.declared.io.Error.{Error};
+ghost use Rattle.session_laws.specs.Talking.{Spoken, IsRun, ending_by};
 ghost use Rattle.session_laws.specs.Running.{IsAsked, Ran, event_of, octets_of, standing};
 
 use line_core::TimedDevice;
@@ -92,10 +94,12 @@ pub fn exchange_ends<D: TimedDevice>(
     ensures again { IfOk result (λ _. (is_set line.new.rules.is_card ≡ false) × HasBurst line.new) }
     ensures few { IfOk result (λ ended. ended.blocks ≤ limits.blocks) }
     ensures soon { is_limited limits.time → IfOk result (λ ended. ended.waited ≤ limits.time) }
-    ensures run { IfOk result (λ ended. (own : ℕ) × (out : List ℕ)
+    ensures run { IfOk result (λ ended. (own : ℕ) × (out : List ℕ) × (spoken : List Spoken)
         × Ran (D.heard device.old) (D.heard device.new) (terminal_held end.old command.old answer.old) line.old
-        octets.now limits
-        (standing (terminal_held end.new command.new answer.new) line.new own out ended.action)) }
+        octets.now limits spoken
+        (standing (terminal_held end.new command.new answer.new) line.new own out ended.action)
+        × ((fault : Error) → IsRun (terminal_held end.old command.old answer.old) octets.now spoken
+        (ending_by fault ended.action) (terminal_held end.new command.new answer.new))) }
     ensures over { IfOk result (λ ended. goes ended.action ≡ false) }
 {
     let mut out = [0; LONGEST_BLOCK];

@@ -1,7 +1,8 @@
-use Rattle.std.proofs.Common.{rules, ◌≡◌, ◌+◌, true}
+use Rattle.std.proofs.Common.{rules, [], false, ◌≡◌, ◌+◌, true}
 use Rattle.session_laws.specs.Ending.{goes, sends}
 use Rattle.session_laws.proofs.Sessions.{begun-within, stepped-within, front-fits, front-short}
 use Rattle.session_laws.proofs.Runs.{begun-ran, more-ran, turn-of}
+use Rattle.session_laws.proofs.Links.{ran-run}
 use Rattle.session_laws.proofs.Waits.{begun-waited, stepped-waited}
 use Rattle.session_laws.proofs.exchange_ends.Goals as goal
 
@@ -14,12 +15,15 @@ loop-out-init g c = (
       (c.in_ok-action.ensures.turn _ c.requires.burst.1),
   search rules,
   c.requires.room,
-  begun-ran (g.D.TimedDevice.heard c.args.device.now) _ _ _ _ _ record {
-    out = _;
-    burst = _;
-    heard = c.requires.burst.1;
-    turns = c.in_ok-action.ensures.turn _ c.requires.burst.1;
-  },
+  (
+    [],
+    begun-ran (g.D.TimedDevice.heard c.args.device.now) _ _ _ _ _ record {
+      out = _;
+      burst = _;
+      heard = c.requires.burst.1;
+      turns = c.in_ok-action.ensures.turn _ c.requires.burst.1;
+    },
+  ),
 )
 
 pub loop-out-smaller : goal.loop-out-smaller
@@ -51,8 +55,23 @@ loop-out-preserved g c =
           (front-fits _ _ _ c.done-event.ensures.fits c.done-event.ensures.some)),
       search rules,
       search rules,
-      more-ran _ (g.D.TimedDevice.heard c.loop-out.device) _ _ _ _ _ _ _ _ c.loop-out.invariant.5
-          c.done-event.ensures.called.1
-          (turn-of _ _ _ _ _ _ c.done-event.ensures.called.2 c.done-event.ensures.called.3 c.done-event.ensures.called.4
-          c.loop-out.invariant.1.burst.1 (c.in_ok-action-2.ensures.step _ c.loop-out.invariant.1.burst.1)),
+      (
+        _,
+        more-ran _ (g.D.TimedDevice.heard c.loop-out.device) _ _ _ _ _ _ _ _ _ c.loop-out.invariant.5.1
+            c.done-event.ensures.called.1
+            (turn-of _ _ _ _ _ _ c.done-event.ensures.called.2 on c.done-event.ensures.called.3
+            c.done-event.ensures.called.4 c.loop-out.invariant.1.burst.1
+            (c.in_ok-action-2.ensures.step _ c.loop-out.invariant.1.burst.1)),
+      ),
+    )
+
+pub returns-clause-run : goal.returns-clause-run
+returns-clause-run g c =
+    let off : goes c.loop-out.action ≡ false = search rules in
+    let ran = c.loop-out.invariant.5 in (
+      c.loop-out.own,
+      c.loop-out.out,
+      ran.0,
+      ran.1,
+      λ fault. ran-run _ _ _ c.args.line.now _ c.args.limits _ _ ran.1 off fault,
     )
