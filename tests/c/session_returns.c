@@ -285,6 +285,46 @@ static void card_hears_itself(bool has_clock, unsigned blocks)
     CHECK(scard_card_session_serve(&card).kind == SCARD_SESSION_ECHO && acted == 1 && line.blocks == 1 + blocks);
 }
 
+/* A terminal may ask three times for the card's R-block, and three times more because its next I-block is lost. Each
+ * time it sends the octets of that R-block. That is no echo.
+ */
+static unsigned asks, came;
+
+static int chain_receives(void *context, uint8_t *octets, size_t room, uint64_t microseconds)
+{
+    static const uint8_t chained[] = {0x00, 0x20, 0x04, 0x00, 0xB0, 0x00, 0x00, 0x94};
+    static const uint8_t again[] = {0x00, 0x90, 0x00, 0x90}, rest[] = {0x00, 0x40, 0x01, 0x02, 0x43};
+    const uint8_t *block = came == 0 ? chained : came <= asks ? again : rest;
+    const size_t count = came == 0 ? sizeof chained : came <= asks ? sizeof again : sizeof rest;
+    (void)context;
+    if (microseconds != SCARD_LINE_FOREVER) {
+        return 0;
+    }
+    CHECK(count <= room);
+    memcpy(octets, block, count);
+    return came++ <= asks + 1 ? (int)count : -1;
+}
+
+static struct scard_turn asked_for_r_block(unsigned times)
+{
+    static struct scard_card_session card;
+    struct scard_setup setup = wired_setup(&wired, 1);
+    memset(&line, 0, sizeof line);
+    setup.line.send = sends;
+    setup.line.receive = chain_receives;
+    setup.line.now = NULL;
+    acted = came = 0;
+    asks = times;
+    CHECK(scard_card_session_begin(&card, &setup, &host).status == SCARD_OK);
+    return scard_card_session_serve(&card);
+}
+
+static void asked_often(void)
+{
+    CHECK(asked_for_r_block(6).kind == SCARD_SESSION_FAILED && acted == 1 && line.blocks == 8);
+    CHECK(asked_for_r_block(SCARD_MOST_ECHOES).kind == SCARD_SESSION_ECHO && acted == 0);
+}
+
 /* A terminal may rightly send the octets of the card's answer as its next command. Without a clock the card asks for it
  * again. After a command of two blocks the numbers of both ends are the same.
  */
@@ -319,7 +359,8 @@ int main(void)
     same_r_block(steps, 0);
     others();
     card_hears_itself(true, 1);
-    card_hears_itself(false, 5);
+    card_hears_itself(false, SCARD_MOST_ECHOES);
+    asked_often();
     same_command(true);
     same_command(false);
     return verdict_of_checks("session_returns");

@@ -330,9 +330,11 @@ is_echo r p octets block =
     not r.has_echo && (nat_lt 0 (length block) && (starts_with nat_eq octets block
     && not (is_info octets && is_in_time p.began_at)))
 
--- so many echoes in a row are no chance
+-- So many echoes in a row are no chance. A terminal asks at most three times for a block (11.6.3.2 rule 7.4). So a card
+-- can hear six R-blocks like its own last one with nothing between: three until its R-block arrives, and three because
+-- the next I-block is lost.
 abbrev pub most_echoes : ℕ
-most_echoes = 5
+most_echoes = 8
 
 abbrev pub echoes_after : Bool → Doing → ℕ
 echoes_after true p = min (p.echoes + 1) most_echoes

@@ -14,7 +14,7 @@ use crate::sending::{MOST_NOISE, begin_with};
 use line_core::Framer;
 
 /// So many echoes in a row are no chance.
-const MOST_ECHOES: u8 = 5;
+const MOST_ECHOES: u8 = 8;
 
 /// PCBs below are of I-blocks (ISO/IEC 7816-3, clause 11.3.2.2).
 const FIRST_NOT_INFO: u8 = 0x80;
