@@ -6433,7 +6433,7 @@ after3:;
     v4 = v0 + 82ull;
     p106 = held(m, v4, 1);
     v8 = held8(p106, 0, m, v4) + 1u;
-    put_held8(p106, 0, m, v4, (v8 < 5u) ? v8 : 5u);
+    put_held8(p106, 0, m, v4, (v8 < 8u) ? v8 : 8u);
     v8 = (v8 < 255u) ? v8 : 255u;
     if ((v7 & 255u) != 1u) { goto after11; }
     if (v6 < 2ull) { goto after1; }
@@ -6445,11 +6445,11 @@ after11:;
     if (v6 < 2ull) { goto after9; }
     v7 = load8(m, v2 + 9ull, 0);
 after10:;
-    if ((v8 & 255u) > 4u) { goto after1; }
+    if ((v8 & 255u) > 7u) { goto after1; }
     if ((v7 & 255u) > 191u) { goto after1; }
     goto after8;
 after9:;
-    if ((v8 & 255u) >= 5u) { goto after1; }
+    if ((v8 & 255u) >= 8u) { goto after1; }
 after8:;
     v7 = 1u;
 after2:;

@@ -1195,14 +1195,16 @@ struct scard_line_next {
  *   Both ends may rightly send the same R-block one after the other, so an R-block also needs a sending that took about
  *   as long as its octets take: the clock then isn't too coarse to tell.
  * - It is an S-block. No end answers with the S-block that it got.
- * - It is the fifth echo in a row. No end repeats a block as often.
+ * - It is the eighth echo in a row. A terminal asks at most three times for a block (clause 11.6.3.2, rule 7.4), so a
+ *   card hears at most six R-blocks like its own last one with nothing between: three until its R-block arrives, and
+ *   three because the next I-block is lost.
  *
  * If the time of an I-block says nothing, the end gets it as a damaged block, and asks for it again by an R-block. A
  * card that rightly answers with the octets of the command sends them again. A line with an echo returns the R-block.
  * The time says nothing without a clock, on a line that delivers whole bursts, and if the sending ended so late that
  * the octets may be an echo, or may not.
  */
-#define SCARD_MOST_ECHOES 5
+#define SCARD_MOST_ECHOES 8
 
 /* Begins a line at a reset of the card. The struct may hold anything before, and the rules may have any values. */
 void scard_lent_line_begin(struct scard_lent_line *line, const struct scard_lent_line_rules *rules);
