@@ -72,7 +72,8 @@ then-talk t0 n0 spoken sent t octets arrival e reach = record {
       ∙ ap (λ (s : List Spoken). s ++ (record { sent = octets; arrival = arrival }) ∷ []) reach.are;
   on = λ most rest ending left runs.
       let longer : Runs (most + 1 - 1) (next_after t arrival) (left_after t arrival) rest ending left =
-      subst (λ (n : ℕ). Runs n (next_after t arrival) (left_after t arrival) rest ending left) (sym (one-more most)) runs
+      subst (λ (n : ℕ). Runs n (next_after t arrival) (left_after t arrival) rest ending left) (sym (one-more most))
+      runs
       in
       let all_of = reach.on (most + 1) (talk-of sent octets arrival ∷ rest) ending left (omega arith, (e, refl), longer)
       in (
