@@ -124,5 +124,5 @@ def page_of(names):
     lines, names = [HEAD], [it for it in names if (folder_of(it) / "specs/Lib.antt").exists()]
     for name in names:
         rows = [row_of(name, file) for file in files_of(name)]
-        lines += [f"## {name}\n", "| File | Lines | Clauses | What it says |", "|---|---|---|---|", *rows, ""]
+        lines += [f"## {name}", "| File | Lines | Clauses | What it says |", "|---|---|---|---|", *rows, ""]
     return "\n".join([*lines, KEPT + "\n".join(kept_row(*it) for it in kept_of(names)), ""])
