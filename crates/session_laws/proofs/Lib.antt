@@ -4,3 +4,7 @@ pub mod Times
 pub mod Waits
 pub mod Runs
 pub mod Links
+pub mod Phases
+pub mod Services
+pub mod Served
+pub mod Refusals

@@ -1,3 +1,4 @@
 pub mod Ending
 pub mod Running
 pub mod Talking
+pub mod Serving

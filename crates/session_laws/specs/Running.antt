@@ -1,7 +1,8 @@
 -- What a loop over the steps of a terminal's session does: each action becomes a call of the device, and its result is
 -- the next event.
-use Rattle.std.specs.Prelude.{◌≡◌, ℕ, List, [], ◌∷◌, ◌++◌, take, true, Ok}
-use Rattle.t1_core.specs.Terminal.{TerminalState, transmit}
+use Rattle.std.specs.Prelude.{◌≡◌, ℕ, List, [], ◌∷◌, ◌++◌, take, true, Ok, Err}
+use Rattle.t1_core.specs.Terminal.{TerminalState, transmit, terminal_turn, turn_of}
+use Rattle.t1_core.specs.declared.turns.TerminalFault.{TerminalFault}
 use Rattle.line_core.specs.Timed.{Sound, Sounds, came, deaf, said, unsaid}
 use Rattle.line_core.specs.Bursts.{HasHeard}
 use Rattle.session_core.specs.declared.lines.Line.{Line}
@@ -93,3 +94,16 @@ pub record Ran {A : Type 0} (old new : A → List Sound → Type 0) (terminal : 
 abbrev pub standing : TerminalState → Line → ℕ → List ℕ → Action → Standing
 standing terminal line own out next =
     record { terminal = terminal; line = line; own = own; out = out; next = next }
+
+-- The terminal refused the command, or what came: after these calls of the device.
+pub data IsRefused (terminal : TerminalState) (line : Line) (octets : List ℕ) (limits : Limits) (fault : TerminalFault)
+    : List Sound → Type 0 where
+  command_refused : turn_of (terminal_turn terminal (transmit octets)) ≡ Err fault
+      → IsRefused terminal line octets limits fault []
+  burst_refused : (first : Standing) (sounds : List Sound) (spoken : List Spoken) (before : Standing) (sound : Sound)
+      (burst : List ℕ) (after : TerminalState) (line_after : Line) (own : ℕ) (out : List ℕ)
+      → IsBegun terminal line octets limits first → Turns first sounds spoken before
+      → IsAsked before.next before.out sound → HasHeard before.line.framer burst
+      → IsStepped (step_by before sound burst).next (step_by before sound burst) before.line.rules before.terminal 0
+      after line_after before.own own before.out out (Err fault)
+      → IsRefused terminal line octets limits fault (sounds ++ sound ∷ [])

@@ -1,7 +1,7 @@
 use Rattle.std.proofs.Common.{rules, refl}
 use Rattle.line_core.specs.Timed.{came, deaf, said, unsaid}
 use Rattle.session_laws.proofs.Runs.{said-asked, unsaid-asked, came-asked, deaf-asked, came-event, some-octets, none-came}
-use Rattle.session_laws.proofs.done.Goals as goal
+use Rattle.session_laws.proofs.device.done.Goals as goal
 
 pub returns-in-Ok-clause-called : goal.returns-in-Ok-clause-called
 returns-in-Ok-clause-called g c = (said _, c.in-Ok.ensures, said-asked _ _ _ _ c.in-Send.is (search rules), refl, refl)

@@ -1,10 +1,14 @@
-use Rattle.std.proofs.Common.{rules, [], false, ◌≡◌, ◌+◌, true}
+use Rattle.std.proofs.Common.{rules, [], false, ◌≡◌, ◌+◌, true, Ok, Err}
+use Rattle.std.proofs.lemmas.Result.{err_from_is_err_and}
+use Rattle.t1_core.specs.Views.{terminal_held}
 use Rattle.session_laws.specs.Ending.{goes, sends}
+use Rattle.session_laws.specs.Running.{standing}
 use Rattle.session_laws.proofs.Sessions.{begun-within, stepped-within, front-fits, front-short}
-use Rattle.session_laws.proofs.Runs.{begun-ran, more-ran, turn-of}
+use Rattle.session_laws.proofs.Runs.{no-sounds, begun-ran, more-ran, turn-of}
+use Rattle.session_laws.proofs.Refusals.{command-refused, burst-refused, step-of}
 use Rattle.session_laws.proofs.Links.{ran-run}
 use Rattle.session_laws.proofs.Waits.{begun-waited, stepped-waited}
-use Rattle.session_laws.proofs.exchange_ends.Goals as goal
+use Rattle.session_laws.proofs.exchanging.exchange_ends.Goals as goal
 
 pub loop-out-init : goal.loop-out-init
 loop-out-init g c = (
@@ -75,3 +79,27 @@ returns-clause-run g c =
       ran.1,
       λ fault. ran-run _ _ _ c.args.line.now _ c.args.limits _ _ ran.1 off fault,
     )
+
+pub returns-in_err-action-clause-refused : goal.returns-in_err-action-clause-refused
+returns-in_err-action-clause-refused g c =
+    let p = err_from_is_err_and c.from_residual.result c.from_residual.ensures.1 in
+    rw (p.1, p.2) (
+      [],
+      no-sounds (g.D.TimedDevice.heard c.args.device.now),
+      command-refused _ _ _ _ _ _ _ _ _ _ _ _ _ (c.in_err-action.ensures.turn _ c.requires.burst.1),
+    )
+
+pub returns-in_err-action-2-clause-refused : goal.returns-in_err-action-2-clause-refused
+returns-in_err-action-2-clause-refused g c =
+    let (sound, adds, asked_for, event, octets) = c.done-event.ensures.called in
+    let burst = c.loop-out.invariant.1.burst in
+    let before = standing (terminal_held c.loop-out.«end» c.exchange.new.command c.loop-out.answer) c.loop-out.line
+    c.loop-out.own c.loop-out.out c.loop-out.action in
+    let after = terminal_held c.step.new.«end» c.exchange.new.command c.step.new.answer in
+    let p = err_from_is_err_and c.from_residual-in_err-action-2.result c.from_residual-in_err-action-2.ensures.1 in
+    rw (p.1, p.2) (burst-refused (g.D.TimedDevice.heard c.args.device.now) (g.D.TimedDevice.heard c.loop-out.device)
+    (g.D.TimedDevice.heard c.done-event.new.device) _ _ _ _ _ _ before sound burst.0 after c.step.new.line
+    c.step.new.own
+    c.step.new.out c.loop-out.invariant.5.1 adds asked_for burst.1
+    (step-of before sound _ _ burst.0 after c.step.new.line c.step.new.own c.step.new.out _ event octets
+    (c.in_err-action-2.ensures.step burst.0 burst.1)))

@@ -3,7 +3,7 @@ use Rattle.t1_core.specs.Views.{terminal_held, IsLentTerminal}
 use Rattle.session_laws.specs.Talking.{Spoken}
 use Rattle.session_laws.specs.Running.{Ran, standing}
 use Rattle.session_laws.specs.Ending.{IsWithin, HasWaited, is_limited, fuel}
-use Rattle.session_laws.proofs.exchange_ends.Given as goal
+use Rattle.session_laws.proofs.exchanging.exchange_ends.Given as goal
 
 abbrev pub invariant-loop-out : goal.invariant-loop-out
 invariant-loop-out g l =

@@ -1,0 +1,176 @@
+-- The turns of a card's loop, from what its calls ensure.
+use Rattle.std.proofs.Common.{◌≡◌, ℕ, List, [], ◌∷◌, ◌++◌, take, false, Option, Some, Result, Ok, Err, refl, sym, subst}
+use Rattle.std.proofs.lemmas.List.{append-nil, append_assoc}
+use Rattle.t1_core.specs.Card.{CardState, CardInput, replies, card_turn, turn_of}
+use Rattle.t1_core.specs.CardViews.{owed}
+use Rattle.t1_core.specs.Put.{IsCardPut}
+use Rattle.t1_core.specs.declared.turns.CardTurn.{CardTurn}
+use Rattle.t1_core.specs.declared.turns.CardTurn.TheVariants as own_turn
+use Rattle.t1_core.specs.declared.turns.EncodedCardTurn.{EncodedCardTurn}
+use Rattle.t1_core.specs.declared.turns.EncodedCardTurn.TheVariants as put
+use Rattle.t1_core.specs.declared.turns.CardFault.{CardFault}
+use Rattle.line_core.specs.Bursts.{HasHeard}
+use Rattle.line_core.specs.Timed.{Sound, Sounds}
+use Rattle.line_core.specs.Service.{Event, asked, is_short, Happens, asks}
+use Rattle.session_core.specs.declared.progress.Rules.{Rules}
+use Rattle.session_core.specs.declared.lines.Line.{Line}
+use Rattle.session_core.specs.declared.lines.Start.TheVariants.{Exchange}
+use Rattle.session_core.specs.declared.action.Action.{Action}
+use Rattle.session_core.specs.declared.action.Action.TheVariants as action
+use Rattle.session_core.specs.Wire.{ruled, seen}
+use Rattle.session_core.specs.Wire as wire
+use Rattle.session_core.specs.Lines.{stepped}
+use Rattle.session_core.specs.Cards.{TurnsTo, AfterTurn, IsStepped}
+use Rattle.session_laws.specs.Running.{IsAsked, event_of, octets_of}
+use Rattle.session_laws.specs.Serving.{Placed, step_by, events_by, IsLineTurn, IsHostTurn, none, by_line, by_host, IsBegun, Ran, IsDoing, IsRefused, burst_refused, reply_refused, Stopped}
+use Rattle.session_laws.proofs.Runs.{no-sounds, then-sounds}
+use Rattle.session_laws.proofs.Services.{IsAt, ran-at}
+
+pub no-acts : {A : Type 0} (served : A → List Event → Type 0) → Happens served served []
+no-acts served first before h = subst (served first) (sym (append-nil before)) h
+
+pub then-acts : {A : Type 0} (old now new : A → List Event → Type 0) (acts after : List Event)
+    → Happens old now acts → Happens now new after → Happens old new (acts ++ after)
+then-acts old now new acts after f g first before h =
+    subst (new first) (append_assoc before acts after) (g first (before ++ acts) (f first before h))
+
+pub begun-ran : {A B : Type 0} (heard : A → List Sound → Type 0) (served : B → List Event → Type 0)
+    (card : CardState) (line : Line) (first : Placed) → IsBegun card line first
+    → Ran heard heard served served card line [] first
+begun-ran heard served card line first begun = record {
+  first = first;
+  begun = begun;
+  sounds = [];
+  adds = no-sounds heard;
+  acts = [];
+  acted = no-acts served;
+  turns = none;
+}
+
+-- what the line makes of an event with this number and these octets
+abbrev pub IsSteppedBy : Placed → ℕ → List ℕ → List ℕ → CardState → Line → ℕ → ℕ → List ℕ → Result Action CardFault
+    → Type 0
+IsSteppedBy before event octets burst card line granted own out result =
+    IsStepped (stepped event (ruled before.line.rules) (seen before.line.progress) burst octets 0
+    (take before.own before.out)).next
+    (stepped event (ruled before.line.rules) (seen before.line.progress) burst octets 0 (take before.own before.out))
+    before.line.rules before.card false before.granted granted 0 card line before.own own before.out out result
+
+pub step-of : (before : Placed) (sound : Sound) (event : ℕ) (octets burst : List ℕ) (card : CardState) (line : Line)
+    (granted own : ℕ) (out : List ℕ) (result : Result Action CardFault) → event ≡ event_of sound
+    → octets ≡ octets_of sound → IsSteppedBy before event octets burst card line granted own out result
+    → IsSteppedBy before (event_of sound) (octets_of sound) burst card line granted own out result
+step-of before sound event octets burst card line granted own out result is same h =
+    subst (λ (o : List ℕ). IsSteppedBy before (event_of sound) o burst card line granted own out result) same
+    (subst (λ (n : ℕ). IsSteppedBy before n octets burst card line granted own out result) is h)
+
+pub line-ran : {A B : Type 0} (old now new : A → List Sound → Type 0) (before_host host : B → List Event → Type 0)
+    (card : CardState) (line : Line) (events : List Event) (before : Placed) (sound : Sound) (after : Placed)
+    → Ran old now before_host host card line events before → Sounds now new (sound ∷ [])
+    → (turn : IsLineTurn before sound after)
+    → Ran old new before_host host card line (events ++ events_by before sound turn.burst) after
+line-ran old now new before_host host card line events before sound after ran adds turn = record {
+  first = ran.first;
+  begun = ran.begun;
+  sounds = ran.sounds ++ sound ∷ [];
+  adds = then-sounds old now new ran.sounds (sound ∷ []) ran.adds adds;
+  acts = ran.acts;
+  acted = ran.acted;
+  turns = by_line ran.sounds events ran.acts before sound after ran.turns turn;
+}
+
+pub host-ran : {A B : Type 0} (old new : A → List Sound → Type 0)
+    (before_host host after_host : B → List Event → Type 0) (card : CardState) (line : Line) (events : List Event)
+    (before : Placed) (command answer : List ℕ) (after : Placed)
+    → Ran old new before_host host card line events before
+    → Happens host after_host (asked command answer ∷ []) → IsHostTurn before command answer after
+    → Ran old new before_host after_host card line (events ++ asked command answer ∷ []) after
+host-ran old new before_host host after_host card line events before command answer after ran acted turn = record {
+  first = ran.first;
+  begun = ran.begun;
+  sounds = ran.sounds;
+  adds = ran.adds;
+  acts = ran.acts ++ asked command answer ∷ [];
+  acted = then-acts before_host host after_host ran.acts (asked command answer ∷ []) ran.acted acted;
+  turns = by_host ran.sounds events ran.acts before command answer after ran.turns turn;
+}
+
+-- a host that is asked owes the reply to its command
+pub owes-command : (c0 : CardState) (events : List Event) (s : Placed) (count : ℕ) → IsAt c0 events s
+    → s.next ≡ action.Asked count → owed s.card s.card.waits ≡ Some s.card.command
+owes-command c0 events s count at is =
+    let asked_for : IsDoing (action.Asked count) s at.served.doing =
+    subst (λ (a : Action). IsDoing a s at.served.doing) is at.served.is in
+    asked_for.1
+
+-- ---- a refusal
+
+pub line-stopped : {A B : Type 0} (old now new : A → List Sound → Type 0)
+    (before_host host : B → List Event → Type 0) (card : CardState) (line : Line) (fault : CardFault)
+    (events : List Event) (before : Placed) (sound : Sound) (burst : List ℕ) (granted own : ℕ) (out : List ℕ)
+    (card_after : CardState) (line_after : Line) → Ran old now before_host host card line events before
+    → Sounds now new (sound ∷ []) → IsAsked before.next before.out sound → HasHeard before.line.framer burst
+    → IsSteppedBy before (event_of sound) (octets_of sound) burst card_after line_after granted own out (Err fault)
+    → Stopped old new before_host host card line fault
+line-stopped old now new before_host host card line fault events before sound burst granted own out card_after
+    line_after ran adds asked_for heard stepped_so = record {
+      first = ran.first;
+      begun = ran.begun;
+      sounds = ran.sounds;
+      events = events;
+      acts = ran.acts;
+      before = before;
+      turns = ran.turns;
+      last_sounds = sound ∷ [];
+      last_acts = [];
+      refused = burst_refused sound burst granted own out card_after line_after asked_for heard stepped_so;
+      adds = then-sounds old now new ran.sounds (sound ∷ []) ran.adds adds;
+      acted = subst (λ (acts : List Event). Happens before_host host acts) (sym (append-nil ran.acts)) ran.acted;
+    }
+
+pub err-same : (a b : CardFault) (x : Result Action CardFault) → x ≡ Err a → x ≡ Err b → a ≡ b
+err-same a b x e f = cc
+
+pub refused-by : (turn : Result CardTurn CardFault) (acted : Result EncodedCardTurn CardFault) (command : ℕ)
+    (rules : Rules) (p : wire.Doing) (burst out out_after : List ℕ) (line : Line) (own own_after : ℕ)
+    (fault : CardFault) → IsCardPut turn out out_after acted
+    → AfterTurn acted command Exchange rules p burst 0 line own own_after (Err fault) → turn ≡ Err fault
+refused-by (Ok (own_turn.Send block)) acted command rules p burst out out_after line own own_after fault
+    (count, is, placed) after =
+    let now_after = subst (λ (x : Result EncodedCardTurn CardFault).
+    AfterTurn x command Exchange rules p burst 0 line own own_after (Err fault)) is after in
+    let bad : Err fault ≡ Ok now_after.0 = now_after.1 in cc
+refused-by (Ok own_turn.Asked) acted command rules p burst out out_after line own own_after fault (is, kept) after =
+    let now_after = subst (λ (x : Result EncodedCardTurn CardFault).
+    AfterTurn x command Exchange rules p burst 0 line own own_after (Err fault)) is after in
+    let bad : Err fault ≡ Ok now_after.0 = now_after.1 in cc
+refused-by (Err inner) acted command rules p burst out out_after line own own_after fault (is, kept) after =
+    let now_after = subst (λ (x : Result EncodedCardTurn CardFault).
+    AfterTurn x command Exchange rules p burst 0 line own own_after (Err fault)) is after in
+    rw (err-same fault inner (Err fault) refl now_after.0) refl
+
+pub host-stopped : {A B : Type 0} (old new : A → List Sound → Type 0)
+    (before_host host after_host : B → List Event → Type 0) (card : CardState) (line : Line) (fault : CardFault)
+    (events : List Event) (before : Placed) (answer burst : List ℕ) (own : ℕ) (out : List ℕ) (card_after : CardState)
+    (line_after : Line) → Ran old new before_host host card line events before
+    → Happens host after_host (asked before.card.command answer ∷ [])
+    → TurnsTo before.card (replies answer) Exchange before.line.rules (seen before.line.progress) burst 0 card_after
+    line_after before.own own before.out out (Err fault)
+    → Stopped old new before_host after_host card line fault
+host-stopped old new before_host host after_host card line fault events before answer burst own out card_after
+    line_after ran acted turns = record {
+      first = ran.first;
+      begun = ran.begun;
+      sounds = ran.sounds;
+      events = events;
+      acts = ran.acts;
+      before = before;
+      turns = ran.turns;
+      last_sounds = [];
+      last_acts = asked before.card.command answer ∷ [];
+      refused = reply_refused answer
+          (refused-by (turn_of (card_turn before.card (replies answer))) turns.acted _ _ _ _ _ _ _ _ _ fault turns.put
+          turns.after);
+      adds = subst (λ (sounds : List Sound). Sounds old new sounds) (sym (append-nil ran.sounds)) ran.adds;
+      acted = then-acts before_host host after_host ran.acts (asked before.card.command answer ∷ []) ran.acted acted;
+    }

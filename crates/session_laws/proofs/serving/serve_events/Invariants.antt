@@ -1,0 +1,17 @@
+use Rattle.std.proofs.Common.{◌≡◌, ◌≤◌, List, ℕ, length}
+use Rattle.t1_core.specs.CardViews.{card_held, IsLentCard}
+use Rattle.line_core.specs.Service.{Event}
+use Rattle.session_laws.specs.Serving.{Ran, placed}
+use Rattle.session_laws.proofs.serving.serve_events.Given as goal
+
+abbrev pub invariant-loop-left : goal.invariant-loop-left
+invariant-loop-left g l =
+    IsLentCard l.«end» (length l.command) (length l.reply)
+    × (length l.out ≡ 258)
+    × (1 ≤ length l.room)
+    × ((events : List Event) × Ran (g.D.TimedDevice.heard l.fn.device) (g.D.TimedDevice.heard l.device)
+    (g.H.Host.served l.fn.host) (g.H.Host.served l.host) (card_held l.fn.«end» l.fn.command l.fn.reply) l.fn.line events
+    (placed (card_held l.«end» l.command l.reply) l.line l.granted l.own l.out l.action))
+
+abbrev pub decreases-loop-left : goal.decreases-loop-left
+decreases-loop-left g l = l.left

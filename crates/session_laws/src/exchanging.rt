@@ -1,0 +1,121 @@
+//! The loop of a terminal.
+
+ghost use Rattle.std.specs.Prelude.{◌≡◌, ◌≤◌, ℕ, List, length, true, false, IfOk, IfErr};
+ghost use Rattle.t1_core.specs.Views.{terminal_held, IsLentTerminal};
+ghost use Rattle.session_core.specs.Wire.{is_set};
+ghost use Rattle.session_laws.specs.Ending.{HasBurst, goes, sends, waited_by, is_limited};
+ghost use Rattle.std.specs.declared.io.Error.{Error};
+ghost use Rattle.line_core.specs.Timed.{Sound, Sounds};
+ghost use Rattle.session_laws.specs.Talking.{Spoken, IsRun, ending_by};
+ghost use Rattle.session_laws.specs.Running.{Ran, IsRefused, standing};
+
+use crate::device::{LONGEST_BLOCK, SILENT, done};
+use line_core::TimedDevice;
+use session_core::terminal::{self, step};
+use session_core::{Action, Limits, Line};
+use t1_core::{LentTerminal, TerminalFault};
+
+/// How an exchange ended.
+#[derive(Clone, Copy, Debug)]
+pub struct Ended {
+    /// The last action: how the exchange ended.
+    pub action: Action,
+    /// How many blocks the terminal sent.
+    pub blocks: u32,
+    /// How long it waited in silences that were as long as it asked for, in microseconds, or the greatest number if that
+    /// is more.
+    pub waited: u64,
+}
+
+/// Whether the session goes on after this action.
+fn goes(action: &Action) -> bool
+    ensures { result ≡ goes action.now }
+{
+    matches!(action, Action::Send(_) | Action::Wait(_))
+}
+
+/// Returns how many blocks are sent by this action.
+fn sends(action: &Action) -> u32
+    ensures { result ≡ sends action.now }
+{
+    match action {
+        Action::Send(_) => 1,
+        _ => 0,
+    }
+}
+
+/// Returns how long the terminal has waited by this event after this action.
+fn waited(event: u8, action: &Action) -> u64
+    ensures { result ≡ waited_by event action.now }
+{
+    match action {
+        Action::Wait(time) if event == SILENT => *time,
+        _ => 0,
+    }
+}
+
+/// Exchanges a command for its answer over a device: does what each action says, and passes the result to the session.
+///
+/// This always returns. The terminal sends at most as many blocks as its limit permits. The silences for which it waited
+/// in full are together no longer than its limit of time, which the waits themselves count, since a device has no clock.
+/// What comes is put into `room` first. The answer is at the front of `answer` if the last action is
+/// [`Action::Answered`].
+pub fn exchange_ends<D: TimedDevice>(
+    end: &mut LentTerminal,
+    line: &mut Line,
+    limits: Limits,
+    command: &mut [u8],
+    answer: &mut [u8],
+    octets: &[u8],
+    device: &mut D,
+    room: &mut [u8],
+) -> Result<Ended, TerminalFault>
+    requires fit { IsLentTerminal end.old (length command.old) (length answer.old) }
+    requires terminal { is_set line.old.rules.is_card ≡ false }
+    requires clock { is_set line.old.rules.has_clock ≡ false }
+    requires burst { HasBurst line.old }
+    requires room { 1 ≤ length room.old }
+    ensures fit { IsLentTerminal end.new (length command.new) (length answer.new) }
+    ensures again { IfOk result (λ _. (is_set line.new.rules.is_card ≡ false) × HasBurst line.new) }
+    ensures few { IfOk result (λ ended. ended.blocks ≤ limits.blocks) }
+    ensures soon { is_limited limits.time → IfOk result (λ ended. ended.waited ≤ limits.time) }
+    ensures run { IfOk result (λ ended. (own : ℕ) × (out : List ℕ) × (spoken : List Spoken)
+        × Ran (D.heard device.old) (D.heard device.new) (terminal_held end.old command.old answer.old) line.old
+        octets.now limits spoken
+        (standing (terminal_held end.new command.new answer.new) line.new own out ended.action)
+        × ((fault : Error) → IsRun (terminal_held end.old command.old answer.old) octets.now spoken
+        (ending_by fault ended.action) (terminal_held end.new command.new answer.new))) }
+    ensures over { IfOk result (λ ended. goes ended.action ≡ false) }
+    ensures refused { IfErr result (λ fault. (sounds : List Sound)
+        × Sounds (D.heard device.old) (D.heard device.new) sounds
+        × IsRefused (terminal_held end.old command.old answer.old) line.old octets.now limits fault sounds) }
+{
+    let mut out = [0; LONGEST_BLOCK];
+    let mut own = 0;
+    let mut blocks: u32 = 0;
+    let mut time: u64 = 0;
+    let mut action = terminal::exchange(
+        end, line, &mut own, limits, command, answer, octets, 0, &mut out,
+    )?;
+    while goes(&action) {
+        let (event, count) = done(&action, device, &out, room);
+        blocks += sends(&action);
+        time = time.saturating_add(waited(event, &action));
+        action = step(
+            end,
+            line,
+            &mut own,
+            command,
+            answer,
+            event,
+            &room[..count],
+            0,
+            &mut out,
+        )?;
+    }
+    Ok(Ended {
+        action,
+        blocks,
+        waited: time,
+    })
+}

@@ -1,0 +1,120 @@
+//! The loop of a card.
+
+ghost use Rattle.std.specs.Prelude.{◌≡◌, ◌≤◌, ℕ, List, [], ◌∷◌, length, IfOk, IfErr, Some};
+ghost use Rattle.t1_core.specs.Card.{replies};
+ghost use Rattle.t1_core.specs.CardViews.{card_held, IsLentCard, owed};
+ghost use Rattle.line_core.specs.Service.{Event, asked, Happens};
+ghost use Rattle.line_core.specs.Bursts.{HasHeard};
+ghost use Rattle.session_core.specs.declared.lines.Start.TheVariants.{Exchange};
+ghost use Rattle.session_core.specs.Wire.{seen};
+ghost use Rattle.session_core.specs.Cards.{TurnsTo};
+ghost use Rattle.session_laws.specs.Ending.{HasBurst};
+ghost use Rattle.session_laws.specs.Serving.{placed, lives, Ran, IsServed, Stopped};
+
+use crate::device::{LONGEST_BLOCK, SILENT, done};
+use line_core::{Host, TimedDevice};
+use session_core::card::{self, step};
+use session_core::{Action, Line};
+use t1_core::{CardFault, LentCard};
+
+/// Whether the session goes on after this action.
+fn lives(action: &Action) -> bool
+    ensures { result ≡ lives action.now }
+{
+    matches!(action, Action::Send(_) | Action::Wait(_) | Action::Asked(_))
+}
+
+/// Whether a wait without a limit is over, so no more comes.
+fn is_over(action: &Action, event: u8) -> bool {
+    event == SILENT && *action == Action::Wait(u64::MAX)
+}
+
+/// Serves what comes over a device to a card: does what each action says, and passes the result to the session. The host
+/// acts on each command.
+///
+/// This returns after `most` turns: calls of the device or of the host. It returns earlier if the device says that no
+/// more comes, or if the line failed, which the last action says. What comes is put into `room` first.
+pub fn serve_events<D: TimedDevice, H: Host>(
+    end: &mut LentCard,
+    line: &mut Line,
+    command: &mut [u8],
+    reply: &mut [u8],
+    device: &mut D,
+    host: &mut H,
+    room: &mut [u8],
+    most: usize,
+) -> Result<Action, CardFault>
+    requires fit { IsLentCard end.old (length command.old) (length reply.old) }
+    requires burst { HasBurst line.old }
+    requires room { 1 ≤ length room.old }
+    ensures fit { IsLentCard end.new (length command.new) (length reply.new) }
+    ensures again { IfOk result (λ _. HasBurst line.new) }
+    ensures run { IfOk result (λ action. (granted own : ℕ) × (out : List ℕ) × (events : List Event)
+        × Ran (D.heard device.old) (D.heard device.new) (H.served host.old) (H.served host.new)
+        (card_held end.old command.old reply.old) line.old events
+        (placed (card_held end.new command.new reply.new) line.new granted own out action)
+        × IsServed (card_held end.old command.old reply.old) events
+        (placed (card_held end.new command.new reply.new) line.new granted own out action)) }
+    ensures refused { IfErr result (λ fault.
+        Stopped (D.heard device.old) (D.heard device.new) (H.served host.old) (H.served host.new)
+        (card_held end.old command.old reply.old) line.old fault) }
+{
+    let mut out = [0; LONGEST_BLOCK];
+    let mut own = 0;
+    let mut granted = 0;
+    let mut left = most;
+    let mut action = card::serve(line, &mut own, 0);
+    while left > 0 && lives(&action) {
+        left -= 1;
+        if let Action::Asked(_) = action {
+            action = reply_to(end, line, &mut own, command, reply, host, &mut out)?;
+        } else {
+            let (event, count) = done(&action, device, &out, room);
+            if is_over(&action, event) {
+                left = 0;
+            }
+            action = step(
+                end,
+                line,
+                &mut own,
+                &mut granted,
+                false,
+                command,
+                reply,
+                event,
+                &room[..count],
+                0,
+                &mut out,
+            )?;
+        }
+    }
+    Ok(action)
+}
+
+/// Lets the host act on its command, and replies for it.
+fn reply_to<H: Host>(
+    end: &mut LentCard,
+    line: &mut Line,
+    own: &mut usize,
+    command: &[u8],
+    reply: &mut [u8],
+    host: &mut H,
+    out: &mut [u8],
+) -> Result<Action, CardFault>
+    requires room { 258 ≤ length out.old }
+    requires fit { IsLentCard end.old (length command.now) (length reply.old) }
+    requires owes { owed (card_held end.old command.now reply.old)
+        (card_held end.old command.now reply.old).waits
+        ≡ Some (card_held end.old command.now reply.old).command }
+    ensures fit { IsLentCard end.new (length command.now) (length reply.new) }
+    ensures replied { (answer : List ℕ)
+        × Happens (H.served host.old) (H.served host.new)
+        (asked (card_held end.old command.now reply.old).command answer ∷ [])
+        × ((burst : List ℕ) → HasHeard line.old.framer burst
+        → TurnsTo (card_held end.old command.now reply.old) (replies answer) Exchange line.old.rules
+        (seen line.old.progress) burst 0 (card_held end.new command.now reply.new) line.new own.old own.new out.old
+        out.new result) }
+{
+    host.act(end.command(command).unwrap_or(&[]));
+    card::reply(end, line, own, command, reply, host.reply(), 0, out)
+}
