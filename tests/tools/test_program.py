@@ -17,10 +17,13 @@ from copies import TOP, script
 
 EVERYWHERE = TOP / "tools/release/everywhere"
 sys.path[:0] = [str(EVERYWHERE), str(EVERYWHERE.parent / "translator")]
+import functions
 import parts
 import reading
 import retarget
 import wasm
+from bodies import Value
+from loops import ALL, Sum
 from wasm import Unfit
 
 I32, I64, F64 = 0x7F, 0x7E, 0x7C
@@ -98,6 +101,10 @@ class Body:
     def operand(self, takes, place):
         return get(POINTER) + access(LOADS[takes], place)
 
+    def beside(self, added):
+        """An address that is a sum of 64 bits."""
+        return get(WORDS) + b"\x42" + signed(added) + b"\x7C\xA7"
+
     def all(self):
         for first, second in ((0, 8), (8, 0), (16, 24)):
             for code, takes, gives in TWO:
@@ -109,6 +116,9 @@ class Body:
                     self.result(gives, self.operand(takes, first) + bytes([code]))
         for code, gives in LOADED:
             self.result(gives, get(POINTER) + access(code, 3))
+        for added in (8, -8, 600, 2000):
+            self.octets += self.beside(added + 1) + self.operand(I64, 8) + access(0x37, 40)
+            self.result(I64, self.beside(added) + access(0x29, 40))
         for code, takes in STORED:
             self.octets += const32(OUT + 8 * self.count + 1) + self.operand(takes, 8) + access(code, 0)
             self.count += 1
@@ -198,6 +208,15 @@ class Instructions(unittest.TestCase):
                 subprocess.run([*map(str, command)], check=True)
                 # each process begins with the same memory, so the first growth of each gives the same
                 self.assertEqual(served([folder / "served"], words), node, flags)
+
+
+class Addresses(unittest.TestCase):
+    def test_an_access_adds_small_numbers_itself(self):
+        last = functions.FIELD - 1
+        for number, offset, words in ((8, 3, "(u32)(v1), 11u"), (last, 0, f"(u32)(v1), {last}u"), (0, 3, "a, 3u"),
+                                      (last + 1, 0, "a, 0u"), (ALL - 8, 3, "a, 3u"), (8, 1 << 31, f"a, {1 << 31}u")):
+            self.assertEqual(functions.reached(Value("a", I32, sum=Sum({1: 1}, number)), offset), words)
+        self.assertEqual(functions.reached(Value("a", I32), 3), "a, 3u")
 
 
 class WithinTheModule(unittest.TestCase):

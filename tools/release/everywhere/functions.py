@@ -8,9 +8,13 @@ import re
 
 import bodies
 from bodies import BITS, LOADED, STORED, Value, value_of
+from loops import Sum
 from reading import F64_CONST, MEMORY_GROW, MEMORY_SIZE
-from wasm import GLOBAL_GET, GLOBAL_SET, I32, I64, I64_CONST, MEMORY_FILL
+from wasm import CODES, GLOBAL_GET, GLOBAL_SET, I32, I64, I64_CONST, MEMORY_FILL
 
+# An access adds numbers below this itself, in place of the address. An address that they lead past 2^32 then ends the
+# program. In the module it begins again at 0, in the last octets of the stack.
+FIELD = 1024
 LOAD_I64, STORE_I64, LOAD_F64, STORE_F64 = 0x29, 0x37, 0x2B, 0x39
 # the instructions on numbers with a point that the module may have: the type of the result, how many numbers it takes,
 # and the words in C
@@ -69,6 +73,11 @@ class Writer(bodies.Writer):
         words = dict(zip("ab", (it.part() for it in parts)))
         self.push(value_of(form.format(**words), kind, *parts))
 
+    def wrap(self, _):
+        """Makes an address of a number of 64 bits, and keeps the sum that it is."""
+        value = self.pop()
+        self.push(value_of(f"(u32){value.part()}", I32, value, sum=value.sum))
+
     def get_global(self, place):
         kind, _ = self.module.globals[place]
         self.push(Value(f"g{place}", kind, reads=True))
@@ -81,7 +90,7 @@ class Writer(bodies.Writer):
     def load(self, code, offset):
         kind, bits, spread = LOADED[code]
         address = self.pop()
-        text = f"load{bits}(m, {address.text}, {offset}u)"
+        text = f"load{bits}(m, {reached(address, offset)})"
         if spread and spread < BITS[kind]:
             text = f"spread{BITS[kind]}({text}, {spread})"
         elif kind == I64 and bits < 64:
@@ -93,7 +102,7 @@ class Writer(bodies.Writer):
         self.settle_reads()
         bits = STORED[code]
         text = value.text if (value.type == I64) == (bits == 64) else f"(u32){value.part()}"
-        self.say(f"store{bits}(m, {address.text}, {offset}u, {text});")
+        self.say(f"store{bits}(m, {reached(address, offset)}, {text});")
 
     def fill(self, _):
         count, value, to = self.pop(), self.pop(), self.pop()
@@ -101,7 +110,16 @@ class Writer(bodies.Writer):
         self.say(f"fill(m, {to.text}, {value.text}, {count.text});")
 
 
-OWN = {GLOBAL_GET: Writer.get_global, GLOBAL_SET: Writer.set_global, MEMORY_FILL: Writer.fill}
+OWN = {GLOBAL_GET: Writer.get_global, GLOBAL_SET: Writer.set_global, MEMORY_FILL: Writer.fill,
+       CODES["i32.wrap_i64"]: Writer.wrap}
+
+
+def reached(address, offset):
+    """The words in C for an address, and for the number that an access adds to it."""
+    total = address.sum
+    if total and 0 < total.number < FIELD and offset < 1 << 31:
+        return f"(u32)({Sum(total.parts).text()}), {offset + total.number}u"
+    return f"{address.text}, {offset}u"
 
 
 def head(function, name):
