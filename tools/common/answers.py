@@ -59,6 +59,8 @@ VERDICTS = (
 )
 # the form of the line of a finding, by its kind and a member that it has too
 LATE = "block {block} {end}: late, {after} microseconds after block {before}, permitted {permitted}  ({clause})"
+EARLY = LATE.replace("late", "early").replace("permitted", "permitted from", 1)
+UNWAITED = "{end}: no answer to block {before}, permitted if the terminal sent before its waiting time ended"
 KEPT = "terminal kept {terminal_kept} broken {terminal_broken}, card kept {card_kept} broken {card_broken}"
 FINDINGS = (
     ("rule", "never", "rule {rule}: never"),
@@ -68,6 +70,8 @@ FINDINGS = (
     ("pps", "kind", "pps F {F|reserved} D {D|reserved}"),
     ("neither", "line", "line {line}: neither PPS nor a block"),
     ("late", "block", LATE),
+    ("early", "block", EARLY),
+    ("unwaited", "before", UNWAITED),
     ("unseen", "block", "block {block} {end}: permitted if block {before} was damaged or lost unseen"),
     ("unseen", "before", "{end}: no answer to block {before}, permitted if that was lost unseen"),
 )
@@ -151,7 +155,8 @@ def judgment_lines(answer):
     if answer["verdict"] in ("ok", "unsure"):
         unseen = f", unseen {answer['unseen']}" if "unseen" in answer else ""
         return f"{text}{answer['verdict']} {blocks}{unseen}{damaged}\n"
-    ends = ": terminal {terminal}, card {card}, unseen {unseen}" + ", late {late}" * ("late" in answer)
+    times = "".join(f", {it} {answer[it]}" for it in ("late", "early") if it in answer)
+    ends = ": terminal {terminal}, card {card}, unseen {unseen}" + times
     return f"{text}{blocks}, {counted(answer['deviations'], 'deviation')}" + line_of(answer, ends + damaged)
 
 

@@ -147,13 +147,32 @@ def late(rows):
     return lines
 
 
+def spent(rng, row):
+    """Microseconds from the beginning of a row to that of the next one. Octets come 12 etu apart, and 22 etu are between
+    the last one and the next block. An etu has 104.17 microseconds."""
+    return 1_250 * len(row.octets) + rng.randrange(1_100, SOON) if row.is_block() else WAITED
+
+
+def moments(row, moment, lasts):
+    """The lines with the moment of a block, and perhaps with that of its last octet."""
+    until = [f"until {moment + 1_250 * (len(row.octets) - 1)}"] if lasts else []
+    return [f"at {moment}", *until] if row.is_block() else []
+
+
 def timed(rng, rows):
-    """Lines with the moment of each block."""
+    """Lines with the moment of each block, and of the last octets of some."""
     lines, moment = [], rng.randrange(1_000_000)
     for row in rows:
-        lines += [f"at {moment}", *told(row)] if row.is_block() else [row.word]
-        moment += rng.randrange(1_000, SOON) if row.is_block() else WAITED
+        lines += [*moments(row, moment, rng.random() < 0.3), *(told(row) if row.is_block() else [row.word])]
+        moment += spent(rng, row)
     return lines
+
+
+def flagged(row):
+    """A line that says how the block arrived. One that arrived damaged had an error of parity."""
+    if not row.is_block() or row.came in (None, row.octets):
+        return informed(row)
+    return [f"{row.word} {row.octets.hex()} parity"]
 
 
 def each(way):
@@ -191,6 +210,7 @@ CLASSES = {
     "damage alone, as arrived": (DAMAGED, each(arrived)),
     "ended early": (HARMED, ended_early),
     "timed": (HARMED, timed),
+    "errors of parity": (HARMED, each(flagged)),
     "without quiet": (HARMED, each(hasty)),
     "unseen": (HARMED, each(unseen)),
     "rough, unseen": (ROUGH, each(unseen)),

@@ -22,7 +22,7 @@ use Rattle.card_tool.specs.ExchangeTexts.{file_fault_text}
 use Rattle.card_tool.specs.Laid.{laid}
 use Rattle.card_tool.specs.FileNotes.{trace_note}
 use Rattle.card_tool.specs.Judged.{AreOf}
-use Rattle.card_tool.specs.JudgeTexts.{at_line, expected_words, faulty, judged, judged_status, on_text, refused, scope_of, unusable_in, used, IsJudgeNote, IsOffer, IsTextNote, JudgesText, JudgesTrace}
+use Rattle.card_tool.specs.JudgeTexts.{at_line, faulty, judged, judged_status, on_text, refused, scope_of, unusable_in, used, IsJudgeNote, IsOffer, IsTextNote, JudgesText, JudgesTrace}
 use Rattle.card_tool.specs.declared.judged.WithNote.{WithNote}
 use Rattle.card_tool.proofs.Simulations.{apart, if-ok, same-name}
 
@@ -101,7 +101,7 @@ module _ (offered : Offered) (judging : Judging) (file : List ℕ) (fault : Exch
   pub faulty-noted : {E : Type 0} (r : Result WithNote E) → Judges offered (scope_of judging) file (Err fault)
       → IfOk r (λ _. fault ≢ Memory)
       → IfOk r (AreOf (λ text stops. (text ≡ file_fault_text fault) × (stops ≡ status.Fault))
-      (λ note. note ≡ trace_note expected_words file fault))
+      (λ note. note ≡ trace_note file fault))
       → IfOk r (AreOf (JudgesText offered judging file) (IsTextNote offered judging file))
   faulty-noted (Ok made) told known h = (
     faulty fault told known h.0.0 h.0.1,

@@ -6,13 +6,14 @@ use Rattle.octet_core.specs.Octets.{AreOctets}
 use Rattle.atr_core.proofs.Goes as atr_goes
 use Rattle.atr_core.proofs.Unique.{one-accepted}
 use Rattle.exchange_text.specs.Text.{exchange_text}
-use Rattle.exchange_text.specs.declared.fault.ExchangeFault.{ExchangeFault}
 use Rattle.exchange_core.specs.Replay.{IsFound}
 use Rattle.exchange_core.proofs.Found.{verdict-found}
 use Rattle.traces.specs.Reading.{trace_of, UnlessMemory}
 use Rattle.traces.specs.Faults.{unfit_name}
 use Rattle.traces.specs.Recorded.{exchange_of}
 use Rattle.traces.specs.Unfit.{unfit_in}
+use Rattle.traces.specs.declared.reading.TraceFault.{TraceFault}
+use Rattle.traces.specs.declared.reading.TraceFault.TheVariants.{Text, Unfit as UnfitLine}
 use Rattle.traces.specs.declared.trace.Item.{Item}
 use Rattle.traces.specs.declared.unfit.Unfit.{Unfit}
 use Rattle.card_kinds.specs.Texts.{refused_as_text}
@@ -21,9 +22,8 @@ use Rattle.card_kinds.specs.declared.status.Status.TheVariants as status
 use Rattle.card_kinds.proofs.OneOf.{OneText, ended-by}
 use Rattle.card_tool.specs.ExchangeTexts.{file_fault_text}
 use Rattle.card_tool.specs.Files.{largest_file}
-use Rattle.card_tool.specs.FileNotes.{trace_note}
 use Rattle.card_tool.specs.Judged.{AreOf}
-use Rattle.card_tool.specs.RecordTexts.{IsItemsNote, IsRecordNote, Records, RecordsItems, expected_words, line_with, refused, unfit, unfit_text, whole}
+use Rattle.card_tool.specs.RecordTexts.{IsItemsNote, IsRecordNote, IsRefusedNote, Records, RecordsItems, RefusesText, line_with, refused, unfit, unfit_text, whole}
 use Rattle.card_tool.specs.SimulationTexts.{IsFile}
 use Rattle.card_tool.specs.declared.judged.WithNote.{WithNote}
 use Rattle.card_tool.proofs.Simulations.{apart, one-file, same-name, same-size, some-file}
@@ -88,11 +88,12 @@ module _ (atr file : List ℕ) (items : List Item) where
 pub recorded-once : (atr : List ℕ) → AreOctets atr → (file : List ℕ) → OneText (Records atr file)
 recorded-once atr octets file = go (trace_of file)
   where
-    go : (said : Result (List Item) ExchangeFault)
+    go : (said : Result (List Item) TraceFault)
         → OneText (λ text ended. MatchResult said (λ items. RecordsItems atr file items text ended)
-        (λ fault. (text ≡ file_fault_text fault) × (ended ≡ status.Fault)))
+        (λ fault. RefusesText fault text ended))
     go (Ok items) = items-once atr file items octets
-    go (Err fault) = ended-by (file_fault_text fault) status.Fault
+    go (Err (Text fault)) = ended-by (file_fault_text fault) status.Fault
+    go (Err (UnfitLine line why)) = ended-by (unfit_text line (unfit_name why)) status.Refused
 
 -- an answer and a note that are of items are of the text that was read as them
 pub of-items : (atr file : List ℕ) (items : List Item) (made : WithNote) → UnlessMemory (Ok items) (trace_of file)
@@ -100,8 +101,8 @@ pub of-items : (atr file : List ℕ) (items : List Item) (made : WithNote) → U
     → AreOf (Records atr file) (IsRecordNote atr file) made
 of-items atr file items made (inl memory) h = absurd (cc memory)
 of-items atr file items made (inr said) h =
-    subst (λ (r : Result (List Item) ExchangeFault). MatchResult r
+    subst (λ (r : Result (List Item) TraceFault). MatchResult r
     (λ items. RecordsItems atr file items made.answer.text made.answer.status)
-    (λ fault. (made.answer.text ≡ file_fault_text fault) × (made.answer.status ≡ status.Fault))
+    (λ fault. RefusesText fault made.answer.text made.answer.status)
     × IfOk made.note (λ note. MatchResult r (λ items. IsItemsNote atr file items (string_bytes note))
-    (λ fault. string_bytes note ≡ trace_note expected_words file fault))) said h
+    (λ fault. IsRefusedNote fault file (string_bytes note)))) said h

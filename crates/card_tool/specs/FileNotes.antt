@@ -120,18 +120,19 @@ expected text (Hex line) = octets_at text line
 expected text (Falls line) = codes "expected: a number that isn't below that of an earlier line at N"
 expected text Memory = []
 
--- what is expected in the line with a fault of a trace, with this text for wrong words
-abbrev pub expected_seen : List ℕ → List ℕ → ExchangeFault → List ℕ
-expected_seen words text (Word line) = words
-expected_seen words text (Hex line) = codes "expected: an even number of hexadecimal digits"
-expected_seen words text fault = expected text fault
+-- what is expected in the line with a fault of a trace
+abbrev pub expected_seen : List ℕ → ExchangeFault → List ℕ
+expected_seen text (Word line) = codes
+    "expected: t HEX or c HEX, with lost, parity or as HEX or not, quiet, reset, begins unknown, at N or until N"
+expected_seen text (Hex line) = codes "expected: none, or an even number of hexadecimal digits"
+expected_seen text fault = expected text fault
 
 -- the note on the first fault of a text: its line, and what is expected there
 abbrev pub fault_note : List ℕ → ExchangeFault → List ℕ
 fault_note text fault = line_text text (line_of fault) (expected text fault)
 
-abbrev pub trace_note : List ℕ → List ℕ → ExchangeFault → List ℕ
-trace_note words text fault = line_text text (line_of fault) (expected_seen words text fault)
+abbrev pub trace_note : List ℕ → ExchangeFault → List ℕ
+trace_note text fault = line_text text (line_of fault) (expected_seen text fault)
 
 -- ---- why an end differs from a line
 

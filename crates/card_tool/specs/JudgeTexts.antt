@@ -74,17 +74,12 @@ pub data JudgesTrace (atr : List ℕ) (judging : Judging) (file text : List ℕ)
 
 -- ---- notes
 
--- what is expected in a line with wrong words
-abbrev pub expected_words : List ℕ
-expected_words =
-    codes "expected: t HEX or c HEX, with lost or as HEX after it or not, quiet, reset, begins unknown, or at N"
-
 -- The note on a text: empty for a judgment, or on the line with its first fault.
 pub data IsTextNote (offered : Offered) (judging : Judging) (file note : List ℕ) : Type 0 where
   silent : (judgment : Judgment) → Judges offered (scope_of judging) file (Ok judgment) → note ≡ []
       → IsTextNote offered judging file note
   at_line : (fault : ExchangeFault) → Judges offered (scope_of judging) file (Err fault) → fault ≢ Memory
-      → note ≡ trace_note expected_words file fault → IsTextNote offered judging file note
+      → note ≡ trace_note file fault → IsTextNote offered judging file note
 
 -- The note on a trace: on an answer to reset that can't be used, or on its text.
 pub data IsJudgeNote (atr : List ℕ) (judging : Judging) (file note : List ℕ) : Type 0 where

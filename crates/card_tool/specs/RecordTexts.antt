@@ -8,12 +8,15 @@ use Rattle.exchange_text.specs.Exchange.{ExchangeParts}
 use Rattle.exchange_text.specs.Text.{exchange_text}
 use Rattle.exchange_core.specs.Replay.{IsFound}
 use Rattle.traces.specs.Faults.{unfit_name}
-use Rattle.traces.specs.Reading.{is_line_end, trace_of}
+use Rattle.trace_text.specs.Reading.{is_line_end}
+use Rattle.traces.specs.Reading.{trace_of}
+use Rattle.traces.specs.declared.reading.TraceFault.{TraceFault}
+use Rattle.traces.specs.declared.reading.TraceFault.TheVariants.{Text, Unfit as UnfitLine}
 use Rattle.traces.specs.Recorded.{exchange_of}
 use Rattle.traces.specs.Unfit.{item_line, unfit_in}
 use Rattle.traces.specs.declared.trace.Item.{Item}
 use Rattle.traces.specs.declared.unfit.Unfit.{Unfit}
-use Rattle.traces.specs.declared.unfit.Unfit.TheVariants.{Pps, NodeAddress, Silence}
+use Rattle.traces.specs.declared.unfit.Unfit.TheVariants.{Pps, NodeAddress, Silence, Reset, Midway, Arrived}
 use Rattle.explainer.specs.Notes.{IsSessionNote, large_note}
 use Rattle.card_tool.specs.FileNotes.{line_text, trace_note}
 use Rattle.card_tool.specs.ExchangeTexts.{file_fault_text}
@@ -39,10 +42,15 @@ pub data RecordsItems (atr file : List ℕ) (items : List Item) (text : List ℕ
   whole : (ifsc : ℕ) → IsFound atr (Ok ifsc) → unfit_in items ≡ None → IsFile (exchange_of ifsc atr items) text ended
       → RecordsItems atr file items text ended
 
--- the answer about a text: that about its items, or the line of its first fault
+-- the answer about a text that is no trace to record: the line of its first fault, or the line that can't be recorded
+abbrev pub RefusesText : TraceFault → List ℕ → Status → Type 0
+RefusesText (Text fault) text ended = (text ≡ file_fault_text fault) × (ended ≡ status.Fault)
+RefusesText (UnfitLine line why) text ended = (text ≡ unfit_text line (unfit_name why)) × (ended ≡ status.Refused)
+
+-- the answer about a text: that about its items, or the first line that is wrong or can't be recorded
 abbrev pub Records : List ℕ → List ℕ → List ℕ → Status → Type 0
 Records atr file text ended = MatchResult (trace_of file) (λ items. RecordsItems atr file items text ended)
-    (λ fault. (text ≡ file_fault_text fault) × (ended ≡ status.Fault))
+    (λ fault. RefusesText fault text ended)
 
 -- ---- notes
 
@@ -52,13 +60,13 @@ unfit_words Pps = codes "this is PPS, and a session begins after it: leave it ou
 unfit_words NodeAddress = codes "both ends use a node address other than 00, which record doesn't follow: judge does"
 unfit_words Silence =
     codes "the terminal sends again after its own block: write quiet before this line where nothing came in between"
+unfit_words Reset = codes "a reset begins another session: record each session by itself"
+unfit_words Midway = codes "a session is recorded from its first block on: judge takes such a trace"
+unfit_words Arrived =
+    codes "other octets arrived than were seen, or with an error of parity: judge takes such a line"
 
 abbrev pub unfit_note : List ℕ → ℕ → Unfit → List ℕ
 unfit_note file line why = line_text file line (unfit_words why)
-
--- what is expected in a line with wrong words
-abbrev pub expected_words : List ℕ
-expected_words = codes "expected: t HEX or c HEX, with lost after it or not, quiet, or at N"
 
 -- the note on the text of an exchange: empty if it fits a file, else how large a file may be
 pub data IsSizeNote (e : ExchangeParts) (note : List ℕ) : Type 0 where
@@ -74,7 +82,12 @@ pub data IsItemsNote (atr file : List ℕ) (items : List Item) (note : List ℕ)
   of_text : (ifsc : ℕ) → IsFound atr (Ok ifsc) → unfit_in items ≡ None
       → IsSizeNote (exchange_of ifsc atr items) note → IsItemsNote atr file items note
 
--- the note on a text: that on its items, or on the line with its first fault
+-- the note on the line of a text that is at fault, or that can't be recorded
+abbrev pub IsRefusedNote : TraceFault → List ℕ → List ℕ → Type 0
+IsRefusedNote (Text fault) file note = note ≡ trace_note file fault
+IsRefusedNote (UnfitLine line why) file note = note ≡ unfit_note file line why
+
+-- the note on a text: that on its items, or on the first line that is wrong or can't be recorded
 abbrev pub IsRecordNote : List ℕ → List ℕ → List ℕ → Type 0
 IsRecordNote atr file note = MatchResult (trace_of file) (λ items. IsItemsNote atr file items note)
-    (λ fault. note ≡ trace_note expected_words file fault)
+    (λ fault. IsRefusedNote fault file note)

@@ -53,22 +53,23 @@ pub(crate) fn fault_note(
     }
 }
 
-/// Returns the note on the first fault of a trace: its line, and what is expected there. For a line with wrong words
-/// this is the caller's text.
+/// Returns the note on the first fault of a trace: its line, and what is expected there.
 pub(crate) fn trace_note(
     alloc: Global,
     text: &[u8],
     fault: ExchangeFault,
-    expected: &str,
 ) -> Result<String, AllocError>
-    ensures line { IfOk result (λ note.
-        string_bytes note ≡ trace_note expected.now text.now fault) }
+    ensures line { IfOk result (λ note. string_bytes note ≡ trace_note text.now fault) }
     ensures other { IfOk result (λ _. fault ≢ Memory) }
 {
     match fault {
-        ExchangeFault::Word { line } => shown_at(alloc, text, line, expected),
+        ExchangeFault::Word { line } => {
+            let what =
+                "expected: t HEX or c HEX, with lost, parity or as HEX or not, quiet, reset, begins unknown, at N or until N";
+            shown_at(alloc, text, line, what)
+        }
         ExchangeFault::Hex { line } => {
-            let what = "expected: an even number of hexadecimal digits";
+            let what = "expected: none, or an even number of hexadecimal digits";
             shown_at(alloc, text, line, what)
         }
         other => fault_note(alloc, text, other),

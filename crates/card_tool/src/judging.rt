@@ -8,7 +8,7 @@ ghost use Rattle.card_tool.specs.ExchangeTexts.{file_fault_text};
 ghost use Rattle.card_tool.specs.FileNotes.{trace_note};
 ghost use Rattle.card_kinds.specs.declared.status.Status.TheVariants as ended;
 ghost use Rattle.card_tool.specs.Judged.{AreOf};
-ghost use Rattle.card_tool.specs.JudgeTexts.{expected_words, judged_status, only_of, scope_of, unusable_in, IsJudgeNote, IsOffer, IsTextNote, JudgesText, JudgesTrace};
+ghost use Rattle.card_tool.specs.JudgeTexts.{judged_status, only_of, scope_of, unusable_in, IsJudgeNote, IsOffer, IsTextNote, JudgesText, JudgesTrace};
 ghost use Rattle.card_tool.specs.Laid.{laid};
 
 use crate::exchange::refused;
@@ -25,10 +25,6 @@ use layouts::Layout;
 use octet_core::Named;
 use std::alloc::{AllocError, Global};
 use trace_judge::{Judgment, Offer, Scope, judge_trace, rates_before};
-
-/// What is expected in a line of a trace.
-const EXPECTED: &str =
-    "expected: t HEX or c HEX, with lost or as HEX after it or not, quiet, reset, begins unknown, or at N";
 
 /// Returns what octets offer that are exactly one answer to reset with parameters of T=1.
 fn offer_of(octets: &[u8]) -> Result<Offer, AtrFault>
@@ -144,9 +140,9 @@ fn fault_with_note(alloc: Global, text: &[u8], fault: ExchangeFault) -> Result<W
     ensures other { IfOk result (λ _. fault ≢ Memory) }
     ensures made { IfOk result (AreOf
         (λ text status. (text ≡ file_fault_text fault) × (status ≡ ended.Fault))
-        (λ note. note ≡ trace_note expected_words text.now fault)) }
+        (λ note. note ≡ trace_note text.now fault)) }
 {
     let answer = refused(alloc, fault)?;
-    let note = trace_note(alloc, text, fault, EXPECTED);
+    let note = trace_note(alloc, text, fault);
     Ok(WithNote { answer, note })
 }

@@ -6,7 +6,8 @@ ghost use Rattle.exchange_text.specs.declared.fault.ExchangeFault.TheVariants.{M
 ghost use Rattle.card_tool.specs.Files.{largest_file};
 ghost use Rattle.card_tool.specs.Judged.{AreOf};
 ghost use Rattle.card_tool.specs.RecordTexts as texts;
-ghost use Rattle.card_tool.specs.RecordTexts.{IsItemsNote, IsRecordNote, IsSizeNote, Records, RecordsItems, unfit_note, unfit_text};
+ghost use Rattle.card_tool.specs.RecordTexts.{IsItemsNote, IsRecordNote, IsRefusedNote, IsSizeNote, Records, RecordsItems, RefusesText, unfit_note, unfit_text};
+ghost use Rattle.traces.specs.declared.reading.TraceFault.TheVariants.{Unfit as UnfitLine};
 ghost use Rattle.card_kinds.specs.declared.status.Status.TheVariants as ended;
 
 use crate::exchange::refused;
@@ -19,10 +20,7 @@ use exchange_core::Exchange;
 use explainer::{large_note, session_note};
 use octet_core::Named;
 use std::alloc::{AllocError, Global};
-use traces::{RecordFault, Trace, Unfit, line_of_item, read_trace, record_trace};
-
-/// What is expected in a line of a trace.
-const EXPECTED: &str = "expected: t HEX or c HEX, with lost after it or not, quiet, or at N";
+use traces::{RecordFault, Trace, TraceFault, Unfit, line_of_item, read_trace, record_trace};
 
 /// Returns the line that refuses to record a line of a text, by this name.
 fn refused_line(alloc: Global, line: usize, name: &str) -> Result<Answer, AllocError>
@@ -39,12 +37,23 @@ pub(crate) fn recorded(alloc: Global, atr: &[u8], text: &[u8]) -> Result<WithNot
 {
     match read_trace(alloc, text) {
         Ok(trace) => recorded_items(alloc, atr, text, &trace),
-        Err(fault) => {
+        Err(TraceFault::Text(fault)) => {
             let answer = refused(alloc, fault)?;
-            let note = trace_note(alloc, text, fault, EXPECTED);
+            let note = trace_note(alloc, text, fault);
             Ok(WithNote { answer, note })
         }
+        Err(TraceFault::Unfit { line, why }) => unfit_line(alloc, text, line, why),
     }
+}
+
+/// Returns the line that refuses to record a line of a text, with a note on it.
+fn unfit_line(alloc: Global, text: &[u8], line: usize, why: Unfit) -> Result<WithNote, AllocError>
+    ensures { IfOk result (AreOf (RefusesText (UnfitLine line why))
+        (IsRefusedNote (UnfitLine line why) text.now)) }
+{
+    let answer = refused_line(alloc, line, why.name())?;
+    let note = unfit_note(alloc, text, line, why);
+    Ok(WithNote { answer, note })
 }
 
 /// Returns the file of the exchange with the blocks of a text, or why there is none, with a note.
@@ -109,6 +118,11 @@ fn unfit_words(why: Unfit) -> &'static str
         }
         Unfit::Silence => {
             "the terminal sends again after its own block: write quiet before this line where nothing came in between"
+        }
+        Unfit::Reset => "a reset begins another session: record each session by itself",
+        Unfit::Midway => "a session is recorded from its first block on: judge takes such a trace",
+        Unfit::Arrived => {
+            "other octets arrived than were seen, or with an error of parity: judge takes such a line"
         }
     }
 }

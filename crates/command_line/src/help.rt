@@ -235,14 +235,15 @@ pub(crate) const RECORD: Page<'static> = Page {
   c HEX       the card sends this block, and it arrives
   t HEX lost  the terminal sends this block, and it doesn't arrive; likewise c HEX lost
   quiet       the terminal's waiting time ended
-  at N        the time is N microseconds
-The file has these blocks, and what the applications of both ends must have said. So scard replay can say whether an end
-behaves differently, and where first. With --json, the answer is a JSON object that has the lines of the file.
+  at N        the time is N microseconds; until N: the last octet of the next block begins then
+The lines that scard judge takes are permitted, if an exchange shows what they say. The file has these blocks, and what
+the applications of both ends must have said. So scard replay can say whether an end behaves differently, and where
+first. With --json, the answer is a JSON object that has the lines of the file.
 
 Exit status:
   0  the file of the exchange
   1  refused: NAME: no session of T=1 can begin from the answer to reset
-  1  refused at line N: NAME: record can't follow the trace, for PPS, other node addresses or a missing quiet
+  1  refused at line N: NAME: no exchange shows what this line says, such as PPS or other node addresses
   2  a fault, such as fault: words, fault: hex or fault: line 3: Word
 
 Examples:
@@ -257,17 +258,21 @@ pub(crate) const JUDGE: Page<'static> = Page {
   t HEX           the terminal sends this block, in hexadecimal
   c HEX           the card sends this block
   t HEX lost      the block doesn't arrive; likewise c HEX lost
+  t HEX parity    the card sees an error of parity in it; likewise c HEX parity
   t HEX as HEX    the block arrives as the second HEX; likewise c HEX as HEX
+  t none          a block of which no octet was seen; likewise c none, and as none
   quiet           the terminal's waiting time ended
   reset           the card was reset
   begins unknown  what follows comes in the midst of a session
   at N            the time is N microseconds; before a block, the block begins then
+  until N         the last octet of the next block begins then
   # REMARK        a remark, which changes nothing
 Each block is judged by ISO/IEC 7816-3:2006, clause 11, and by what its sender may have received before. The report has
 a line for each deviation: the block, its sender, the broken rule, what was due, and the clause. A PPS exchange may come
-first. With --clock, a block of the card is late if it begins after the block waiting time. The answer to reset and the
-last waiting time extension give that time. With --rules, a line for each rule says how often each end kept or broke it,
-and a line for each state how often it was due from each end, or never. With --json, the report is a JSON object.
+first. With --clock, a block of the card is late if it begins after the block waiting time, and one of the terminal is
+early before that time is over. The answer to reset and the last waiting time extension give it. With --rules, a line
+for each rule says how often each end kept or broke it, and a line for each state how often it was due from each end, or
+never. With --json, the report is a JSON object.
 
 Exit status:
   0  ok N blocks: the standard permits all of them, as they were seen

@@ -7,7 +7,8 @@ use Rattle.exchange_text.specs.declared.fault.ExchangeFault.TheVariants.{Memory}
 use Rattle.trace_judge.specs.declared.standing.Judgment.{Judgment}
 use Rattle.trace_judge.specs.declared.standing.Scope.{Scope}
 use Rattle.trace_judge.specs.Waiting.{Offered}
-use Rattle.trace_judge.specs.Judging.{is_line_end, start, Fails, IsConcluded, Judges, JudgesLine, JudgesLines, Standing}
+use Rattle.trace_text.specs.Reading.{is_line_end}
+use Rattle.trace_judge.specs.Judging.{start, Fails, IsConcluded, Judges, JudgesLine, JudgesLines, Standing}
 
 -- whatever the lines that are left come to is what all lines come to, and each line was counted
 pub record IsOnTheWay (s : Standing) (lines : List (List ℕ)) (done : ℕ) (begun : Standing) : Type 0 where

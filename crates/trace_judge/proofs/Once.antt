@@ -21,80 +21,17 @@ use Rattle.judge_core.specs.declared.exercise.Exercise.{Exercise}
 use Rattle.judge_core.specs.declared.exercise.Exercise.TheVariants.{Unknown}
 use Rattle.judge_core.specs.Monitored.{monitor_after, report_of}
 use Rattle.judge_core.specs.Stakes.{exercise_of}
-use Rattle.trace_judge.specs.declared.entry.Entry.{Entry}
-use Rattle.trace_judge.specs.declared.entry.Entry.TheVariants.{Nothing, Block, Quiet, Reset, Midway, Moment}
-use Rattle.trace_judge.specs.declared.entry.Reach.{Reach}
-use Rattle.trace_judge.specs.declared.entry.Reach.TheVariants.{Unsaid, Lost}
+use Rattle.trace_text.specs.Reading.{is_line_end}
+use Rattle.trace_text.specs.declared.entry.Entry.{Entry}
+use Rattle.trace_text.specs.declared.entry.Entry.TheVariants.{Nothing, Block, Quiet, Reset, Midway, Moment, Until}
+use Rattle.trace_text.specs.declared.entry.Reach.{Reach}
+use Rattle.trace_text.proofs.Once.{entry-read, HasOctets, IsOfOctets, IsRead}
 use Rattle.trace_judge.specs.declared.standing.Judgment.{Judgment}
 use Rattle.trace_judge.specs.declared.standing.Scope.{Scope}
 use Rattle.trace_judge.specs.Waiting.{Offered}
-use Rattle.trace_judge.specs.Reading.{◌>>=◌, block_said, entry_said, hex_said, is_empty, moment_by, named_said, octets_by, reach_said, words_of, Words, is_unknown}
-use Rattle.trace_judge.specs.Judging.{at_moment, is_before, is_ok, is_line_end, judged_text, start, told_before, told_block, Concludes, ExercisesIf, Fails, IsArrival, IsBlockTold, IsEntered, IsFalling, IsTold, Judges, JudgesLine, JudgesLines, Standing}
-use Rattle.trace_judge.proofs.SeenOnce.{one-sent, one-taking, some-arrival, some-sent, IsOfOctets}
-
--- ---- what a line says
-
--- what was read is so, or the line is at fault, and memory isn't wanting
-abbrev IsRead : {A : Type 0} → (A → Type 0) → Result A ExchangeFault → Type 0
-IsRead Holds read = MatchResult read Holds (λ fault. fault ≢ Memory)
-
--- what an entry has for octets are octets
-abbrev HasOctets : Entry → Type 0
-HasOctets (Block from octets reach) = AreOctets octets × IsOfOctets reach
-HasOctets Nothing = Unit {0}
-HasOctets Quiet = Unit {0}
-HasOctets Reset = Unit {0}
-HasOctets Midway = Unit {0}
-HasOctets (Moment moment) = Unit {0}
-
-either : {A : Type 0} (Holds : A → Type 0) (b : Bool) (x y : Result A ExchangeFault) → IsRead Holds x → IsRead Holds y
-    → IsRead Holds (if b then x else y)
-either Holds true x y h g = h
-either Holds false x y h g = g
-
-then-read : {A B : Type 0} (Holds : A → Type 0) (Also : B → Type 0) (r : Result A ExchangeFault)
-    (f : A → Result B ExchangeFault) → IsRead Holds r → ((a : A) → Holds a → IsRead Also (f a)) → IsRead Also (r >>= f)
-then-read Holds Also (Ok a) f h g = g a h
-then-read Holds Also (Err fault) f h g = h
-
-hex-read : (number : ℕ) (word : List ℕ) → IsRead AreOctets (hex_said number word)
-hex-read number word = go (decode_of word) refl
-  where
-    go : (r : Result (List ℕ) FromHexError) → decode_of word ≡ r → IsRead AreOctets (octets_by number r)
-    go (Ok octets) e = (decode_of-ok word octets e).3
-    go (Err fault) e = λ same. cc same
-
-reach-read : (number : ℕ) (w : Words) → IsRead IsOfOctets (reach_said number w)
-reach-read number w =
-    either IsOfOctets (is_empty w.second || not (is_empty w.more)) (Err (Word number)) _ (λ same. cc same)
-    (either IsOfOctets (is_empty w.third) (Ok Unsaid) _ tt
-    (either IsOfOctets (bytes_eq w.third (codes "lost") && is_empty w.fourth) (Ok Lost) _ tt
-    (either IsOfOctets (bytes_eq w.third (codes "as") && not (is_empty w.fourth)) _ (Err (Word number))
-    (then-read AreOctets IsOfOctets (hex_said number w.fourth) _ (hex-read number w.fourth) (λ octets h. h))
-    (λ same. cc same))))
-
-block-read : (number : ℕ) (from : Side) (w : Words) → IsRead HasOctets (block_said number from w)
-block-read number from w =
-    then-read IsOfOctets HasOctets (reach_said number w) _ (reach-read number w) (λ reach came.
-    then-read AreOctets HasOctets (hex_said number w.second) _ (hex-read number w.second) (λ octets h. (h, came)))
-
-moment-read : (number : ℕ) (alone : Bool) (moment : Option ℕ) → IsRead HasOctets (moment_by number alone moment)
-moment-read number true (Some moment) = tt
-moment-read number false (Some moment) = λ same. cc same
-moment-read number alone None = λ same. cc same
-
-named-read : (number : ℕ) (w : Words) → IsRead HasOctets (named_said number w)
-named-read number w =
-    either HasOctets (bytes_eq w.first (name_text name.FromTerminal)) _ _ (block-read number side.Terminal w)
-    (either HasOctets (bytes_eq w.first (name_text name.FromCard)) _ _ (block-read number side.Card w)
-    (either HasOctets (bytes_eq w.first (name_text name.Quiet) && is_empty w.second) (Ok Quiet) _ tt
-    (either HasOctets (bytes_eq w.first (codes "reset") && is_empty w.second) (Ok Reset) _ tt
-    (either HasOctets (bytes_eq w.first (codes "begins") && is_unknown w) (Ok Midway) _ tt
-    (either HasOctets (bytes_eq w.first (name_text name.Moment)) _ (Err (Word number))
-    (moment-read number (is_empty w.third) (decimal_number w.second)) (λ same. cc same))))))
-
-entry-read : (number : ℕ) (w : Words) → IsRead HasOctets (entry_said number w)
-entry-read number w = either HasOctets _ (Ok Nothing) (named_said number w) tt (named-read number w)
+use Rattle.trace_text.specs.Reading.{entry_of}
+use Rattle.trace_judge.specs.Judging.{at_moment, is_before, is_ok, judged_text, start, told_before, until_moment, told_block, Concludes, ExercisesIf, Fails, IsArrival, IsBlockTold, IsEntered, IsFalling, IsTold, Judges, JudgesLine, JudgesLines, Standing}
+use Rattle.trace_judge.proofs.SeenOnce.{one-sent, one-taking, some-arrival, some-sent}
 
 -- ---- a line
 
@@ -138,6 +75,7 @@ one-entered s Quiet octets t u h g = h ∙ sym g
 one-entered s Reset octets t u h g = h ∙ sym g
 one-entered s Midway octets t u h g = h ∙ sym g
 one-entered s (Moment moment) octets t u h g = h.1 ∙ sym g.1
+one-entered s (Until moment) octets t u h g = h.1 ∙ sym g.1
 one-entered s (Block from b reach) octets t u h g =
     one-block (is_before s b) s from b octets.0 reach octets.1 t u h g
 
@@ -176,6 +114,11 @@ some-moment : (s : Standing) (moment : ℕ) → (moment < s.least) ⊎ (s.least 
 some-moment s moment (inl falls) = inr falls
 some-moment s moment (inr holds) = inl (at_moment s moment, (holds, refl))
 
+some-until : (s : Standing) (moment : ℕ) → (moment < s.least) ⊎ (s.least ≤ moment)
+    → ((t : Standing) × IsEntered s (Until moment) t) ⊎ IsFalling s (Until moment)
+some-until s moment (inl falls) = inr falls
+some-until s moment (inr holds) = inl (until_moment s moment, (holds, refl))
+
 some-entered : (s : Standing) (entry : Entry) → HasOctets entry → ((t : Standing) × IsEntered s entry t)
     ⊎ IsFalling s entry
 some-entered s Nothing octets = inl (_, refl)
@@ -183,6 +126,7 @@ some-entered s Quiet octets = inl (_, refl)
 some-entered s Reset octets = inl (_, refl)
 some-entered s Midway octets = inl (_, refl)
 some-entered s (Moment moment) octets = some-moment s moment (cases_lt moment s.least)
+some-entered s (Until moment) octets = some-until s moment (cases_lt moment s.least)
 some-entered s (Block from b reach) octets = inl (some-block (is_before s b) s from b octets.0 reach octets.1)
 
 not-both : (s : Standing) (entry : Entry) (t : Standing) → IsEntered s entry t → IsFalling s entry → ⊥
@@ -191,6 +135,7 @@ not-both s Quiet t h g = absurd g
 not-both s Reset t h g = absurd g
 not-both s Midway t h g = absurd g
 not-both s (Moment moment) t h g = omega (arith, h.0, g)
+not-both s (Until moment) t h g = omega (arith, h.0, g)
 not-both s (Block from b reach) t h g = absurd g
 
 module _ (s : Standing) (line : List ℕ) where
@@ -211,7 +156,7 @@ module _ (s : Standing) (line : List ℕ) where
   one-taken (Err fault) octets t u h g = absurd h
 
   one-line : (t u : Standing) → JudgesLine s line t → JudgesLine s line u → t ≡ u
-  one-line t u h g = one-taken (entry_said s.number (words_of line)) (entry-read s.number (words_of line)) t u h g
+  one-line t u h g = one-taken (entry_of s.number line) (entry-read s.number line) t u h g
 
   taken-or-faulty : (said : Result Entry ExchangeFault) (t : Standing) (fault : ExchangeFault) → Taken said t
       → Faulty said fault → ⊥
@@ -219,14 +164,14 @@ module _ (s : Standing) (line : List ℕ) where
   taken-or-faulty (Err wrong) t fault h g = absurd h
 
   line-or-fault : (t : Standing) (fault : ExchangeFault) → JudgesLine s line t → Fails s line fault → ⊥
-  line-or-fault t fault h g = taken-or-faulty (entry_said s.number (words_of line)) t fault h g
+  line-or-fault t fault h g = taken-or-faulty (entry_of s.number line) t fault h g
 
   one-wrong : (said : Result Entry ExchangeFault) (x y : ExchangeFault) → Faulty said x → Faulty said y → x ≡ y
   one-wrong (Ok entry) x y h g = h.1 ∙ sym g.1
   one-wrong (Err wrong) x y h g = h ∙ sym g
 
   one-fault : (x y : ExchangeFault) → Fails s line x → Fails s line y → x ≡ y
-  one-fault x y h g = one-wrong (entry_said s.number (words_of line)) x y h g
+  one-fault x y h g = one-wrong (entry_of s.number line) x y h g
 
   no-memory : (said : Result Entry ExchangeFault) → IsRead HasOctets said → (fault : ExchangeFault)
       → Faulty said fault → fault ≢ Memory
@@ -235,7 +180,7 @@ module _ (s : Standing) (line : List ℕ) where
 
   fault-known : (fault : ExchangeFault) → Fails s line fault → fault ≢ Memory
   fault-known fault h =
-      no-memory (entry_said s.number (words_of line)) (entry-read s.number (words_of line)) fault h
+      no-memory (entry_of s.number line) (entry-read s.number line) fault h
 
   some-said : (said : Result Entry ExchangeFault) → IsRead HasOctets said
       → ((t : Standing) × Taken said t) ⊎ ((fault : ExchangeFault) × Faulty said fault)
@@ -247,7 +192,7 @@ module _ (s : Standing) (line : List ℕ) where
   some-said (Err wrong) octets = inr (wrong, refl)
 
   some-line : ((t : Standing) × JudgesLine s line t) ⊎ ((fault : ExchangeFault) × Fails s line fault)
-  some-line = some-said (entry_said s.number (words_of line)) (entry-read s.number (words_of line))
+  some-line = some-said (entry_of s.number line) (entry-read s.number line)
 
 -- ---- lines
 

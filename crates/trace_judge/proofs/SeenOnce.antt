@@ -1,5 +1,5 @@
 -- That octets on the line are one thing, and a monitor makes one thing of them.
-use Rattle.std.proofs.Common.{◌≡◌, ◌≢◌, ◌<◌, ◌⊎◌, ◌∙◌, inl, inr, ℕ, List, length, Bool, true, false, Option, Some, None, ap, arith, refl, subst, sym}
+use Rattle.std.proofs.Common.{◌≡◌, ◌≢◌, ◌<◌, ◌⊎◌, ◌∙◌, inl, inr, ℕ, List, [], rules, tests, length, Bool, true, false, Option, Some, None, ap, arith, refl, subst, sym}
 use Rattle.std.proofs.lemmas.Bool.{cases_order}
 use Rattle.std.specs.Str.{bytes_eq}
 use denote.Ref.{Bor}
@@ -17,9 +17,10 @@ use Rattle.judge_core.specs.declared.monitor.Monitor.{Monitor}
 use Rattle.judge_core.specs.declared.monitor.Report.{Report}
 use Rattle.judge_core.specs.declared.rule.Rule.{Rule}
 use Rattle.judge_core.specs.Monitored.{came, damage, is_unchanged, lost, made_as, malformed, monitor_after, refused_as, report_of, rule_at, rule_made, unsaid, whole, IsReaching, IsSeen, IsSent, Reaching, Seen, Takes}
-use Rattle.trace_judge.specs.declared.entry.Reach.{Reach}
-use Rattle.trace_judge.specs.declared.entry.Reach.TheVariants.{Unsaid, Lost, Came}
-use Rattle.trace_judge.specs.Judging.{IsArrival}
+use Rattle.trace_text.specs.declared.entry.Reach.{Reach}
+use Rattle.trace_text.specs.declared.entry.Reach.TheVariants.{Unsaid, Lost, Parity, Came}
+use Rattle.trace_text.proofs.Once.{IsOfOctets}
+use Rattle.trace_judge.specs.Judging.{HasCome, IsArrival}
 
 -- ---- octets
 
@@ -90,18 +91,22 @@ module _ (b : List ℕ) (octets : AreOctets b) where
 
 -- ---- what reached the other end
 
--- what came are octets
-abbrev pub IsOfOctets : Reach → Type 0
-IsOfOctets Unsaid = Unit {0}
-IsOfOctets Lost = Unit {0}
-IsOfOctets (Came octets) = AreOctets octets
-
-came-seen : (octets : List ℕ) (a : Arrival) (r : Reaching) → IsArrival (Came octets) a → IsReaching a r
+came-seen : (octets : List ℕ) (a : Arrival) (r : Reaching) → HasCome octets a → IsReaching a r
     → (seen : Seen) × IsSeen octets seen × (r ≡ came seen)
 came-seen octets a r (slice, now, is) h =
     let read : (seen : Seen) × IsSeen slice.now seen × (r ≡ came seen) =
     subst (λ (x : Arrival). IsReaching x r) is h in
     (read.0, subst (λ (l : List ℕ). IsSeen l read.0) now read.1, read.2)
+
+one-come : (b : List ℕ) → AreOctets b → (a c : Arrival) (r q : Reaching) → HasCome b a → HasCome b c
+    → IsReaching a r → IsReaching c q → r ≡ q
+one-come b octets a c r q is also h g =
+    let first = came-seen b a r is h in
+    let second = came-seen b c q also g in
+    first.2 ∙ ap came (one-seen b octets first.0 second.0 first.1 second.1) ∙ sym second.2
+
+none-are : AreOctets []
+none-are = search (rules, tests)
 
 one-reaching : (reach : Reach) → IsOfOctets reach → (a b : Arrival) (r q : Reaching) → IsArrival reach a
     → IsArrival reach b → IsReaching a r → IsReaching b q → r ≡ q
@@ -113,24 +118,26 @@ one-reaching Lost octets a b r q is also h g =
     let first : r ≡ lost = subst (λ (x : Arrival). IsReaching x r) is h in
     let second : q ≡ lost = subst (λ (x : Arrival). IsReaching x q) also g in
     first ∙ sym second
-one-reaching (Came b) octets a c r q is also h g =
-    let first = came-seen b a r is h in
-    let second = came-seen b c q also g in
-    first.2 ∙ ap came (one-seen b octets first.0 second.0 first.1 second.1) ∙ sym second.2
+one-reaching Parity octets a c r q is also h g = one-come [] none-are a c r q is also h g
+one-reaching (Came b) octets a c r q is also h g = one-come b octets a c r q is also h g
+
+some-come : (b : List ℕ) → AreOctets b → (a : Arrival) × HasCome b a × (r : Reaching) × IsReaching a r
+some-come b octets =
+    let slice : Bor (List ℕ) = record { ref_ptr = (0, 0); now = b } in
+    let seen = some-seen b octets in
+    (arrived.Came slice, (slice, refl, refl), came seen.0, (seen.0, seen.1, refl))
 
 -- some arrival is as the trace says, and comes to something
 pub some-arrival : (reach : Reach) → IsOfOctets reach → (a : Arrival) × IsArrival reach a × (r : Reaching)
     × IsReaching a r
 some-arrival Unsaid octets = (arrived.Unsaid, refl, unsaid, refl)
 some-arrival Lost octets = (arrived.Lost, refl, lost, refl)
-some-arrival (Came b) octets =
-    let slice : Bor (List ℕ) = record { ref_ptr = (0, 0); now = b } in
-    let seen = some-seen b octets in
-    (arrived.Came slice, (slice, refl, refl), came seen.0, (seen.0, seen.1, refl))
+some-arrival Parity octets = some-come [] none-are
+some-arrival (Came b) octets = some-come b octets
 
 -- ---- octets as their sender made them
 
-came-unchanged : (b octets : List ℕ) (a : Arrival) → IsArrival (Came octets) a → is_unchanged b a ≡ bytes_eq octets b
+came-unchanged : (b octets : List ℕ) (a : Arrival) → HasCome octets a → is_unchanged b a ≡ bytes_eq octets b
 came-unchanged b octets a (slice, now, is) =
     ap (is_unchanged b) is ∙ ap (λ (l : List ℕ). bytes_eq l b) now
 
@@ -139,6 +146,7 @@ one-unchanged : (reach : Reach) (b : List ℕ) (a c : Arrival) → IsArrival rea
     → is_unchanged b a ≡ is_unchanged b c
 one-unchanged Unsaid b a c is also = ap (is_unchanged b) is ∙ sym (ap (is_unchanged b) also)
 one-unchanged Lost b a c is also = ap (is_unchanged b) is ∙ sym (ap (is_unchanged b) also)
+one-unchanged Parity b a c is also = came-unchanged b [] a is ∙ sym (came-unchanged b [] c also)
 one-unchanged (Came octets) b a c is also = came-unchanged b octets a is ∙ sym (came-unchanged b octets c also)
 
 pub one-sent : (b : List ℕ) → AreOctets b → (reach : Reach) (a c : Arrival) → IsArrival reach a → IsArrival reach c

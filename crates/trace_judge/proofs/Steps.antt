@@ -1,33 +1,45 @@
 -- What calls tell of a block, and at the end.
-use Rattle.std.proofs.Common.{◌≡◌, ◌∙◌, ℕ, List, true, Option, ap, sym}
+use Rattle.std.proofs.Common.{◌≡◌, ◌∙◌, ℕ, List, Bool, true, Option, ap, sym, is_some}
 use Rattle.block_core.specs.declared.side.Side.{Side}
 use Rattle.judge_core.specs.declared.monitor.Monitor.{Monitor}
 use Rattle.judge_core.specs.declared.monitor.Report.{Report}
 use Rattle.judge_core.specs.declared.exercise.Exercise.{Exercise}
 use Rattle.trace_judge.specs.declared.standing.Judgment.{Judgment}
+use Rattle.trace_judge.specs.declared.timing.Early.{Early}
 use Rattle.trace_judge.specs.declared.timing.Late.{Late}
 use Rattle.trace_judge.specs.declared.timing.Timing.{Timing}
-use Rattle.trace_judge.specs.Judging.{is_ok, judged_text, late_from, told_block, told_exercise, told_late, told_report, with_summary, IsConcluded, Standing}
+use Rattle.trace_judge.specs.Judging.{early_from, is_ok, judged_text, late_from, late_now, told_block, told_early, told_exercise, told_late, told_monitored, told_report, with_summary, IsConcluded, Standing}
 use Rattle.trace_judge.specs.Coverage.{with_coverage}
 use Rattle.trace_judge.specs.Waiting.{timed}
 
--- a block: the report on it, and then whether it was late
-pub told-by : (s old counted told after : Standing) (monitor : Monitor) (from : Side) (octets : ℕ)
-    (exercise : Exercise) (report : Report) (timing : Timing) (late : Option Late) → s ≡ old
-    → timing ≡ timed s.timing from octets
+-- a block: the report on it
+pub told-report : (s old counted told : Standing) (monitor : Monitor) (from : Side) (octets : ℕ) (exercise : Exercise)
+    (over : Bool) (report : Report) (timing : Timing) → s ≡ old → timing ≡ timed s.timing from octets
     → counted ≡ told_exercise (record s { monitor = monitor; begun = true; timing = timing }) from exercise
-    → told ≡ told_report counted from report → late ≡ late_from old from
-    → after ≡ told_late told s.monitor.terminal.number late
-    → after ≡ told_block s monitor from octets exercise report
-told-by s old counted told after monitor from octets exercise report timing late same moved covers tells is then =
+    → over ≡ is_some (late_now old) → told ≡ told_report counted from over report
+    → told ≡ told_monitored s monitor from octets exercise report
+told-report s old counted told monitor from octets exercise over report timing same moved covers ended tells =
+    tells ∙ ap (λ (m : Standing). told_report m from over report) covers
+    ∙ ap (λ (t : Timing). told_report (told_exercise
+    (record s { monitor = monitor; begun = true; timing = t }) from exercise) from over report) moved
+    ∙ ap (λ (b : Bool). told_report (told_exercise
+    (record s { monitor = monitor; begun = true; timing = timed s.timing from octets }) from exercise) from b report)
+    (ended ∙ ap (λ (m : Standing). is_some (late_now m)) (sym same))
+
+-- and then whether it was late or early
+pub told-by : (s old told later after : Standing) (monitor : Monitor) (from : Side) (octets : ℕ) (exercise : Exercise)
+    (report : Report) (late : Option Late) (early : Option Early) → s ≡ old
+    → told ≡ told_monitored s monitor from octets exercise report → late ≡ late_from old from
+    → later ≡ told_late told s.monitor.terminal.number late → early ≡ early_from old from
+    → after ≡ told_early later early → after ≡ told_block s monitor from octets exercise report
+told-by s old told later after monitor from octets exercise report late early same tells is then too last =
     let number = s.monitor.terminal.number in
-    then ∙ ap (λ (m : Standing). told_late m number late)
-    (tells ∙ ap (λ (m : Standing). told_report m from report) covers)
-    ∙ ap (λ (t : Timing). told_late (told_report (told_exercise
-    (record s { monitor = monitor; begun = true; timing = t }) from exercise) from report) number late) moved
-    ∙ ap (told_late (told_report (told_exercise
-    (record s { monitor = monitor; begun = true; timing = timed s.timing from octets }) from exercise) from report)
-    number) (is ∙ ap (λ (m : Standing). late_from m from) (sym same))
+    last ∙ ap (λ (m : Standing). told_early m early)
+    (then ∙ ap (λ (m : Standing). told_late m number late) tells
+    ∙ ap (told_late (told_monitored s monitor from octets exercise report) number)
+    (is ∙ ap (λ (m : Standing). late_from m from) (sym same)))
+    ∙ ap (told_early (told_late (told_monitored s monitor from octets exercise report) number (late_from s from)))
+    (too ∙ ap (λ (m : Standing). early_from m from) (sym same))
 
 -- the end: what is said of rules and states, and then the counts
 pub concluded-by : (s m : Standing) (judgment : Judgment) (covered : List ℕ) → m ≡ s

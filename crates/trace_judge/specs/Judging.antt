@@ -1,6 +1,7 @@
 -- What is reported about a whole trace, line by line and at its end.
-use Rattle.std.specs.Prelude.{◌≡◌, ◌⊎◌, ◌+◌, ◌/◌, ◌%◌, ◌<◌, ◌≤◌, ◌==◌, ◌&&◌, not, min, ℕ, List, [], ◌∷◌, ◌++◌, length, slice_index, slice_index_or, codes, decimal, Bool, true, false, Option, Some, None, Result, Ok, Err, if◌then◌else◌, bit_and, count_ones, MatchResult}
+use Rattle.std.specs.Prelude.{◌≡◌, ◌⊎◌, ◌+◌, ◌-◌, ◌/◌, ◌%◌, ◌<◌, ◌≤◌, ◌==◌, ◌&&◌, not, min, ℕ, List, [], ◌∷◌, ◌++◌, length, slice_index, slice_index_or, codes, decimal, Bool, true, false, Option, Some, None, Result, Ok, Err, if◌then◌else◌, bit_and, count_ones, MatchResult}
 use Rattle.std.specs.List.{slice_split}
+use Rattle.std.specs.Option.{is_some}
 use Rattle.octet_core.specs.Octets.{xor_of}
 use Rattle.line_core.specs.Bursts.{most_counted}
 use Rattle.layouts.specs.Items.{with_item}
@@ -28,22 +29,23 @@ use Rattle.judge_core.specs.declared.exercise.Exercise.{Exercise}
 use Rattle.judge_core.specs.declared.exercise.Exercise.TheVariants.{Unknown, Breaks}
 use Rattle.judge_core.specs.Stakes.{Exercises}
 use Rattle.judge_core.specs.Monitored.{Takes, midway_after, new_monitor, number_after, quiet_after, reset_after, silence_of}
-use Rattle.trace_judge.specs.declared.entry.Entry.{Entry}
-use Rattle.trace_judge.specs.declared.entry.Entry.TheVariants.{Nothing, Block, Quiet, Reset, Midway, Moment}
-use Rattle.trace_judge.specs.declared.entry.Reach.{Reach}
-use Rattle.trace_judge.specs.declared.entry.Reach.TheVariants.{Unsaid, Lost, Came}
+use Rattle.trace_text.specs.Reading.{entry_of, is_line_end}
+use Rattle.trace_text.specs.declared.entry.Entry.{Entry}
+use Rattle.trace_text.specs.declared.entry.Entry.TheVariants.{Nothing, Block, Quiet, Reset, Midway, Moment, Until}
+use Rattle.trace_text.specs.declared.entry.Reach.{Reach}
+use Rattle.trace_text.specs.declared.entry.Reach.TheVariants.{Unsaid, Lost, Parity, Came}
 use denote.Ref.{Bor}
 use Rattle.trace_judge.specs.declared.tally.Tally.{Tally}
 use Rattle.trace_judge.specs.declared.standing.Scope.{Scope}
+use Rattle.trace_judge.specs.declared.timing.Early.{Early}
 use Rattle.trace_judge.specs.declared.timing.Late.{Late}
 use Rattle.trace_judge.specs.declared.timing.Timing.{Timing}
 use Rattle.trace_judge.specs.declared.standing.Judgment.{Judgment}
 use Rattle.trace_judge.specs.declared.coverage.Coverage.{Coverage}
 use Rattle.trace_judge.specs.Coverage.{covered, nothing_covered, with_coverage}
-use Rattle.trace_judge.specs.Reading.{entry_said, words_of}
 use Rattle.trace_judge.specs.Objects.{pps_object}
-use Rattle.trace_judge.specs.Telling.{with_certain, with_deviation, with_late, with_neither, with_possible, with_unseen}
-use Rattle.trace_judge.specs.Waiting.{lateness, new_timing, past, timed, Offered, Rates}
+use Rattle.trace_judge.specs.Telling.{with_certain, with_deviation, with_early, with_late, with_neither, with_possible, with_unseen, with_unwaited}
+use Rattle.trace_judge.specs.Waiting.{earliness, lateness, new_timing, past, timed, Offered, Rates}
 
 -- The state of the judgment after the lines so far.
 pub record Standing : Type 0 where
@@ -65,7 +67,15 @@ pub record Standing : Type 0 where
   pub text : List ℕ
 
 abbrev pub nothing_told : Tally
-nothing_told = record { terminal = 0; card = 0; unseen = 0; late = 0; terminal_damaged = 0; card_damaged = 0 }
+nothing_told = record {
+  terminal = 0;
+  card = 0;
+  unseen = 0;
+  late = 0;
+  early = 0;
+  terminal_damaged = 0;
+  card_damaged = 0;
+}
 
 abbrev pub start : Offered → Scope → Standing
 start offered scope = record {
@@ -98,6 +108,9 @@ unseen_in tally = record tally { unseen = number_after tally.unseen }
 
 abbrev pub late_in : Tally → Tally
 late_in tally = record tally { late = number_after tally.late }
+
+abbrev pub early_in : Tally → Tally
+early_in tally = record tally { early = number_after tally.early }
 
 -- the tally with one more damaged block of an end
 abbrev pub damaged_of : Side → Tally → Tally
@@ -136,18 +149,42 @@ abbrev pub told_said : Standing → Side → ℕ → Said → Standing
 told_said s from before Damage = tells s from (damaged_of from s.tally) s.text
 told_said s from before (Judged verdict) = told_verdict s from before verdict
 
-abbrev pub told_report : Standing → Side → Report → Standing
-told_report s from report = told_said (told_silence s report.silence) from report.before report.said
+-- The standing after a card sent no block before the terminal's next one. If it got the terminal's block, it deviates
+-- only if its time was over; else the terminal may have sent too early.
+abbrev pub told_missing : Standing → Bool → Silence → Standing
+told_missing s over No = s
+told_missing s over (Possible number) = told_silence s (Possible number)
+told_missing s true (Certain number) = told_silence s (Certain number)
+told_missing s false (Certain number) =
+    tells s Card (unseen_in s.tally) (with_unwaited s.scope.layout s.text number)
+
+abbrev pub told_report : Standing → Side → Bool → Report → Standing
+told_report s from over report = told_said (told_missing s over report.silence) from report.before report.said
+
+-- by how much a card's block would be late now
+abbrev pub late_now : Standing → Option Late
+late_now s = lateness s.offered.values s.scope.clock s.timing s.monitor.card.heard
 
 -- Whether a card's block is late, from what was known before it.
 abbrev pub late_from : Standing → Side → Option Late
 late_from s Terminal = None
-late_from s Card = lateness s.offered.values s.scope.clock s.timing s.monitor.card.heard
+late_from s Card = late_now s
+
+-- Whether a terminal's block is early, from what was known before it.
+abbrev pub early_from : Standing → Side → Option Early
+early_from s Terminal = earliness s.offered.values s.scope.clock s.timing s.monitor.card.heard
+early_from s Card = None
 
 abbrev pub told_late : Standing → ℕ → Option Late → Standing
 told_late s before None = s
 told_late s before (Some late) =
     tells s Card (late_in s.tally) (with_late s.scope.layout s.text s.monitor.blocks before late)
+
+-- the block before a terminal's early one is the last of both ends
+abbrev pub told_early : Standing → Option Early → Standing
+told_early s None = s
+told_early s (Some early) = tells s Terminal (early_in s.tally)
+    (with_early s.scope.layout s.text s.monitor.blocks (s.monitor.blocks - 1) early)
 
 -- ---- before the first block: PPS (ISO/IEC 7816-3:2006, clause 9)
 
@@ -185,7 +222,7 @@ with_pps_of how text Card octets = with_pps how text (pps1_of octets)
 
 abbrev pub pps_timed : Timing → Side → List ℕ → Timing
 pps_timed timing Terminal octets = past timing
-pps_timed timing Card octets = record timing { rates = rates_at (pps1_of octets); now = None }
+pps_timed timing Card octets = record (past timing) { rates = rates_at (pps1_of octets) }
 
 abbrev pub told_before : Standing → Side → List ℕ → Standing
 told_before s from octets = record s {
@@ -196,23 +233,34 @@ told_before s from octets = record s {
 
 -- ---- lines
 
+-- these octets arrived
+abbrev pub HasCome : List ℕ → Arrival → Type 0
+HasCome octets arrival = (slice : Bor (List ℕ)) × (slice.now ≡ octets) × (arrival ≡ arrived.Came slice)
+
+-- How a block arrived, as a monitor takes it. With an error of parity it is damaged, as no octet is.
 abbrev pub IsArrival : Reach → Arrival → Type 0
 IsArrival Unsaid arrival = arrival ≡ arrived.Unsaid
 IsArrival Lost arrival = arrival ≡ arrived.Lost
-IsArrival (Came octets) arrival = (slice : Bor (List ℕ)) × (slice.now ≡ octets) × (arrival ≡ arrived.Came slice)
+IsArrival Parity arrival = HasCome [] arrival
+IsArrival (Came octets) arrival = HasCome octets arrival
 
 -- what octets of an end exercise, if that is counted
 abbrev pub ExercisesIf : Bool → Monitor → Side → List ℕ → Arrival → Exercise → Type 0
 ExercisesIf true monitor from octets arrival exercise = Exercises monitor from octets arrival exercise
 ExercisesIf false monitor from octets arrival exercise = exercise ≡ Unknown
 
+-- the standing with what the monitor says of a block
+abbrev pub told_monitored : Standing → Monitor → Side → ℕ → Exercise → Report → Standing
+told_monitored s monitor from octets exercise report =
+    told_report (told_exercise (record s { monitor = monitor; begun = true; timing = timed s.timing from octets })
+    from exercise) from (is_some (late_now s)) report
+
 -- The standing after a block: it counts what the block exercised, reports what the monitor says, and then whether the
--- block was late.
+-- block was late or early.
 abbrev pub told_block : Standing → Monitor → Side → ℕ → Exercise → Report → Standing
-told_block s monitor from octets exercise report = told_late
-    (told_report (told_exercise (record s { monitor = monitor; begun = true; timing = timed s.timing from octets })
-    from exercise) from report)
-    s.monitor.terminal.number (late_from s from)
+told_block s monitor from octets exercise report = told_early (told_late
+    (told_monitored s monitor from octets exercise report) s.monitor.terminal.number (late_from s from))
+    (early_from s from)
 
 -- The monitor takes octets of an end, and s' is the standing with its report.
 pub record IsTold (s : Standing) (from : Side) (octets : List ℕ) (reach : Reach) (s' : Standing) : Type 0 where
@@ -245,11 +293,14 @@ abbrev pub midway : Standing → Standing
 midway s = record s {
   monitor = midway_after s.monitor;
   begun = true;
-  timing = record s.timing { now = None; sent = None };
+  timing = record s.timing { now = None; until = None; sent = None; came = None };
 }
 
 abbrev pub at_moment : Standing → ℕ → Standing
-at_moment s moment = record s { least = moment; timing = record s.timing { now = Some moment } }
+at_moment s moment = record s { least = moment; timing = record s.timing { now = Some moment; until = None } }
+
+abbrev pub until_moment : Standing → ℕ → Standing
+until_moment s moment = record s { least = moment; timing = record s.timing { until = Some moment } }
 
 abbrev pub IsEntered : Standing → Entry → Standing → Type 0
 IsEntered s Nothing s' = s' ≡ s
@@ -257,6 +308,7 @@ IsEntered s Quiet s' = s' ≡ quietened s
 IsEntered s Reset s' = s' ≡ renewed s
 IsEntered s Midway s' = s' ≡ midway s
 IsEntered s (Moment moment) s' = (s.least ≤ moment) × (s' ≡ at_moment s moment)
+IsEntered s (Until moment) s' = (s.least ≤ moment) × (s' ≡ until_moment s moment)
 IsEntered s (Block from octets reach) s' = IsBlockTold (is_before s octets) s from octets reach s'
 
 abbrev pub IsFalling : Standing → Entry → Type 0
@@ -265,16 +317,17 @@ IsFalling s Quiet = ⊥
 IsFalling s Reset = ⊥
 IsFalling s Midway = ⊥
 IsFalling s (Moment moment) = moment < s.least
+IsFalling s (Until moment) = moment < s.least
 IsFalling s (Block from octets reach) = ⊥
 
 -- A line is taken, or has a fault.
 abbrev pub JudgesLine : Standing → List ℕ → Standing → Type 0
-JudgesLine s line s' = MatchResult (entry_said s.number (words_of line))
+JudgesLine s line s' = MatchResult (entry_of s.number line)
     (λ entry. (m : Standing) × IsEntered s entry m × (s' ≡ record m { number = s.number + 1 }))
     (λ fault. ⊥)
 
 abbrev pub Fails : Standing → List ℕ → ExchangeFault → Type 0
-Fails s line fault = MatchResult (entry_said s.number (words_of line))
+Fails s line fault = MatchResult (entry_of s.number line)
     (λ entry. IsFalling s entry × (fault ≡ Falls s.number))
     (λ wrong. fault ≡ wrong)
 
@@ -287,13 +340,14 @@ JudgesLines s (line ∷ lines) result =
 -- ---- the end
 
 abbrev pub deviations : Tally → ℕ
-deviations tally = min (tally.terminal + tally.card + tally.late) most_counted
+deviations tally = min (tally.terminal + tally.card + tally.late + tally.early) most_counted
 
 abbrev pub unseen_part : ℕ → List ℕ
 unseen_part unseen = codes ", unseen " ++ decimal unseen
 
-abbrev pub late_part : ℕ → List ℕ
-late_part late = if late == 0 then [] else codes ", late " ++ decimal late
+-- how many deviations in time have this name, if any
+abbrev pub time_part : List ℕ → ℕ → List ℕ
+time_part name number = if number == 0 then [] else name ++ decimal number
 
 -- how many blocks of each end were damaged on the line
 unfoldable pub damaged_terminal : ℕ → List ℕ
@@ -327,9 +381,13 @@ abbrev pub ok_text : ℕ → Tally → List ℕ
 ok_text blocks tally = verdict_name tally.unseen ++ (codes " " ++ (counted blocks (codes " block")
     ++ ((if tally.unseen == 0 then [] else unseen_part tally.unseen) ++ (damaged_part tally ++ codes "\n"))))
 
+-- the parts for the deviations in time
+unfoldable pub times_part : Tally → List ℕ
+times_part tally = time_part (codes ", late ") tally.late ++ time_part (codes ", early ") tally.early
+
 abbrev pub ends_text : Tally → List ℕ
 ends_text tally = decimal tally.terminal ++ (codes ", card " ++ (decimal tally.card
-    ++ (unseen_part tally.unseen ++ (late_part tally.late ++ (damaged_part tally ++ codes "\n")))))
+    ++ (unseen_part tally.unseen ++ (times_part tally ++ (damaged_part tally ++ codes "\n")))))
 
 abbrev pub deviations_text : ℕ → Tally → List ℕ
 deviations_text blocks tally = counted blocks (codes " block") ++ (codes ", "
@@ -361,9 +419,10 @@ card_counts blocks tally = with_unless_zero (with_number (with_number [] (codes 
 
 -- the members for the counts of the blocks and the deviations
 unfoldable pub deviation_counts : ℕ → Tally → List ℕ
-deviation_counts blocks tally = with_unless_zero (with_number (with_unless_zero (with_number (card_counts blocks tally)
-    (codes "deviations") (deviations tally)) (codes "late") tally.late) (codes "terminal") tally.terminal)
-    (codes "terminal_damaged") tally.terminal_damaged
+deviation_counts blocks tally = with_unless_zero (with_number
+    (with_unless_zero (with_unless_zero (with_number (card_counts blocks tally)
+    (codes "deviations") (deviations tally)) (codes "early") tally.early) (codes "late") tally.late)
+    (codes "terminal") tally.terminal) (codes "terminal_damaged") tally.terminal_damaged
 
 -- the members of an object if an end deviates, with an array of these items
 abbrev pub deviations_members : ℕ → Tally → List ℕ → List ℕ
@@ -393,9 +452,6 @@ pub record IsConcluded (s : Standing) (judgment : Judgment) : Type 0 where
 abbrev pub Concludes : Result Standing ExchangeFault → Result Judgment ExchangeFault → Type 0
 Concludes (Ok s) result = MatchResult result (IsConcluded s) (λ fault. ⊥)
 Concludes (Err fault) result = result ≡ Err fault
-
-abbrev pub is_line_end : ℕ → Bool
-is_line_end x = x == 10
 
 -- The judgment on a text for a card that offers this: its lines, or the first fault; or out of memory.
 abbrev pub Judges : Offered → Scope → List ℕ → Result Judgment ExchangeFault → Type 0

@@ -1,5 +1,4 @@
 -- to be believed: what a text says, and what is reported about it
-pub mod Reading
 pub mod Saying
 pub mod Objects
 pub mod Telling

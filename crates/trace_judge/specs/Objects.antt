@@ -1,7 +1,7 @@
 -- What the judgment says about a trace, as objects of a JSON array. Each object has the values of a line.
 use Rattle.std.specs.Prelude.{ℕ, ◌==◌, ◌&&◌, List, [], codes, decimal, Option, Some, None, if◌then◌else◌}
 use Rattle.block_core.specs.declared.side.Side.{Side}
-use Rattle.block_core.specs.declared.side.Side.TheVariants.{Card}
+use Rattle.block_core.specs.declared.side.Side.TheVariants.{Terminal, Card}
 use Rattle.judge_core.specs.declared.end.After.{After}
 use Rattle.judge_core.specs.declared.rule.Rule.{Rule}
 use Rattle.judge_core.specs.declared.rule.Rule.TheVariants.{Silence}
@@ -10,6 +10,7 @@ use Rattle.judge_core.specs.Rules.{rule_clause, rule_name}
 use Rattle.judge_core.specs.States.{state_name}
 use Rattle.layouts.specs.Members.{object_of, with_number, with_string, with_value}
 use Rattle.trace_judge.specs.Saying.{due_text, side_text}
+use Rattle.trace_judge.specs.declared.timing.Early.{Early}
 use Rattle.trace_judge.specs.declared.timing.Late.{Late}
 
 -- the members so far, and those for the end and the kind of the object
@@ -46,6 +47,17 @@ late_object number before late = object_of (with_number
     (with_kind (with_string (with_number (with_number (with_number [] (codes "after") late.elapsed)
     (codes "before") before) (codes "block") number) (codes "clause") (codes "11.4.3")) Card (codes "late"))
     (codes "permitted") late.permitted)
+
+-- a terminal's block that came too early after the block before
+abbrev pub early_object : ℕ → ℕ → Early → List ℕ
+early_object number before early = object_of (with_number
+    (with_kind (with_string (with_number (with_number (with_number [] (codes "after") early.elapsed)
+    (codes "before") before) (codes "block") number) (codes "clause") (codes "11.4.3")) Terminal (codes "early"))
+    (codes "permitted") early.least)
+
+-- a card that sent nothing before the terminal's next block, although it got one
+abbrev pub unwaited_object : ℕ → List ℕ
+unwaited_object number = object_of (with_kind (with_number [] (codes "before") number) Card (codes "unwaited"))
 
 -- octets before the first block that aren't PPS and aren't a block, by the line of the trace
 abbrev pub neither_object : ℕ → List ℕ

@@ -16,6 +16,7 @@ use Rattle.judge_core.specs.declared.end.After.{After}
 use Rattle.judge_core.specs.declared.rule.Rule.{Rule}
 use Rattle.judge_core.specs.declared.rule.Rule.TheVariants.{Silence}
 use Rattle.judge_core.specs.Rules.{rule_clause, rule_name}
+use Rattle.trace_judge.specs.declared.timing.Early.{Early}
 use Rattle.trace_judge.specs.declared.timing.Late.{Late}
 
 abbrev pub side_text : Side → List ℕ
@@ -105,6 +106,22 @@ permitted_text permitted = codes "permitted " ++ (decimal permitted ++ codes "  
 abbrev pub late_text : ℕ → ℕ → Late → List ℕ
 late_text number before late =
     block_text number Card ++ (elapsed_text late.elapsed ++ (after_text before ++ permitted_text late.permitted))
+
+abbrev pub least_text : ℕ → List ℕ
+least_text least = codes "permitted from " ++ (decimal least ++ codes "  (11.4.3)\n")
+
+abbrev pub early_elapsed : ℕ → List ℕ
+early_elapsed elapsed = codes ": early, " ++ (decimal elapsed ++ codes " microseconds")
+
+-- a terminal's block that came too early after the block before
+abbrev pub early_text : ℕ → ℕ → Early → List ℕ
+early_text number before early =
+    block_text number Terminal ++ (early_elapsed early.elapsed ++ (after_text before ++ least_text early.least))
+
+-- a card that sent nothing before the terminal's next block, although it got one: the terminal may have sent too early
+abbrev pub unwaited_text : ℕ → List ℕ
+unwaited_text number = codes "card: no answer to block "
+    ++ (decimal number ++ codes ", permitted if the terminal sent before its waiting time ended\n")
 
 -- octets before the first block that aren't PPS and aren't a block, by the line of the trace
 abbrev pub neither_text : ℕ → List ℕ

@@ -6,8 +6,9 @@ use Rattle.judge_core.specs.declared.rule.Rule.{Rule}
 use Rattle.layouts.specs.Items.{with_item}
 use Rattle.layouts.specs.declared.layout.Layout.{Layout}
 use Rattle.layouts.specs.declared.layout.Layout.TheVariants.{Lines, Json}
-use Rattle.trace_judge.specs.Objects.{certain_object, deviation_object, late_object, neither_object, possible_object, unseen_object}
-use Rattle.trace_judge.specs.Saying.{certain_text, deviation_text, late_text, neither_text, possible_text, unseen_text}
+use Rattle.trace_judge.specs.Objects.{certain_object, deviation_object, early_object, late_object, neither_object, possible_object, unseen_object, unwaited_object}
+use Rattle.trace_judge.specs.Saying.{certain_text, deviation_text, early_text, late_text, neither_text, possible_text, unseen_text, unwaited_text}
+use Rattle.trace_judge.specs.declared.timing.Early.{Early}
 use Rattle.trace_judge.specs.declared.timing.Late.{Late}
 
 abbrev pub with_deviation : Layout → List ℕ → ℕ → Side → Rule → After → List ℕ
@@ -29,6 +30,14 @@ with_certain Json items number = with_item items (certain_object number)
 abbrev pub with_late : Layout → List ℕ → ℕ → ℕ → Late → List ℕ
 with_late Lines text number before late = text ++ late_text number before late
 with_late Json items number before late = with_item items (late_object number before late)
+
+abbrev pub with_early : Layout → List ℕ → ℕ → ℕ → Early → List ℕ
+with_early Lines text number before early = text ++ early_text number before early
+with_early Json items number before early = with_item items (early_object number before early)
+
+abbrev pub with_unwaited : Layout → List ℕ → ℕ → List ℕ
+with_unwaited Lines text number = text ++ unwaited_text number
+with_unwaited Json items number = with_item items (unwaited_object number)
 
 abbrev pub with_neither : Layout → List ℕ → ℕ → List ℕ
 with_neither Lines text number = text ++ neither_text number

@@ -1,10 +1,11 @@
 -- When a card's block comes too late: ISO/IEC 7816-3:2006, 11.4.3.
-use Rattle.std.specs.Prelude.{ℕ, ◌+◌, ◌-◌, ◌*◌, ◌==◌, nat_lt, max, bit_and, List, [], ◌∷◌, Option, Some, None, if◌then◌else◌}
+use Rattle.std.specs.Prelude.{ℕ, ◌+◌, ◌-◌, ◌*◌, ◌/◌, ◌==◌, nat_lt, max, min, bit_and, List, [], ◌∷◌, Option, Some, None, if◌then◌else◌}
 use Rattle.std.specs.Int.{div_ceil}
 use Rattle.atr_core.specs.Atr.{AtrParts}
 use Rattle.atr_core.specs.Rates.{rates_of}
 use Rattle.atr_core.specs.T1.{T1Values}
 use Rattle.atr_core.specs.Waiting.{block_waiting, character_waiting}
+use Rattle.line_core.specs.Bursts.{most_counted}
 use Rattle.atr_core.specs.declared.atr.Indicated.{Indicated}
 use Rattle.block_core.specs.declared.pcb.Pcb.{Pcb}
 use Rattle.block_core.specs.declared.pcb.Pcb.TheVariants.{Info, Ready, Request, Response}
@@ -14,6 +15,7 @@ use Rattle.judge_core.specs.declared.courses.Heard.TheVariants.{Beginning, Whole
 use Rattle.block_core.specs.declared.side.Side.{Side}
 use Rattle.block_core.specs.declared.side.Side.TheVariants.{Terminal, Card}
 use Rattle.trace_judge.specs.declared.timing.Etu.{Etu}
+use Rattle.trace_judge.specs.declared.timing.Early.{Early}
 use Rattle.trace_judge.specs.declared.timing.Late.{Late}
 use Rattle.trace_judge.specs.declared.timing.Sent.{Sent}
 use Rattle.trace_judge.specs.declared.timing.Timing.{Timing}
@@ -47,19 +49,35 @@ rates_before a = rates_by (second_ta a.indicated) (rates_of a)
 
 -- a moment counts only for what comes directly after it
 abbrev pub past : Timing → Timing
-past timing = record timing { now = None }
+past timing = record timing { now = None; until = None }
 
 abbrev pub new_timing : Rates → Timing
-new_timing rates = record { rates = rates; now = None; sent = None }
+new_timing rates = record { rates = rates; now = None; until = None; sent = None; came = None }
 
-abbrev pub sent_by : Option ℕ → ℕ → Option Sent
-sent_by None octets = None
-sent_by (Some now) octets = Some (record { moment = now; octets = octets })
+-- a block of so many octets that began at this moment
+abbrev pub begun_at : Option ℕ → ℕ → Option Sent
+begun_at None octets = None
+begun_at (Some now) octets = Some (record { moment = now; octets = octets })
+
+-- A block of so many octets: by the moment of its last octet, or else by that of its first.
+abbrev pub sent_by : Option ℕ → Option ℕ → ℕ → Option Sent
+sent_by (Some until) now octets = Some (record { moment = until; octets = 1 })
+sent_by None now octets = begun_at now octets
+
+-- after a block of the card without a moment nothing is known of the times of both
+abbrev pub after_card : Timing → Option Sent → Timing
+after_card timing (Some came) = record timing { now = None; until = None; came = Some came }
+after_card timing None = record timing { now = None; until = None; sent = None; came = None }
 
 -- the timing after a block of so many octets
 abbrev pub timed : Timing → Side → ℕ → Timing
-timed timing Terminal octets = record timing { now = None; sent = sent_by timing.now octets }
-timed timing Card octets = past timing
+timed timing Terminal octets = record timing {
+  now = None;
+  until = None;
+  sent = sent_by timing.until timing.now octets;
+  came = None;
+}
+timed timing Card octets = after_card timing (sent_by timing.until timing.now octets)
 
 -- ---- what is known about a card's block
 
@@ -87,19 +105,20 @@ granted Beginning = None
 granted Broken = None
 granted Nothing = None
 
--- the interval from the beginning of the terminal's block to that of the card's, if both are known
+-- the interval from a block, or from its last octet, to now, if both moments are known
 abbrev pub waited_by : Option ℕ → Option Sent → Option Interval
 waited_by (Some now) (Some sent) = Some (record { elapsed = now - sent.moment; octets = sent.octets })
 waited_by (Some now) None = None
 waited_by None sent = None
 
+-- the interval from the terminal's last block
 abbrev pub waited : Timing → Option Interval
 waited timing = waited_by timing.now timing.sent
 
 -- ---- what is permitted
 
--- The multiple of BWT, counted from the last octet of the terminal's block. Each octet of that block came at most CWT
--- after the one before. The result is in parts of an etu, F of them in one etu.
+-- The multiple of BWT, counted from the last of these octets of the terminal's block. Each came at most CWT after the
+-- one before. The result is in parts of an etu, F of them in one etu.
 abbrev pub permitted_parts : T1Values → ℕ → ℕ → Etu → ℕ
 permitted_parts v multiple octets etu =
     multiple * block_waiting v etu.fi etu.di + (octets - 1) * (character_waiting v * etu.fi)
@@ -124,3 +143,56 @@ late_by v None multiple etu w = None
 
 abbrev pub lateness : T1Values → Option ℕ → Timing → Heard → Option Late
 lateness v clock timing heard = late_by v clock (granted heard) (etu_of timing.rates) (waited timing)
+
+-- ---- too early
+
+-- the least time from the beginning of one character to that of the next in a block: CGT, in elementary time units
+abbrev pub least_character : ℕ
+least_character = 11
+
+-- the least time from the last character of a block to the first of a block of the other end: BGT
+abbrev pub block_guard : ℕ
+block_guard = 22
+
+-- The least time in microseconds, rounded down, from a block to the terminal's next one, if the terminal waits for this
+-- after the last octet, in parts of an etu, F of them in one etu. Each octet came at least CGT after the one before.
+abbrev pub least_time : ℕ → ℕ → Etu → ℕ → ℕ
+least_time clock wait etu octets =
+    ((wait + (octets - 1) * (least_character * etu.fi)) * 1000000) / max (etu.di * clock) 1
+
+abbrev pub early_before : ℕ → ℕ → Option Early
+early_before least elapsed =
+    if nat_lt elapsed least then Some (record { elapsed = elapsed; least = min least most_counted }) else None
+
+-- what the terminal granted by its last block: a multiple of BWT, 1 if nobody knows whether it arrived
+abbrev pub granted_or_one : Option ℕ → ℕ
+granted_or_one None = 1
+granted_or_one (Some multiple) = multiple
+
+-- before the waiting time of the terminal's own block is over
+abbrev pub early_alone : T1Values → ℕ → ℕ → Etu → Interval → Option Early
+early_alone v clock multiple etu w =
+    early_before (least_time clock (multiple * block_waiting v etu.fi etu.di) etu w.octets) w.elapsed
+
+-- before BGT after a block of the card is over
+abbrev pub early_after_card : ℕ → Etu → Interval → Option Early
+early_after_card clock etu came = early_before (least_time clock (block_guard * etu.fi) etu came.octets) came.elapsed
+
+-- Once its waiting time is over a terminal may send, since it may have heard no block. Until then it is early if no
+-- block of the card came, and otherwise within BGT after that.
+abbrev pub early_with : ℕ → Etu → Option Early → Option Interval → Option Early
+early_with clock etu None came = None
+early_with clock etu (Some alone) None = Some alone
+early_with clock etu (Some alone) (Some came) = early_after_card clock etu came
+
+-- A terminal's block is early if all of this is known, and it came before the least time.
+abbrev pub early_by : T1Values → Option ℕ → ℕ → Option Etu → Option Interval → Option Interval → Option Early
+early_by v (Some clock) multiple (Some etu) (Some w) came =
+    early_with clock etu (early_alone v clock multiple etu w) came
+early_by v (Some clock) multiple (Some etu) None came = None
+early_by v (Some clock) multiple None w came = None
+early_by v None multiple etu w came = None
+
+abbrev pub earliness : T1Values → Option ℕ → Timing → Heard → Option Early
+earliness v clock timing heard = early_by v clock (granted_or_one (granted heard)) (etu_of timing.rates)
+    (waited timing) (waited_by timing.now timing.came)

@@ -6,10 +6,9 @@
 //! count which rules and states of the protocol the trace exercises.
 #![tactic(auto)]
 
+mod arriving;
 mod coverage;
-mod entry;
 pub mod laws;
-mod line_words;
 mod objects;
 mod pps;
 mod saying;

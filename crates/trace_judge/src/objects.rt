@@ -5,7 +5,7 @@ ghost use Rattle.layouts.specs.Items.{with_item};
 ghost use Rattle.trace_judge.specs.Objects as objects;
 
 use crate::saying::{due_words, side_word};
-use crate::timing::Late;
+use crate::timing::{Early, Late};
 use judge_core::{After, Rule, Side};
 use layouts::Members;
 use octet_core::Named;
@@ -105,6 +105,42 @@ pub(crate) fn push_late(
     members.string(alloc, "clause", "11.4.3")?;
     push_kind(alloc, &mut members, Side::Card, "late")?;
     members.number(alloc, "permitted", late.permitted)?;
+    members.push_to(items)
+}
+
+/// Appends the object of a terminal's block that came too early after the block with the number `before`.
+pub(crate) fn push_early(
+    alloc: Global,
+    items: &mut String,
+    number: u64,
+    before: u64,
+    early: Early,
+) -> Result<(), AllocError>
+    ensures { OnOk result (string_bytes items.new ≡ with_item (string_bytes items.old)
+        (objects.early_object number before early)) }
+{
+    let mut members = Members::new(alloc);
+    members.number(alloc, "after", early.elapsed)?;
+    members.number(alloc, "before", before)?;
+    members.number(alloc, "block", number)?;
+    members.string(alloc, "clause", "11.4.3")?;
+    push_kind(alloc, &mut members, Side::Terminal, "early")?;
+    members.number(alloc, "permitted", early.least)?;
+    members.push_to(items)
+}
+
+/// Appends the object of a card that sent no block, which is permitted if the terminal sent too early.
+pub(crate) fn push_unwaited(
+    alloc: Global,
+    items: &mut String,
+    number: u64,
+) -> Result<(), AllocError>
+    ensures { OnOk result (string_bytes items.new ≡ with_item (string_bytes items.old)
+        (objects.unwaited_object number)) }
+{
+    let mut members = Members::new(alloc);
+    members.number(alloc, "before", number)?;
+    push_kind(alloc, &mut members, Side::Card, "unwaited")?;
     members.push_to(items)
 }
 

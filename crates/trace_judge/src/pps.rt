@@ -89,14 +89,10 @@ pub(crate) fn pps_timed(timing: Timing, from: Side, octets: &[u8]) -> Timing
     ensures { result ≡ pps_timed timing from octets.now }
 {
     match from {
-        Side::Terminal => Timing {
-            now: None,
-            ..timing
-        },
+        Side::Terminal => timing.past(),
         Side::Card => Timing {
             rates: rates_of(pps1_of(octets)),
-            now: None,
-            ..timing
+            ..timing.past()
         },
     }
 }

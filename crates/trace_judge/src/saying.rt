@@ -2,9 +2,9 @@
 
 ghost use Rattle.std.specs.Prelude.{◌≡◌, ◌++◌, IfOk, OnOk, codes, decimal, string_bytes};
 ghost use Rattle.judge_core.specs.Rules.{rule_name};
-ghost use Rattle.trace_judge.specs.Saying.{after_text, asked_text, block_text, certain_text, clause_text, condition_text, deviation_text, digit_text, due_text, elapsed_text, late_text, neither_text, permitted_text, possible_text, side_text, subject_text, unseen_text};
+ghost use Rattle.trace_judge.specs.Saying.{after_text, asked_text, block_text, certain_text, clause_text, condition_text, deviation_text, digit_text, due_text, early_elapsed, early_text, elapsed_text, late_text, least_text, neither_text, permitted_text, possible_text, side_text, subject_text, unseen_text, unwaited_text};
 
-use crate::timing::Late;
+use crate::timing::{Early, Late};
 use block_core::{Number, S};
 use judge_core::{After, Asked, End, Owed, Rule, Side};
 use octet_core::Named;
@@ -104,6 +104,50 @@ pub(crate) fn push_late(
     push_elapsed(alloc, text, late.elapsed)?;
     push_after(alloc, text, before)?;
     push_permitted(alloc, text, late.permitted)
+}
+
+/// Appends the line of a terminal's block that came too early after the block with the number `before`.
+pub(crate) fn push_early(
+    alloc: Global,
+    text: &mut String,
+    number: u64,
+    before: u64,
+    early: Early,
+) -> Result<(), AllocError>
+    ensures { OnOk result (string_bytes text.new
+        ≡ string_bytes text.old ++ early_text number before early) }
+{
+    push_block(alloc, text, number, Side::Terminal)?;
+    push_early_elapsed(alloc, text, early.elapsed)?;
+    push_after(alloc, text, before)?;
+    push_least(alloc, text, early.least)
+}
+
+/// Appends how many microseconds after the block before a terminal's block came.
+fn push_early_elapsed(alloc: Global, text: &mut String, elapsed: u64) -> Result<(), AllocError>
+    ensures { OnOk result (string_bytes text.new ≡ string_bytes text.old ++ early_elapsed elapsed) }
+{
+    push_around(alloc, text, ": early, ", elapsed, " microseconds")
+}
+
+/// Appends after how many microseconds a terminal's block is permitted.
+fn push_least(alloc: Global, text: &mut String, least: u64) -> Result<(), AllocError>
+    ensures { OnOk result (string_bytes text.new ≡ string_bytes text.old ++ least_text least) }
+{
+    push_around(alloc, text, "permitted from ", least, "  (11.4.3)\n")
+}
+
+/// Appends the line of a card that sent no block, which is permitted if the terminal sent too early.
+pub(crate) fn push_unwaited(alloc: Global, text: &mut String, number: u64) -> Result<(), AllocError>
+    ensures { OnOk result (string_bytes text.new ≡ string_bytes text.old ++ unwaited_text number) }
+{
+    push_around(
+        alloc,
+        text,
+        NO_ANSWER,
+        number,
+        ", permitted if the terminal sent before its waiting time ended\n",
+    )
 }
 
 /// Appends how many microseconds after the terminal's block it came.

@@ -1,25 +1,28 @@
 //! A trace judged line by line.
 
-ghost use Rattle.std.specs.Prelude.{◌≡◌, ◌⊎◌, ◌++◌, ◌+◌, ◌<◌, ◌^◌, IfErr, MatchResult, OnOk, string_bytes};
+ghost use Rattle.std.specs.Prelude.{◌≡◌, ◌⊎◌, ◌++◌, ◌+◌, ◌<◌, ◌≤◌, ◌^◌, IfErr, MatchResult, OnOk, string_bytes, false};
+ghost use Rattle.std.specs.Option.{is_some};
 ghost use Rattle.exchange_text.specs.declared.fault.ExchangeFault.TheVariants.{Falls, Memory};
-ghost use Rattle.trace_judge.specs.declared.entry.Entry.TheVariants.{Moment};
-ghost use Rattle.trace_judge.specs.Judging.{is_before, is_judged, late_from, pps_timed, quietened, renewed, start, told_before, told_exercise, told_late, told_report, told_said, told_silence, told_verdict, midway, ExercisesIf, Fails, IsBlockTold, IsConcluded, IsEntered, IsFalling, IsTold, JudgesLine, Judges};
+ghost use Rattle.trace_text.specs.declared.entry.Entry.TheVariants.{Moment, Until};
+ghost use Rattle.judge_core.specs.declared.monitor.Silence.TheVariants as SilenceOf;
+ghost use Rattle.trace_judge.specs.Judging.{early_from, is_before, is_judged, late_from, late_now, pps_timed, quietened, renewed, start, told_before, told_early, told_exercise, told_late, told_missing, told_report, told_said, told_silence, told_verdict, midway, ExercisesIf, Fails, IsBlockTold, IsConcluded, IsEntered, IsFalling, IsTold, JudgesLine, Judges};
 
+use crate::arriving::arrival_of;
 use crate::coverage::Coverage;
-use crate::entry::{Entry, Reach, entry_said};
-use crate::line_words::LineWords;
 use crate::pps::{is_pps, octet_at, pps_timed, push_answered_pps};
 use crate::tally::Tally;
 use crate::telling::{
-    tell_certain, tell_deviation, tell_late, tell_neither, tell_possible, tell_unseen,
+    tell_certain, tell_deviation, tell_early, tell_late, tell_neither, tell_possible, tell_unseen,
+    tell_unwaited,
 };
-use crate::timing::{Late, Offer, Timing, lateness};
+use crate::timing::{Early, Late, Offer, Timing, earliness, lateness};
 use exchange_text::ExchangeFault;
 use judge_core::{Arrival, Exercise, Monitor, Report, Rule, Said, Side, Silence, Verdict};
 use layouts::Layout;
 use octet_core::{Octets, Text};
 use std::alloc::{AllocError, Global};
 use std::marker::Model;
+use trace_text::{Entry, Reach, entry_of};
 
 /// Which parts of a trace are judged.
 #[derive(Clone, Copy, Debug)]
@@ -47,19 +50,12 @@ pub struct Judgment {
 
 /// Judges the text of a trace for a card that offers this: both ends, or one end alone.
 ///
-/// LF ends a line, and the last line needs none. Spaces, tabs and CR separate words. The lines are:
+/// LF ends a line, and the last line needs none. [`entry_of`] says which lines there are. No moment is below an earlier
+/// one.
 ///
-/// - `t HEX`, `c HEX`: octets of the terminal or of the card. HEX is in upper case or lower case.
-/// - `t HEX lost`, `c HEX lost`: the octets didn't reach the other end.
-/// - `t HEX as HEX`, `c HEX as HEX`: they reached the other end as the second octets.
-/// - `quiet`: the terminal's waiting time ended.
-/// - `reset`: the card was reset.
-/// - `begins unknown`: what follows comes in the midst of a session of which nothing is known.
-/// - `at N`: microseconds, 1 to 15 digits, never below an earlier moment.
-/// - A line without a word, or whose first word begins with a number sign, says nothing.
-///
-/// With a clock, a card's block can be late. That needs a moment directly before it and one directly before the
-/// terminal's last block. Each counts as the moment at which its block began (ISO/IEC 7816-3:2006, 11.4.3).
+/// With a clock, a card's block can be late. That needs a moment directly before it, at which it began, and one
+/// directly before the terminal's block: the moment at which that began, or its last octet (ISO/IEC 7816-3:2006,
+/// 11.4.3). In the same way a terminal's block can be early after the block before.
 ///
 /// The error is the first fault of the first wrong line, counted from 1: `Word` if its words have none of these forms,
 /// then `Hex`, then `Falls` for a moment below an earlier one. `Memory` can replace any result.
@@ -142,8 +138,7 @@ impl Standing {
         ensures number { OnOk result (self.new.number ≡ self.old.number + 1) }
         ensures fault { IfErr result (λ fault. (fault ≡ Memory) ⊎ Fails self.old line.now fault) }
     {
-        let words = LineWords::of(line);
-        let entry = entry_said(alloc, self.number, &words)?;
+        let entry = entry_of(alloc, self.number, line)?;
         self.enter(alloc, entry)?;
         self.number += 1;
         Ok(())
@@ -167,6 +162,7 @@ impl Standing {
                 Ok(())
             }
             Entry::Moment(moment) => self.moment(moment),
+            Entry::Until(moment) => self.until(moment),
             Entry::Block {
                 from,
                 octets,
@@ -190,21 +186,47 @@ impl Standing {
     {
         self.monitor.begins_midway();
         self.begun = true;
-        self.timing.now = None;
+        self.timing = self.timing.past();
         self.timing.sent = None;
+        self.timing.came = None;
     }
 
+    /// Takes the moment at which the next block begins.
     fn moment(&mut self, moment: u64) -> Result<(), ExchangeFault>
         ensures said { OnOk result (IsEntered self.old (Moment moment) self.new) }
         ensures number { OnOk result (self.new.number ≡ self.old.number) }
         ensures fault { IfErr result (λ fault.
             IsFalling self.old (Moment moment) × (fault ≡ Falls self.old.number)) }
     {
+        self.rise(moment)?;
+        self.timing.now = Some(moment);
+        self.timing.until = None;
+        Ok(())
+    }
+
+    /// Takes the moment of the last octet of the next block.
+    fn until(&mut self, moment: u64) -> Result<(), ExchangeFault>
+        ensures said { OnOk result (IsEntered self.old (Until moment) self.new) }
+        ensures number { OnOk result (self.new.number ≡ self.old.number) }
+        ensures fault { IfErr result (λ fault.
+            IsFalling self.old (Until moment) × (fault ≡ Falls self.old.number)) }
+    {
+        self.rise(moment)?;
+        self.timing.until = Some(moment);
+        Ok(())
+    }
+
+    /// Takes a moment, unless it is below an earlier one.
+    fn rise(&mut self, moment: u64) -> Result<(), ExchangeFault>
+        ensures said { OnOk result ((self.old.least ≤ moment)
+            × (self.new ≡ record self.old { least = moment })) }
+        ensures fault { IfErr result (λ fault.
+            (moment < self.old.least) × (fault ≡ Falls self.old.number)) }
+    {
         if moment < self.least {
             return Err(ExchangeFault::Falls { line: self.number });
         }
         self.least = moment;
-        self.timing.now = Some(moment);
         Ok(())
     }
 
@@ -214,7 +236,7 @@ impl Standing {
         ensures number { OnOk result (self.new.number ≡ self.old.number) }
     {
         let silence = self.monitor.quiet();
-        self.timing.now = None;
+        self.timing = self.timing.past();
         self.silence(alloc, silence)
     }
 
@@ -248,16 +270,19 @@ impl Standing {
         ensures said { OnOk result (IsTold self.old from octets.now reach.now self.new) }
         ensures number { OnOk result (self.new.number ≡ self.old.number) }
     {
-        let arrival = reach.arrival();
+        let arrival = arrival_of(reach);
+        let over = self.is_over();
         let late = self.late_from(from);
+        let early = self.early_from(from);
         let before = self.monitor.terminal.number;
         let exercise = self.exercise(from, octets, arrival);
         let report = self.monitor.block(from, octets, arrival);
         self.begun = true;
         self.timing = self.timing.timed(from, octets.len());
         self.cover(from, &exercise);
-        self.report(alloc, from, report)?;
+        self.report(alloc, from, over, report)?;
         self.late(alloc, before, late)?;
+        self.early(alloc, early)?;
         Ok(())
     }
 
@@ -292,16 +317,23 @@ impl Standing {
             self.timing = pps_timed(self.timing, from, octets);
             push_answered_pps(alloc, &mut self.text, self.scope.layout, from, octets)
         } else {
-            self.timing.now = None;
+            self.timing = self.timing.past();
             tell_neither(alloc, &mut self.text, self.scope.layout, self.number as u64)
         }
     }
 
-    fn report(&mut self, alloc: Global, from: Side, report: Report) -> Result<(), AllocError>
-        ensures said { OnOk result (self.new ≡ told_report self.old from report) }
+    /// Reports what the monitor says of octets of this end. `over` says whether the card's time was over before them.
+    fn report(
+        &mut self,
+        alloc: Global,
+        from: Side,
+        over: bool,
+        report: Report,
+    ) -> Result<(), AllocError>
+        ensures said { OnOk result (self.new ≡ told_report self.old from over report) }
         ensures number { OnOk result (self.new.number ≡ self.old.number) }
     {
-        self.silence(alloc, report.silence)?;
+        self.missing(alloc, over, report.silence)?;
         self.said(alloc, from, report.before, &report.said)
     }
 
@@ -324,6 +356,33 @@ impl Standing {
                 Ok(())
             }
             Said::Block(verdict) => self.verdict(alloc, from, before, verdict),
+        }
+    }
+
+    /// Reports a card that sent no block before the terminal's next one.
+    fn missing(&mut self, alloc: Global, over: bool, silence: Silence) -> Result<(), AllocError>
+        ensures said { OnOk result (self.new ≡ told_missing self.old over silence) }
+        ensures number { OnOk result (self.new.number ≡ self.old.number) }
+    {
+        match silence {
+            Silence::Certain(number) if !over => self.unwaited(alloc, number),
+            Silence::No | Silence::Possible(_) | Silence::Certain(_) => self.silence(
+                alloc, silence,
+            ),
+        }
+    }
+
+    /// Reports a card that got the block with this number and sent none, if the terminal may have sent too early.
+    fn unwaited(&mut self, alloc: Global, number: u64) -> Result<(), AllocError>
+        ensures said { OnOk result (self.new
+            ≡ told_missing self.old false (SilenceOf.Certain number)) }
+        ensures number { OnOk result (self.new.number ≡ self.old.number) }
+    {
+        if self.is_judged(Side::Card) {
+            self.tally.unseen_in();
+            tell_unwaited(alloc, &mut self.text, self.scope.layout, number)
+        } else {
+            Ok(())
         }
     }
 
@@ -372,18 +431,47 @@ impl Standing {
         }
     }
 
+    /// Returns by how much a block of the card would be late now.
+    fn late_now(&self) -> Option<Late>
+        ensures { result ≡ late_now self.now }
+    {
+        lateness(
+            self.offer.params,
+            self.scope.clock,
+            self.timing,
+            self.monitor.card.heard,
+        )
+    }
+
+    /// Whether the card's time is over now.
+    fn is_over(&self) -> bool
+        ensures { result ≡ is_some (late_now self.now) }
+    {
+        self.late_now().is_some()
+    }
+
     /// Returns whether a block of this end is late, and by how much.
     fn late_from(&self, from: Side) -> Option<Late>
         ensures { result ≡ late_from self.now from }
     {
         match from {
             Side::Terminal => None,
-            Side::Card => lateness(
+            Side::Card => self.late_now(),
+        }
+    }
+
+    /// Returns whether a block of this end is early, and by how much.
+    fn early_from(&self, from: Side) -> Option<Early>
+        ensures { result ≡ early_from self.now from }
+    {
+        match from {
+            Side::Terminal => earliness(
                 self.offer.params,
                 self.scope.clock,
                 self.timing,
                 self.monitor.card.heard,
             ),
+            Side::Card => None,
         }
     }
 
@@ -403,6 +491,29 @@ impl Standing {
                     number,
                     before,
                     late,
+                )
+            }
+            Some(_) | None => Ok(()),
+        }
+    }
+
+    /// Reports a terminal's block that came too early after the block before.
+    fn early(&mut self, alloc: Global, early: Option<Early>) -> Result<(), AllocError>
+        ensures said { OnOk result (self.new ≡ told_early self.old early) }
+        ensures number { OnOk result (self.new.number ≡ self.old.number) }
+    {
+        match early {
+            Some(early) if self.is_judged(Side::Terminal) => {
+                self.tally.early_in();
+                let number = self.monitor.blocks;
+                let before = number.saturating_sub(1);
+                tell_early(
+                    alloc,
+                    &mut self.text,
+                    self.scope.layout,
+                    number,
+                    before,
+                    early,
                 )
             }
             Some(_) | None => Ok(()),

@@ -1,21 +1,24 @@
 //! How many deviations a trace has.
 
 ghost use Rattle.std.specs.Prelude.{◌≡◌, ◌++◌, [], IfOk, OnOk, codes, decimal, string_bytes};
-ghost use Rattle.trace_judge.specs.Judging.{card_counts, counted, damaged_card, damaged_of, damaged_part, damaged_terminal, damaged_text, deviation_counts, deviation_of, deviations, deviations_members, deviations_text, ends_text, is_ok, is_undamaged, late_in, late_part, nothing_told, ok_counts, ok_members, ok_text, summary, summary_members, unseen_in, unseen_part, verdict_name, with_summary, with_unless_zero};
+ghost use Rattle.trace_judge.specs.Judging.{card_counts, counted, damaged_card, damaged_of, damaged_part, damaged_terminal, damaged_text, deviation_counts, deviation_of, deviations, deviations_members, deviations_text, early_in, ends_text, is_ok, is_undamaged, late_in, nothing_told, ok_counts, ok_members, ok_text, summary, summary_members, time_part, times_part, unseen_in, unseen_part, verdict_name, with_summary, with_unless_zero};
 
 use crate::saying::push_number;
 use judge_core::Side;
 use layouts::{Layout, Members};
 use std::alloc::{AllocError, Global};
 
-/// How many deviations each end has, and the card in time, how many blocks must have been damaged or lost unseen, and
-/// how many blocks of each end were damaged on the line.
+/// How many deviations each end has, and how many of them are in time. How many blocks must have been damaged or lost
+/// unseen, and how many blocks of each end were damaged on the line.
 #[derive(Clone, Copy)]
 pub(crate) struct Tally {
     pub(crate) terminal: u64,
     pub(crate) card: u64,
     pub(crate) unseen: u64,
+    /// How many blocks of the card came too late.
     pub(crate) late: u64,
+    /// How many blocks of the terminal came too early.
+    pub(crate) early: u64,
     pub(crate) terminal_damaged: u64,
     pub(crate) card_damaged: u64,
 }
@@ -30,6 +33,7 @@ impl Tally {
             card: 0,
             unseen: 0,
             late: 0,
+            early: 0,
             terminal_damaged: 0,
             card_damaged: 0,
         }
@@ -45,11 +49,18 @@ impl Tally {
         }
     }
 
-    /// Counts one more deviation in time.
+    /// Counts one more late block.
     pub(crate) fn late_in(&mut self)
         ensures { self.new ≡ late_in self.old }
     {
         self.late = self.late.saturating_add(1);
+    }
+
+    /// Counts one more early block.
+    pub(crate) fn early_in(&mut self)
+        ensures { self.new ≡ early_in self.old }
+    {
+        self.early = self.early.saturating_add(1);
     }
 
     /// Counts one more block that is permitted only after unseen damage.
@@ -90,6 +101,7 @@ impl Tally {
         self.terminal
             .saturating_add(self.card)
             .saturating_add(self.late)
+            .saturating_add(self.early)
     }
 
     /// Returns the text about a trace: its lines and a last one with the counts, or the members of an object, which are
@@ -185,6 +197,7 @@ impl Tally {
     {
         let mut members = self.card_counts(alloc, blocks)?;
         members.number(alloc, "deviations", self.deviations())?;
+        push_unless_zero(alloc, &mut members, "early", self.early)?;
         push_unless_zero(alloc, &mut members, "late", self.late)?;
         members.number(alloc, "terminal", self.terminal)?;
         push_unless_zero(
@@ -258,7 +271,7 @@ impl Tally {
         text.push_str(", card ")?;
         push_number(alloc, text, self.card)?;
         self.push_unseen_part(alloc, text)?;
-        self.push_late_part(alloc, text)?;
+        self.push_times_part(alloc, text)?;
         self.push_damaged_part(alloc, text)?;
         text.push_str("\n")
     }
@@ -287,15 +300,13 @@ impl Tally {
         push_damaged_card(alloc, text, self.card_damaged)
     }
 
-    fn push_late_part(&self, alloc: Global, text: &mut String) -> Result<(), AllocError>
+    #[tactic(auto, unfolding(crate::specs::Judging::times_part))]
+    fn push_times_part(&self, alloc: Global, text: &mut String) -> Result<(), AllocError>
         ensures { OnOk result (string_bytes text.new
-            ≡ string_bytes text.old ++ late_part self.now.late) }
+            ≡ string_bytes text.old ++ times_part self.now) }
     {
-        if self.late == 0 {
-            return Ok(());
-        }
-        text.push_str(", late ")?;
-        push_number(alloc, text, self.late)
+        push_time_part(alloc, text, ", late ", self.late)?;
+        push_time_part(alloc, text, ", early ", self.early)
     }
 
     fn push_unseen_part(&self, alloc: Global, text: &mut String) -> Result<(), AllocError>
@@ -305,6 +316,22 @@ impl Tally {
         text.push_str(", unseen ")?;
         push_number(alloc, text, self.unseen)
     }
+}
+
+/// Appends how many deviations in time have this name, if any.
+fn push_time_part(
+    alloc: Global,
+    text: &mut String,
+    name: &str,
+    number: u64,
+) -> Result<(), AllocError>
+    ensures { OnOk result (string_bytes text.new
+        ≡ string_bytes text.old ++ time_part name.now number) }
+{
+    if number == 0 {
+        return Ok(());
+    }
+    push_named(alloc, text, name, number)
 }
 
 /// Appends a member with a number, unless that is 0.

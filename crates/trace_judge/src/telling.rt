@@ -1,9 +1,9 @@
 //! What the judgment says about a trace, as a line or as an object.
 
 ghost use Rattle.std.specs.Prelude.{◌≡◌, OnOk, string_bytes};
-ghost use Rattle.trace_judge.specs.Telling.{with_certain, with_deviation, with_late, with_neither, with_possible, with_unseen};
+ghost use Rattle.trace_judge.specs.Telling.{with_certain, with_deviation, with_early, with_late, with_neither, with_possible, with_unseen, with_unwaited};
 
-use crate::timing::Late;
+use crate::timing::{Early, Late};
 use crate::{objects, saying};
 use judge_core::{After, Rule, Side};
 use layouts::Layout;
@@ -93,6 +93,40 @@ pub(crate) fn tell_late(
     match layout {
         Layout::Lines => saying::push_late(alloc, text, number, before, late),
         Layout::Json => objects::push_late(alloc, text, number, before, late),
+    }
+}
+
+/// Says that a terminal's block came too early after the block with the number `before`.
+pub(crate) fn tell_early(
+    alloc: Global,
+    text: &mut String,
+    layout: Layout,
+    number: u64,
+    before: u64,
+    early: Early,
+) -> Result<(), AllocError>
+    ensures { OnOk result (string_bytes text.new
+        ≡ with_early layout (string_bytes text.old) number before early) }
+{
+    match layout {
+        Layout::Lines => saying::push_early(alloc, text, number, before, early),
+        Layout::Json => objects::push_early(alloc, text, number, before, early),
+    }
+}
+
+/// Says that a card sent no block, which is permitted if the terminal sent too early.
+pub(crate) fn tell_unwaited(
+    alloc: Global,
+    text: &mut String,
+    layout: Layout,
+    number: u64,
+) -> Result<(), AllocError>
+    ensures { OnOk result (string_bytes text.new
+        ≡ with_unwaited layout (string_bytes text.old) number) }
+{
+    match layout {
+        Layout::Lines => saying::push_unwaited(alloc, text, number),
+        Layout::Json => objects::push_unwaited(alloc, text, number),
     }
 }
 

@@ -1,7 +1,7 @@
-//! When a card's block comes too late (ISO/IEC 7816-3:2006, 11.4.3).
+//! When a card's block comes too late, and a terminal's too early (ISO/IEC 7816-3:2006, 11.4.3).
 
 ghost use Rattle.std.specs.Prelude.{◌≡◌, ◌<◌, ◌^◌};
-ghost use Rattle.trace_judge.specs.Waiting.{etu_of, granted, late_after, late_by, lateness, multiple_of, new_timing, permitted_parts, permitted_time, rates_before, rates_by, sent_by, timed, waited, waited_by};
+ghost use Rattle.trace_judge.specs.Waiting.{after_card, begun_at, early_after_card, early_alone, early_before, early_by, early_with, earliness, etu_of, granted, granted_or_one, late_after, late_by, lateness, least_time, multiple_of, new_timing, past, permitted_parts, permitted_time, rates_before, rates_by, sent_by, timed, waited, waited_by};
 
 use atr_core::{Atr, T1Params, rates};
 use block_core::{Pcb, S};
@@ -16,6 +16,12 @@ const DEFAULT_RATES: Rates = (Some(372), Some(1));
 
 /// The bit of TA2 that says that the interface bytes don't give F and D.
 const IMPLICIT: u8 = 0x10;
+
+/// CGT: the least time between characters of a block, in elementary time units.
+const LEAST_CHARACTER: u64 = 11;
+
+/// BGT: the least time between blocks of opposite directions, in elementary time units (11.4.3).
+const BLOCK_GUARD: u64 = 22;
 
 /// What a card's answer to reset offers.
 #[derive(Debug, Drop)]
@@ -48,12 +54,12 @@ pub(crate) struct Etu {
     pub(crate) di: u16,
 }
 
-/// A terminal's block, if its moment is known.
+/// Octets of a block of which a moment is known: all of them, or the last one alone.
 #[derive(Clone, Copy)]
 pub(crate) struct Sent {
-    /// When it began, in microseconds.
+    /// When the first of them began, in microseconds.
     pub(crate) moment: u64,
-    /// How many octets it had.
+    /// How many they are.
     pub(crate) octets: usize,
 }
 
@@ -64,8 +70,12 @@ pub(crate) struct Timing {
     pub(crate) rates: Rates,
     /// The moment directly before the next block.
     pub(crate) now: Option<u64>,
-    /// The terminal's last block.
+    /// The moment of the last octet of the next block.
+    pub(crate) until: Option<u64>,
+    /// The terminal's last block, if a moment of it is known, and of the card's block after it.
     pub(crate) sent: Option<Sent>,
+    /// The card's block after it.
+    pub(crate) came: Option<Sent>,
 }
 
 impl Timing {
@@ -76,7 +86,9 @@ impl Timing {
         Timing {
             rates,
             now: None,
+            until: None,
             sent: None,
+            came: None,
         }
     }
 
@@ -84,20 +96,59 @@ impl Timing {
     pub(crate) fn timed(self, from: Side, octets: usize) -> Timing
         ensures { result ≡ timed self from octets }
     {
+        let block = sent_by(self.until, self.now, octets);
         match from {
             Side::Terminal => Timing {
-                now: None,
-                sent: sent_by(self.now, octets),
-                ..self
+                sent: block,
+                came: None,
+                ..self.past()
             },
-            Side::Card => Timing { now: None, ..self },
+            Side::Card => self.after_card(block),
+        }
+    }
+
+    /// Returns the timing after a block of the card. Without its moment nothing is known of the times of both.
+    fn after_card(self, came: Option<Sent>) -> Timing
+        ensures { result ≡ after_card self came }
+    {
+        match came {
+            Some(_) => Timing {
+                came,
+                ..self.past()
+            },
+            None => Timing {
+                sent: None,
+                came: None,
+                ..self.past()
+            },
+        }
+    }
+
+    /// Returns the timing without the moments directly before: they count only for what comes directly after them.
+    pub(crate) fn past(self) -> Timing
+        ensures { result ≡ past self }
+    {
+        Timing {
+            now: None,
+            until: None,
+            ..self
         }
     }
 }
 
+/// Returns a block of so many octets, by the moment of its last octet, or else by that of its first.
+fn sent_by(until: Option<u64>, now: Option<u64>, octets: usize) -> Option<Sent>
+    ensures { result ≡ sent_by until now octets }
+{
+    match until {
+        Some(moment) => Some(Sent { moment, octets: 1 }),
+        None => begun_at(now, octets),
+    }
+}
+
 /// Returns a block of so many octets that began at this moment, if there is one.
-fn sent_by(now: Option<u64>, octets: usize) -> Option<Sent>
-    ensures { result ≡ sent_by now octets }
+fn begun_at(now: Option<u64>, octets: usize) -> Option<Sent>
+    ensures { result ≡ begun_at now octets }
 {
     match now {
         Some(moment) => Some(Sent { moment, octets }),
@@ -105,22 +156,31 @@ fn sent_by(now: Option<u64>, octets: usize) -> Option<Sent>
     }
 }
 
-/// The interval between a terminal's block and the card's.
+/// The interval between octets of a block and now.
 #[derive(Clone, Copy)]
 pub(crate) struct Interval {
-    /// Microseconds from the beginning of the terminal's block to that of the card's.
+    /// Microseconds from the first of these octets to now.
     pub(crate) elapsed: u64,
-    /// How many octets the terminal's block had.
+    /// How many octets they are.
     pub(crate) octets: usize,
 }
 
 /// A card's block that came too late.
 #[derive(Clone, Copy)]
 pub(crate) struct Late {
-    /// How many microseconds after the beginning of the terminal's block it came.
+    /// How many microseconds after the terminal's block it came, from its beginning or its last octet on.
     pub(crate) elapsed: u64,
     /// How many microseconds the standard permits.
     pub(crate) permitted: u64,
+}
+
+/// A terminal's block that came too early.
+#[derive(Clone, Copy)]
+pub(crate) struct Early {
+    /// How many microseconds after the last block it came, from its beginning or its last octet on.
+    pub(crate) elapsed: u64,
+    /// How many microseconds the standard requires at least.
+    pub(crate) least: u64,
 }
 
 /// Returns F and D from a reset until an exchange of PPS (ISO/IEC 7816-3:2006, 8.3).
@@ -249,11 +309,127 @@ fn etu_of(rates: Rates) -> Option<Etu>
     }
 }
 
+/// Returns by how much a terminal's block is early if it comes now. It depends on what the terminal's last block granted
+/// the card, as the card heard it, and on the clock in hertz.
+pub(crate) fn earliness(
+    params: T1Params,
+    clock: Option<u64>,
+    timing: Timing,
+    heard: Heard,
+) -> Option<Early>
+    ensures { result ≡ earliness params clock timing heard }
+{
+    early_by(
+        params,
+        clock,
+        granted_or_one(granted(heard)),
+        etu_of(timing.rates),
+        waited(timing),
+        waited_by(timing.now, timing.came),
+    )
+}
+
+/// Returns what is granted, or 1 if that isn't known.
+fn granted_or_one(granted: Option<u8>) -> u8
+    ensures { result ≡ granted_or_one granted }
+{
+    match granted {
+        Some(multiple) => multiple,
+        None => 1,
+    }
+}
+
+/// Returns by how much a block is early, if everything that decides it is known.
+fn early_by(
+    params: T1Params,
+    clock: Option<u64>,
+    multiple: u8,
+    etu: Option<Etu>,
+    waited: Option<Interval>,
+    came: Option<Interval>,
+) -> Option<Early>
+    ensures { result ≡ early_by params clock multiple etu waited came }
+{
+    match (clock, etu, waited) {
+        (Some(clock), Some(etu), Some(waited)) => {
+            let alone = early_alone(params, clock, multiple, etu, waited);
+            early_with(clock, etu, alone, came)
+        }
+        _ => None,
+    }
+}
+
+/// Returns by how much a block is early: not at all once the terminal's waiting time is over; until then by what is
+/// `alone` in the trace, or by BGT after a block of the card that came.
+fn early_with(clock: u64, etu: Etu, alone: Option<Early>, came: Option<Interval>) -> Option<Early>
+    ensures { result ≡ early_with clock etu alone came }
+{
+    match (alone, came) {
+        (None, _) => None,
+        (Some(alone), None) => Some(alone),
+        (Some(_), Some(came)) => early_after_card(clock, etu, came),
+    }
+}
+
+/// Returns by how much a block comes before the waiting time of the terminal's own block is over.
+fn early_alone(
+    params: T1Params,
+    clock: u64,
+    multiple: u8,
+    etu: Etu,
+    waited: Interval,
+) -> Option<Early>
+    ensures { result ≡ early_alone params clock multiple etu waited }
+{
+    let wait = multiple as u128 * params.bwt(etu.fi, etu.di) as u128;
+    early_before(least_time(clock, wait, etu, waited.octets), waited.elapsed)
+}
+
+/// Returns by how much a block comes before BGT after a block of the card is over.
+fn early_after_card(clock: u64, etu: Etu, came: Interval) -> Option<Early>
+    ensures { result ≡ early_after_card clock etu came }
+{
+    let wait = BLOCK_GUARD as u128 * etu.fi as u128;
+    early_before(least_time(clock, wait, etu, came.octets), came.elapsed)
+}
+
+/// Returns a block that came before the least time, if it did.
+fn early_before(least: u128, elapsed: u64) -> Option<Early>
+    ensures { result ≡ early_before least elapsed }
+{
+    if (elapsed as u128) < least {
+        Some(Early {
+            elapsed,
+            least: least.min(u64::MAX as u128) as u64,
+        })
+    } else {
+        None
+    }
+}
+
+/// Returns the least time in microseconds from a block of so many octets to the terminal's next one, if the terminal
+/// waits for this after the last octet, in parts of an elementary time unit, `fi` of them in one unit.
+fn least_time(clock: u64, wait: u128, etu: Etu, octets: usize) -> u128
+    requires { wait < 2 ^ 90 }
+    ensures { result ≡ least_time clock wait etu octets }
+{
+    let per_second = (etu.di as u128 * clock as u128).max(1);
+    let character = LEAST_CHARACTER * etu.fi as u64;
+    (wait + octets.saturating_sub(1) as u128 * character as u128) * 1_000_000 / per_second
+}
+
 /// Returns the interval between the terminal's last block and now, if both moments are known.
 fn waited(timing: Timing) -> Option<Interval>
     ensures { result ≡ waited timing }
 {
-    match (timing.now, timing.sent) {
+    waited_by(timing.now, timing.sent)
+}
+
+/// Returns the interval between a block and now, if both moments are known.
+fn waited_by(now: Option<u64>, sent: Option<Sent>) -> Option<Interval>
+    ensures { result ≡ waited_by now sent }
+{
+    match (now, sent) {
         (Some(now), Some(sent)) => Some(Interval {
             elapsed: now.saturating_sub(sent.moment),
             octets: sent.octets,

@@ -2,19 +2,20 @@
 use Rattle.std.proofs.Common.{◌≡◌, ◌<◌, ◌∙◌, inl, inr, ℕ, List, [], ◌∷◌, true, false, Result, Ok, Err, refl, ap, sym, ◌+◌, arith, length, get_or, drop}
 use Rattle.std.specs.List.{slice_split}
 use Rattle.std.proofs.lemmas.List.{drop_more, drop_all}
-use Rattle.exchange_text.specs.declared.fault.ExchangeFault.{ExchangeFault}
+use Rattle.trace_text.specs.Reading.{◌>>=◌, is_line_end}
+use Rattle.traces.specs.declared.reading.TraceFault.{TraceFault}
 use Rattle.traces.specs.declared.trace.Item.{Item}
 use Rattle.traces.specs.Unfit.{is_said, item_line, left_after}
-use Rattle.traces.specs.Reading.{◌>>=◌, is_line_end, nothing_taken, trace_of, with_line, with_lines, Taken, UnlessMemory}
+use Rattle.traces.specs.Reading.{nothing_taken, trace_of, with_line, with_lines, Taken, UnlessMemory}
 
 -- what the lines so far said, with the lines that are left, is what all lines say, and each line was counted
-pub record IsTaken (taken : Taken) (lines : List (List ℕ)) (done : ℕ) (all : Result Taken ExchangeFault) : Type 0 where
+pub record IsTaken (taken : Taken) (lines : List (List ℕ)) (done : ℕ) (all : Result Taken TraceFault) : Type 0 where
   pub same : with_lines taken (drop done lines) ≡ all
   pub number : taken.number ≡ done + 1
 
 -- the line at a place is taken
 pub next-line : (before after : Taken) (line : List ℕ) (lines : List (List ℕ)) (i : ℕ)
-    (all : Result Taken ExchangeFault) → (i < length lines) × (line ≡ get_or lines i line)
+    (all : Result Taken TraceFault) → (i < length lines) × (line ≡ get_or lines i line)
     → with_line before line ≡ Ok after → after.number ≡ before.number + 1 → IsTaken before lines i all
     → IsTaken after lines (i + 1) all
 next-line before after line lines i all at is count kept =
@@ -27,8 +28,8 @@ next-line before after line lines i all at is count kept =
     }
 
 -- or it is at fault, and that is the fault of the text, or memory ran out
-pub next-fault : (before : Taken) (line : List ℕ) (lines : List (List ℕ)) (i : ℕ) (all : Result Taken ExchangeFault)
-    (fault : ExchangeFault) → (i < length lines) × (line ≡ get_or lines i line)
+pub next-fault : (before : Taken) (line : List ℕ) (lines : List (List ℕ)) (i : ℕ) (all : Result Taken TraceFault)
+    (fault : TraceFault) → (i < length lines) × (line ≡ get_or lines i line)
     → UnlessMemory (Err fault) (with_line before line) → IsTaken before lines i all → UnlessMemory (Err fault) all
 next-fault before line lines i all fault at (inl memory) kept = inl memory
 next-fault before line lines i all fault at (inr said) kept =
@@ -38,17 +39,17 @@ next-fault before line lines i all fault at (inr said) kept =
     inr (sym one ∙ ap (with_lines before) (sym next) ∙ kept.same)
 
 -- no line is left
-pub no-more : (taken : Taken) (lines : List (List ℕ)) (i : ℕ) (all : Result Taken ExchangeFault) → i ≡ length lines
+pub no-more : (taken : Taken) (lines : List (List ℕ)) (i : ℕ) (all : Result Taken TraceFault) → i ≡ length lines
     → IsTaken taken lines i all → Ok taken ≡ all
 no-more taken lines i all e kept =
     let none : drop i lines ≡ [] = rw e (drop_all (length lines) lines (omega arith)) in
     ap (with_lines taken) (sym none) ∙ kept.same
 
-abbrev items : Result Taken ExchangeFault → Result (List Item) ExchangeFault
+abbrev items : Result Taken TraceFault → Result (List Item) TraceFault
 items all = all >>= (λ t. Ok t.items)
 
 -- a fault of the lines is that of the text
-pub fault-of-text : (fault : ExchangeFault) (text : List ℕ)
+pub fault-of-text : (fault : TraceFault) (text : List ℕ)
     → UnlessMemory (Err fault) (with_lines nothing_taken (slice_split is_line_end text))
     → UnlessMemory (Err fault) (trace_of text)
 fault-of-text fault text (inl memory) = inl (ap items memory)

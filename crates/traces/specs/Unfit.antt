@@ -7,7 +7,7 @@ use Rattle.traces.specs.declared.trace.Item.{Item}
 use Rattle.traces.specs.declared.trace.Item.TheVariants.{Block, Quiet, Moment}
 use Rattle.traces.specs.declared.unfit.Unfit.{Unfit}
 use Rattle.traces.specs.declared.unfit.Unfit.TheVariants.{Pps, NodeAddress, Silence}
-use Rattle.traces.specs.Reading.{is_empty, words_of}
+use Rattle.trace_text.specs.Reading.{is_silent, words_of}
 use Rattle.block_core.specs.Side.{same_side}
 
 -- the first block of an end, by its place among the items, and its octets
@@ -67,7 +67,7 @@ unfoldable pub unfit_in : List Item → Option (ℕ × Unfit)
 unfit_in items = by_first items (first_from Terminal 0 items)
 
 abbrev pub says_item : List ℕ → Bool
-says_item line = not (is_empty (words_of line).first)
+says_item line = not (is_silent (words_of line))
 
 -- whether a line has the item before which so many are left
 abbrev pub is_said : List ℕ → ℕ → Bool

@@ -9,7 +9,6 @@
 mod follower;
 mod following;
 pub mod laws;
-mod line_words;
 mod marking;
 mod matching;
 pub mod reading;
@@ -20,7 +19,7 @@ mod standing;
 pub mod trace;
 pub mod unfit;
 
-pub use reading::{line_of_item, read_trace};
+pub use reading::{TraceFault, line_of_item, read_trace};
 pub use recording::{RecordFault, record_trace};
 pub use trace::{Item, Trace};
 pub use unfit::{Unfit, unfit_in};

@@ -2,36 +2,81 @@
 
 ghost use Rattle.std.specs.Prelude.{◌≡◌, ◌<◌, ◌+◌, ◌^◌, ◌++◌, ◌∷◌, [], IfOk, IfSome, OnErr, OnOk};
 ghost use Rattle.std.specs.List.{slice_split};
+ghost use Rattle.trace_text.specs.Reading as reading_of_lines;
+ghost use Rattle.trace_text.specs.Reading.{is_line_end};
 ghost use Rattle.traces.specs.Reading as reading;
+ghost use Rattle.traces.specs.declared.reading.TraceFault.TheVariants as fault;
 ghost use Rattle.traces.specs.Unfit as unfit;
 ghost use Rattle.traces.specs.Unfit.{item_line};
-ghost use Rattle.traces.specs.Reading.{block_said, hex_said, item_said, is_line_end, is_lost, least_after, moment_said, named_said, nothing_taken, taken_with, trace_of, with_line, Becomes, IsEarly, UnlessMemory};
+ghost use Rattle.traces.specs.Reading.{block_item, is_unchanged, item_of, item_said, least_after, nothing_taken, taken_with, trace_of, with_line, Becomes, IsEarly, UnlessMemory};
 
-use crate::line_words::LineWords;
+use crate::seen::whole_block;
 use crate::trace::{Item, Trace};
+use crate::unfit::Unfit;
 use exchange_core::{ExchangeFault, Side};
-use exchange_text::Name;
-use hex::FromHexError;
-use octet_core::{Octets, decimal_of};
+use octet_core::Octets;
 use std::alloc::{AllocError, Global};
+use std::error::Error;
+use std::fmt::{self, Display, Formatter, Write};
 use std::marker::Model;
+use trace_text::{Entry, Reach, entry_of, says_nothing};
 
-/// The word for a block that didn't reach its receiver, after its octets.
-const LOST: &str = "lost";
+/// Why a text isn't a trace that can be recorded. Lines are counted from 1.
+#[derive(Clone, Copy, Debug, PartialEq, Eq)]
+pub enum TraceFault {
+    /// The text has a fault, or memory ran out.
+    Text(ExchangeFault),
+    /// What the line says can't be recorded.
+    Unfit { line: usize, why: Unfit },
+}
 
-/// Parses the text of a trace, and returns the trace or the first fault.
+/// The fault, or the line and the reason, as in `line 3: Reset`.
+impl Display for TraceFault {
+    ghost use Rattle.std.specs.Prelude.{Some};
+    ghost use Rattle.traces.specs.Faults.{trace_fault_text};
+
+    ghost output = { λ fault. Some (trace_fault_text fault) };
+
+    fn fmt<W: Write>(&self, f: &mut Formatter<W>) -> fmt::Result {
+        match self {
+            TraceFault::Text(fault) => write!(f, "{fault}"),
+            TraceFault::Unfit { line, why } => write!(f, "line {line}: {why}"),
+        }
+    }
+}
+
+impl Error for TraceFault {}
+
+impl From<ExchangeFault> for TraceFault {
+    ghost use Rattle.traces.specs.declared.reading.TraceFault.{TraceFault};
+
+    ghost from_gives = { λ fault made. made ≡ TraceFault.Text fault };
+
+    fn from(fault: ExchangeFault) -> TraceFault {
+        TraceFault::Text(fault)
+    }
+}
+
+impl From<AllocError> for TraceFault {
+    ghost use Rattle.exchange_text.specs.declared.fault.ExchangeFault.{ExchangeFault};
+    ghost use Rattle.traces.specs.declared.reading.TraceFault.{TraceFault};
+
+    ghost from_gives = { λ _ made. made ≡ TraceFault.Text ExchangeFault.Memory };
+
+    fn from(_: AllocError) -> TraceFault {
+        TraceFault::Text(ExchangeFault::Memory)
+    }
+}
+
+/// Parses the text of a trace, and returns the trace, or the first line that is at fault or can't be recorded.
 ///
-/// LF ends a line, and the last line needs none. Spaces, tabs and CR separate words. The lines are:
+/// LF ends a line, and the last line needs none. [`entry_of`] says which lines there are. An item is a block, the end of
+/// a waiting time, or a moment: `at N` or `until N`. Other lines say nothing, or give [`TraceFault::Unfit`]: a reset, a
+/// beginning in the midst of a session, and a block that arrived as other octets or with an error of parity.
 ///
-/// - `t HEX`, `c HEX`: a block of the terminal or of the card. HEX is in upper case or lower case.
-/// - `t HEX lost`, `c HEX lost`: the block didn't reach the other end.
-/// - `quiet`: the terminal's waiting time ended.
-/// - `at N`: microseconds, 1 to 15 digits, never below an earlier moment.
-/// - A line without a word says nothing.
-///
-/// The error names the first wrong line, counted from 1: `Word` if its words have none of these forms, then `Hex`, then
-/// `Falls` for a moment below an earlier one. If an allocation fails, `Memory` can replace any result.
-pub fn read_trace(alloc: Global, text: &[u8]) -> Result<Trace, ExchangeFault>
+/// A fault of the text is `Word` or `Hex`, and `Falls` for a moment below an earlier one. If an allocation fails,
+/// `Memory` can replace any result.
+pub fn read_trace(alloc: Global, text: &[u8]) -> Result<Trace, TraceFault>
     ensures { UnlessMemory result (trace_of text.now) }
 {
     let mut taken = Taken::new(alloc);
@@ -76,11 +121,11 @@ fn left_after(line: &[u8], left: usize) -> usize
     }
 }
 
-/// Whether a line has an item, which it has if it has a word.
+/// Whether a line has an item, which it has if it has a word and isn't a remark.
 fn says_item(line: &[u8]) -> bool
     ensures { result ≡ unfit.says_item line.now }
 {
-    !LineWords::of(line).first.is_empty()
+    !says_nothing(line)
 }
 
 /// What the lines so far say.
@@ -116,13 +161,12 @@ impl Taken {
     }
 
     /// Takes one more line, without its line feed.
-    fn take(&mut self, alloc: Global, line: &[u8]) -> Result<(), ExchangeFault>
+    fn take(&mut self, alloc: Global, line: &[u8]) -> Result<(), TraceFault>
         requires { self.old.number + 1 < 2 ^ 64 }
         ensures said { Becomes (with_line self.old line.now) self.new result }
         ensures number { OnOk result (self.new.number ≡ self.old.number + 1) }
     {
-        let words = LineWords::of(line);
-        let item = item_said(alloc, self.number, &words)?;
+        let item = item_said(alloc, self.number, line)?;
         self.with(item)?;
         self.number += 1;
         Ok(())
@@ -136,7 +180,7 @@ impl Taken {
     }
 
     /// Takes the item of a line, if it has one.
-    fn with(&mut self, item: Option<Item>) -> Result<(), ExchangeFault>
+    fn with(&mut self, item: Option<Item>) -> Result<(), TraceFault>
         requires { IfSome item IsEarly }
         ensures said { Becomes (taken_with self.old item) self.new result }
         ensures number { OnOk result (self.new.number ≡ self.old.number) }
@@ -148,14 +192,14 @@ impl Taken {
     }
 
     /// Takes an item.
-    fn with_item(&mut self, item: Item) -> Result<(), ExchangeFault>
+    fn with_item(&mut self, item: Item) -> Result<(), TraceFault>
         requires { IsEarly item }
         ensures said { Becomes (taken_with self.old (Some item)) self.new result }
         ensures number { OnOk result (self.new.number ≡ self.old.number) }
     {
         let least = least_after(self.least, &item);
         if least < self.least {
-            return Err(ExchangeFault::Falls { line: self.number });
+            return Err(TraceFault::Text(ExchangeFault::Falls { line: self.number }));
         }
         push(&mut self.items, item)?;
         self.least = least;
@@ -181,89 +225,67 @@ fn push(items: &mut Vec<Item>, item: Item) -> Result<(), AllocError>
     Ok(())
 }
 
-/// Parses the words of the line with this number. A line without a word says nothing.
-fn item_said(
-    alloc: Global,
-    number: usize,
-    words: &LineWords<'_>,
-) -> Result<Option<Item>, ExchangeFault>
-    ensures said { UnlessMemory result (item_said number words.now) }
+/// Returns the item of the line with this number, if it has one.
+#[tactic(auto, unfolding(crate::specs::Reading::item_said))]
+fn item_said(alloc: Global, number: usize, line: &[u8]) -> Result<Option<Item>, TraceFault>
+    ensures said { UnlessMemory result (item_said number line.now) }
     ensures early { IfOk result (λ item. IfSome item IsEarly) }
 {
-    if words.first.is_empty() {
-        Ok(None)
-    } else {
-        Ok(Some(named_said(alloc, number, words)?))
-    }
+    let entry = entry_of(alloc, number, line)?;
+    item_of(number, entry)
 }
 
-/// Returns the item of these words. The first word names it.
-fn named_said(alloc: Global, number: usize, words: &LineWords<'_>) -> Result<Item, ExchangeFault>
-    ensures said { UnlessMemory result (named_said number words.now) }
-    ensures early { IfOk result IsEarly }
+/// Returns the item of what the line with this number says, or why that can't be recorded.
+fn item_of(number: usize, entry: Entry) -> Result<Option<Item>, TraceFault>
+    requires { reading_of_lines.IsEarly entry }
+    ensures said { result ≡ item_of number entry }
+    ensures early { IfOk result (λ item. IfSome item IsEarly) }
 {
-    let word = words.first;
-    if word == Name::FromTerminal.word().as_bytes() {
-        block_said(alloc, number, Side::Terminal, words)
-    } else if word == Name::FromCard.word().as_bytes() {
-        block_said(alloc, number, Side::Card, words)
-    } else if word == Name::Quiet.word().as_bytes() && words.second.is_empty() {
-        Ok(Item::Quiet)
-    } else if word == Name::Moment.word().as_bytes() {
-        moment_said(number, words)
-    } else {
-        Err(ExchangeFault::Word { line: number })
+    match entry {
+        Entry::Nothing => Ok(None),
+        Entry::Block {
+            from,
+            octets,
+            reach,
+        } => block_item(number, from, octets, &reach),
+        Entry::Quiet => Ok(Some(Item::Quiet)),
+        Entry::Moment(moment) | Entry::Until(moment) => Ok(Some(Item::Moment(moment))),
+        Entry::Reset => Err(unfit_at(number, Unfit::Reset)),
+        Entry::Midway => Err(unfit_at(number, Unfit::Midway)),
     }
 }
 
-/// Returns the block of this end in these words.
-fn block_said(
-    alloc: Global,
+/// Returns the block of an end, if the line with this number says that it arrived as it was sent, or that it was lost.
+fn block_item(
     number: usize,
     from: Side,
-    words: &LineWords<'_>,
-) -> Result<Item, ExchangeFault>
-    ensures said { UnlessMemory result (block_said number from words.now) }
-    ensures early { IfOk result IsEarly }
+    octets: Octets,
+    reach: &Reach,
+) -> Result<Option<Item>, TraceFault>
+    ensures said { result ≡ block_item number from octets reach.now }
+    ensures early { IfOk result (λ item. IfSome item IsEarly) }
 {
-    let lost = is_lost(number, words)?;
-    let octets = hex_said(alloc, number, words.second)?;
-    Ok(Item::Block { from, octets, lost })
-}
-
-/// Whether the words say that a block was lost.
-fn is_lost(number: usize, words: &LineWords<'_>) -> Result<bool, ExchangeFault>
-    ensures { result ≡ is_lost number words.now }
-{
-    if words.second.is_empty() || !words.more.is_empty() {
-        Err(ExchangeFault::Word { line: number })
-    } else if words.third.is_empty() {
-        Ok(false)
-    } else if words.third == LOST.as_bytes() {
-        Ok(true)
-    } else {
-        Err(ExchangeFault::Word { line: number })
+    match reach {
+        Reach::Came(came) if !is_unchanged(octets.get(), came.get()) => {
+            Err(unfit_at(number, Unfit::Arrived))
+        }
+        Reach::Parity => Err(unfit_at(number, Unfit::Arrived)),
+        Reach::Unsaid | Reach::Lost | Reach::Came(_) => {
+            let lost = matches!(reach, Reach::Lost);
+            Ok(Some(Item::Block { from, octets, lost }))
+        }
     }
 }
 
-/// Returns the moment in these words.
-fn moment_said(number: usize, words: &LineWords<'_>) -> Result<Item, ExchangeFault>
-    ensures said { result ≡ moment_said number words.now }
-    ensures early { IfOk result IsEarly }
+/// Whether octets are a whole block that arrived as it was sent.
+fn is_unchanged(octets: &[u8], came: &[u8]) -> bool
+    ensures { result ≡ is_unchanged octets.now came.now }
 {
-    match decimal_of(words.second) {
-        Some(moment) if words.third.is_empty() => Ok(Item::Moment(moment)),
-        _ => Err(ExchangeFault::Word { line: number }),
-    }
+    octets == came && whole_block(octets).is_some()
 }
 
-/// Returns the octets of a word in upper-case or lower-case hexadecimal.
-fn hex_said(alloc: Global, number: usize, word: &[u8]) -> Result<Octets, ExchangeFault>
-    ensures { UnlessMemory result (hex_said number word.now) }
+fn unfit_at(line: usize, why: Unfit) -> TraceFault
+    ensures { result ≡ fault.Unfit line why }
 {
-    match hex::decode(alloc, word) {
-        Ok(octets) => Ok(Octets::of(octets)),
-        Err(FromHexError::OutOfMemory) => Err(ExchangeFault::Memory),
-        Err(_) => Err(ExchangeFault::Hex { line: number }),
-    }
+    TraceFault::Unfit { line, why }
 }

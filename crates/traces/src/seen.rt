@@ -143,7 +143,7 @@ pub(crate) fn decode_each(alloc: Global, items: &[Item]) -> Result<Vec<Seen<'_>>
 
 /// Returns the block that octets are, if they are one whole block with node address 00 and a field of at most 254
 /// octets.
-fn whole_block(octets: &[u8]) -> Option<BlockRef<'_>>
+pub(crate) fn whole_block(octets: &[u8]) -> Option<BlockRef<'_>>
     ensures { result ≡ seen octets.now }
 {
     by_verdict(octets)

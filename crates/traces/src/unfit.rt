@@ -21,6 +21,12 @@ pub enum Unfit {
     /// The terminal sends a block after another one, with no block of the card and no end of its waiting time between
     /// them.
     Silence,
+    /// The card was reset: another session begins.
+    Reset,
+    /// The trace goes on in the midst of a session of which nothing is known.
+    Midway,
+    /// A block arrived as other octets than those that were seen, or with an error of parity.
+    Arrived,
 }
 
 /// The variant's name.
@@ -34,6 +40,9 @@ impl Named for Unfit {
             Unfit::Pps => "Pps",
             Unfit::NodeAddress => "NodeAddress",
             Unfit::Silence => "Silence",
+            Unfit::Reset => "Reset",
+            Unfit::Midway => "Midway",
+            Unfit::Arrived => "Arrived",
         }
     }
 }

@@ -6,7 +6,8 @@ use Rattle.std.proofs.lemmas.List.Splits.{length-slice_split}
 use Rattle.std.proofs.lemmas.List.Sums.{count_by-le-length}
 use Rattle.std.proofs.lemmas.Result.{err_from_is_err_and}
 use Rattle.std.specs.List.{slice_split}
-use Rattle.trace_judge.specs.Judging.{is_line_end, start, Standing}
+use Rattle.trace_text.specs.Reading.{is_line_end}
+use Rattle.trace_judge.specs.Judging.{start, Standing}
 use Rattle.trace_judge.proofs.Lines.{concluded, next-line, no-more, stopped, IsOnTheWay}
 use Rattle.trace_judge.proofs.standing.judge_trace.Goals as goal
 

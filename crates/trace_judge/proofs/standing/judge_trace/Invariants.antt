@@ -1,6 +1,7 @@
 use Rattle.std.proofs.Common.{length}
 use Rattle.std.specs.List.{slice_split}
-use Rattle.trace_judge.specs.Judging.{is_line_end, start}
+use Rattle.trace_text.specs.Reading.{is_line_end}
+use Rattle.trace_judge.specs.Judging.{start}
 use Rattle.trace_judge.proofs.Lines.{IsOnTheWay}
 use Rattle.trace_judge.proofs.standing.judge_trace.Given as goal
 

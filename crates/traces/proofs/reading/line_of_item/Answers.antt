@@ -3,7 +3,7 @@ use Rattle.std.proofs.lemmas.Iterator.Consumers.{YieldsList-at, YieldsList-turn,
 use Rattle.std.proofs.lemmas.Iterator.Splits.{YieldsList-from_slice_split}
 use Rattle.std.proofs.lemmas.List.{length_push}
 use Rattle.std.specs.List.{slice_split}
-use Rattle.traces.specs.Reading.{is_line_end}
+use Rattle.trace_text.specs.Reading.{is_line_end}
 use Rattle.traces.specs.Unfit.{item_line}
 use Rattle.traces.proofs.Texts.{is-said, none-said, not-said}
 use Rattle.traces.proofs.reading.line_of_item.Goals as goal

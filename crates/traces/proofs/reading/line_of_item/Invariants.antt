@@ -1,6 +1,6 @@
 use Rattle.std.proofs.Common.{◌≡◌, ◌+◌, drop, length}
 use Rattle.std.specs.List.{slice_split}
-use Rattle.traces.specs.Reading.{is_line_end}
+use Rattle.trace_text.specs.Reading.{is_line_end}
 use Rattle.traces.specs.Unfit.{item_line}
 use Rattle.traces.proofs.reading.line_of_item.Given as goal
 

@@ -6,7 +6,8 @@ use Rattle.std.proofs.lemmas.List.Splits.{length-slice_split}
 use Rattle.std.proofs.lemmas.List.Sums.{count_by-le-length}
 use Rattle.std.proofs.lemmas.Result.{err_from_is_err_and}
 use Rattle.std.specs.List.{slice_split}
-use Rattle.traces.specs.Reading.{is_line_end, nothing_taken, with_lines}
+use Rattle.trace_text.specs.Reading.{is_line_end}
+use Rattle.traces.specs.Reading.{nothing_taken, with_lines}
 use Rattle.traces.proofs.Texts.{fault-of-text, next-fault, next-line, no-more, whole-text}
 use Rattle.traces.proofs.reading.read_trace.Goals as goal
 

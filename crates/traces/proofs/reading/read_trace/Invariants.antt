@@ -1,6 +1,7 @@
 use Rattle.std.proofs.Common.{length}
 use Rattle.std.specs.List.{slice_split}
-use Rattle.traces.specs.Reading.{is_line_end, nothing_taken, with_lines}
+use Rattle.trace_text.specs.Reading.{is_line_end}
+use Rattle.traces.specs.Reading.{nothing_taken, with_lines}
 use Rattle.traces.proofs.Texts.{IsTaken}
 use Rattle.traces.proofs.reading.read_trace.Given as goal
 

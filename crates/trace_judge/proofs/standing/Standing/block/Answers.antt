@@ -1,22 +1,24 @@
 use Rattle.std.proofs.Common.{subst, sym}
 use Rattle.trace_judge.specs.Judging.{ExercisesIf, IsTold, Standing}
-use Rattle.trace_judge.proofs.Steps.{told-by}
+use Rattle.trace_judge.proofs.Steps.{told-by, told-report}
 use Rattle.trace_judge.proofs.standing.Standing.block.Goals as goal
 
 pub returns-clause-said : goal.returns-clause-said
 returns-clause-said c =
-    let P : Standing → Type 0 = λ s. IsTold s c.args.from c.args.octets.now c.args.reach.now c.late.new.self in
+    let P : Standing → Type 0 = λ s. IsTold s c.args.from c.args.octets.now c.args.reach.now c.early.new.self in
     subst P c.self.view_is (record {
-      arrival = c.arrival-arrival.result;
-      is_arrival = c.arrival-arrival.ensures;
+      arrival = c.arrival_of-arrival.result;
+      is_arrival = c.arrival_of-arrival.ensures;
       monitor = c.block-report.new.self;
       report = c.block-report.result;
       takes = c.block-report.ensures;
       exercise = c.exercise-exercise.result;
       exercises = subst (λ (s : Standing). ExercisesIf s.scope.rules s.monitor c.args.from c.args.octets.now
-          c.arrival-arrival.result c.exercise-exercise.result) (sym c.self.view_is) c.exercise-exercise.ensures;
+          c.arrival_of-arrival.result c.exercise-exercise.result) (sym c.self.view_is) c.exercise-exercise.ensures;
       told = told-by _ c.args.self.now _ _ _ c.block-report.new.self c.args.from _ c.exercise-exercise.result
           c.block-report.result _ _ c.self.view_is
-          c.timed-self-inside.ensures c.cover.ensures.said c.in_ok-report.ensures.said c.late_from-late.ensures
-          c.in_ok-late.ensures.said;
+          (told-report _ c.args.self.now _ _ c.block-report.new.self c.args.from _ c.exercise-exercise.result _
+          c.block-report.result _ c.self.view_is c.timed-self-inside.ensures c.cover.ensures.said
+          c.is_over-over.ensures c.in_ok-report.ensures.said)
+          c.late_from-late.ensures c.in_ok-late.ensures.said c.early_from-early.ensures c.in_ok-early.ensures.said;
     })

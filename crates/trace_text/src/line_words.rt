@@ -1,22 +1,23 @@
 //! The words of a line of a trace.
 
 ghost use Rattle.std.specs.Prelude.{◌≡◌};
-ghost use Rattle.traces.specs.Reading.{words_of};
+ghost use Rattle.trace_text.specs.Reading.{words_of};
 
 use octet_core::first_word;
 use std::marker::Model;
 
-/// The first three words of a line, empty if the line has fewer, and the next word.
+/// The first four words of a line, empty if the line has fewer, and the next word.
 #[derive(Drop)]
 pub(crate) struct LineWords<'a> {
     pub(crate) first: &'a [u8],
     pub(crate) second: &'a [u8],
     pub(crate) third: &'a [u8],
+    pub(crate) fourth: &'a [u8],
     pub(crate) more: &'a [u8],
 }
 
 impl<'a> Model for LineWords<'a> {
-    ghost use Rattle.traces.specs.Reading.{Words};
+    ghost use Rattle.trace_text.specs.Reading.{Words};
 
     ghost Value = { Words };
 
@@ -24,6 +25,7 @@ impl<'a> Model for LineWords<'a> {
       first = w.first.now;
       second = w.second.now;
       third = w.third.now;
+      fourth = w.fourth.now;
       more = w.more.now;
     } };
 }
@@ -36,11 +38,13 @@ impl<'a> LineWords<'a> {
         let (first, rest) = first_word(line);
         let (second, rest) = first_word(rest);
         let (third, rest) = first_word(rest);
+        let (fourth, rest) = first_word(rest);
         let (more, _) = first_word(rest);
         LineWords {
             first,
             second,
             third,
+            fourth,
             more,
         }
     }
