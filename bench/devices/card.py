@@ -10,8 +10,9 @@ import scard
 from application import Application
 
 ATR = bytes.fromhex("3B808131204555")
-# microseconds that the card takes once it has asked for more time: more than one waiting time, and fewer than three
-LONG = 4_000_000
+# microseconds that the card takes for each waiting time that it asked for: fewer than one has
+WORK = 1_300_000
+RESYNCH_RESPONSE = 0xE0
 
 
 class Device:
@@ -27,13 +28,15 @@ class Device:
         self.wait = 0
         turn = self.card.received(octets)
         if turn.kind is scard.TurnKind.SEND:
+            if turn.octets[1] == RESYNCH_RESPONSE:
+                self.asked.clear()  # the command is gone
             return turn.octets
         command = self.card.command
         multiples = self.application.multiples(command)
         if multiples and command not in self.asked:
             self.asked.append(command)
             return self.card.more_time(multiples[0]).octets
-        self.wait = LONG if command in self.asked else 0
+        self.wait = WORK * multiples[0] if command in self.asked else 0
         self.asked.clear()
         return self.card.reply(self.application.answer(command)).octets
 

@@ -18,7 +18,8 @@ from .suite.device import Device
 def parser() -> argparse.ArgumentParser:
     """What the words may be."""
     top = argparse.ArgumentParser(prog="scard-bench", description=__doc__, allow_abbrev=False)
-    top.add_argument("--scard", metavar="PATH", help="the program scard; without it the one beside this checkout")
+    top.add_argument("--scard", metavar="PATH",
+                     help="the program scard; without it the one beside this command or on the PATH")
     subs = top.add_subparsers(dest="what", required=True)
     one = subs.add_parser("import", help="prints the trace of a capture, which scard judge takes", allow_abbrev=False)
     add_capture(one)

@@ -1,27 +1,36 @@
 """The program `scard`, which decides."""
 from __future__ import annotations
 
+import os
 import pathlib
 import shutil
 import subprocess
+import sys
 from typing import List, Optional, Sequence, Tuple
 
 from .errors import Wrong
 
-BESIDE = pathlib.Path(__file__).resolve().parents[2] / "scard"
+# the program of a checkout, and the one that is installed beside the command
+CHECKOUT = pathlib.Path(__file__).resolve().parents[2] / "scard"
+INSTALLED = pathlib.Path(sys.argv[0]).absolute().parent / "scard"
 STATUSES = (0, 1, 2)
 # how many values one call checks
 AT_ONCE = 20_000
 
 
+def found() -> Optional[str]:
+    """The program of this checkout, beside the command, or on the PATH."""
+    beside = (str(it) for it in (CHECKOUT, INSTALLED) if it.is_file() and os.access(it, os.X_OK))
+    return next(beside, None) or shutil.which("scard")
+
+
 class Program:
-    """The program at a path, beside this checkout, or on the PATH."""
+    """The program at a path, or the one that is found."""
 
     def __init__(self, path: Optional[str] = None) -> None:
-        found = path or (str(BESIDE) if BESIDE.exists() else shutil.which("scard"))
-        if not found:
-            raise Wrong("there is no program scard beside the folder bench or on the PATH: name it by --scard")
-        self.path = found
+        self.path = path or found() or ""
+        if not self.path:
+            raise Wrong("there is no program scard beside this command or on the PATH: name it by --scard")
 
     def answers(self, words: Sequence[str], text: str = "") -> Tuple[str, int]:
         """What the program prints for words and standard input, and its status."""

@@ -22,10 +22,10 @@ sys.path.insert(0, str(WRONG))
 tried = load("tried", WRONG / "try.py")
 
 
-def run(role, command, profile="iso", only=None, limit=LIMIT):
-    """A run of the suite with a device."""
+def run(role, command, profile="iso", only=None, limit=LIMIT, has_all=False):
+    """A run of the suite with a device, which lacks what ours lack, or nothing."""
     found = [it for it in scenario.scenarios(role, profile) if only is None or it.identity in only]
-    declared = scenario.declaration(str(TOP / f"bench/devices/{role}.json"))
+    declared = scenario.declaration(str(WRONG / "plain.json" if has_all else TOP / f"bench/devices/{role}.json"))
     done = runner.results(PROGRAM, Device(list(command), limit), found, declared)
     return runner.Run(role, profile, list(command), done)
 

@@ -173,9 +173,17 @@ class TerminalPlay(Play):
         name = step["send"]
         command, answer = self.declaration.commands[name]
         self.plan = {**step, "reply": bytes.fromhex(step["answer"]) if "answer" in step else answer}
-        self.served = []
+        self.served, before = [], len(self.line.sent_by("t"))
         reply = self.talks(self.device.asks(f"send {octets_in(command)}"))
         self.ended(name, command, reply)
+        self.compares(step.get("blocks", []), self.line.sent_by("t")[before:])
+
+    def compares(self, patterns: List[str], sent: List[bytes]) -> None:
+        """Compares the blocks that the terminal sent with what the scenario expects."""
+        for pattern, octets in zip(patterns, sent):
+            self.expects(pattern, octets)
+        if patterns and len(patterns) != len(sent):
+            raise Missed(f"it sent {len(sent)} blocks, expected {len(patterns)}")
 
     def ended(self, name: str, command: bytes, reply: Reply) -> None:
         """Compares the end of an exchange with what has to come of it."""
@@ -186,7 +194,7 @@ class TerminalPlay(Play):
             raise Missed(f"the exchange of {name} failed")
         if reply.word == "nothing":
             raise Missed(f"the terminal sent nothing, although the exchange of {name} isn't over")
-        if reply.word == "answer" and self.served != [command]:
+        if reply.word == "answer" and "card" not in self.plan and self.served != [command]:
             raise Missed(f"the card got {' and then '.join(octets_in(it)[:80] for it in self.served) or 'no command'}, "
                          f"sent was {octets_in(command)[:80]}")
 
@@ -207,6 +215,8 @@ class TerminalPlay(Play):
     def answers(self, reply: Reply) -> Reply:
         """Hands a block to the card, and its answer to the terminal."""
         sent = self.carries("t", reply.octets, reply.waited)
+        if "card" in self.plan:
+            return self.is_quiet() if sent.came is None else self.follows(self.plan["card"])
         self.engine.adds(sent.recorded())
         if sent.came is None:
             return self.is_quiet()
@@ -217,6 +227,14 @@ class TerminalPlay(Play):
             turn = self.engine.turn()
         came = self.carries("c", turn.octets)
         self.engine.adds(came.recorded(turn.octets))
+        return self.is_quiet() if came.came is None else self.device.asks(octets_in(came.came))
+
+    def follows(self, blocks: List[str]) -> Reply:
+        """Sends the next block of the scenario, in place of what a card would send."""
+        if not blocks:
+            raise Missed("it sent more blocks than the scenario answers")
+        self.plan["card"] = blocks[1:]
+        came = self.carries("c", bytes.fromhex(blocks[0]))
         return self.is_quiet() if came.came is None else self.device.asks(octets_in(came.came))
 
     def host(self, command: bytes) -> str:

@@ -11,7 +11,8 @@ FOLDER = pathlib.Path(__file__).resolve().parents[2] / "scenarios"
 ROLES, PROFILES = ("card", "terminal"), ("iso", "emv")
 NEEDS = ("abort", "node addresses", "ifs request", "wtx", "chained commands", "chained answers", "count", "repeats")
 FIELDS = {"id", "clause", "title", "steps", "faults", "most", "needs", "profiles", "atr", "first"}
-STEPS = {"exchange", "ifsd", "raw", "reply", "fresh", "reset", "send", "answer", "time", "ifsc", "may fail"}
+STEPS = {"exchange", "ifsd", "raw", "reply", "fresh", "reset", "send", "answer", "time", "ifsc", "may fail", "card",
+         "blocks"}
 
 
 class Faults(NamedTuple):

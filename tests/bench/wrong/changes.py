@@ -1,6 +1,17 @@
 """The wrong devices: each is a plain one with one line changed. A name says what is wrong; the old line is in the plain
 device once."""
 
+# lines of the plain devices that several changes are about
+ABORTED = ("        self.command, self.answer, self.last, self.is_open, self.was_aborted = "
+           "b\"\", b\"\", None, False, True")
+OUTSIDE = "        return self.changed(octets, nad >> 4 | nad << 4 & 0xF0) if octets else octets"
+
+
+def late(condition):
+    """The line by which a card waits too long if a condition holds."""
+    return f"            print(\"wait 5000000\\n\" * ({condition}) + said.hex(), flush=True)"
+
+
 CARDS = {
     "its check octet is wrong": ("    return octets + bytes([check(octets)])",
                                  "    return octets + bytes([check(octets) ^ 1])"),
@@ -91,6 +102,58 @@ CARDS = {
     "it hangs at R-blocks": ("        number = octets[1] >> 4 & 1", "        number = sys.stdin.read()"),
     "it ends at damage": ("            return self.refuses(1 if len(octets) > 3 and check(octets) else 2)",
                           "            sys.exit(1)"),
+    "it doesn't answer ABORT": ("            return self.aborts()", "            return self.refuses(2)"),
+    "it answers ABORT once": ("        if octets[1] == 0xC2 and (self.command or self.is_open or self.was_aborted):",
+                              "        if octets[1] == 0xC2 and (self.command or self.is_open):"),
+    "it answers ABORT as RESYNCH": ("        return block(0xE2)", "        return block(0xE0)"),
+    "it keeps the command over ABORT": (
+        ABORTED,
+        "        self.answer, self.last, self.is_open, self.was_aborted = b\"\", None, False, True"),
+    "it goes on with its chain after ABORT": (
+        ABORTED,
+        "        self.command, self.was_aborted = b\"\", True"),
+    "it acts on a command that was aborted": (
+        ABORTED,
+        "        self.application.served += 1\n" + ABORTED),
+    "it swaps no node addresses": (OUTSIDE,
+                                   "        return self.changed(octets, nad) if octets else octets"),
+    "it never sends node addresses": (
+        OUTSIDE, "        return octets"),
+    "it takes other node addresses than the first": (
+        "        return self.changed(octets, nad if nad == self.first else 0)",
+        "        return self.changed(octets, nad if self.first is not None else 0)"),
+    "it takes a node address with bit 8": (
+        "        if self.first is None and nad & 0x88 == 0 and (nad == 0 or nad >> 4 != nad & 7):",
+        "        if self.first is None and nad & 0x08 == 0 and (nad == 0 or nad >> 4 != nad & 7):"),
+    "it takes a node address with bit 4": (
+        "        if self.first is None and nad & 0x88 == 0 and (nad == 0 or nad >> 4 != nad & 7):",
+        "        if self.first is None and nad & 0x80 == 0 and (nad == 0 or nad >> 4 != nad & 7):"),
+    "it takes no field that is full": (
+        "    if len(octets) < 4 or len(octets) != octets[2] + 4 or octets[2] > IFSC or check(octets) != 0:",
+        "    if len(octets) < 4 or len(octets) != octets[2] + 4 or octets[2] >= IFSC or check(octets) != 0:"),
+    "it sends an empty block after a full one": ("        self.is_open = bool(self.answer)",
+                                                 "        self.is_open = len(field) == self.ifsd"),
+    "it takes no empty block": ("        return I if pcb & 0x1F == 0 else None",
+                                "        return I if pcb & 0x1F == 0 and size > 0 else None"),
+    "it forgets the begin of a chain at damage": (
+        "        return block(0x80 | self.expected << 4 | error)",
+        "        self.command = b\"\"\n        return block(0x80 | self.expected << 4 | error)"),
+    "it asks for its R-block again by the wrong number": (
+        "            return self.last\n        return block(0x80 | self.expected << 4)",
+        "            return self.last\n        return block(0x80 | (self.expected ^ 1) << 4)"),
+    "it ignores a reset": ("            card, addresses = Card(), Addresses()", "            addresses = Addresses()"),
+    "it waits too long with acknowledgments": (
+        "            print(said.hex() if said else \"-\", flush=True)",
+        late("said[1] & 0xCF == 0x80")),
+    "it waits too long with sizes": ("            print(said.hex() if said else \"-\", flush=True)",
+                                     late("said[1] == 0xE1")),
+    "it waits too long with RESYNCH": ("            print(said.hex() if said else \"-\", flush=True)",
+                                       late("said[1] == 0xE0")),
+    "it waits too long with requests": ("            print(said.hex() if said else \"-\", flush=True)",
+                                        late("said[1] == 0xC3")),
+    "it waits longer than was granted": (
+        "            print(said.hex() if said else \"-\", flush=True)",
+        "            print(\"wait 5500000\\n\" * (line[2:4].upper() == \"E3\") + said.hex(), flush=True)"),
     "it waits too long": ("            print(said.hex() if said else \"-\", flush=True)",
                           "            print(\"wait 5000000\\n\" + (said.hex() if said else \"-\"), flush=True)"),
 }
@@ -167,6 +230,29 @@ TERMINALS = {
                                               "        return block(octets[1] | 0x20, bytes([octets[3] ^ 1]))"),
     "it doesn't answer requests": ("        return block(octets[1] | 0x20, octets[3:4])",
                                    "        return self.fails(0)"),
+    "it doesn't answer ABORT": ("            return self.aborts()", "            return self.fails(2)"),
+    "it answers ABORT once": ("        if not (self.is_open or self.answer or self.was_aborted):",
+                              "        if not (self.is_open or self.answer):"),
+    "it answers ABORT as RESYNCH": ("        return block(0xE2)", "        return block(0xE0)"),
+    "it sends an empty block after ABORT": (
+        "        if self.was_aborted:\n            return FAILED",
+        "        if self.was_aborted:\n            return self.sends()"),
+    "it counts a new chain from 0 after ABORT": (
+        ABORTED,
+        ABORTED + "\n"
+        "        self.number = 0"),
+    "it takes a node address with bit 8": ("    if nad != 0x00:", "    if nad & 0x7F != 0x00:"),
+    "it takes a node address with bit 4": ("    if nad != 0x00:", "    if nad & 0xF7 != 0x00:"),
+    "it takes a node address with the same end twice": ("    if nad != 0x00:", "    if nad not in (0x00, 0x11):"),
+    "it takes no field that is full": (
+        "    if len(octets) < 4 or len(octets) != octets[2] + 4 or octets[2] > IFSD or check(octets) != 0:",
+        "    if len(octets) < 4 or len(octets) != octets[2] + 4 or octets[2] >= IFSD or check(octets) != 0:"),
+    "it sends an empty block after a full one": ("        self.is_open = bool(self.command)",
+                                                 "        self.is_open = len(field) == self.ifsc"),
+    "it takes no request for 0 or 255 waiting times": (
+        "        if octets[1] == 0xC1 and octets[3] in (0, 255) or octets[1] == 0xE0:",
+        "        if octets[1] in (0xC1, 0xC3) and octets[3] in (0, 255) or octets[1] == 0xE0:"),
+    "it takes no size below 16": ("            self.ifsc = octets[3]", "            self.ifsc = max(octets[3], 16)"),
     "it joins an answer to the one before": (
         "        self.command, self.answer, self.failures, self.tries = command, b\"\", 0, 0",
         "        self.command, self.failures, self.tries = command, 0, 0"),

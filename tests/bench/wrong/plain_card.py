@@ -30,9 +30,34 @@ def kind_of(octets):
         return I if pcb & 0x1F == 0 else None
     if pcb & 0xC0 == 0x80:
         return R if pcb & 0xEC == 0x80 and size == 0 else None
-    if pcb in (0xC0, 0xE0):
+    if pcb in (0xC0, 0xE0, 0xC2):
         return S if size == 0 else None
     return S if pcb in (0xC1, 0xC3, 0xE1, 0xE3) and size == 1 else None
+
+
+class Addresses:
+    """The node addresses of a session: those of the first block, which the card swaps. Inside of the card they are 0."""
+
+    def __init__(self):
+        self.first = None
+
+    def inside(self, octets):
+        """A block without its addresses, if they are those of the session. Any other stays as it is."""
+        if len(octets) < 4 or len(octets) != octets[2] + 4 or check(octets) != 0:
+            return octets
+        nad = octets[0]
+        if self.first is None and nad & 0x88 == 0 and (nad == 0 or nad >> 4 != nad & 7):
+            self.first = nad
+        return self.changed(octets, nad if nad == self.first else 0)
+
+    def outside(self, octets):
+        """A block of the card with its addresses."""
+        nad = self.first or 0
+        return self.changed(octets, nad >> 4 | nad << 4 & 0xF0) if octets else octets
+
+    def changed(self, octets, by):
+        """A block whose first octet is another one, with a right check octet."""
+        return bytes([octets[0] ^ by]) + octets[1:-1] + bytes([octets[-1] ^ by])
 
 
 class Application:
@@ -65,6 +90,7 @@ class Card:
         """RESYNCH: numbers, chains and sizes begin again."""
         self.expected, self.number, self.ifsd = 0, 0, 32
         self.command, self.answer, self.last, self.request, self.is_open = b"", b"", None, None, False
+        self.was_aborted = False
 
     def hears(self, octets):
         """The block that the card sends after these octets."""
@@ -88,7 +114,7 @@ class Card:
         if number != self.expected or self.is_open:
             return self.refuses(2)
         self.expected ^= 1
-        self.last = None
+        self.last, self.was_aborted = None, False
         self.command += octets[3:-1]
         if more:
             return block(0x80 | self.expected << 4)
@@ -122,10 +148,17 @@ class Card:
 
     def hears_s(self, octets):
         """A request of the terminal."""
+        if octets[1] == 0xC2 and (self.command or self.is_open or self.was_aborted):
+            return self.aborts()
         if octets[1] != 0xC1 or octets[3] in (0, 255):
             return self.refuses(2)
         self.ifsd = octets[3]
         return block(0xE1, octets[3:4])
+
+    def aborts(self):
+        """The response to ABORT: the chain of either end is over."""
+        self.command, self.answer, self.last, self.is_open, self.was_aborted = b"", b"", None, False, True
+        return block(0xE2)
 
     def hears_response(self, octets):
         """The response to the request for time, or anything else."""
@@ -136,13 +169,13 @@ class Card:
 
 
 def main():
-    card = Card()
+    card, addresses = Card(), Addresses()
     for line in sys.stdin:
         if line.strip() == "reset":
-            card = Card()
+            card, addresses = Card(), Addresses()
             print(ATR, flush=True)
         else:
-            said = card.hears(bytes.fromhex(line))
+            said = addresses.outside(card.hears(addresses.inside(bytes.fromhex(line))))
             print(said.hex() if said else "-", flush=True)
 
 

@@ -33,6 +33,8 @@ def kind_of(octets):
         return R if pcb & 0xEC == 0x80 and size == 0 else None
     if pcb == 0xE0:
         return S if size == 0 else None
+    if pcb == 0xC2:
+        return S if size == 0 else None
     return S if pcb in (0xC1, 0xC3) and size == 1 else None
 
 
@@ -53,13 +55,14 @@ class Terminal:
         """RESYNCH: numbers, chains and sizes begin again."""
         self.number, self.expected, self.ifsc = 0, 0, self.first
         self.command, self.answer, self.last, self.is_open = b"", b"", None, False
-        self.failures, self.tries = 0, 0
+        self.failures, self.tries, self.was_aborted = 0, 0, False
 
     def transmits(self, command):
         """The first block of a command."""
         if self.dead:
             return RESET
         self.command, self.answer, self.failures, self.tries = command, b"", 0, 0
+        self.was_aborted = False
         return self.sends()
 
     def sends(self):
@@ -112,8 +115,10 @@ class Terminal:
         return f"answer {self.answer.hex()}"
 
     def hears_r(self, octets):
-        """An R-block: it acknowledges, or asks for the last block again."""
+        """An R-block: it acknowledges, or asks for the last block again. After ABORT it hands over."""
         number = octets[1] >> 4 & 1
+        if self.was_aborted:
+            return FAILED
         if self.is_open and number == self.number:
             self.failures = 0
             return self.sends()
@@ -123,11 +128,20 @@ class Terminal:
 
     def hears_s(self, octets):
         """A request of the card."""
+        if octets[1] == 0xC2:
+            return self.aborts()
         if octets[1] == 0xC1 and octets[3] in (0, 255) or octets[1] == 0xE0:
             return self.fails(2)
         if octets[1] == 0xC1:
             self.ifsc = octets[3]
         return block(octets[1] | 0x20, octets[3:4])
+
+    def aborts(self):
+        """The response to ABORT: the chain of either end is over."""
+        if not (self.is_open or self.answer or self.was_aborted):
+            return self.fails(2)
+        self.command, self.answer, self.last, self.is_open, self.was_aborted = b"", b"", None, False, True
+        return block(0xE2)
 
 
 def said(terminal, word, octets):

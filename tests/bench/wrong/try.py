@@ -23,7 +23,8 @@ from scard_bench.suite.device import Device
 from scard_bench.suite.verdict import FAIL
 
 CHANGES = {"card": CARDS, "terminal": TERMINALS}
-DECLARED = HERE.parents[2] / "bench/devices"
+# the plain devices lack nothing
+DECLARED = HERE / "plain.json"
 LIMIT = 3.0
 
 
@@ -52,8 +53,7 @@ def failed(program, role, name, found, is_first=True):
         file.write(repeats(changed(role, name)) if role == "card" else changed(role, name))
         file.flush()
         device = Device([sys.executable, "-B", file.name], LIMIT)
-        done = runner.results(program, device, found, scenario.declaration(str(DECLARED / f"{role}.json")),
-                              is_first=is_first)
+        done = runner.results(program, device, found, scenario.declaration(str(DECLARED)), is_first=is_first)
     return [it for it in done if it.verdict == FAIL]
 
 
