@@ -4,10 +4,12 @@
 usage: python3 backend.py DIR        writes the package into DIR, from where Python can import it
 
 The library is scard.c and scard.h, in a folder c beside this file, as an archive of the sources has them, or else in
-../dist/c. CC names the compiler, and CFLAGS and LDFLAGS are added to its words. From Python 3.11 on the module keeps to
-the stable ABI of 3.11, so one wheel serves all later versions.
+../dist/c. The C of the program is in a folder program, or else ../tools/release/program-c writes it now. CC names the
+compiler, and CFLAGS and LDFLAGS are added to its words. From Python 3.11 on the modules keep to the stable ABI of 3.11,
+so one wheel serves all later versions.
 """
 import base64
+import concurrent.futures
 import hashlib
 import io
 import os
@@ -24,7 +26,11 @@ import zipfile
 HERE = pathlib.Path(__file__).resolve().parent
 LIBRARY = next((it for it in (HERE / "c", HERE.parent / "dist/c") if (it / "scard.c").exists()), HERE / "c")
 IS_STABLE = sys.version_info >= (3, 11) and not sysconfig.get_config_var("Py_GIL_DISABLED")
+WRITER = HERE.parent / "tools/release/program-c"
 FLAGS = ["-std=c99", "-O2", "-fPIC", "-fvisibility=hidden"]
+# of the program's many functions: a level that takes half the time of the next one, and a machine for each thread
+PROGRAM_FLAGS = ["-std=c99", "-O1", "-fPIC", "-fvisibility=hidden", "-DSCARD_THREADS"]
+MODULES = ("_scard", "_answer")
 SOURCES = ("pyproject.toml", "README.md", "backend.py")
 WHEEL_FORM = "Wheel-Version: 1.0\nGenerator: scard\nRoot-Is-Purelib: false\nTag: "
 
@@ -50,21 +56,60 @@ def tag():
     return f"cp311-abi3-{machine}" if IS_STABLE else f"{number}-{number}-{machine}"
 
 
-def module_name():
-    """The file name of the compiled module."""
-    return "_scard.abi3.so" if IS_STABLE else "_scard" + sysconfig.get_config_var("EXT_SUFFIX")
+def file_of(module):
+    """The file name of a compiled module."""
+    return f"{module}.abi3.so" if IS_STABLE else module + sysconfig.get_config_var("EXT_SUFFIX")
+
+
+def words_of(name):
+    """The words of a variable of the environment."""
+    return shlex.split(os.environ.get(name, ""))
+
+
+def compiler():
+    """The words of the compiler."""
+    return words_of("CC") or ["cc"]
+
+
+def program_files(folder):
+    """The files of the program as C that need no file beside them, and those that a person wrote."""
+    if (HERE / "program").exists():
+        folder = HERE / "program"
+    else:
+        subprocess.run([sys.executable, "-B", str(WRITER), str(folder)], check=True)
+    return folder, [it for it in sorted(folder.glob("*.c")) if it.name != "main.c"]
+
+
+def units(work):
+    """The files to compile: the module of each, the file, and the compiler's words for it."""
+    stable = ["-DPy_LIMITED_API=0x030B0000"] if IS_STABLE else []
+    folder, files = program_files(work / "program")
+    flags, python = words_of("CFLAGS"), [*stable, f"-I{sysconfig.get_path('include')}"]
+    for file in files:
+        yield "_answer", file, [*PROGRAM_FLAGS, *flags, "-w"]
+    for file in sorted((HERE / "src/program").glob("*.c")):
+        yield "_answer", file, [*PROGRAM_FLAGS, *flags, f"-I{folder}", *python]
+    for file in [*sorted((HERE / "src").glob("*.c")), LIBRARY / "scard.c"]:
+        yield "_scard", file, [*FLAGS, *flags, f"-I{LIBRARY}", *python]
 
 
 def compiled(place):
-    """Compiles the module into a folder."""
-    words = {name: shlex.split(os.environ.get(name, "")) for name in ("CC", "CFLAGS", "LDFLAGS")}
-    linker = shlex.split(sysconfig.get_config_var("LDSHARED") or "cc -shared")
-    compiler = words["CC"] or ["cc"]
-    stable = ["-DPy_LIMITED_API=0x030B0000"] if IS_STABLE else []
-    sources = [*sorted((HERE / "src").glob("*.c")), LIBRARY / "scard.c"]
-    includes = [f"-I{it}" for it in (LIBRARY, sysconfig.get_path("include"))]
-    subprocess.run([*compiler, *linker[1:], *FLAGS, *words["CFLAGS"], *stable, *includes, *map(str, sources),
-                    "-o", str(pathlib.Path(place) / module_name()), *words["LDFLAGS"]], check=True)
+    """Compiles the modules into a folder, their files side by side."""
+    linker = [*compiler(), *shlex.split(sysconfig.get_config_var("LDSHARED") or "cc -shared")[1:]]
+    with tempfile.TemporaryDirectory() as work, concurrent.futures.ThreadPoolExecutor(os.cpu_count()) as pool:
+        work = pathlib.Path(work)
+
+        def one(unit):
+            module, file, words = unit
+            made = work / f"{module}-{file.stem}.o"
+            subprocess.run([*compiler(), *words, "-c", str(file), "-o", str(made)], check=True)
+            return module, str(made)
+
+        objects = list(pool.map(one, units(work)))
+        for module in MODULES:
+            made = [it for owner, it in objects if owner == module]
+            to = str(pathlib.Path(place) / file_of(module))
+            subprocess.run([*linker, *words_of("CFLAGS"), *made, "-o", to, *words_of("LDFLAGS")], check=True)
 
 
 def modules():
@@ -103,8 +148,8 @@ def build_wheel(wheel_directory, config_settings=None, metadata_directory=None):
     folder = f"scard-{version()}.dist-info"
     with tempfile.TemporaryDirectory() as work:
         compiled(work)
-        module = (pathlib.Path(work) / module_name()).read_bytes()
-    files = [*modules(), (f"scard/{module_name()}", module), (f"{folder}/METADATA", metadata().encode()),
+        made = [(f"scard/{file_of(it)}", (pathlib.Path(work) / file_of(it)).read_bytes()) for it in MODULES]
+    files = [*modules(), *made, (f"{folder}/METADATA", metadata().encode()),
              (f"{folder}/WHEEL", f"{WHEEL_FORM}{tag()}\n".encode())]
     rows = "".join(row_of(*it) for it in files) + f"{folder}/RECORD,,\n"
     name = f"scard-{version()}-{tag()}.whl"
@@ -114,19 +159,21 @@ def build_wheel(wheel_directory, config_settings=None, metadata_directory=None):
     return name
 
 
-def sources():
+def sources(work):
     """The files of the archive of sources, with their names there."""
     yield from ((name, HERE / name) for name in SOURCES)
     yield from ((f"scard/{name.split('/')[1]}", HERE / name) for name, _ in modules())
-    yield from ((f"src/{it.name}", it) for it in sorted((HERE / "src").glob("*.[ch]")))
+    yield from ((str(it.relative_to(HERE)), it) for it in sorted((HERE / "src").glob("**/*.[ch]")))
     yield from ((f"c/{name}", LIBRARY / name) for name in ("scard.c", "scard.h"))
+    folder, _ = program_files(pathlib.Path(work) / "program")
+    yield from ((f"program/{it.name}", it) for it in sorted(folder.glob("*.[ch]")))
 
 
 def build_sdist(sdist_directory, config_settings=None):
-    """Writes the archive of sources into a folder, and returns its name. It has the library too."""
-    folder = f"scard-{version()}"
-    with tarfile.open(pathlib.Path(sdist_directory) / f"{folder}.tar.gz", "w:gz") as archive:
-        for name, path in sources():
+    """Writes the archive of sources into a folder, and returns its name. It has the library and the program too."""
+    folder, place = f"scard-{version()}", pathlib.Path(sdist_directory)
+    with tempfile.TemporaryDirectory() as work, tarfile.open(place / f"{folder}.tar.gz", "w:gz") as archive:
+        for name, path in sources(work):
             archive.add(path, f"{folder}/{name}")
         entry = tarfile.TarInfo(f"{folder}/PKG-INFO")
         entry.size = len(metadata().encode())

@@ -7,7 +7,7 @@ from typing import Any, Tuple, Type
 
 from . import _scard, block
 from ._errors import Argument, Closed, Duplicate, Refused, Short
-from ._names import Asked, Judged, Owed, Rule, Shape, Silence, TurnKind
+from ._numbers import Asked, Judged, Owed, Rule, Shape, Silence, TurnKind
 from .apdu import Command, Response
 from .atr import T1, Atr, Indicated, Interface, Rates
 from .ends import Turn

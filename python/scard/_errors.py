@@ -1,7 +1,7 @@
 """The exceptions of the package. Those of one kind can be caught by their class, and all by Error."""
 from __future__ import annotations
 
-from ._names import Codec, T1Fault, TurnKind
+from ._numbers import Codec, T1Fault, TurnKind
 
 
 class Error(Exception):

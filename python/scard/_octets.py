@@ -2,12 +2,12 @@
 from __future__ import annotations
 
 import dataclasses
-from typing import TYPE_CHECKING, Any, Tuple
+from typing import TYPE_CHECKING, Any, Tuple, cast
 
 from . import _scard
 
 if TYPE_CHECKING:
-    from typing_extensions import Buffer as Octets
+    from _typeshed import ReadableBuffer as Octets
 else:
     Octets = Any
 
@@ -20,8 +20,7 @@ class Value:
     __slots__ = ()
 
     def __reduce__(self) -> Tuple[Any, ...]:
-        fields: Any = dataclasses.fields(self)  # type: ignore[arg-type]
-        return type(self), tuple(getattr(self, it.name) for it in fields)
+        return type(self), tuple(getattr(self, it.name) for it in dataclasses.fields(cast(Any, self)))
 
 
 def lrc(octets: Octets) -> int:

@@ -5,7 +5,7 @@ import asyncio
 import threading
 from typing import Any, Awaitable, Callable, Optional, Protocol, Tuple, Union
 
-from ._names import Event, TurnKind
+from ._numbers import Event, TurnKind
 from ._octets import Octets
 from .session import (BURST_ROOM, CardSessionSteps, Said, SessionSteps, Setup, Step, _Alone, answer_of, came, clock,
                       host_step, wait_of)

@@ -6,7 +6,8 @@ from typing import Optional
 
 from . import _scard
 from ._errors import Argument
-from ._names import Noted, Shape, StatusClass, note
+from ._names import note
+from ._numbers import Noted, Shape, StatusClass
 from ._octets import Octets, Value
 
 _SHORT = {(False, False): Shape.CASE_1, (False, True): Shape.CASE_2_SHORT, (True, False): Shape.CASE_3_SHORT,

@@ -6,7 +6,8 @@ from typing import Dict, Iterator, Optional, Tuple
 
 from . import _scard
 from ._errors import Argument
-from ._names import About, Fault, Kind
+from ._names import Kind
+from ._numbers import About, Fault
 from ._octets import Octets, Value
 
 BLOCK_ROOM = 258

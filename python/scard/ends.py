@@ -8,7 +8,7 @@ from typing import Any, Optional, Type
 
 from . import _scard
 from ._errors import CallRefused
-from ._names import TurnKind
+from ._numbers import TurnKind
 from ._octets import Octets, Value
 from .atr import T1
 

@@ -5,7 +5,7 @@ from types import TracebackType
 from typing import Any, Optional, Type
 
 from . import _scard
-from ._names import Codec
+from ._numbers import Codec
 from ._octets import Octets
 from .atr import Atr
 from .block import LONGEST_FIELD, Block

@@ -5,7 +5,7 @@ from dataclasses import dataclass
 from typing import Any, Optional
 
 from . import _scard
-from ._names import Arrival, Asked, End, Judged, Owed, Rule, Silence
+from ._numbers import Arrival, Asked, End, Judged, Owed, Rule, Silence
 from ._octets import Octets, Value
 
 

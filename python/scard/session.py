@@ -10,7 +10,7 @@ from typing import Any, Callable, Optional, Protocol, Tuple, Type, Union, cast
 
 from . import _scard
 from ._errors import CallRefused, InUse, NoAnswer
-from ._names import Event, TurnKind
+from ._numbers import Event, TurnKind
 from ._octets import Octets, Value
 from .atr import T1
 from .ends import LONGEST_ANSWER, LONGEST_COMMAND
@@ -73,11 +73,14 @@ class _Steps:
 
     __slots__ = ("_session",)
     _session: Any
-    _close: Callable[[Any], None]
+
+    @staticmethod
+    def _close(session: Any) -> None:
+        raise NotImplementedError
 
     def close(self) -> None:
         """Overwrites the last messages. After it, other calls raise Closed."""
-        type(self)._close(self._session)
+        self._close(self._session)
 
     def __reduce__(self) -> Any:
         raise TypeError("a session can't be pickled or copied")
@@ -99,7 +102,10 @@ class SessionSteps(_Steps):
     """
 
     __slots__ = ()
-    _close = staticmethod(_scard.session_close)
+
+    @staticmethod
+    def _close(session: Any) -> None:
+        _scard.session_close(session)
 
     def __init__(self, setup: Setup, has_clock: bool = True) -> None:
         self._session = _scard.session_new(setup._plain(has_clock), setup.command_room, setup.answer_room)
@@ -125,7 +131,10 @@ class CardSessionSteps(_Steps):
     """A card's session as steps. At DONE its host owes a reply to the command in `octets`."""
 
     __slots__ = ()
-    _close = staticmethod(_scard.card_session_close)
+
+    @staticmethod
+    def _close(session: Any) -> None:
+        _scard.card_session_close(session)
 
     def __init__(self, setup: Setup, has_clock: bool = True) -> None:
         self._session = _scard.card_session_new(setup._plain(has_clock), setup.command_room, setup.answer_room)

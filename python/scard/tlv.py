@@ -5,7 +5,8 @@ from dataclasses import dataclass
 from typing import Any, Iterable, Iterator, Optional, Tuple, Union
 
 from . import _scard
-from ._names import Format, Noted, note
+from ._names import note
+from ._numbers import Format, Noted
 from ._octets import Octets, Value
 
 LARGEST = 1048576

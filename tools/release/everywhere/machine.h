@@ -4,6 +4,8 @@
  * system makes those usable that the memory has. So an access outside ends the program. Elsewhere, or if SCARD_CHECKED
  * is defined, each access is compared with the size of the memory, and one outside calls `trap`. The memory never
  * moves: it begins with as many addresses as the system gives, and grows within these.
+ *
+ * If SCARD_THREADS is defined, each thread has a machine of its own, and several threads can answer at the same time.
  */
 #ifndef SCARD_MACHINE_H
 #define SCARD_MACHINE_H
@@ -46,11 +48,22 @@ typedef uint64_t u64;
 #define ENDS
 #endif
 
+/* A variable of which each thread has its own, if threads have machines. */
+#if !defined(SCARD_THREADS)
+#define OWN
+#elif defined(_MSC_VER)
+#define OWN __declspec(thread)
+#elif defined(__GNUC__)
+#define OWN __thread
+#else
+#define OWN _Thread_local
+#endif
+
 #define PAGE 65536u
 
 /* The number of pages that the memory has now, and how many octets these are. */
-extern u32 pages;
-extern u64 octets;
+extern OWN u32 pages;
+extern OWN u64 octets;
 
 /* Ends the program after what can't happen unless a tool that made these files is wrong. */
 ENDS void trap(void);
@@ -58,8 +71,11 @@ ENDS void trap(void);
 /* Makes the memory larger by some pages. Returns how many it had, or 2^32 - 1 if that isn't possible. */
 u32 grow(u8 *m, u32 more);
 
-/* A memory with the constants of the module, or null if the system has no room for one. Call it once. */
+/* A memory with the constants of the module, or null if the system has no room for one. Only one is open at a time. */
 u8 *machine_begin(void);
+
+/* Gives the memory back to the system. */
+void machine_end(u8 *m);
 
 #define UNREACHABLE trap()
 

@@ -14,11 +14,11 @@
 #include <sys/mman.h>
 #endif
 
-u32 pages;
-u64 octets;
+OWN u32 pages;
+OWN u64 octets;
 
-/* How many octets of addresses the memory has. */
-static u64 reserved;
+/* How many octets of addresses the memory has, and how many of them it may use. */
+static OWN u64 reserved, usable;
 
 void trap(void)
 {
@@ -48,6 +48,18 @@ static u8 *reserve(u64 size)
 #endif
 }
 
+/* Gives addresses back. */
+static void release(u8 *m)
+{
+#if defined(_WIN32)
+    VirtualFree(m, 0, MEM_RELEASE);
+#elif HAS_PAGES
+    munmap(m, (size_t)reserved);
+#else
+    free(m);
+#endif
+}
+
 /* Makes the first octets usable. All are 0 at first. */
 static int grant(u8 *m, u64 size)
 {
@@ -66,7 +78,7 @@ u32 grow(u8 *m, u32 more)
 {
     u32 before = pages;
     u64 size = ((u64)before + more) * PAGE;
-    if (size > reserved || (more > 0 && !grant(m, size))) {
+    if (size > usable || (more > 0 && !grant(m, size))) {
         return 0xFFFFFFFFu;
     }
     pages = before + more;
@@ -77,7 +89,7 @@ u32 grow(u8 *m, u32 more)
 u8 *machine_begin(void)
 {
     /* an instruction names an address below 2^32, and adds less than 2^32 to it */
-    u64 size = IS_RESERVED ? (u64)1 << 33 : (u64)1 << 31;
+    u64 size = IS_RESERVED ? (u64)1 << 33 : (u64)1 << 31, most = (u64)MODULE_MOST * PAGE;
     u8 *m = NULL;
     for (; m == NULL && size >= (u64)MODULE_PAGES * PAGE; size /= 2) {
         reserved = size;
@@ -86,12 +98,22 @@ u8 *machine_begin(void)
             break;
         }
     }
-    if (reserved > (u64)MODULE_MOST * PAGE) {
-        reserved = (u64)MODULE_MOST * PAGE;
+    if (m == NULL) {
+        return NULL;
     }
-    if (m == NULL || grow(m, MODULE_PAGES) != 0) {
+    pages = 0;
+    usable = reserved < most ? reserved : most;
+    if (grow(m, MODULE_PAGES) != 0) {
+        release(m);
         return NULL;
     }
     module_begin(m);
     return m;
+}
+
+void machine_end(u8 *m)
+{
+    pages = 0;
+    octets = 0;
+    release(m);
 }

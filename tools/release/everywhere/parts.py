@@ -36,7 +36,7 @@ def names_of(program):
 def shared(program, names):
     """What all parts include."""
     heads = [f"{functions.head(it, name)};" for it, name in zip(program.functions, names)]
-    globals_ = [f"extern {TYPES[kind]} g{place};" for place, (kind, _) in enumerate(program.globals)]
+    globals_ = [f"extern OWN {TYPES[kind]} g{place};" for place, (kind, _) in enumerate(program.globals)]
     sizes = [f"#define MODULE_PAGES {program.pages}u", f"#define MODULE_MOST {program.most}u"]
     lines = ["#ifndef SCARD_MODULE_H", "#define SCARD_MODULE_H", '#include "machine.h"', "", *sizes, "", *globals_, "",
              "void module_begin(u8 *m);", "", *heads, "", "#endif", ""]
@@ -59,8 +59,8 @@ def pieces_of(octets):
 
 def constants(program):
     """The global variables, and the octets with which the memory begins."""
-    globals_ = [f"{TYPES[kind]} g{place} = {constant(first, kind)};"
-                for place, (kind, first) in enumerate(program.globals)]
+    globals_ = [f"OWN {TYPES[kind]} g{place};" for place, (kind, _) in enumerate(program.globals)]
+    firsts = [f"    g{place} = {constant(first, kind)};" for place, (kind, first) in enumerate(program.globals)]
     arrays, copies = [], []
     for number, (place, piece) in enumerate(pieces_of(program.constants)):
         rows = [",".join(map(str, piece[at : at + ROW])) for at in range(0, len(piece), ROW)]
@@ -68,7 +68,7 @@ def constants(program):
         arrays.append(f"static const u8 constants{number}[{len(piece)}] = {{\n{body}\n}};\n")
         count = f"{len(piece)}u"
         copies.append(f"    memcpy(piece(m, {program.first + place}u, {count}), constants{number}, {count});")
-    begin = ["void module_begin(u8 *m)", "{", *copies, "}", ""]
+    begin = ["void module_begin(u8 *m)", "{", *firsts, *copies, "}", ""]
     return "\n".join([HEAD + '#include "module.h"\n', *globals_, "", *arrays, *begin])
 
 
