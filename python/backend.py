@@ -6,10 +6,13 @@ usage: python3 backend.py DIR        writes the package into DIR, from where Pyt
 The library is scard.c and scard.h, in a folder c beside this file, as an archive of the sources has them, or else in
 ../dist/c. The C of the program is in a folder program, or else ../tools/release/program-c writes it now. CC names the
 compiler, and CFLAGS and LDFLAGS are added to its words. From Python 3.11 on the modules keep to the stable ABI of 3.11,
-so one wheel serves all later versions.
+so one wheel serves all later versions. All files of a wheel and of an archive have the time SOURCE_DATE_EPOCH, in
+seconds since 1970, or else the beginning of 1980, and one mode. So two builds with the same compiler are the same,
+octet for octet.
 """
 import base64
 import concurrent.futures
+import gzip
 import hashlib
 import io
 import os
@@ -21,6 +24,7 @@ import sys
 import sysconfig
 import tarfile
 import tempfile
+import time
 import zipfile
 
 HERE = pathlib.Path(__file__).resolve().parent
@@ -32,6 +36,8 @@ FLAGS = ["-std=c99", "-O2", "-fPIC", "-fvisibility=hidden"]
 PROGRAM_FLAGS = ["-std=c99", "-O1", "-fPIC", "-fvisibility=hidden", "-DSCARD_THREADS"]
 MODULES = ("_scard", "_answer")
 SOURCES = ("pyproject.toml", "README.md", "backend.py")
+# the earliest time that a file of a wheel can have, and the mode of all files
+EARLIEST, MODE = 315532800, 0o644
 WHEEL_FORM = "Wheel-Version: 1.0\nGenerator: scard\nRoot-Is-Purelib: false\nTag: "
 
 
@@ -112,6 +118,11 @@ def compiled(place):
             subprocess.run([*linker, *words_of("CFLAGS"), *made, "-o", to, *words_of("LDFLAGS")], check=True)
 
 
+def seconds():
+    """The time of all files in a wheel or an archive."""
+    return max(int(os.environ.get("SOURCE_DATE_EPOCH", EARLIEST)), EARLIEST)
+
+
 def modules():
     """The package's files of Python, with their names in the wheel."""
     return [(f"scard/{it.name}", it.read_bytes()) for it in sorted((HERE / "scard").iterdir())
@@ -155,29 +166,33 @@ def build_wheel(wheel_directory, config_settings=None, metadata_directory=None):
     name = f"scard-{version()}-{tag()}.whl"
     with zipfile.ZipFile(pathlib.Path(wheel_directory) / name, "w", zipfile.ZIP_DEFLATED) as wheel:
         for path, octets in [*files, (f"{folder}/RECORD", rows.encode())]:
-            wheel.writestr(path, octets)
+            entry = zipfile.ZipInfo(path, time.gmtime(seconds())[:6])
+            entry.external_attr = MODE << 16
+            wheel.writestr(entry, octets, zipfile.ZIP_DEFLATED)
     return name
 
 
 def sources(work):
-    """The files of the archive of sources, with their names there."""
-    yield from ((name, HERE / name) for name in SOURCES)
-    yield from ((f"scard/{name.split('/')[1]}", HERE / name) for name, _ in modules())
-    yield from ((str(it.relative_to(HERE)), it) for it in sorted((HERE / "src").glob("**/*.[ch]")))
-    yield from ((f"c/{name}", LIBRARY / name) for name in ("scard.c", "scard.h"))
+    """The files of the archive of sources: their names there and their octets."""
+    yield from ((name, (HERE / name).read_bytes()) for name in SOURCES)
+    yield from modules()
+    yield from ((str(it.relative_to(HERE)), it.read_bytes()) for it in sorted((HERE / "src").glob("**/*.[ch]")))
+    yield from ((f"c/{name}", (LIBRARY / name).read_bytes()) for name in ("scard.c", "scard.h"))
     folder, _ = program_files(pathlib.Path(work) / "program")
-    yield from ((f"program/{it.name}", it) for it in sorted(folder.glob("*.[ch]")))
+    yield from ((f"program/{it.name}", it.read_bytes()) for it in sorted(folder.glob("*.[ch]")))
+    yield "PKG-INFO", metadata().encode()
 
 
 def build_sdist(sdist_directory, config_settings=None):
     """Writes the archive of sources into a folder, and returns its name. It has the library and the program too."""
-    folder, place = f"scard-{version()}", pathlib.Path(sdist_directory)
-    with tempfile.TemporaryDirectory() as work, tarfile.open(place / f"{folder}.tar.gz", "w:gz") as archive:
-        for name, path in sources(work):
-            archive.add(path, f"{folder}/{name}")
-        entry = tarfile.TarInfo(f"{folder}/PKG-INFO")
-        entry.size = len(metadata().encode())
-        archive.addfile(entry, io.BytesIO(metadata().encode()))
+    folder, packed = f"scard-{version()}", io.BytesIO()
+    with tempfile.TemporaryDirectory() as work, tarfile.open(fileobj=packed, mode="w") as archive:
+        for name, octets in sources(work):
+            entry = tarfile.TarInfo(f"{folder}/{name}")
+            entry.size, entry.mtime, entry.mode = len(octets), seconds(), MODE
+            archive.addfile(entry, io.BytesIO(octets))
+    file = pathlib.Path(sdist_directory) / f"{folder}.tar.gz"
+    file.write_bytes(gzip.compress(packed.getvalue(), mtime=seconds()))
     return f"{folder}.tar.gz"
 
 

@@ -2,11 +2,11 @@
 //
 // usage: node tests/web/form.mjs PAGE
 //
-// PAGE is the file that web/make made. Its whole script runs, with its worker. Each example is chosen, values put in,
-// files are dropped, the address is written and read again, a call is stopped, and a module ends with an error. Each
-// line of each value of vectors/ has to light up its own octets, and what judge says has to be at its blocks. Then each
-// line of vectors/ goes through the form, and status and text have to be the line's. The look of the page isn't tested.
-// The last line is 'N passed, M failed'.
+// PAGE is the file that web/make made. Its whole script runs, with its worker. Texts that aren't hexadecimal are typed
+// into the page as it opens. Then each example is chosen, values put in, files are dropped, the address is written and
+// read again, a call is stopped, and a module ends with an error. Each line of each value of vectors/ has to light up
+// its own octets, and what judge says has to be at its blocks. Then each line of vectors/ goes through the form, and
+// status and text have to be the line's. The look of the page isn't tested. The last line is 'N passed, M failed'.
 import { cases, through, TRAPS, withModule } from "./cases.mjs";
 import { Checks } from "./checks.mjs";
 import { File, opened, read } from "./paper.mjs";
@@ -73,6 +73,19 @@ async function chosen() {
     location.hash = address;
     await gives(`the address of example ${at + 1}`, () => handlers.hashchange(), want);
     checks.equal(`the line of the address of example ${at + 1}`, find("command").textContent, line);
+  }
+}
+
+// Texts that aren't hexadecimal, typed into the page as it opens. The page names the place, as the program does.
+async function refused() {
+  for (const [typed, place] of [
+    ["3b:80:80", "line 1, column 3: ':' isn't a hexadecimal digit\n3b:80:80\n  ^\n"],
+    ["3B,80,80", "line 1, column 3: ',' isn't a hexadecimal digit\n3B,80,80\n  ^\n"],
+    ["3B 80 8", "line 1, column 7: this group has an odd number of digits\n3B 80 8\n      ^\n"],
+    ["3B\nzz", "line 2, column 1: 'z' isn't a hexadecimal digit\nzz\n^\n"],
+  ]) {
+    const type = () => { find("text").value = typed; own.later(); };
+    await gives(`the text ${typed}`, type, [2, `fault: hex\n${place}`]);
   }
 }
 
@@ -193,6 +206,7 @@ async function ends() {
 }
 
 await gives("the first example", () => {}, SAID[0]);
+await refused();
 words();
 addresses();
 await chosen();
