@@ -111,11 +111,13 @@ async function ladder(ask, exchange, told) {
 }
 
 // Draws a trace as an exchange without calls, with what judge says at the blocks. Judge counts no PPS: it comes first.
+// A block with an error of parity is drawn as one of which nothing arrived whole.
 async function judged(ask, { values, input }) {
   const { text } = await ask(wordsOf({ ...values, rules: "0", explain: "0", json: "0" }), input);
   const trace = (await new Blob([input]).text()).split("\n").map((it) => it.trim().split(/\s+/)).filter(([it]) => it);
-  const lines = trace.map((it) => (/^(reset|begins|#)/.test(it[0]) ? ["note", ...it]
-    : it.map((word, at) => (at % 2 ? word.toUpperCase() : word))).join(" "));
+  const lines = trace.map((it) => (/^(reset|begins|until|#)/.test(it[0]) ? ["note", ...it]
+    : it.map((word, at) => (at % 2 && word !== "none" ? word.toUpperCase() : word))).join(" ")
+    .replace(/^([tc] .*) parity$/, "$1 as none"));
   const all = lines.filter((it) => /^[tc] /.test(it)).length;
   const others = all - Number(text.match(/(\d+) blocks?[,\n]/)?.[1] ?? all);
   const told = {};

@@ -135,7 +135,7 @@ function blocksOf(trace) {
     if (side === "begins") isFirst = false;
     if (!["t", "c"].includes(side) || (isFirst && hex.toUpperCase().startsWith("FF"))) continue;
     isFirst = false;
-    found.push(hex.toUpperCase());
+    found.push(hex === "none" ? hex : hex.toUpperCase());
   }
   return found;
 }
