@@ -7,8 +7,11 @@ from ..errors import Wrong
 from .engine import Sent
 from .scenario import Faults
 
-# microseconds between two blocks if a device doesn't say that it waits, and after which a terminal stops waiting
+# microseconds from the end of a block to the next one, if a device doesn't say that it waits, and those after which a
+# terminal stops waiting
 TURN, WAITED = 10_000, 2_000_000
+# microseconds of an octet: 12 elementary time units of 372 cycles of the judge's clock
+OCTET = 1_250
 
 
 def changed(fault: Any, octets: bytes) -> Optional[bytes]:
@@ -54,7 +57,8 @@ class Line:
         if isinstance(fault, dict) and "send" in fault:
             octets = bytes.fromhex(fault["send"])
         sent = Sent(side, octets, changed(fault, octets))
-        self.now += TURN + waited
+        before = self.blocks[-1].octets if self.blocks else b""
+        self.now += OCTET * len(before) + TURN + waited
         self.blocks.append(sent)
         self.lines += [f"at {self.now}", sent.line()]
         return sent
