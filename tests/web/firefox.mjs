@@ -98,7 +98,8 @@ export class Page extends Remote {
   }
 
   async close() {
-    this.call("browser.close", {}).catch(() => {});
+    if (this.socket) this.call("browser.close", {}).catch(() => {});
+    else this.browser.kill();
     await this.ended;
     rmSync(this.profile, { recursive: true, force: true, maxRetries: 5 });
   }
