@@ -8,3 +8,4 @@ pub mod Phases
 pub mod Services
 pub mod Served
 pub mod Refusals
+pub mod Together

@@ -1,12 +1,12 @@
 -- A block that isn't sent yet stays unsent until the device sends it, and a session that hears sends nothing.
 use Rattle.std.proofs.Common.{◌≡◌, ℕ, List, [], ◌∷◌, length, Bool, true, false, ◌&&◌, ◌==◌, nat_le, nat_lt, refl}
 use Rattle.session_core.specs.declared.event.Next.{Next}
-use Rattle.session_core.specs.declared.event.Next.TheVariants.{Send, Wait, Heard, Quiet, Failed, UsedUp, Echo, Order}
+use Rattle.session_core.specs.declared.event.Next.TheVariants.{Send, Wait, Heard, Quiet}
 use Rattle.session_core.specs.declared.progress.Phase.{Phase}
 use Rattle.session_core.specs.declared.progress.Phase.TheVariants.{Idle, Late, Clearing, Settling, Sending, Echoing, Listening, Missing}
-use Rattle.session_core.specs.Wire.{Ruled, Doing, Step, step_of, waits, stops, dropping, drops, dropped, says, settles, talks, hands, judges, judged, ends, goes_on, begun, spoiled, weighed, hears, misses, follows, hears_echo, echoed, unheard, met, sent_in, sent, timed, took, takes, spends, unechoed, missed, cleared, silent_in, came_in, used_up, silent, failed, takes_in, came, time_of, on_sent, on_came, on_silent, on_failed, begins, awaits, serves, echo_wait, wait_in, is_sending, is_used_up, has_none_left, is_waiting, is_idle, is_refused, is_certain, is_over, agrees}
+use Rattle.session_core.specs.Wire.{Ruled, Doing, Step, dropping, drops, dropped, says, settles, talks, hands, judges, judged, ends, goes_on, hears, misses, follows, hears_echo, echoed, unheard, met, sent_in, sent, unechoed, missed, cleared, silent_in, came_in, used_up, silent, failed, takes_in, came, on_sent, on_came, on_silent, on_failed, begins, awaits, serves, is_sending, is_used_up, has_none_left, is_waiting, is_idle, is_refused, is_certain, is_over, agrees}
 use Rattle.session_laws.specs.Serving.{is_unsent}
-use Rattle.session_laws.proofs.Steps.{either, sending-is}
+use Rattle.session_laws.proofs.Steps.{either}
 
 -- a step of a session whose block isn't sent yet
 abbrev pub StaysUnsent : Next → Phase → Type 0

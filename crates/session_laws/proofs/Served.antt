@@ -1,30 +1,29 @@
 -- The turns of a card's loop, from what its calls ensure.
-use Rattle.std.proofs.Common.{◌≡◌, ℕ, List, [], ◌∷◌, ◌++◌, take, false, Option, Some, Result, Ok, Err, refl, sym, subst}
+use Rattle.std.proofs.Common.{◌≡◌, ◌<◌, ◌≤◌, ◌+◌, ℕ, List, [], ◌∷◌, ◌++◌, length, take, false, Some, Result, Ok, Err, refl, sym, subst, arith, length-append}
 use Rattle.std.proofs.lemmas.List.{append-nil, append_assoc}
-use Rattle.t1_core.specs.Card.{CardState, CardInput, replies, card_turn, turn_of}
+use Rattle.t1_core.specs.Card.{CardState, replies, card_turn, turn_of}
 use Rattle.t1_core.specs.CardViews.{owed}
 use Rattle.t1_core.specs.Put.{IsCardPut}
 use Rattle.t1_core.specs.declared.turns.CardTurn.{CardTurn}
 use Rattle.t1_core.specs.declared.turns.CardTurn.TheVariants as own_turn
 use Rattle.t1_core.specs.declared.turns.EncodedCardTurn.{EncodedCardTurn}
-use Rattle.t1_core.specs.declared.turns.EncodedCardTurn.TheVariants as put
 use Rattle.t1_core.specs.declared.turns.CardFault.{CardFault}
 use Rattle.line_core.specs.Bursts.{HasHeard}
-use Rattle.line_core.specs.Timed.{Sound, Sounds}
-use Rattle.line_core.specs.Service.{Event, asked, is_short, Happens, asks}
+use Rattle.line_core.specs.Timed.{Sound, Sounds, came, deaf, said, unsaid}
+use Rattle.line_core.specs.Service.{Event, asked, Happens}
 use Rattle.session_core.specs.declared.progress.Rules.{Rules}
 use Rattle.session_core.specs.declared.lines.Line.{Line}
 use Rattle.session_core.specs.declared.lines.Start.TheVariants.{Exchange}
 use Rattle.session_core.specs.declared.action.Action.{Action}
 use Rattle.session_core.specs.declared.action.Action.TheVariants as action
-use Rattle.session_core.specs.Wire.{ruled, seen}
+use Rattle.session_core.specs.Wire.{ruled, seen, forever}
 use Rattle.session_core.specs.Wire as wire
 use Rattle.session_core.specs.Lines.{stepped}
 use Rattle.session_core.specs.Cards.{TurnsTo, AfterTurn, IsStepped}
 use Rattle.session_laws.specs.Running.{IsAsked, event_of, octets_of}
-use Rattle.session_laws.specs.Serving.{Placed, step_by, events_by, IsLineTurn, IsHostTurn, none, by_line, by_host, IsBegun, Ran, IsDoing, IsRefused, burst_refused, reply_refused, Stopped}
+use Rattle.session_laws.specs.Serving.{Placed, events_by, IsLineTurn, IsHostTurn, none, by_line, by_host, IsBegun, Ran, IsDoing, burst_refused, reply_refused, Stopped}
 use Rattle.session_laws.proofs.Runs.{no-sounds, then-sounds}
-use Rattle.session_laws.proofs.Services.{IsAt, ran-at}
+use Rattle.session_laws.proofs.Services.{IsAt}
 
 pub no-acts : {A : Type 0} (served : A → List Event → Type 0) → Happens served served []
 no-acts served first before h = subst (served first) (sym (append-nil before)) h
@@ -34,7 +33,7 @@ pub then-acts : {A : Type 0} (old now new : A → List Event → Type 0) (acts a
 then-acts old now new acts after f g first before h =
     subst (new first) (append_assoc before acts after) (g first (before ++ acts) (f first before h))
 
-pub begun-ran : {A B : Type 0} (heard : A → List Sound → Type 0) (served : B → List Event → Type 0)
+unfoldable pub begun-ran : {A B : Type 0} (heard : A → List Sound → Type 0) (served : B → List Event → Type 0)
     (card : CardState) (line : Line) (first : Placed) → IsBegun card line first
     → Ran heard heard served served card line [] first
 begun-ran heard served card line first begun = record {
@@ -64,7 +63,7 @@ step-of before sound event octets burst card line granted own out result is same
     subst (λ (o : List ℕ). IsSteppedBy before (event_of sound) o burst card line granted own out result) same
     (subst (λ (n : ℕ). IsSteppedBy before n octets burst card line granted own out result) is h)
 
-pub line-ran : {A B : Type 0} (old now new : A → List Sound → Type 0) (before_host host : B → List Event → Type 0)
+unfoldable pub line-ran : {A B : Type 0} (old now new : A → List Sound → Type 0) (before_host host : B → List Event → Type 0)
     (card : CardState) (line : Line) (events : List Event) (before : Placed) (sound : Sound) (after : Placed)
     → Ran old now before_host host card line events before → Sounds now new (sound ∷ [])
     → (turn : IsLineTurn before sound after)
@@ -79,7 +78,7 @@ line-ran old now new before_host host card line events before sound after ran ad
   turns = by_line ran.sounds events ran.acts before sound after ran.turns turn;
 }
 
-pub host-ran : {A B : Type 0} (old new : A → List Sound → Type 0)
+unfoldable pub host-ran : {A B : Type 0} (old new : A → List Sound → Type 0)
     (before_host host after_host : B → List Event → Type 0) (card : CardState) (line : Line) (events : List Event)
     (before : Placed) (command answer : List ℕ) (after : Placed)
     → Ran old new before_host host card line events before
@@ -95,6 +94,35 @@ host-ran old new before_host host after_host card line events before command ans
   turns = by_host ran.sounds events ran.acts before command answer after ran.turns turn;
 }
 
+-- ---- how many turns the loop made, and how many are left
+
+pub none-counted : (most : ℕ) → 0 + 0 + most ≡ most
+none-counted most = omega arith
+
+pub line-counted : (sounds : List Sound) (sound : Sound) (acts : List Event) (left most : ℕ)
+    → length sounds + length acts + (1 + left) ≡ most → length (sounds ++ sound ∷ []) + length acts + left ≡ most
+line-counted sounds sound acts left most counted = rw (length-append sounds (sound ∷ [])) (omega (arith, counted))
+
+pub host-counted : (sounds : List Sound) (acts : List Event) (act : Event) (left most : ℕ)
+    → length sounds + length acts + (1 + left) ≡ most → length sounds + length (acts ++ act ∷ []) + left ≡ most
+host-counted sounds acts act left most counted = rw (length-append acts (act ∷ [])) (omega (arith, counted))
+
+-- a turn that was left has been made
+pub made-so-far : (sounds : List Sound) (sound : Sound) (acts : List Event) (most left : ℕ)
+    → length sounds + length acts + left ≡ most → 0 < left → length (sounds ++ sound ∷ []) + length acts ≤ most
+made-so-far sounds sound acts most left counted some =
+    rw (length-append sounds (sound ∷ [])) (omega (arith, counted, some))
+
+-- a silence after a wait without a limit
+pub silent-of : (next : Action) (out : List ℕ) (sound : Sound) → IsAsked next out sound
+    → next ≡ action.Wait forever → event_of sound ≡ 3 → sound ≡ came forever []
+silent-of next out (came limit []) asked_for is silent =
+    let same : limit ≡ forever = subst (λ (a : Action). IsAsked a out (came limit [])) is asked_for in rw same refl
+silent-of next out (came limit (octet ∷ octets)) asked_for is silent = absurd (omega (arith, silent))
+silent-of next out (deaf limit fault) asked_for is silent = absurd (omega (arith, silent))
+silent-of next out (said octets) asked_for is silent = absurd (omega (arith, silent))
+silent-of next out (unsaid octets fault) asked_for is silent = absurd (omega (arith, silent))
+
 -- a host that is asked owes the reply to its command
 pub owes-command : (c0 : CardState) (events : List Event) (s : Placed) (count : ℕ) → IsAt c0 events s
     → s.next ≡ action.Asked count → owed s.card s.card.waits ≡ Some s.card.command
@@ -106,14 +134,14 @@ owes-command c0 events s count at is =
 -- ---- a refusal
 
 pub line-stopped : {A B : Type 0} (old now new : A → List Sound → Type 0)
-    (before_host host : B → List Event → Type 0) (card : CardState) (line : Line) (fault : CardFault)
+    (before_host host : B → List Event → Type 0) (card : CardState) (line : Line) (most : ℕ) (fault : CardFault)
     (events : List Event) (before : Placed) (sound : Sound) (burst : List ℕ) (granted own : ℕ) (out : List ℕ)
-    (card_after : CardState) (line_after : Line) → Ran old now before_host host card line events before
-    → Sounds now new (sound ∷ []) → IsAsked before.next before.out sound → HasHeard before.line.framer burst
+    (card_after : CardState) (line_after : Line) → (ran : Ran old now before_host host card line events before)
+    → length ran.sounds + length ran.acts < most → Sounds now new (sound ∷ []) → IsAsked before.next before.out sound → HasHeard before.line.framer burst
     → IsSteppedBy before (event_of sound) (octets_of sound) burst card_after line_after granted own out (Err fault)
-    → Stopped old new before_host host card line fault
-line-stopped old now new before_host host card line fault events before sound burst granted own out card_after
-    line_after ran adds asked_for heard stepped_so = record {
+    → Stopped old new before_host host card line most fault
+line-stopped old now new before_host host card line most fault events before sound burst granted own out card_after
+    line_after ran few adds asked_for heard stepped_so = record {
       first = ran.first;
       begun = ran.begun;
       sounds = ran.sounds;
@@ -121,6 +149,7 @@ line-stopped old now new before_host host card line fault events before sound bu
       acts = ran.acts;
       before = before;
       turns = ran.turns;
+      few = few;
       last_sounds = sound ∷ [];
       last_acts = [];
       refused = burst_refused sound burst granted own out card_after line_after asked_for heard stepped_so;
@@ -150,15 +179,15 @@ refused-by (Err inner) acted command rules p burst out out_after line own own_af
     rw (err-same fault inner (Err fault) refl now_after.0) refl
 
 pub host-stopped : {A B : Type 0} (old new : A → List Sound → Type 0)
-    (before_host host after_host : B → List Event → Type 0) (card : CardState) (line : Line) (fault : CardFault)
-    (events : List Event) (before : Placed) (answer burst : List ℕ) (own : ℕ) (out : List ℕ) (card_after : CardState)
-    (line_after : Line) → Ran old new before_host host card line events before
-    → Happens host after_host (asked before.card.command answer ∷ [])
+    (before_host host after_host : B → List Event → Type 0) (card : CardState) (line : Line) (most : ℕ)
+    (fault : CardFault) (events : List Event) (before : Placed) (answer burst : List ℕ) (own : ℕ) (out : List ℕ)
+    (card_after : CardState) (line_after : Line) → (ran : Ran old new before_host host card line events before)
+    → length ran.sounds + length ran.acts < most → Happens host after_host (asked before.card.command answer ∷ [])
     → TurnsTo before.card (replies answer) Exchange before.line.rules (seen before.line.progress) burst 0 card_after
     line_after before.own own before.out out (Err fault)
-    → Stopped old new before_host after_host card line fault
-host-stopped old new before_host host after_host card line fault events before answer burst own out card_after
-    line_after ran acted turns = record {
+    → Stopped old new before_host after_host card line most fault
+host-stopped old new before_host host after_host card line most fault events before answer burst own out card_after
+    line_after ran few acted turns = record {
       first = ran.first;
       begun = ran.begun;
       sounds = ran.sounds;
@@ -166,6 +195,7 @@ host-stopped old new before_host host after_host card line fault events before a
       acts = ran.acts;
       before = before;
       turns = ran.turns;
+      few = few;
       last_sounds = [];
       last_acts = asked before.card.command answer ∷ [];
       refused = reply_refused answer

@@ -1,8 +1,8 @@
 -- The events of a card's session begin a run of the card's table.
-use Rattle.std.proofs.Common.{◌≡◌, ℕ, ◌+◌, ◌-◌, List, [], ◌∷◌, ◌++◌, take, Bool, true, false, nat_lt, not, if◌then◌else◌, Option, Some, None, Result, Ok, Err, refl, sym, ap, subst, ◌∙◌, arith}
+use Rattle.std.proofs.Common.{◌≡◌, ℕ, ◌+◌, ◌-◌, List, [], ◌∷◌, ◌++◌, take, Bool, true, false, if◌then◌else◌, Some, Result, Ok, Err, refl, sym, ap, subst, ◌∙◌, arith}
 use Rattle.std.proofs.lemmas.List.{append-nil, append_assoc}
-use Rattle.block_core.specs.Block.{Parts, IsPut, spelling}
-use Rattle.t1_core.specs.Card.{CardState, Waits, host, asking, replies, card_turn, turn_of, state_after, if_host, CardStep, sends_next}
+use Rattle.block_core.specs.Block.{Parts, spelling}
+use Rattle.t1_core.specs.Card.{CardState, Waits, host, asking, replies, card_turn, turn_of, state_after, if_host, sends_next}
 use Rattle.t1_core.specs.CardViews.{owed}
 use Rattle.t1_core.specs.Put.{IsCardPut}
 use Rattle.t1_core.specs.declared.turns.CardTurn.{CardTurn}
@@ -11,7 +11,7 @@ use Rattle.t1_core.specs.declared.turns.EncodedCardTurn.{EncodedCardTurn}
 use Rattle.t1_core.specs.declared.turns.EncodedCardTurn.TheVariants as put
 use Rattle.t1_core.specs.declared.turns.CardFault.{CardFault}
 use Rattle.t1_core.specs.declared.turns.CardFault.TheVariants.{TooLong}
-use Rattle.line_core.specs.Bursts.{HasHeard, handed}
+use Rattle.line_core.specs.Bursts.{handed}
 use Rattle.line_core.specs.Line.{block as arrived}
 use Rattle.line_core.specs.Timed.{Sound, came as piece, deaf, said, unsaid}
 use Rattle.line_core.specs.Service.{Event, came, asked, sent, is_short, wrong_length, IsReplyTo, Doing, hears, says, asks, Ending, Serves, doing_of, doing_after, left_after}
@@ -28,11 +28,10 @@ use Rattle.session_core.specs.Wire.{Step, ruled, seen, handed_over}
 use Rattle.session_core.specs.Wire as wire
 use Rattle.session_core.specs.Lines.{IsMoved}
 use Rattle.session_core.specs.Actions.{action_of, count_of}
-use Rattle.session_core.specs.Terminals.{IsSent, IsStill}
-use Rattle.session_core.specs.Cards.{TurnsTo, AfterTurn, Asks, IsHeard, IsStepped, heard_in, is_for_host, asked_about}
+use Rattle.session_core.specs.Cards.{TurnsTo, AfterTurn, Asks, IsHeard, IsStepped, is_for_host, asked_about}
 use Rattle.session_laws.specs.Ending.{HasBurst}
 use Rattle.session_laws.specs.Running.{IsAsked}
-use Rattle.session_laws.specs.Serving.{Placed, step_by, replied_for, stepped_as, events_by, IsLineTurn, IsHostTurn, Turns, none, by_line, by_host, IsBegun, Ran, is_unsent, IsToSend, IsToHear, IsDoing, Begins, IsServed}
+use Rattle.session_laws.specs.Serving.{Placed, step_by, replied_for, stepped_as, events_by, IsLineTurn, IsHostTurn, Turns, none, by_line, by_host, IsBegun, Ran, is_unsent, IsToHear, IsDoing, Begins, IsServed}
 use Rattle.session_laws.proofs.Links.{front}
 use Rattle.session_laws.proofs.Phases.{StaysUnsent, StaysHearing, Unsent, Hearing, begins-unsent, talks-unsent, serves-hearing, on-sent-hearing, on-failed-unsent, on-failed-hearing, on-silent-unsent, on-silent-hearing, on-came-unsent, on-came-hearing}
 

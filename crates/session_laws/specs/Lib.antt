@@ -2,3 +2,4 @@ pub mod Ending
 pub mod Running
 pub mod Talking
 pub mod Serving
+pub mod Together

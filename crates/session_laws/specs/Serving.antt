@@ -1,6 +1,6 @@
 -- What a loop over the steps of a card's session does: each action becomes a call of the device or of the host. The
 -- events of its card are those of a card that serves over a line (line_core), so the laws of such a card hold of it.
-use Rattle.std.specs.Prelude.{◌≡◌, ℕ, List, [], ◌∷◌, ◌++◌, take, Bool, true, false, if◌then◌else◌, Option, Some, Result, Ok, Err}
+use Rattle.std.specs.Prelude.{◌≡◌, ◌≤◌, ◌<◌, ◌+◌, ℕ, List, [], ◌∷◌, ◌++◌, length, take, Bool, true, false, if◌then◌else◌, Some, Result, Ok, Err}
 use Rattle.block_core.specs.Block.{Parts, spelling}
 use Rattle.t1_core.specs.Card.{CardState, replies, card_turn, turn_of, state_after}
 use Rattle.t1_core.specs.CardViews.{owed}
@@ -10,6 +10,7 @@ use Rattle.t1_core.specs.declared.turns.CardFault.{CardFault}
 use Rattle.line_core.specs.Bursts.{HasHeard, handed}
 use Rattle.line_core.specs.Line.{block}
 use Rattle.line_core.specs.Timed.{Sound, Sounds, said}
+use Rattle.line_core.specs.Timed as timed
 use Rattle.line_core.specs.Service.{Event, came, asked, sent, is_short, wrong_length, Happens, Doing, hears, says, asks, Ending, Serves}
 use Rattle.session_core.specs.declared.event.Next.{Next}
 use Rattle.session_core.specs.declared.event.Next.TheVariants.{Heard}
@@ -128,6 +129,14 @@ pub record Ran {A B : Type 0} (old new : A → List Sound → Type 0) (old_host 
   pub acted : Happens old_host new_host acts
   pub turns : Turns first sounds events acts last
 
+-- Why the loop made no more turns, each of which is a call of the device or an act of the host. It made as many as it may,
+-- or the last action ends the session, or nothing came in the last call, a wait without a limit.
+pub data IsOver (most : ℕ) (sounds : List Sound) (acts : List Event) (last : Action) : Type 0 where
+  all_made : length sounds + length acts ≡ most → IsOver most sounds acts last
+  ended : length sounds + length acts ≤ most → lives last ≡ false → IsOver most sounds acts last
+  no_more : (earlier : List Sound) → length sounds + length acts ≤ most → sounds ≡ earlier ++ timed.came forever [] ∷ []
+      → IsOver most sounds acts last
+
 -- ---- the run of the card's table
 
 -- in these phases the block isn't sent yet
@@ -180,9 +189,9 @@ pub data IsRefused (before : Placed) (fault : CardFault) : List Sound → List E
   reply_refused : (reply : List ℕ) → turn_of (card_turn before.card (replies reply)) ≡ Err fault
       → IsRefused before fault [] (asked before.card.command reply ∷ [])
 
--- What the loop has done, if the card refused something after these turns.
+-- What the loop has done, if the card refused something after these turns, which are fewer than it may make.
 pub record Stopped {A B : Type 0} (old new : A → List Sound → Type 0) (old_host new_host : B → List Event → Type 0)
-    (card : CardState) (line : Line) (fault : CardFault) : Type 0 where
+    (card : CardState) (line : Line) (most : ℕ) (fault : CardFault) : Type 0 where
   pub first : Placed
   pub begun : IsBegun card line first
   pub sounds : List Sound
@@ -190,6 +199,7 @@ pub record Stopped {A B : Type 0} (old new : A → List Sound → Type 0) (old_h
   pub acts : List Event
   pub before : Placed
   pub turns : Turns first sounds events acts before
+  pub few : length sounds + length acts < most
   pub last_sounds : List Sound
   pub last_acts : List Event
   pub refused : IsRefused before fault last_sounds last_acts

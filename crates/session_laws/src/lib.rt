@@ -3,11 +3,12 @@
 //!
 //! [`exchange_ends`] is the loop of a terminal, and its contract is a law: whatever the device does, an exchange ends
 //! within its limits. `specs/Ending.antt` has the number that each octet, silence and failure makes smaller.
-//! [`serve_events`] is the loop of a card.
+//! [`serve_events`] is the loop of a card. [`laws`] has what holds of both loops over one line.
 #![tactic(auto)]
 
 mod device;
 mod exchanging;
+pub mod laws;
 mod serving;
 
 pub use exchanging::{Ended, exchange_ends};

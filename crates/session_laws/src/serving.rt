@@ -1,15 +1,16 @@
 //! The loop of a card.
 
-ghost use Rattle.std.specs.Prelude.{◌≡◌, ◌≤◌, ℕ, List, [], ◌∷◌, length, IfOk, IfErr, Some};
+ghost use Rattle.std.specs.Prelude.{◌≡◌, ◌≤◌, ℕ, List, [], ◌∷◌, length, true, IfOk, IfErr, Some};
 ghost use Rattle.t1_core.specs.Card.{replies};
 ghost use Rattle.t1_core.specs.CardViews.{card_held, IsLentCard, owed};
 ghost use Rattle.line_core.specs.Service.{Event, asked, Happens};
 ghost use Rattle.line_core.specs.Bursts.{HasHeard};
 ghost use Rattle.session_core.specs.declared.lines.Start.TheVariants.{Exchange};
-ghost use Rattle.session_core.specs.Wire.{seen};
+ghost use Rattle.session_core.specs.declared.action.Action.TheVariants.{Wait};
+ghost use Rattle.session_core.specs.Wire.{seen, forever};
 ghost use Rattle.session_core.specs.Cards.{TurnsTo};
 ghost use Rattle.session_laws.specs.Ending.{HasBurst};
-ghost use Rattle.session_laws.specs.Serving.{placed, lives, Ran, IsServed, Stopped};
+ghost use Rattle.session_laws.specs.Serving.{placed, lives, Ran, IsOver, IsServed, Stopped};
 
 use crate::device::{LONGEST_BLOCK, SILENT, done};
 use line_core::{Host, TimedDevice};
@@ -25,15 +26,21 @@ fn lives(action: &Action) -> bool
 }
 
 /// Whether a wait without a limit is over, so no more comes.
-fn is_over(action: &Action, event: u8) -> bool {
-    event == SILENT && *action == Action::Wait(u64::MAX)
+fn is_over(action: &Action, event: u8) -> bool
+    ensures { result ≡ true → (action.now ≡ Wait forever) × (event ≡ 3) }
+{
+    match action {
+        Action::Wait(time) => *time == u64::MAX && event == SILENT,
+        _ => false,
+    }
 }
 
 /// Serves what comes over a device to a card: does what each action says, and passes the result to the session. The host
 /// acts on each command.
 ///
-/// This returns after `most` turns: calls of the device or of the host. It returns earlier if the device says that no
-/// more comes, or if the line failed, which the last action says. What comes is put into `room` first.
+/// This returns after `most` turns, each a call of the device or of the host. It returns earlier only if the last action
+/// ends the session, as after a failure of the line, or if nothing came in a wait without a limit. What comes is put
+/// into `room` first.
 pub fn serve_events<D: TimedDevice, H: Host>(
     end: &mut LentCard,
     line: &mut Line,
@@ -50,14 +57,15 @@ pub fn serve_events<D: TimedDevice, H: Host>(
     ensures fit { IsLentCard end.new (length command.new) (length reply.new) }
     ensures again { IfOk result (λ _. HasBurst line.new) }
     ensures run { IfOk result (λ action. (granted own : ℕ) × (out : List ℕ) × (events : List Event)
-        × Ran (D.heard device.old) (D.heard device.new) (H.served host.old) (H.served host.new)
-        (card_held end.old command.old reply.old) line.old events
-        (placed (card_held end.new command.new reply.new) line.new granted own out action)
+        × (ran : Ran (D.heard device.old) (D.heard device.new) (H.served host.old)
+        (H.served host.new) (card_held end.old command.old reply.old) line.old events
+        (placed (card_held end.new command.new reply.new) line.new granted own out action))
+        × IsOver most ran.sounds ran.acts action
         × IsServed (card_held end.old command.old reply.old) events
         (placed (card_held end.new command.new reply.new) line.new granted own out action)) }
     ensures refused { IfErr result (λ fault.
         Stopped (D.heard device.old) (D.heard device.new) (H.served host.old) (H.served host.new)
-        (card_held end.old command.old reply.old) line.old fault) }
+        (card_held end.old command.old reply.old) line.old most fault) }
 {
     let mut out = [0; LONGEST_BLOCK];
     let mut own = 0;
@@ -70,9 +78,7 @@ pub fn serve_events<D: TimedDevice, H: Host>(
             action = reply_to(end, line, &mut own, command, reply, host, &mut out)?;
         } else {
             let (event, count) = done(&action, device, &out, room);
-            if is_over(&action, event) {
-                left = 0;
-            }
+            let is_last = is_over(&action, event);
             action = step(
                 end,
                 line,
@@ -86,6 +92,9 @@ pub fn serve_events<D: TimedDevice, H: Host>(
                 0,
                 &mut out,
             )?;
+            if is_last {
+                return Ok(action);
+            }
         }
     }
     Ok(action)

@@ -1,4 +1,4 @@
-use Rattle.std.proofs.Common.{rules, [], false, ◌≡◌, ◌+◌, true, Ok, Err}
+use Rattle.std.proofs.Common.{rules, [], false, ◌≡◌, ◌+◌, true}
 use Rattle.std.proofs.lemmas.Result.{err_from_is_err_and}
 use Rattle.t1_core.specs.Views.{terminal_held}
 use Rattle.session_laws.specs.Ending.{goes, sends}

@@ -1,4 +1,4 @@
-use Rattle.std.proofs.Common.{◌≡◌, List, ℕ, Option, Some, None, Bor, refl, sym}
+use Rattle.std.proofs.Common.{◌≡◌, List, ℕ, Option, Some, None, Bor, sym}
 use Rattle.std.specs.Option.{unwrap_or}
 use Rattle.t1_core.specs.Views.{IsSlice}
 use Rattle.session_laws.proofs.serving.reply_to.Goals as goal

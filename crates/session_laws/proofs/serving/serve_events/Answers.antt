@@ -1,12 +1,13 @@
-use Rattle.std.proofs.Common.{rules, [], refl, ◌≡◌, Ok, Err}
+use Rattle.std.proofs.Common.{rules, arith, [], refl, sym}
 use Rattle.std.proofs.lemmas.Result.{err_from_is_err_and}
 use Rattle.t1_core.specs.CardViews.{card_held}
-use Rattle.session_laws.specs.Serving.{placed}
+use Rattle.session_laws.specs.Serving.{placed, all_made, ended, no_more}
 use Rattle.session_laws.proofs.Services.{ran-at}
-use Rattle.session_laws.proofs.Served.{begun-ran, line-ran, host-ran, step-of, owes-command, line-stopped, host-stopped}
+use Rattle.session_laws.proofs.Served.{begun-ran, line-ran, host-ran, step-of, owes-command, none-counted, line-counted, host-counted, made-so-far, silent-of, line-stopped, host-stopped}
 use Rattle.session_laws.proofs.serving.serve_events.Goals as goal
 
 pub loop-left-init : goal.loop-left-init
+unfolding begun-ran
 loop-left-init g c = (
   c.requires.fit,
   search rules,
@@ -19,6 +20,7 @@ loop-left-init g c = (
       card_is = refl;
       begun = c.serve-action.ensures.line _ c.requires.burst.1;
     },
+    none-counted _,
   ),
 )
 
@@ -33,9 +35,10 @@ returns-in_err-action-clause-refused g c =
     let p = err_from_is_err_and c.from_residual.result c.from_residual.ensures.1 in
     rw (p.1, p.2) (host-stopped (g.D.TimedDevice.heard c.args.device.now) (g.D.TimedDevice.heard c.loop-left.device)
     (g.H.Host.served c.args.host.now) (g.H.Host.served c.loop-left.host) (g.H.Host.served c.reply_to.new.host) _ _ _ _ _
-    replied.0 _ _ _ _ _ c.loop-left.invariant.3.1 replied.1 (replied.2 at.burst.0 at.burst.1))
+    _ replied.0 _ _ _ _ _ c.loop-left.invariant.3.1 (omega (arith, c.loop-left.invariant.3.2)) replied.1 (replied.2 at.burst.0 at.burst.1))
 
 pub loop-left-preserved-in-Asked : goal.loop-left-preserved-in-Asked
+unfolding host-ran
 loop-left-preserved-in-Asked g c =
     let at = ran-at _ _ _ _ _ _ _ _ c.loop-left.invariant.3.1 in
     let replied = c.in_ok-action.ensures.replied in (
@@ -55,6 +58,8 @@ loop-left-preserved-in-Asked g c =
               granted_is = refl;
               replied = replied.2 at.burst.0 at.burst.1;
             },
+        host-counted c.loop-left.invariant.3.1.sounds c.loop-left.invariant.3.1.acts _ _ _
+            (omega (arith, c.loop-left.invariant.3.2)),
       ),
     )
 
@@ -72,15 +77,17 @@ returns-in_err-action-2 g c =
       run = tt;
       refused = line-stopped (g.D.TimedDevice.heard c.args.device.now) (g.D.TimedDevice.heard c.loop-left.device)
           (g.D.TimedDevice.heard c.done-event.new.device) (g.H.Host.served c.args.host.now)
-          (g.H.Host.served c.loop-left.host) _ _ _ _ before sound at.burst.0 c.step.new.granted c.step.new.own
+          (g.H.Host.served c.loop-left.host) _ _ _ _ _ before sound at.burst.0 c.step.new.granted c.step.new.own
           c.step.new.out
-          after c.step.new.line c.loop-left.invariant.3.1 adds asked_for at.burst.1
+          after c.step.new.line c.loop-left.invariant.3.1 (omega (arith, c.loop-left.invariant.3.2)) adds asked_for
+          at.burst.1
           (step-of before sound _ _ at.burst.0 after c.step.new.line c.step.new.granted c.step.new.own c.step.new.out _
           event
           octets (c.in_err-action-2.ensures.step at.burst.0 at.burst.1));
     }
 
 pub loop-left-preserved : goal.loop-left-preserved
+unfolding line-ran
 loop-left-preserved g c =
     let at = ran-at _ _ _ _ _ _ _ _ c.loop-left.invariant.3.1 in
     let (sound, adds, asked_for, event, octets) = c.done-event.ensures.called in
@@ -103,21 +110,75 @@ loop-left-preserved g c =
               stepped_so = step-of before sound _ _ at.burst.0 after c.step.new.line c.step.new.granted c.step.new.own
                   c.step.new.out _ event octets (c.in_ok-action-2.ensures.step at.burst.0 at.burst.1);
             },
+        line-counted c.loop-left.invariant.3.1.sounds sound c.loop-left.invariant.3.1.acts _ _
+            (omega (arith, c.loop-left.invariant.3.2)),
       ),
     )
+
+pub returns-then-is_last : goal.returns-then-is_last
+unfolding line-ran
+returns-then-is_last g c =
+    let now = c.loop-left.invariant.3.1 in
+    let at = ran-at _ _ _ _ _ _ _ _ now in
+    let (sound, adds, asked_for, event, octets) = c.done-event.ensures.called in
+    let before = placed (card_held c.loop-left.«end» c.loop-left.command c.loop-left.reply) c.loop-left.line
+    c.loop-left.granted c.loop-left.own c.loop-left.out c.loop-left.action in
+    let after = card_held c.step.new.«end» c.step.new.command c.step.new.reply in
+    let last = placed after c.step.new.line c.step.new.granted c.step.new.own c.step.new.out c.in_ok-action-2.action in
+    let quiet = c.is_over-is_last.ensures c.if-is_last.true in
+    let ran = line-ran (g.D.TimedDevice.heard c.args.device.now) (g.D.TimedDevice.heard c.loop-left.device)
+    (g.D.TimedDevice.heard c.done-event.new.device) (g.H.Host.served c.args.host.now)
+    (g.H.Host.served c.loop-left.host) _ _ _ before sound last now adds record {
+      asked_for = asked_for;
+      burst = at.burst.0;
+      heard = at.burst.1;
+      stepped_so = step-of before sound _ _ at.burst.0 after c.step.new.line c.step.new.granted c.step.new.own
+          c.step.new.out _ event octets (c.in_ok-action-2.ensures.step at.burst.0 at.burst.1);
+    } in
+    let over = ran-at _ _ _ _ _ _ _ _ ran in
+    let same = silent-of c.loop-left.action c.loop-left.out sound asked_for quiet.0 (rw (sym event) quiet.1) in
+    record {
+      fit = c.step.ensures.fit;
+      again = over.burst;
+      run = (
+        c.step.new.granted,
+        c.step.new.own,
+        c.step.new.out,
+        _,
+        ran,
+        no_more now.sounds (made-so-far now.sounds sound now.acts c.args.most _ c.loop-left.invariant.3.2 (search rules))
+            (rw same refl),
+        over.served,
+      );
+      refused = tt;
+    }
 
 pub returns-else-lives-clause-again : goal.returns-else-lives-clause-again
 returns-else-lives-clause-again g c = (ran-at _ _ _ _ _ _ _ _ c.loop-left.invariant.3.1).burst
 
 pub returns-else-lives-clause-run : goal.returns-else-lives-clause-run
 returns-else-lives-clause-run g c =
-    let ran = c.loop-left.invariant.3 in
-    (c.loop-left.granted, c.loop-left.own, c.loop-left.out, ran.0, ran.1, (ran-at _ _ _ _ _ _ _ _ ran.1).served)
+    let ran = c.loop-left.invariant.3 in (
+      c.loop-left.granted,
+      c.loop-left.own,
+      c.loop-left.out,
+      ran.0,
+      ran.1,
+      ended (omega (arith, ran.2)) (search rules),
+      (ran-at _ _ _ _ _ _ _ _ ran.1).served,
+    )
 
 pub returns-after-loop-left-clause-again : goal.returns-after-loop-left-clause-again
 returns-after-loop-left-clause-again g c = (ran-at _ _ _ _ _ _ _ _ c.loop-left.invariant.3.1).burst
 
 pub returns-after-loop-left-clause-run : goal.returns-after-loop-left-clause-run
 returns-after-loop-left-clause-run g c =
-    let ran = c.loop-left.invariant.3 in
-    (c.loop-left.granted, c.loop-left.own, c.loop-left.out, ran.0, ran.1, (ran-at _ _ _ _ _ _ _ _ ran.1).served)
+    let ran = c.loop-left.invariant.3 in (
+      c.loop-left.granted,
+      c.loop-left.own,
+      c.loop-left.out,
+      ran.0,
+      ran.1,
+      all_made (omega (arith, ran.2)),
+      (ran-at _ _ _ _ _ _ _ _ ran.1).served,
+    )

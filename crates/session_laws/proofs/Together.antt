@@ -1,0 +1,72 @@
+-- Both loops over one line are calls of `exchange` and of `serve` (line_core).
+use Rattle.std.proofs.Common.{ℕ, List, [], ◌∷◌, refl, sym, subst}
+use Rattle.std.proofs.lemmas.List.{append-nil}
+use Rattle.t1_core.specs.Terminal.{TerminalState, TerminalInput, transmit, terminal_turn, turn_of, state_after, terminal_with}
+use Rattle.t1_core.specs.Card.{CardState, card_with}
+use Rattle.line_core.specs.Line.{Talk}
+use Rattle.line_core.specs.Exchange.{Runs, next_of}
+use Rattle.line_core.specs.Service.{Event, Doing, hears, used_up, Serves}
+use Rattle.line_core.specs.Joined as joined
+use Rattle.line_core.specs.Joined.{Call, IsCall, HaveRun, HaveServed, talks_of, events_of, events_in, TwoEnds, IsOnce, services_of}
+use Rattle.session_laws.specs.Together.{IsExchanged, HaveExchanged, IsListening, AlwaysTwoEnds, AlwaysMatched, AlwaysInOrder, AlwaysPatient, AlwaysOnce}
+
+-- a call's run, with what the call says of it
+pub run-of : (t : TerminalState) (call : Call) (command : List ℕ) → IsExchanged t call command
+    → Runs call.most (next_of (turn_of (terminal_turn t (transmit command))))
+    (state_after t (terminal_turn t (transmit command))) (talks_of call.trips) call.ending call.left
+run-of t call command is =
+    subst (λ (talks : List Talk). Runs call.most (next_of (turn_of (terminal_turn t (transmit command))))
+    (state_after t (terminal_turn t (transmit command))) talks call.ending call.left) is.talks
+    (subst (λ (most : ℕ). Runs most (next_of (turn_of (terminal_turn t (transmit command))))
+    (state_after t (terminal_turn t (transmit command))) is.run.talks call.ending call.left) is.most is.run.runs)
+
+pub have-run : (t : TerminalState) (calls : List Call) (last : TerminalState) → HaveExchanged t calls last
+    → HaveRun t calls last
+have-run t [] last is = is
+have-run t (call ∷ calls) last (first, more) = (
+  subst (λ (input : TerminalInput). IsCall input) (sym first.1.input) first.1.octets,
+  subst (λ (input : TerminalInput). Runs call.most (next_of (turn_of (terminal_turn t input)))
+      (state_after t (terminal_turn t input)) (talks_of call.trips) call.ending call.left) (sym first.1.input)
+      (run-of t call first.0 first.1),
+  have-run call.left calls last more,
+)
+
+-- a card that listens has served what came
+pub has-served : (first : CardState) (events : List Event) (last : CardState) → IsListening first events last
+    → (least : ℕ) × Serves least hears first events used_up last
+has-served first events last is =
+    let now : Serves 0 is.served.doing is.placed.card [] used_up is.placed.card =
+    subst (λ (doing : Doing). Serves 0 doing is.placed.card [] used_up is.placed.card) (sym is.listens)
+    (refl, refl, refl) in
+    let all = is.served.begins.follows 0 [] used_up is.placed.card now in (
+      all.0,
+      subst (λ (card : CardState). Serves all.0 hears first events used_up card) is.is
+          (subst (λ (list : List Event). Serves all.0 hears first list used_up is.placed.card) (append-nil events) all.1),
+    )
+
+pub always-two-ends : AlwaysTwoEnds
+always-two-ends of_terminal of_card ifsc calls t c loops =
+    let served = has-served (card_with of_card ifsc) (events_in calls) c loops.served in record {
+      size = loops.size;
+      run = have-run (terminal_with of_terminal ifsc) calls t loops.exchanged;
+      served = (served.0, used_up, c, served.1, refl);
+      events = sym (append-nil (events_in calls));
+    }
+
+pub always-matched : AlwaysTwoEnds → joined.AlwaysMatched → AlwaysMatched
+always-matched two matched of_terminal of_card ifsc calls t c loops =
+    matched of_terminal of_card ifsc calls (events_in calls ∷ []) t c (two of_terminal of_card ifsc calls t c loops)
+
+pub always-in-order : AlwaysTwoEnds → joined.AlwaysInOrder → AlwaysInOrder
+always-in-order two in_order of_terminal of_card ifsc calls t c loops =
+    in_order of_terminal of_card ifsc calls (events_in calls ∷ []) t c (two of_terminal of_card ifsc calls t c loops)
+
+pub always-patient : AlwaysTwoEnds → joined.AlwaysPatientCalls → AlwaysPatient
+always-patient two patient limits ifsc calls t c loops =
+    patient limits ifsc calls (events_in calls ∷ []) t c (two limits limits ifsc calls t c loops)
+
+pub always-once : joined.AlwaysOnce → AlwaysOnce
+always-once once of_terminal of_card ifsc call command c size exchanged listening =
+    let served = has-served (card_with of_card ifsc) (events_of call.trips) c listening in
+    once of_terminal of_card ifsc command call.most call.trips call.ending call.left served.0 used_up c size
+    exchanged.octets (run-of (terminal_with of_terminal ifsc) call command exchanged) served.1
