@@ -8,6 +8,7 @@
 
 mod arriving;
 mod coverage;
+mod early;
 pub mod laws;
 mod objects;
 mod pps;

@@ -1,21 +1,15 @@
 //! A trace judged line by line.
 
 ghost use Rattle.std.specs.Prelude.{◌≡◌, ◌⊎◌, ◌++◌, ◌+◌, ◌<◌, ◌≤◌, ◌^◌, IfErr, MatchResult, OnOk, string_bytes, false};
-ghost use Rattle.std.specs.Option.{is_some};
 ghost use Rattle.exchange_text.specs.declared.fault.ExchangeFault.TheVariants.{Falls, Memory};
-ghost use Rattle.trace_text.specs.declared.entry.Entry.TheVariants.{Moment, Until};
-ghost use Rattle.judge_core.specs.declared.monitor.Silence.TheVariants as SilenceOf;
-ghost use Rattle.trace_judge.specs.Judging.{early_from, is_before, is_judged, late_from, late_now, pps_timed, quietened, renewed, start, told_before, told_early, told_exercise, told_late, told_missing, told_report, told_said, told_silence, told_verdict, midway, ExercisesIf, Fails, IsBlockTold, IsConcluded, IsEntered, IsFalling, IsTold, JudgesLine, Judges};
+ghost use Rattle.trace_judge.specs.Judging.{is_before, is_judged, pps_timed, quietened, renewed, start, told_before, told_exercise, told_report, told_said, told_verdict, midway, ExercisesIf, Fails, IsBlockTold, IsConcluded, IsEntered, IsFalling, IsTold, JudgesLine, Judges};
 
 use crate::arriving::arrival_of;
 use crate::coverage::Coverage;
 use crate::pps::{is_pps, octet_at, pps_timed, push_answered_pps};
 use crate::tally::Tally;
-use crate::telling::{
-    tell_certain, tell_deviation, tell_early, tell_late, tell_neither, tell_possible, tell_unseen,
-    tell_unwaited,
-};
-use crate::timing::{Early, Late, Offer, Timing, earliness, lateness};
+use crate::telling::{tell_deviation, tell_neither, tell_unseen};
+use crate::timing::{Offer, Timing};
 use exchange_text::ExchangeFault;
 use judge_core::{Arrival, Exercise, Monitor, Report, Rule, Said, Side, Silence, Verdict};
 use layouts::Layout;
@@ -23,6 +17,8 @@ use octet_core::{Octets, Text};
 use std::alloc::{AllocError, Global};
 use std::marker::Model;
 use trace_text::{Entry, Reach, entry_of};
+
+mod waits;
 
 /// Which parts of a trace are judged.
 #[derive(Clone, Copy, Debug)]
@@ -191,45 +187,6 @@ impl Standing {
         self.timing.came = None;
     }
 
-    /// Takes the moment at which the next block begins.
-    fn moment(&mut self, moment: u64) -> Result<(), ExchangeFault>
-        ensures said { OnOk result (IsEntered self.old (Moment moment) self.new) }
-        ensures number { OnOk result (self.new.number ≡ self.old.number) }
-        ensures fault { IfErr result (λ fault.
-            IsFalling self.old (Moment moment) × (fault ≡ Falls self.old.number)) }
-    {
-        self.rise(moment)?;
-        self.timing.now = Some(moment);
-        self.timing.until = None;
-        Ok(())
-    }
-
-    /// Takes the moment of the last octet of the next block.
-    fn until(&mut self, moment: u64) -> Result<(), ExchangeFault>
-        ensures said { OnOk result (IsEntered self.old (Until moment) self.new) }
-        ensures number { OnOk result (self.new.number ≡ self.old.number) }
-        ensures fault { IfErr result (λ fault.
-            IsFalling self.old (Until moment) × (fault ≡ Falls self.old.number)) }
-    {
-        self.rise(moment)?;
-        self.timing.until = Some(moment);
-        Ok(())
-    }
-
-    /// Takes a moment, unless it is below an earlier one.
-    fn rise(&mut self, moment: u64) -> Result<(), ExchangeFault>
-        ensures said { OnOk result ((self.old.least ≤ moment)
-            × (self.new ≡ record self.old { least = moment })) }
-        ensures fault { IfErr result (λ fault.
-            (moment < self.old.least) × (fault ≡ Falls self.old.number)) }
-    {
-        if moment < self.least {
-            return Err(ExchangeFault::Falls { line: self.number });
-        }
-        self.least = moment;
-        Ok(())
-    }
-
     /// Takes the end of the terminal's waiting time.
     fn quiet(&mut self, alloc: Global) -> Result<(), AllocError>
         ensures said { OnOk result (self.new ≡ quietened self.old) }
@@ -359,53 +316,6 @@ impl Standing {
         }
     }
 
-    /// Reports a card that sent no block before the terminal's next one.
-    fn missing(&mut self, alloc: Global, over: bool, silence: Silence) -> Result<(), AllocError>
-        ensures said { OnOk result (self.new ≡ told_missing self.old over silence) }
-        ensures number { OnOk result (self.new.number ≡ self.old.number) }
-    {
-        match silence {
-            Silence::Certain(number) if !over => self.unwaited(alloc, number),
-            Silence::No | Silence::Possible(_) | Silence::Certain(_) => self.silence(
-                alloc, silence,
-            ),
-        }
-    }
-
-    /// Reports a card that got the block with this number and sent none, if the terminal may have sent too early.
-    fn unwaited(&mut self, alloc: Global, number: u64) -> Result<(), AllocError>
-        ensures said { OnOk result (self.new
-            ≡ told_missing self.old false (SilenceOf.Certain number)) }
-        ensures number { OnOk result (self.new.number ≡ self.old.number) }
-    {
-        if self.is_judged(Side::Card) {
-            self.tally.unseen_in();
-            tell_unwaited(alloc, &mut self.text, self.scope.layout, number)
-        } else {
-            Ok(())
-        }
-    }
-
-    /// Reports a card that sent no block.
-    fn silence(&mut self, alloc: Global, silence: Silence) -> Result<(), AllocError>
-        ensures said { OnOk result (self.new ≡ told_silence self.old silence) }
-        ensures number { OnOk result (self.new.number ≡ self.old.number) }
-    {
-        match silence {
-            Silence::Possible(number) if self.is_judged(Side::Card) => {
-                self.tally.unseen_in();
-                tell_possible(alloc, &mut self.text, self.scope.layout, number)
-            }
-            Silence::Certain(number) if self.is_judged(Side::Card) => {
-                self.tally.deviation_of(Side::Card);
-                let exercise = Exercise::Breaks(Rule::Silence, None);
-                self.coverage.cover(Side::Card, &exercise);
-                tell_certain(alloc, &mut self.text, self.scope.layout, number)
-            }
-            Silence::No | Silence::Possible(_) | Silence::Certain(_) => Ok(()),
-        }
-    }
-
     fn verdict(
         &mut self,
         alloc: Global,
@@ -428,95 +338,6 @@ impl Standing {
                 tell_deviation(alloc, &mut self.text, layout, number, from, *broken, due)
             }
             Verdict::Permitted | Verdict::Unseen | Verdict::Deviates(..) => Ok(()),
-        }
-    }
-
-    /// Returns by how much a block of the card would be late now.
-    fn late_now(&self) -> Option<Late>
-        ensures { result ≡ late_now self.now }
-    {
-        lateness(
-            self.offer.params,
-            self.scope.clock,
-            self.timing,
-            self.monitor.card.heard,
-        )
-    }
-
-    /// Whether the card's time is over now.
-    fn is_over(&self) -> bool
-        ensures { result ≡ is_some (late_now self.now) }
-    {
-        self.late_now().is_some()
-    }
-
-    /// Returns whether a block of this end is late, and by how much.
-    fn late_from(&self, from: Side) -> Option<Late>
-        ensures { result ≡ late_from self.now from }
-    {
-        match from {
-            Side::Terminal => None,
-            Side::Card => self.late_now(),
-        }
-    }
-
-    /// Returns whether a block of this end is early, and by how much.
-    fn early_from(&self, from: Side) -> Option<Early>
-        ensures { result ≡ early_from self.now from }
-    {
-        match from {
-            Side::Terminal => earliness(
-                self.offer.params,
-                self.scope.clock,
-                self.timing,
-                self.monitor.card.heard,
-            ),
-            Side::Card => None,
-        }
-    }
-
-    /// Reports a card's block that came too late, after the terminal's block with this number.
-    fn late(&mut self, alloc: Global, before: u64, late: Option<Late>) -> Result<(), AllocError>
-        ensures said { OnOk result (self.new ≡ told_late self.old before late) }
-        ensures number { OnOk result (self.new.number ≡ self.old.number) }
-    {
-        match late {
-            Some(late) if self.is_judged(Side::Card) => {
-                self.tally.late_in();
-                let number = self.monitor.blocks;
-                tell_late(
-                    alloc,
-                    &mut self.text,
-                    self.scope.layout,
-                    number,
-                    before,
-                    late,
-                )
-            }
-            Some(_) | None => Ok(()),
-        }
-    }
-
-    /// Reports a terminal's block that came too early after the block before.
-    fn early(&mut self, alloc: Global, early: Option<Early>) -> Result<(), AllocError>
-        ensures said { OnOk result (self.new ≡ told_early self.old early) }
-        ensures number { OnOk result (self.new.number ≡ self.old.number) }
-    {
-        match early {
-            Some(early) if self.is_judged(Side::Terminal) => {
-                self.tally.early_in();
-                let number = self.monitor.blocks;
-                let before = number.saturating_sub(1);
-                tell_early(
-                    alloc,
-                    &mut self.text,
-                    self.scope.layout,
-                    number,
-                    before,
-                    early,
-                )
-            }
-            Some(_) | None => Ok(()),
         }
     }
 

@@ -1,7 +1,7 @@
-//! When a card's block comes too late, and a terminal's too early (ISO/IEC 7816-3:2006, 11.4.3).
+//! The times of a trace, and when a card's block comes too late (ISO/IEC 7816-3:2006, 11.4.3).
 
 ghost use Rattle.std.specs.Prelude.{◌≡◌, ◌<◌, ◌^◌};
-ghost use Rattle.trace_judge.specs.Waiting.{after_card, begun_at, early_after_card, early_alone, early_before, early_by, early_with, earliness, etu_of, granted, granted_or_one, late_after, late_by, lateness, least_time, multiple_of, new_timing, past, permitted_parts, permitted_time, rates_before, rates_by, sent_by, timed, waited, waited_by};
+ghost use Rattle.trace_judge.specs.Waiting.{after_card, begun_at, etu_of, granted, late_after, late_by, lateness, multiple_of, new_timing, past, permitted_parts, permitted_time, rates_before, rates_by, sent_by, timed, waited, waited_by};
 
 use atr_core::{Atr, T1Params, rates};
 use block_core::{Pcb, S};
@@ -16,12 +16,6 @@ const DEFAULT_RATES: Rates = (Some(372), Some(1));
 
 /// The bit of TA2 that says that the interface bytes don't give F and D.
 const IMPLICIT: u8 = 0x10;
-
-/// CGT: the least time between characters of a block, in elementary time units.
-const LEAST_CHARACTER: u64 = 11;
-
-/// BGT: the least time between blocks of opposite directions, in elementary time units (11.4.3).
-const BLOCK_GUARD: u64 = 22;
 
 /// What a card's answer to reset offers.
 #[derive(Debug, Drop)]
@@ -280,7 +274,7 @@ fn permitted_parts(params: T1Params, multiple: u8, octets: usize, etu: Etu) -> u
 }
 
 /// Returns the multiple of the block waiting time that the card has after what it heard, if that is a block.
-fn granted(heard: Heard) -> Option<u8>
+pub(crate) fn granted(heard: Heard) -> Option<u8>
     ensures { result ≡ granted heard }
 {
     match heard {
@@ -300,7 +294,7 @@ fn multiple_of(pcb: Pcb, octet: u8) -> u8
 }
 
 /// Returns F and D, if both are known.
-fn etu_of(rates: Rates) -> Option<Etu>
+pub(crate) fn etu_of(rates: Rates) -> Option<Etu>
     ensures { result ≡ etu_of rates }
 {
     match rates {
@@ -309,124 +303,15 @@ fn etu_of(rates: Rates) -> Option<Etu>
     }
 }
 
-/// Returns by how much a terminal's block is early if it comes now. It depends on what the terminal's last block granted
-/// the card, as the card heard it, and on the clock in hertz.
-pub(crate) fn earliness(
-    params: T1Params,
-    clock: Option<u64>,
-    timing: Timing,
-    heard: Heard,
-) -> Option<Early>
-    ensures { result ≡ earliness params clock timing heard }
-{
-    early_by(
-        params,
-        clock,
-        granted_or_one(granted(heard)),
-        etu_of(timing.rates),
-        waited(timing),
-        waited_by(timing.now, timing.came),
-    )
-}
-
-/// Returns what is granted, or 1 if that isn't known.
-fn granted_or_one(granted: Option<u8>) -> u8
-    ensures { result ≡ granted_or_one granted }
-{
-    match granted {
-        Some(multiple) => multiple,
-        None => 1,
-    }
-}
-
-/// Returns by how much a block is early, if everything that decides it is known.
-fn early_by(
-    params: T1Params,
-    clock: Option<u64>,
-    multiple: u8,
-    etu: Option<Etu>,
-    waited: Option<Interval>,
-    came: Option<Interval>,
-) -> Option<Early>
-    ensures { result ≡ early_by params clock multiple etu waited came }
-{
-    match (clock, etu, waited) {
-        (Some(clock), Some(etu), Some(waited)) => {
-            let alone = early_alone(params, clock, multiple, etu, waited);
-            early_with(clock, etu, alone, came)
-        }
-        _ => None,
-    }
-}
-
-/// Returns by how much a block is early: not at all once the terminal's waiting time is over; until then by what is
-/// `alone` in the trace, or by BGT after a block of the card that came.
-fn early_with(clock: u64, etu: Etu, alone: Option<Early>, came: Option<Interval>) -> Option<Early>
-    ensures { result ≡ early_with clock etu alone came }
-{
-    match (alone, came) {
-        (None, _) => None,
-        (Some(alone), None) => Some(alone),
-        (Some(_), Some(came)) => early_after_card(clock, etu, came),
-    }
-}
-
-/// Returns by how much a block comes before the waiting time of the terminal's own block is over.
-fn early_alone(
-    params: T1Params,
-    clock: u64,
-    multiple: u8,
-    etu: Etu,
-    waited: Interval,
-) -> Option<Early>
-    ensures { result ≡ early_alone params clock multiple etu waited }
-{
-    let wait = multiple as u128 * params.bwt(etu.fi, etu.di) as u128;
-    early_before(least_time(clock, wait, etu, waited.octets), waited.elapsed)
-}
-
-/// Returns by how much a block comes before BGT after a block of the card is over.
-fn early_after_card(clock: u64, etu: Etu, came: Interval) -> Option<Early>
-    ensures { result ≡ early_after_card clock etu came }
-{
-    let wait = BLOCK_GUARD as u128 * etu.fi as u128;
-    early_before(least_time(clock, wait, etu, came.octets), came.elapsed)
-}
-
-/// Returns a block that came before the least time, if it did.
-fn early_before(least: u128, elapsed: u64) -> Option<Early>
-    ensures { result ≡ early_before least elapsed }
-{
-    if (elapsed as u128) < least {
-        Some(Early {
-            elapsed,
-            least: least.min(u64::MAX as u128) as u64,
-        })
-    } else {
-        None
-    }
-}
-
-/// Returns the least time in microseconds from a block of so many octets to the terminal's next one, if the terminal
-/// waits for this after the last octet, in parts of an elementary time unit, `fi` of them in one unit.
-fn least_time(clock: u64, wait: u128, etu: Etu, octets: usize) -> u128
-    requires { wait < 2 ^ 90 }
-    ensures { result ≡ least_time clock wait etu octets }
-{
-    let per_second = (etu.di as u128 * clock as u128).max(1);
-    let character = LEAST_CHARACTER * etu.fi as u64;
-    (wait + octets.saturating_sub(1) as u128 * character as u128) * 1_000_000 / per_second
-}
-
 /// Returns the interval between the terminal's last block and now, if both moments are known.
-fn waited(timing: Timing) -> Option<Interval>
+pub(crate) fn waited(timing: Timing) -> Option<Interval>
     ensures { result ≡ waited timing }
 {
     waited_by(timing.now, timing.sent)
 }
 
 /// Returns the interval between a block and now, if both moments are known.
-fn waited_by(now: Option<u64>, sent: Option<Sent>) -> Option<Interval>
+pub(crate) fn waited_by(now: Option<u64>, sent: Option<Sent>) -> Option<Interval>
     ensures { result ≡ waited_by now sent }
 {
     match (now, sent) {
