@@ -8,7 +8,7 @@ _scard_bench_before() {
     for ((at = 1; at < COMP_CWORD; at++)); do
         before=${COMP_WORDS[at]}
         case $before in
-        = | --times | --plain | --atr | --list | --help | --*=*) ;;
+        = | --times | --plain | --atr | --list | --topics | --help | --*=*) ;;
         --)
             place=rest
             return
@@ -30,12 +30,13 @@ _scard_bench_before() {
 _scard_bench_words() {
     local capture='--session --reader --times --plain --rate --terminal --card --pause --waiting'
     local files='--junit --json --html'
+    local port='--serial --baud --clock --tolerance'
     case $place:$command in
     rest:*) ;;
     1:*) words='import report suite --scard --help' ;;
     *:import) words="$capture --atr --help" ;;
     *:report) words="$capture --answer $files --help" ;;
-    *:suite) words="--role --profile --declare --limit --only --list $files --help" ;;
+    *:suite) words="--role --profile --declare --device --limit --only --list --topics $port $files --help" ;;
     esac
     case $place:$command in
     2:import | 2:report) words="$words ccid-log usbmon uart-csv apdu-log" ;;
@@ -55,6 +56,8 @@ _scard_bench() {
     rest:*) ;;
     *:--role) words='card terminal' ;;
     *:--profile) words='iso emv' ;;
+    *:--baud) words='9600 19200 38400 57600 115200' ;;
+    *:--serial | *:--clock | *:--tolerance | *:--device) ;;
     *:--scard | *:--declare | *:--limit | *:--only | *:--junit | *:--json | *:--html | *:--session | *:--reader) ;;
     *:--rate | *:--terminal | *:--card | *:--pause | *:--waiting | *:--answer) ;;
     *) _scard_bench_words ;;

@@ -81,12 +81,44 @@ static void writes_reply(struct device_reply reply, const uint8_t *out)
     writes(words[reply.word], out, has_octets ? reply.count : 0);
 }
 
+/* The microseconds of a line `until US`, as many as fit, or -1 if the line has another form. */
+static int64_t microseconds(void)
+{
+    static const char word[] = "until ";
+    const char *text = line + sizeof word - 1;
+    int64_t count = 0;
+    if (strncmp(line, word, sizeof word - 1) != 0 || *text == '\0') {
+        return -1;
+    }
+    for (; *text != '\0' && count < UINT32_MAX; text++) {
+        if (digit(*text) < 0 || digit(*text) > 9) {
+            return -1;
+        }
+        count = 10 * count + digit(*text);
+    }
+    return count;
+}
+
+/* What a terminal does that hears nothing for so long, and waits for `waits` microseconds. */
+static struct device_reply until(int64_t microseconds, uint32_t waits, uint8_t *out)
+{
+    struct device_reply reply = {DEVICE_NOTHING, 0, 0, waits};
+    if ((int64_t)waits <= microseconds) {
+        reply = device_silence(out);
+        reply.waited = waits;
+    }
+    return reply;
+}
+
 /* Calls the function for the line. Returns 0 if the line has another form. */
 static int calls(struct device_reply *reply, uint8_t *out)
 {
     static uint8_t octets[DEVICE_ROOM];
+    int64_t silence = microseconds();
     long count;
-    if (strcmp(line, "-") == 0) {
+    if (silence >= 0) {
+        *reply = until(silence, reply->waits, out);
+    } else if (strcmp(line, "-") == 0) {
         *reply = device_silence(out);
     } else if ((count = octets_after("reset", octets)) >= 0) {
         *reply = device_reset(octets, (size_t)count, out);
@@ -117,7 +149,7 @@ size_t device_exchange(const uint8_t *sent, size_t count, uint8_t *came)
 int main(void)
 {
     static uint8_t out[DEVICE_ROOM];
-    struct device_reply reply;
+    struct device_reply reply = {DEVICE_NOTHING, 0, 0, 0};
     while (reads()) {
         if (!calls(&reply, out)) {
             return 1;

@@ -18,11 +18,12 @@
 enum device_word { DEVICE_BLOCK, DEVICE_NOTHING, DEVICE_ANSWER, DEVICE_FAILED, DEVICE_RESET };
 
 /* What a device did, the number of the octets of a block or an answer, and how many microseconds of virtual time passed
- * before. The octets are in `out`, which has room for DEVICE_ROOM. */
+ * before. The octets are in `out`, which has room for DEVICE_ROOM. A terminal with times of its own says in `waits` how
+ * many microseconds it waits for the card after this block, and callback.c answers `until` by it. */
 struct device_reply {
     enum device_word word;
     size_t count;
-    uint32_t waited;
+    uint32_t waited, waits;
 };
 
 /* The card is reset. A card replies with its answer to reset, as a block. A terminal gets the card's, and replies with
@@ -35,7 +36,7 @@ struct device_reply device_send(const uint8_t *command, size_t count, uint8_t *o
 /* These octets arrived. */
 struct device_reply device_heard(const uint8_t *octets, size_t count, uint8_t *out);
 
-/* Nothing arrived within the waiting time of a terminal. */
+/* Nothing arrived within the waiting time of a terminal. If its times are its own, callback.c says how long it waited. */
 struct device_reply device_silence(uint8_t *out);
 
 /* For a terminal that waits by itself: it calls this in device_reset or device_send. Sends a block, and returns how

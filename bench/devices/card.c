@@ -6,6 +6,8 @@
 
 /* microseconds that the card takes for each waiting time that it asked for: fewer than one has */
 #define WORK 1300000u
+/* microseconds from the end of a block to the card's answer: more than BGT */
+#define TURN 2000u
 #define RESYNCH_RESPONSE 0xE0
 
 static const uint8_t answer_to_reset[] = {0x3B, 0x80, 0x81, 0x31, 0x20, 0x45, 0x55};
@@ -17,7 +19,7 @@ static uint8_t served, asked; /* for how many waiting times it asked */
 
 struct device_reply device_reset(const uint8_t *atr, size_t count, uint8_t *out)
 {
-    struct device_reply reply = {DEVICE_BLOCK, sizeof answer_to_reset, 0};
+    struct device_reply reply = {DEVICE_BLOCK, sizeof answer_to_reset, 0, 0};
     (void)atr;
     (void)count;
     served = asked = 0;
@@ -74,7 +76,7 @@ static struct scard_turn host(uint8_t *out, uint32_t *waited)
         asked = copy[3];
         return scard_lent_card_more_time(&card, BUFFERS, copy[3], out, SCARD_BLOCK_ROOM);
     }
-    *waited = asked * WORK;
+    *waited += asked * WORK;
     asked = 0;
     count = answer(copy, count, text);
     return scard_lent_card_reply(&card, BUFFERS, text, count, out, SCARD_BLOCK_ROOM);
@@ -82,7 +84,7 @@ static struct scard_turn host(uint8_t *out, uint32_t *waited)
 
 struct device_reply device_heard(const uint8_t *octets, size_t count, uint8_t *out)
 {
-    struct device_reply reply = {DEVICE_BLOCK, 0, 0};
+    struct device_reply reply = {DEVICE_BLOCK, 0, TURN, 0};
     struct scard_turn turn = scard_lent_card_received(&card, BUFFERS, octets, count, out, SCARD_BLOCK_ROOM);
     if (turn.kind == SCARD_DONE) {
         turn = host(out, &reply.waited);
@@ -98,7 +100,7 @@ struct device_reply device_heard(const uint8_t *octets, size_t count, uint8_t *o
 /* The suite says this only to a terminal. */
 static struct device_reply nothing(void)
 {
-    struct device_reply reply = {DEVICE_NOTHING, 0, 0};
+    struct device_reply reply = {DEVICE_NOTHING, 0, 0, 0};
     return reply;
 }
 

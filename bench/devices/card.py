@@ -12,6 +12,8 @@ from application import Application
 ATR = bytes.fromhex("3B808131204555")
 # microseconds that the card takes for each waiting time that it asked for: fewer than one has
 WORK = 1_300_000
+# microseconds from the end of a block to the card's answer: more than BGT
+TURN = 2_000
 RESYNCH_RESPONSE = 0xE0
 
 
@@ -49,7 +51,7 @@ def main() -> None:
             print(ATR.hex(), flush=True)
         else:
             said = device.hears(bytes.fromhex(line)).hex()
-            print(f"wait {device.wait}\n{said}" if device.wait else said, flush=True)
+            print(f"wait {TURN + device.wait}\n{said}", flush=True)
 
 
 if __name__ == "__main__":

@@ -37,7 +37,7 @@ static struct terminal *engine(void)
 /* What an engine says: the number of octets, or below 0 that it failed. */
 static struct device_reply reply_of(enum device_word word, long got)
 {
-    struct device_reply reply = {DEVICE_FAILED, 0, 0};
+    struct device_reply reply = {DEVICE_FAILED, 0, 0, 0};
     if (got >= 0) {
         reply.word = word;
         reply.count = (size_t)got;

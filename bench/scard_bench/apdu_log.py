@@ -2,7 +2,7 @@
 from __future__ import annotations
 
 import re
-from typing import Callable, Dict, Iterator, List, NamedTuple, Optional, TextIO
+from typing import IO, Callable, Dict, Iterator, List, NamedTuple, Optional
 
 from .errors import Wrong
 
@@ -16,7 +16,7 @@ class Said(NamedTuple):
 
     is_command: bool
     octets: bytes
-    count: Optional[int] = None
+    told: Optional[int] = None
     status: bytes = b""
 
 
@@ -174,14 +174,14 @@ class Reading:
         """A line below the one that is open, which may have more octets of it."""
         said = self.open
         assert said is not None
-        room = 16 if said.count is None else said.count - len(said.octets)
+        room = 16 if said.told is None else said.told - len(said.octets)
         text = line.rstrip().split(" : ")[0] if self.goes_on else line
         more = octets(text, place) if self.goes_on and text and PAIRS.fullmatch(text + " ") else b""
         more = row_of(line, room) if self.has_rows else more
         self.log.read += len(more)
         if more:
             self.open = said._replace(octets=said.octets + more)
-        elif said.count is None or said.count > len(said.octets):
+        elif said.told is None or said.told > len(said.octets):
             self.closes()
 
     def closes(self) -> None:
@@ -189,8 +189,8 @@ class Reading:
         said, self.open = self.open, None
         if said is None:
             return
-        if said.count is not None and said.count != len(said.octets):
-            raise Wrong(f"{self.begun}: {len(said.octets)} octets, where the log says {said.count}")
+        if said.told is not None and said.told != len(said.octets):
+            raise Wrong(f"{self.begun}: {len(said.octets)} octets, where the log says {said.told}")
         pairs = self.log.pairs
         if said.is_command:
             if pairs and len(pairs[-1]) == 1:
@@ -202,7 +202,7 @@ class Reading:
             raise Wrong(f"{self.begun}: an answer without a command")
 
 
-def read(file: TextIO) -> Log:
+def read(file: IO[str]) -> Log:
     """The commands and answers of a log."""
     kind = kind_of(iter(file))
     file.seek(0)

@@ -2,7 +2,7 @@
 from __future__ import annotations
 
 import re
-from typing import Dict, Iterator, List, NamedTuple, Optional, TextIO, Tuple
+from typing import IO, Dict, Iterator, List, NamedTuple, Optional, Tuple
 
 from .ccid import COMMANDS, HEADER, Conversation, message, size_of
 from .errors import Wrong
@@ -38,7 +38,7 @@ def octets_of(text: str, number: int) -> bytes:
         raise Wrong(f"line {number}: not octets of two digits: {text.strip()[:40]!r}") from None
 
 
-def rows(file: TextIO) -> Iterator[Tuple[str, Row]]:
+def rows(file: IO[str]) -> Iterator[Tuple[str, Row]]:
     """The rows of each reader."""
     clock = 0
     for number, line in enumerate(file, 1):
@@ -145,7 +145,7 @@ def chosen(readers: Dict[str, Trace], name: Optional[str]) -> Trace:
     return readers[busy[0]]
 
 
-def traced(file: TextIO, reader: Optional[str], has_times: bool) -> Trace:
+def traced(file: IO[str], reader: Optional[str], has_times: bool) -> Trace:
     """The trace of a log."""
     readers: Dict[str, Reader] = {}
     for name, row in rows(file):

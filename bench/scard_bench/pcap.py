@@ -2,7 +2,7 @@
 from __future__ import annotations
 
 import struct
-from typing import BinaryIO, Dict, Iterator, NamedTuple, Tuple
+from typing import IO, Dict, Iterator, NamedTuple, Tuple
 
 from .errors import Wrong
 
@@ -25,7 +25,7 @@ class Packet(NamedTuple):
     octets: bytes
 
 
-def exactly(file: BinaryIO, count: int, what: str) -> bytes:
+def exactly(file: IO[bytes], count: int, what: str) -> bytes:
     """So many octets of a file."""
     if count > LONGEST:
         raise Wrong(f"{what} has {count} octets, which no capture has")
@@ -35,7 +35,7 @@ def exactly(file: BinaryIO, count: int, what: str) -> bytes:
     return octets
 
 
-def packets(file: BinaryIO) -> Iterator[Packet]:
+def packets(file: IO[bytes]) -> Iterator[Packet]:
     """The packets of a file, in order."""
     magic = file.read(4)
     if magic in MAGIC:
@@ -45,7 +45,7 @@ def packets(file: BinaryIO) -> Iterator[Packet]:
     raise Wrong("the file isn't pcap or pcapng")
 
 
-def of_pcap(file: BinaryIO, order: str) -> Iterator[Packet]:
+def of_pcap(file: IO[bytes], order: str) -> Iterator[Packet]:
     """The packets of a file of pcap, after its first four octets."""
     *_, link = struct.unpack(order + "HHiIII", exactly(file, 20, "the header of the file"))
     number = 0
@@ -68,9 +68,10 @@ def complete(packet: Packet, length: int) -> Packet:
     return packet
 
 
-def of_pcapng(file: BinaryIO) -> Iterator[Packet]:
+def of_pcapng(file: IO[bytes]) -> Iterator[Packet]:
     """The packets of a file of pcapng, after its first four octets."""
-    order, links, number, kind = "<", {}, 0, SECTION
+    order, number, kind = "<", 0, SECTION
+    links: Dict[int, int] = {}
     while True:
         if kind == SECTION:
             size, mark = exactly(file, 4, "a header"), exactly(file, 4, "a header")

@@ -110,7 +110,7 @@ class Answer(NamedTuple):
     """An answer to reset: the number of its first burst, and its octets."""
 
     burst: int
-    count: int
+    size: int
 
 
 def answers(found: List[Burst], program: Program) -> List[Answer]:
@@ -144,7 +144,7 @@ class Tracing:
         found = bursts(self.table, self.longest)
         if not found:
             raise Wrong("the capture has no characters")
-        places = {it.burst: it.count for it in answers(found, self.program)}
+        places = {it.burst: it.size for it in answers(found, self.program)}
         starts = sorted({0, *places})
         for start, end in zip(starts, [*starts[1:], len(found)]):
             rest = found[start:end]

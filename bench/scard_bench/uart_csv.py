@@ -5,7 +5,7 @@ import csv
 import re
 import sys
 from array import array
-from typing import Callable, Dict, Iterator, List, NamedTuple, Optional, Sequence, TextIO, Tuple
+from typing import IO, Callable, Dict, Iterator, List, NamedTuple, Optional, Sequence, Tuple
 
 from .errors import Wrong
 
@@ -174,7 +174,7 @@ class Table:
         return Seen(self.starts[at], self.octets[at], self.errors.get(at, ()), self.channel(at), self.lines[at])
 
 
-def read(file: TextIO, rate: Optional[int]) -> Table:
+def read(file: IO[str], rate: Optional[int]) -> Table:
     """The characters of a file."""
     first = file.readline()
     file.seek(0)

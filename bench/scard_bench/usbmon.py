@@ -2,7 +2,7 @@
 from __future__ import annotations
 
 import struct
-from typing import BinaryIO, Dict, NamedTuple, Optional
+from typing import IO, Dict, NamedTuple, Optional
 
 from .ccid import COMMANDS, HEADER, Conversation, Message, message, size_of
 from .ccid_log import chosen
@@ -88,7 +88,7 @@ class Device:
         return self.trace
 
 
-def traced(file: BinaryIO, reader: Optional[str], has_times: bool) -> Trace:
+def traced(file: IO[bytes], reader: Optional[str], has_times: bool) -> Trace:
     """The trace of a capture."""
     devices: Dict[str, Device] = {}
     for packet in packets(file):

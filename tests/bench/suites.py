@@ -1,6 +1,10 @@
 """The devices of the suite, for its tests."""
+import atexit
+import functools
 import importlib.util
+import subprocess
 import sys
+import tempfile
 
 from samples import PROGRAM, TOP
 from scard_bench.suite import runner, scenario
@@ -30,6 +34,15 @@ def run(role, command, profile="iso", only=None, limit=LIMIT, has_all=False):
     return runner.Run(role, profile, list(command), done)
 
 
+@functools.lru_cache(None)
+def in_c():
+    """The folder with our devices in C, which are built once."""
+    work = tempfile.TemporaryDirectory()
+    atexit.register(work.cleanup)
+    subprocess.run([TOP / "bench/devices/make", work.name], check=True)
+    return work.name
+
+
 def plain(role):
     """The command of a plain device."""
     return [sys.executable, "-B", str(WRONG / f"plain_{role}.py")]
@@ -40,4 +53,4 @@ def verdicts(run_of_it, *names):
     return [(it.scenario.identity, it.reasons) for it in run_of_it.results if it.verdict in names]
 
 
-__all__ = ["LIMIT", "load", "plain", "run", "tried", "verdicts"]
+__all__ = ["Device", "LIMIT", "in_c", "load", "plain", "run", "tried", "verdicts"]

@@ -14,11 +14,11 @@ import xml.dom.minidom
 from samples import PROGRAM, TOP
 from scard_bench.report import as_json, junit, page
 from scard_bench.suite import scenario
-from suites import plain, run, tried, verdicts
+from suites import in_c, plain, run, tried, verdicts
 
 FAILED_BY = json.loads((TOP / "tests/bench/wrong/failed_by.json").read_text())
 BENCH = TOP / "bench/scard-bench"
-LEAST = {"card": 155, "terminal": 120}
+LEAST = {"card": 155, "terminal": 136}
 
 
 class Devices(unittest.TestCase):
@@ -57,10 +57,8 @@ class Devices(unittest.TestCase):
 
     @unittest.skipUnless(shutil.which("cc"), "there is no C compiler")
     def test_devices_in_c_pass_or_are_declared(self):
-        with tempfile.TemporaryDirectory() as work:
-            subprocess.run([TOP / "bench/devices/make", work], check=True)
-            for role in scenario.ROLES:
-                self.assertEqual(verdicts(run(role, [f"{work}/{role}"]), "fail", "inconclusive"), [])
+        for role in scenario.ROLES:
+            self.assertEqual(verdicts(run(role, [f"{in_c()}/{role}"]), "fail", "inconclusive"), [])
 
     def test_devices_as_firmware_pass_or_are_declared(self):
         lacks = [it for it in ("arm-none-eabi-gcc", "qemu-system-arm") if not shutil.which(it)]
@@ -133,6 +131,8 @@ class Reports(unittest.TestCase):
         found = json.loads(as_json.text_of(self.run))
         self.assertEqual(found["verdicts"], {"pass": 2, "fail": 0, "inconclusive": 0, "not applicable": 1})
         self.assertEqual([it["blocks"] for it in found["scenarios"] if it["id"] == "c-plain"], [2])
+        self.assertEqual(json.loads(as_json.text_of(run("card", plain("card"), only=["c-wtx"], has_all=True)))["waits"],
+                         [2000, 2000])
 
     def test_the_page_loads_nothing(self):
         text = page.text_of(PROGRAM, [self.run, self.wrong])
@@ -164,9 +164,16 @@ class Data(unittest.TestCase):
                 self.assertEqual([name for name in names if name not in commands], [])
                 self.assertRegex(it.clause, r"^11\.[\d.]+( rule [\d.]+)?$")
 
+    def test_a_terminal_that_waits_longer_than_until_says(self):
+        text = "for line in iter(input, ''): print('-' if line[:5] == 'reset' else 'wait 2000\\n00000500A4040000A5' " \
+            "if line[:4] == 'send' else 'wait 99999999999\\n00800080', flush=True)"
+        done = run("terminal", [sys.executable, "-c", text], only=["t-time-silent"], has_all=True)
+        self.assertIn("it said `wait 99999999999` to `until 10000000`", done.results[0].reasons)
+
     def test_a_wrong_declaration_is_one_line(self):
         with tempfile.NamedTemporaryFile("w", suffix=".json") as file:
-            for text in ("{", "[]", '{"without": ["x"]}', '{"commands": {"short": ["0G", ""]}}', '{"other": 1}'):
+            for text in ("{", "[]", '{"without": ["x"]}', '{"commands": {"short": ["0G", ""]}}', '{"other": 1}',
+                         '{"with": ["abort"]}', '{"longest wait": 0}', '{"longest wait": "x"}'):
                 file.seek(0)
                 file.truncate()
                 file.write(text)

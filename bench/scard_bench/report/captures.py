@@ -1,12 +1,10 @@
 """What the program says about captures."""
 from __future__ import annotations
 
-import html
 from typing import List, NamedTuple, Optional, Sequence, Tuple
 
 from ..imports import Imported
 from ..program import Program
-from .page import page, table, verdict
 
 # the octets of a trace that the program takes, and how many more a piece may have before it is cut within a session
 LONGEST, ROOM = 3_900_000, 200_000
@@ -110,21 +108,3 @@ def lines_of(it: Capture) -> List[str]:
     """The report on a capture as lines."""
     return [f"{it.verdict}: {it.name}", *(f"  {line}" for line in it.said), *(f"  {line}" for line in it.summary),
             *(f"  {line}" for line in it.exchanges)]
-
-
-def part(it: Capture) -> str:
-    """The report on a capture as HTML."""
-    lists = (("What the judge says", it.said), ("The import", it.summary), ("The answer to reset", it.about_atr),
-             ("The exchanges", it.exchanges), ("What the trace exercises", it.counted), ("The trace", it.trace))
-    body = f"<h2>{html.escape(it.name)}: {verdict(it.verdict)}</h2>\n"
-    for title, lines in lists:
-        text = html.escape("\n".join(lines))
-        is_open = " open" if title == lists[0][0] else ""
-        body += f"<details{is_open}><summary>{title}</summary><pre>{text}</pre></details>\n"
-    return body + it.picture
-
-
-def html_of(found: Sequence[Capture]) -> str:
-    """The page about captures, side by side: the verdicts first."""
-    rows = [[html.escape(it.name), verdict(it.verdict), html.escape(it.said[-1] if it.said else "")] for it in found]
-    return page("scard-bench: captures", table(["capture", "verdict", "the judge"], rows) + "".join(map(part, found)))

@@ -8,6 +8,7 @@ from typing import List, Sequence
 from ..program import Program
 from ..suite.runner import Run
 from ..suite.verdict import FAIL, Result
+from . import side
 from .text import VERDICTS, counts, exercised, known, never
 
 STYLE = """
@@ -22,6 +23,7 @@ TITLE = "scard-bench"
 # a block that arrived as it was sent, which the file of an exchange writes in a shorter way
 WHOLE = re.compile(r"([tc] (\w+)) as \2$")
 LONGEST_DRAWING = 400
+MOMENTS = ("at ", "until ")
 
 
 def table(heading: Sequence[str], rows: Sequence[Sequence[str]]) -> str:
@@ -40,7 +42,10 @@ def drawing(program: Program, atr: str, trace: Sequence[str]) -> str:
     """The ladder of a trace, by `scard draw --svg`, or its lines if it can't be drawn."""
     session: List[str] = []
     for line in trace[:LONGEST_DRAWING]:
-        session = [] if line == "reset" else session if line.startswith("at ") else [*session, WHOLE.sub(r"\1", line)]
+        if line == "reset":
+            session = []
+        elif not line.startswith(MOMENTS):
+            session.append(WHOLE.sub(r"\1", line))
     text = "".join(f"{line}\n" for line in ["scard-exchange 2", f"atr {atr or 'none'}", *session])
     picture, status = program.answers(["draw", "--svg"], text)
     return picture if status == 0 else "<pre>" + html.escape("\n".join(trace)) + "</pre>"
@@ -60,14 +65,24 @@ def page(title: str, body: str) -> str:
             f"<style>{STYLE}</style>\n<h1>{html.escape(title)}</h1>\n{body}</html>\n")
 
 
+def side_by_side(runs: Sequence[Run]) -> str:
+    """The table of the scenarios, with a column for each device."""
+    titles = {it.scenario.identity: it.scenario.title for run in runs for it in run.results}
+    found = side.of_runs(runs)
+    return table([found.heading[0], "what it tries", *found.heading[1:]],
+                 [[name, html.escape(titles[name]), *(verdict(it) if it else "" for it in cells)]
+                  for name, *cells in found.rows])
+
+
 def text_of(program: Program, runs: Sequence[Run]) -> str:
     """The page of runs, side by side: the verdicts first, then each scenario, then what failed."""
-    heads = [html.escape(f"{run.role}, {run.profile}: {' '.join(run.command)}") for run in runs]
+    heads = [html.escape(f"{run.name or run.role}, {run.profile}: {' '.join(run.command)}") for run in runs]
     body = table(["device", *VERDICTS, "exercised"],
                  [[head, *(str(sum(it.verdict == name for it in run.results)) for name in VERDICTS),
                    f"{len(exercised(run.results))} of {len(known(run.results))}"] for head, run in zip(heads, runs)])
+    body += side_by_side(runs) if len(runs) > 1 else ""
     for head, run in zip(heads, runs):
-        body += f"<h2>{head}</h2><p>{html.escape(counts(run.results))}</p>\n"
+        body += f"<h2>{head}</h2><p>{html.escape('; '.join([counts(run.results), *run.notes]))}</p>\n"
         body += table(["scenario", "clause", "what it tries", "verdict", "blocks"],
                       [[it.scenario.identity, html.escape(it.scenario.clause), html.escape(it.scenario.title),
                         verdict(it.verdict), str(it.blocks)] for it in run.results])

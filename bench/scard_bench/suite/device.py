@@ -5,9 +5,10 @@ import re
 import selectors
 import subprocess
 import time
-from typing import List, NamedTuple, Optional
+from typing import List, NamedTuple, Optional, Protocol
 
 from ..errors import Wrong
+from .line import Timing
 
 BLOCK = re.compile(r"(?:[0-9A-Fa-f]{2})+$")
 LINE = re.compile(r"(?:(answer) ((?:[0-9A-Fa-f]{2})+)|(failed|reset|-)|((?:[0-9A-Fa-f]{2})+))$")
@@ -22,16 +23,30 @@ class Broken(Exception):
 
 
 class Reply(NamedTuple):
-    """What a device says: the microseconds that it waited, a word, and octets."""
+    """What a device says: the microseconds that it waited, a word, octets, and what was wrong with how they came."""
 
     waited: int
     word: str
     octets: bytes = b""
+    problem: str = ""
 
     @property
     def is_block(self) -> bool:
         """Whether it sends octets."""
         return self.word == "block"
+
+
+class Talks(Protocol):
+    """What the suite talks with. `tolerance` is how many microseconds its waits may seem longer than they are."""
+
+    timing: Timing
+    tolerance: int
+
+    def asks(self, line: str) -> Reply:
+        """Says a line to the device, and returns its reply."""
+
+    def ends(self) -> None:
+        """Ends the device. The next line starts it again."""
 
 
 def reply_of(line: str, waited: int) -> Reply:
@@ -49,9 +64,11 @@ def reply_of(line: str, waited: int) -> Reply:
 class Device:
     """A running device. `limit` is the real time in seconds within which it has to say a line."""
 
+    timing, tolerance = Timing(), 0
+
     def __init__(self, command: List[str], limit: float) -> None:
         self.command, self.limit = command, limit
-        self.process: Optional[subprocess.Popen] = None
+        self.process: Optional[subprocess.Popen[bytes]] = None
         self.rest = b""
 
     def starts(self) -> None:

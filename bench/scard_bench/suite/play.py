@@ -6,9 +6,9 @@ from typing import Any, Dict, List, Optional
 
 from ..errors import Wrong
 from ..program import Program
-from .device import Broken, Device, Reply
+from .device import Broken, Reply, Talks
 from .engine import Engine, Sent, Turn, octets_in
-from .line import Line
+from .line import TURN, Line
 from .scenario import Declaration, Scenario
 
 # more blocks than any scenario needs
@@ -22,9 +22,9 @@ class Missed(Exception):
 class Play:
     """A scenario that runs. `problems` are the outcomes that are wrong."""
 
-    def __init__(self, program: Program, device: Device, scenario: Scenario, declaration: Declaration) -> None:
+    def __init__(self, program: Program, device: Talks, scenario: Scenario, declaration: Declaration) -> None:
         self.program, self.device, self.scenario, self.declaration = program, device, scenario, declaration
-        self.line = Line(scenario.faults)
+        self.line = Line(scenario.faults, device.timing)
         self.problems: List[str] = []
         self.atr = b""
 
@@ -46,11 +46,23 @@ class Play:
         """Does a step."""
         raise NotImplementedError
 
-    def carries(self, side: str, octets: bytes, waited: int = 0) -> Sent:
-        """Carries a block, unless there were too many."""
+    def bounds(self) -> None:
+        """Ends the scenario if there were too many blocks."""
         if len(self.line.blocks) >= MOST:
             raise Missed(f"more than {MOST} blocks were sent")
+
+    def carries(self, side: str, octets: bytes, waited: int = TURN) -> Sent:
+        """Carries a block."""
+        self.bounds()
         return self.line.carries(side, octets, waited)
+
+    def says(self, side: str, reply: Reply) -> Sent:
+        """Carries a block of the device. If its times aren't its own, it takes the tester's time to turn round too."""
+        self.bounds()
+        self.problems += [reply.problem] if reply.problem else []
+        if self.declaration.has_own_times:
+            return self.line.says(side, reply.octets, reply.waited)
+        return self.line.carries(side, reply.octets, reply.waited + TURN)
 
     def expects(self, pattern: str, octets: Optional[bytes]) -> None:
         """Compares what the device sent with what the scenario expects."""
@@ -121,7 +133,7 @@ class CardPlay(Play):
         if reply is None or not reply.is_block:
             self.is_quiet()
             return
-        came = self.carries("c", reply.octets, reply.waited)
+        came = self.says("c", reply)
         self.engine.adds(came.recorded())
         if came.came is None:
             self.is_quiet()
@@ -147,7 +159,7 @@ class CardPlay(Play):
         if reply is None or not reply.is_block:
             self.line.quiet()
         else:
-            octets = self.carries("c", reply.octets, reply.waited).octets
+            octets = self.says("c", reply).octets
         if "reply" in step:
             self.expects(step["reply"], octets)
 
@@ -214,7 +226,7 @@ class TerminalPlay(Play):
 
     def answers(self, reply: Reply) -> Reply:
         """Hands a block to the card, and its answer to the terminal."""
-        sent = self.carries("t", reply.octets, reply.waited)
+        sent = self.says("t", reply)
         if "card" in self.plan:
             return self.is_quiet() if sent.came is None else self.follows(self.plan["card"])
         self.engine.adds(sent.recorded())
@@ -225,16 +237,38 @@ class TerminalPlay(Play):
             self.engine.adds(f"asked {octets_in(turn.octets)}")
             self.engine.adds(self.host(turn.octets))
             turn = self.engine.turn()
-        came = self.carries("c", turn.octets)
+        came = self.card_sends(turn.octets)
         self.engine.adds(came.recorded(turn.octets))
         return self.is_quiet() if came.came is None else self.device.asks(octets_in(came.came))
+
+    def card_sends(self, octets: bytes) -> Sent:
+        """Carries a block of the card. The scenario may say how many microseconds the card takes for it. A terminal
+        that stops waiting before is heard, and the scenario ends."""
+        pauses = self.plan.get("pauses")
+        if not pauses:
+            return self.carries("c", octets)
+        pause, self.plan["pauses"] = pauses[0], pauses[1:]
+        reply = self.waits(pause)
+        if reply.word != "nothing":
+            if reply.is_block:
+                self.says("t", reply)
+            raise Missed(f"it waited {reply.waited} microseconds, and the card's block came after {pause}")
+        return self.carries("c", octets, pause)
+
+    def waits(self, microseconds: int) -> Reply:
+        """What a terminal with times of its own does while nothing comes, up to so many microseconds after the end of
+        the last block that it sent or heard: `nothing` if it still waits then."""
+        reply = self.device.asks(f"until {microseconds}")
+        if reply.waited > microseconds:
+            raise Broken(f"it said `wait {reply.waited}` to `until {microseconds}`")
+        return reply
 
     def follows(self, blocks: List[str]) -> Reply:
         """Sends the next block of the scenario, in place of what a card would send."""
         if not blocks:
             raise Missed("it sent more blocks than the scenario answers")
         self.plan["card"] = blocks[1:]
-        came = self.carries("c", bytes.fromhex(blocks[0]))
+        came = self.card_sends(bytes.fromhex(blocks[0]))
         return self.is_quiet() if came.came is None else self.device.asks(octets_in(came.came))
 
     def host(self, command: bytes) -> str:
@@ -247,9 +281,18 @@ class TerminalPlay(Play):
         return f"reply {octets_in(self.plan.get('reply', b''))}"
 
     def is_quiet(self) -> Reply:
-        """The waiting time of the terminal ends."""
-        self.line.quiet()
-        return self.device.asks("-")
+        """The waiting time of the terminal ends. One with times of its own says when."""
+        if not self.declaration.has_own_times:
+            self.line.quiet()
+            return self.device.asks("-")
+        reply = self.waits(self.declaration.longest_wait)
+        if reply.word == "nothing":
+            raise Missed(f"it waited longer for the card than {self.declaration.longest_wait} microseconds, the "
+                         "longest that it declares")
+        self.line.quiet(0)
+        if not reply.is_block:
+            self.line.passes(reply.waited)
+        return reply
 
 
 PLAYS = {"card": CardPlay, "terminal": TerminalPlay}

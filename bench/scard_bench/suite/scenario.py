@@ -10,9 +10,17 @@ from ..errors import Wrong
 FOLDER = pathlib.Path(__file__).resolve().parents[2] / "scenarios"
 ROLES, PROFILES = ("card", "terminal"), ("iso", "emv")
 NEEDS = ("abort", "node addresses", "ifs request", "wtx", "chained commands", "chained answers", "count", "repeats")
-FIELDS = {"id", "clause", "title", "steps", "faults", "most", "needs", "profiles", "atr", "first"}
+# what a device has only if its declaration says so
+OPTIONAL = ("own times",)
+TOPICS = ("node address", "rules 1 and 2.1", "chains", "WTX", "IFS", "RESYNCH", "rule 7.1", "rule 7.2", "rule 7.3",
+          "rule 7.4", "ABORT", "times")
+# those whose scenarios are tried over a serial port
+PORT_TOPICS = ("rules 1 and 2.1", "times")
+FIELDS = {"id", "clause", "topic", "title", "steps", "faults", "most", "needs", "profiles", "atr", "first"}
 STEPS = {"exchange", "ifsd", "raw", "reply", "fresh", "reset", "send", "answer", "time", "ifsc", "may fail", "card",
-         "blocks"}
+         "blocks", "pauses"}
+# microseconds that a terminal with times of its own waits at most for a silent card, unless it declares another number
+LONGEST_WAIT = 10_000_000
 
 
 class Faults(NamedTuple):
@@ -42,6 +50,7 @@ class Scenario(NamedTuple):
     identity: str
     role: str
     clause: str
+    topic: str
     title: str
     steps: List[Dict[str, Any]]
     faults: Faults
@@ -56,12 +65,13 @@ def scenario_of(role: str, it: Dict[str, Any]) -> Scenario:
     """The scenario of an object."""
     name = it.get("id", "?")
     odd = sorted(set(it) - FIELDS) + sorted({key for step in it.get("steps", []) for key in step} - STEPS)
-    odd += sorted(set(it.get("needs", [])) - set(NEEDS)) + sorted(set(it.get("profiles", [])) - set(PROFILES))
+    odd += sorted(set(it.get("needs", [])) - {*NEEDS, *OPTIONAL})
+    odd += sorted(set(it.get("profiles", [])) - set(PROFILES)) + sorted({it.get("topic", "no topic")} - set(TOPICS))
     if odd:
         raise Wrong(f"scenario {name}: unknown: {', '.join(odd)}")
     try:
-        return Scenario(it["id"], role, it["clause"], it["title"], it["steps"], faults_of(it.get("faults", {})),
-                        it.get("most"), tuple(it.get("needs", ())), tuple(it.get("profiles", PROFILES)),
+        return Scenario(it["id"], role, it["clause"], it["topic"], it["title"], it["steps"],
+                        faults_of(it.get("faults", {})), it.get("most"), tuple(it.get("needs", ())), tuple(it.get("profiles", PROFILES)),
                         it.get("atr", "3B808131204555"), it.get("first"))
     except (KeyError, ValueError) as error:
         raise Wrong(f"scenario {name}: {error}") from None
@@ -87,16 +97,24 @@ def loaded(path: pathlib.Path) -> Dict[str, Any]:
 
 
 class Declaration(NamedTuple):
-    """What a device does: what it doesn't have, by the words of NEEDS, and its commands with their answers by name."""
+    """What a device does: what it doesn't have, by the words of NEEDS and OPTIONAL, its commands with their answers by
+    name, and how many microseconds it waits at most for a silent card."""
 
     without: Tuple[str, ...]
     commands: Dict[str, Tuple[bytes, bytes]]
+    longest_wait: int = LONGEST_WAIT
+
+    @property
+    def has_own_times(self) -> bool:
+        """Whether the device says itself how long it waits."""
+        return "own times" not in self.without
 
 
 def declaration(path: Optional[str]) -> Declaration:
     """The declaration in a file, over that of the card of bench/devices."""
     own = loaded(pathlib.Path(path)) if path else {}
-    odd = sorted(set(own) - {"without", "commands"}) + sorted(set(own.get("without", [])) - set(NEEDS))
+    odd = sorted(set(own) - {"without", "with", "commands", "longest wait"})
+    odd += sorted(set(own.get("without", [])) - set(NEEDS)) + sorted(set(own.get("with", [])) - set(OPTIONAL))
     if odd:
         raise Wrong(f"{path}: unknown: {', '.join(odd)}")
     commands = {**loaded(FOLDER / "commands.json")["commands"], **own.get("commands", {})}
@@ -104,4 +122,8 @@ def declaration(path: Optional[str]) -> Declaration:
         pairs = {name: (bytes.fromhex(one), bytes.fromhex(two)) for name, (one, two) in commands.items()}
     except (TypeError, ValueError):
         raise Wrong(f"{path}: a command is a list of two texts in hexadecimal") from None
-    return Declaration(tuple(own.get("without", ())), pairs)
+    longest = own.get("longest wait", LONGEST_WAIT)
+    if type(longest) is not int or longest < 1:
+        raise Wrong(f"{path}: the longest wait is a number of microseconds above 0")
+    lacks = [it for it in OPTIONAL if it not in own.get("with", ())]
+    return Declaration((*own.get("without", ()), *lacks), pairs, longest)

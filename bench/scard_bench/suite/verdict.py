@@ -10,13 +10,14 @@ from .scenario import Scenario
 
 PASS, FAIL, INCONCLUSIVE, NOT_APPLICABLE = "pass", "fail", "inconclusive", "not applicable"
 SIDES = {"card": "c", "terminal": "t"}
-CLOCK = "3571200"
 MOST_REASONS = 6
+LATE = re.compile(r"block \d+ card: late, (\d+) microseconds after block \d+, permitted (\d+) ")
 COUNTED = re.compile(r"(rule|state) ([^:]+): (?:never|(?:terminal|card) .*)$")
 
 
 class Result(NamedTuple):
-    """A scenario with its verdict: why, the answer to reset, the trace, and what of the rules it exercised."""
+    """A scenario with its verdict: why, the answer to reset, the trace, what of the rules it exercised, and how long the
+    device waited before its blocks, if its times are its own."""
 
     scenario: Scenario
     verdict: str
@@ -25,6 +26,7 @@ class Result(NamedTuple):
     trace: Tuple[str, ...] = ()
     exercised: Tuple[str, ...] = ()
     listed: Tuple[str, ...] = ()
+    waits: Tuple[int, ...] = ()
 
     @property
     def blocks(self) -> int:
@@ -41,15 +43,15 @@ class Judged(NamedTuple):
     listed: Tuple[str, ...]
 
 
-MEMORY: Dict[Tuple[str, str, str], Judged] = {}
+MEMORY: Dict[Tuple[str, str, int, str], Judged] = {}
 
 
-def judged(program: Program, role: str, atr: str, trace: List[str]) -> Judged:
-    """What the judge says about one end of a trace."""
+def judged(program: Program, role: str, atr: str, clock: int, trace: List[str]) -> Judged:
+    """What the judge says about one end of a trace, whose card has a clock of so many cycles in a second."""
     text = "".join(f"{line}\n" for line in trace)
-    key = (role, atr, text)
+    key = (role, atr, clock, text)
     if key not in MEMORY:
-        words = ["judge", atr, "--end", role, "--clock", CLOCK, "--rules"]
+        words = ["judge", atr, "--end", role, "--clock", str(clock), "--rules"]
         *lines, last = program.answers(words, text)[0].splitlines() or ["nothing"]
         counted = [line for line in lines if COUNTED.match(line)]
         MEMORY[key] = Judged(tuple(line for line in lines if not COUNTED.match(line)), last,
@@ -78,6 +80,12 @@ def unsure(play: Play, found: Judged) -> List[str]:
     return lines + ([f"fault at block {min(late)} of {play.line.count}: it never came"] if late else [])
 
 
+def is_within(line: str, tolerance: int) -> bool:
+    """Whether a line of the judge names a card as late by no more than the port may have added."""
+    found = LATE.match(line)
+    return found is not None and int(found[1]) - int(found[2]) <= tolerance
+
+
 def shortened(lines: List[str]) -> List[str]:
     """The first lines, each once, and how many more there are."""
     lines = list(dict.fromkeys(lines))
@@ -89,8 +97,9 @@ def result(program: Program, play: Play) -> Result:
     """The verdict on a scenario that was played to its end."""
     scenario, line = play.scenario, play.line
     atr = play.atr.hex().upper()
-    found = judged(program, scenario.role, atr, line.lines)
-    reasons = list(found.lines if not found.last.startswith(("ok ", "unsure ")) else ())
+    found = judged(program, scenario.role, atr, play.device.timing.clock, line.lines)
+    named = found.lines if not found.last.startswith(("ok ", "unsure ")) else ()
+    reasons = [it for it in named if not is_within(it, play.device.tolerance)]
     reasons += [found.last] if found.last.startswith(("refused", "fault")) else []
     reasons += play.problems + not_whole(program, line.sent_by(SIDES[scenario.role]))
     if scenario.most is not None and line.count > scenario.most:
@@ -98,7 +107,8 @@ def result(program: Program, play: Play) -> Result:
     open_ = unsure(play, found)
     verdict = FAIL if reasons else INCONCLUSIVE if open_ else PASS
     said = shortened(reasons or open_)
-    return Result(scenario, verdict, tuple(said), atr, tuple(line.lines), found.exercised, found.listed)
+    return Result(scenario, verdict, tuple(said), atr, tuple(line.lines), found.exercised, found.listed,
+                  tuple(line.waits))
 
 
 def broken(play: Play, why: str) -> Result:

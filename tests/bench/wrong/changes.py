@@ -5,6 +5,8 @@ device once."""
 ABORTED = ("        self.command, self.answer, self.last, self.is_open, self.was_aborted = "
            "b\"\", b\"\", None, False, True")
 OUTSIDE = "        return self.changed(octets, nad >> 4 | nad << 4 & 0xF0) if octets else octets"
+# the line by which the plain card answers
+SAYS = "            print(f\"wait {TURN}\\n\" + (said.hex() if said else \"-\"), flush=True)"
 
 
 def late(condition):
@@ -142,19 +144,15 @@ CARDS = {
         "            return self.last\n        return block(0x80 | self.expected << 4)",
         "            return self.last\n        return block(0x80 | (self.expected ^ 1) << 4)"),
     "it ignores a reset": ("            card, addresses = Card(), Addresses()", "            addresses = Addresses()"),
-    "it waits too long with acknowledgments": (
-        "            print(said.hex() if said else \"-\", flush=True)",
-        late("said[1] & 0xCF == 0x80")),
-    "it waits too long with sizes": ("            print(said.hex() if said else \"-\", flush=True)",
-                                     late("said[1] == 0xE1")),
-    "it waits too long with RESYNCH": ("            print(said.hex() if said else \"-\", flush=True)",
-                                       late("said[1] == 0xE0")),
-    "it waits too long with requests": ("            print(said.hex() if said else \"-\", flush=True)",
-                                        late("said[1] == 0xC3")),
+    "it waits too long with acknowledgments": (SAYS, late("said[1] & 0xCF == 0x80")),
+    "it waits too long with sizes": (SAYS, late("said[1] == 0xE1")),
+    "it waits too long with RESYNCH": (SAYS, late("said[1] == 0xE0")),
+    "it waits too long with requests": (SAYS, late("said[1] == 0xC3")),
     "it waits longer than was granted": (
-        "            print(said.hex() if said else \"-\", flush=True)",
+        SAYS,
         "            print(\"wait 5500000\\n\" * (line[2:4].upper() == \"E3\") + said.hex(), flush=True)"),
-    "it waits too long": ("            print(said.hex() if said else \"-\", flush=True)",
+    "it waits a millisecond longer than BWT": (SAYS, SAYS.replace("TURN", "1_601_146 - 1_250 + 1_000")),
+    "it waits too long": (SAYS,
                           "            print(\"wait 5000000\\n\" + (said.hex() if said else \"-\"), flush=True)"),
 }
 
@@ -264,4 +262,46 @@ TERMINALS = {
     "it ends at damage": (
         "            return self.fails(0 if octets is None else 1 if len(octets) > 3 and check(octets) else 2)",
         "            sys.exit(1)"),
+    "it answers the same request once": (
+        "        return block(octets[1] | 0x20, octets[3:4])",
+        "        seen, self.seen = getattr(self, \"seen\", None), octets\n"
+        "        return block(octets[1] | 0x20, octets[3:4]) if seen != octets else self.fails(0)"),
+    "it sends its command again at a second silence": (
+        "            return self.fails(0 if octets is None else 1 if len(octets) > 3 and check(octets) else 2)",
+        "            return self.fails(0 if octets is None else 1 if len(octets) > 3 and check(octets) else 2,\n"
+        "                              self.last if octets is None and self.failures else None)"),
+    "it waits for half of BWT": ("        self.bwt = bwt_of(atr)", "        self.bwt = bwt_of(atr) // 2"),
+    "it waits a millisecond less than BWT": ("        self.bwt = bwt_of(atr)",
+                                             "        self.bwt = bwt_of(atr) - 1_000 - 1_250"),
+    "it waits for a minute": ("        self.bwt = bwt_of(atr)", "        self.bwt = bwt_of(atr) + 60_000_000"),
+    "it waits without end": ("    if word == \"until\" and terminal.wait > int(octets):",
+                             "    if word == \"until\":"),
+    "it ignores BWI": ("    return 1_146 + (100_000 << bwi)", "    return 1_146 + (100_000 << 4)"),
+    "it grants no time": ("        terminal.wait = terminal.bwt * (reply[3] or 1)", "        pass"),
+    "it keeps the time that it granted": (
+        "    terminal.wait = terminal.bwt\n    if reply[1] == 0xE3:",
+        "    terminal.wait = max(terminal.wait, terminal.bwt)\n    if reply[1] == 0xE3:"),
+    "it sends before BGT": (
+        "    waited = terminal.wait if word == \"until\" and reply != IDLE else TURN",
+        "    waited = terminal.wait if word == \"until\" and reply != IDLE else 1_000"),
+}
+
+# a wrong device for each topic of the suite, which fails a scenario of that topic, though it passes a plain exchange
+OF_TOPICS = {
+    "card": {
+        "node address": "it checks no node address", "rules 1 and 2.1": "it expects the number 0",
+        "chains": "its chain never has the more bit", "WTX": "it answers requests for time",
+        "IFS": "it ignores the size", "RESYNCH": "it keeps a chain over RESYNCH",
+        "rule 7.1": "it checks no check octet", "rule 7.2": "it asks for its R-block again by the wrong number",
+        "rule 7.3": "its request for time changes when it repeats", "rule 7.4": "it keeps its numbers over RESYNCH",
+        "ABORT": "it answers ABORT once", "times": "it waits too long with sizes",
+    },
+    "terminal": {
+        "node address": "it checks no node address", "rules 1 and 2.1": "it expects the number 0",
+        "chains": "its chain never has the more bit", "WTX": "it answers time with another multiple",
+        "IFS": "it ignores the size of a request", "RESYNCH": "it goes on with the command after RESYNCH",
+        "rule 7.1": "it checks no check octet", "rule 7.2": "it sends its command again at a second silence",
+        "rule 7.3": "it answers the same request once", "rule 7.4": "it corrects once too often",
+        "ABORT": "it answers ABORT once", "times": "it waits a millisecond less than BWT",
+    },
 }

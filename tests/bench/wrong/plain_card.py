@@ -2,6 +2,8 @@
 import sys
 
 IFSC, ATR = 32, "3B808131204555"
+# microseconds from the end of a block to the card's answer: more than BGT
+TURN = 2_000
 I, R, S = "I", "R", "S"
 
 
@@ -176,7 +178,7 @@ def main():
             print(ATR, flush=True)
         else:
             said = addresses.outside(card.hears(addresses.inside(bytes.fromhex(line))))
-            print(said.hex() if said else "-", flush=True)
+            print(f"wait {TURN}\n" + (said.hex() if said else "-"), flush=True)
 
 
 if __name__ == "__main__":

@@ -4,6 +4,8 @@ import sys
 IFSD, MOST = 32, 3
 I, R, S = "I", "R", "S"
 FAILED, IDLE, RESET = "failed", "-", "reset"
+# microseconds from the end of a block to the terminal's next one: more than BGT
+TURN = 2_000
 
 
 def check(octets):
@@ -43,10 +45,18 @@ def ifsc_of(atr):
     return atr[4] if len(atr) > 5 else 32
 
 
+def bwt_of(atr):
+    """The block waiting time in microseconds: 11 etu, and 100 ms doubled BWI times, which is in TB3."""
+    bwi = atr[5] >> 4 if len(atr) > 6 else 4
+    return 1_146 + (100_000 << bwi)
+
+
 class Terminal:
     """A terminal after a reset of its card."""
 
     def __init__(self, atr):
+        self.bwt = bwt_of(atr)
+        self.wait = self.bwt
         self.first = ifsc_of(atr)
         self.dead = False
         self.resynchs()
@@ -148,7 +158,20 @@ def said(terminal, word, octets):
     """What the terminal says to a line."""
     if word == "send":
         return terminal.transmits(bytes.fromhex(octets))
-    return terminal.hears(None if word == "-" else bytes.fromhex(word))
+    if word == "until" and terminal.wait > int(octets):
+        return IDLE
+    return terminal.hears(None if word in ("-", "until") else bytes.fromhex(word))
+
+
+def shown(terminal, word, reply):
+    """The lines of a reply, and how long the terminal waited before."""
+    waited = terminal.wait if word == "until" and reply != IDLE else TURN
+    if isinstance(reply, str):
+        return f"wait {waited}\n{reply}" if word == "until" and reply != IDLE else reply
+    terminal.wait = terminal.bwt
+    if reply[1] == 0xE3:
+        terminal.wait = terminal.bwt * (reply[3] or 1)
+    return f"wait {waited}\n{reply.hex()}"
 
 
 def main():
@@ -162,7 +185,7 @@ def main():
         else:
             reply = said(terminal, word, octets)
             waiting = octets if reply == RESET else ""
-        print(reply if isinstance(reply, str) else reply.hex(), flush=True)
+        print(shown(terminal, word, reply), flush=True)
 
 
 if __name__ == "__main__":
