@@ -1,7 +1,7 @@
 // Blocks of T=1 (ISO/IEC 7816-3, clause 11.3), and messages cut into chains of them (clause 11.6).
 import { InvalidArgument } from './errors.mjs';
 import { api, call, octetsOf, readStruct, structSize, within } from './library.mjs';
-import { About, Codec, Fault, Kind } from './names.mjs';
+import { Codec, Fault, Kind } from './names.mjs';
 import { encoded, placeOf } from './octets.mjs';
 
 /** The most octets of a block. */
@@ -58,9 +58,7 @@ export class Block {
 
     /** What the control octet says, of `kind`, `number`, `more`, `fault` and `about`. */
     get control() {
-        const found = CONTROLS.get(this.pcb);
-        if (!found) throw new InvalidArgument('no block has this control octet');
-        return found;
+        return controlOf(this.pcb);
     }
 
     /** Whether it is an I-block, an R-block, or an S-block that requests or responds. */
@@ -87,6 +85,23 @@ export class Block {
     get about() {
         return this.control.about;
     }
+}
+
+/** The kinds of blocks, from number 1 of the library on. */
+const KINDS = [Kind.I, Kind.R, Kind.REQUEST, Kind.RESPONSE];
+
+/** What the library says of a control octet. A part that the kind of block lacks is null, and `more` is false. */
+function controlOf(pcb) {
+    const said = within((take) => {
+        const out = take(structSize('scard_pcb'));
+        call('scard_block_parts', take, pcb, out);
+        return readStruct('scard_pcb', out);
+    });
+    const kind = KINDS[said.kind - 1];
+    if (!kind) throw new InvalidArgument('no block has this control octet');
+    const isNumbered = kind === Kind.I || kind === Kind.R;
+    return Object.freeze({ kind, number: isNumbered ? said.number : null, more: said.more !== 0,
+        fault: kind === Kind.R ? said.fault : null, about: isNumbered ? null : said.about });
 }
 
 function decoded(held, ifs) {
@@ -123,31 +138,3 @@ export function cut(message, ifs, number = 0) {
 function roomOf(count, ifs) {
     return count + 4 * (Math.ceil(count / Math.max(1, Number(ifs))) + 1);
 }
-
-/** Each control octet that a block may have, with what it says: the library encodes one block of each. */
-function controls() {
-    const found = new Map();
-    const add = (block, members) => found.set(block.pcb, Object.freeze({ number: null, more: false, fault: null,
-        about: null, ...members }));
-    for (const number of [0, 1]) {
-        for (const more of [false, true]) add(Block.i(number, NONE, { more }), { kind: Kind.I, number, more });
-        for (const fault of Object.values(Fault)) add(Block.r(number, fault), { kind: Kind.R, number, fault });
-    }
-    for (const about of Object.values(About)) {
-        add(sBlock(Block.request, about), { kind: Kind.REQUEST, about });
-        add(sBlock(Block.response, about), { kind: Kind.RESPONSE, about });
-    }
-    return found;
-}
-
-/** Any S-block about this: some carry an octet. */
-function sBlock(make, about) {
-    try {
-        return make(about);
-    } catch (error) {
-        if (!(error instanceof InvalidArgument)) throw error;
-        return make(about, Uint8Array.of(1));
-    }
-}
-
-const CONTROLS = controls();

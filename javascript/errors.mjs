@@ -1,5 +1,5 @@
 // The errors of the package. Each kind has a class, and all are a ScardError.
-import { Codec, nameOf, TurnKind } from './names.mjs';
+import { Codec, nameOf, sentenceOf, TurnKind } from './names.mjs';
 
 /** What every error of this package is. */
 export class ScardError extends Error {
@@ -46,6 +46,11 @@ export class Refused extends Undecoded {
     constructor(place, reason, codec, octets, options = []) {
         super(`refused at ${place}: ${reason}`, place, codec, octets, options);
         this.reason = reason;
+    }
+
+    /** What is wrong with the octet at `place`, in a sentence of the library. */
+    get sentence() {
+        return sentenceOf(this.codec, this.reason);
     }
 }
 

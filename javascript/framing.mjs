@@ -161,6 +161,11 @@ export class Receiver extends Reader {
         super('receiver', Codec.CHAIN, room, ifs, number, most);
     }
 
+    /** Begins anew, for a chain whose first block has a number. The octets of the last message are overwritten. */
+    restart(number = 0) {
+        placeOf(this.verdict('restart', number));
+    }
+
     /** The message, once the chain is complete. */
     get message() {
         const count = placeOf(this.verdict('message'));

@@ -86,6 +86,7 @@ export declare class Refused extends ScardError {
     readonly place: number;
     readonly codec: number;
     readonly reason: string;
+    readonly sentence: string;
     expected(): Promise<string | null>;
 }
 export declare class Short extends ScardError {
@@ -212,9 +213,15 @@ export declare class Response {
 /** Tags from the outside in: digits with a slash between two tags, or the octets of each. */
 export type Path = string | Iterable<Octets>;
 export declare const LARGEST: number;
+/** A data object to build: its tag, digits or octets, and its value, octets or the objects inside it. */
+export interface Built {
+    tag: string | Octets;
+    value: Octets | readonly Built[];
+}
 export declare class Tlv implements Iterable<DataObject> {
     constructor(octets: Octets, most?: Whole);
     static decode(octets: Octets, most?: Whole): Tlv;
+    static build(objects: Iterable<Built>): Tlv;
     static check(octets: Octets, most?: Whole): void;
     readonly octets: Uint8Array;
     readonly count: number;
@@ -257,6 +264,7 @@ export interface Known {
 export declare class Dol {
     constructor(octets: Octets);
     static decode(octets: Octets): Dol;
+    static build(entries: Iterable<{ tag: string | Octets; length: number }>): Dol;
     readonly octets: Uint8Array;
     readonly entries: readonly Entry[];
     fill(known: Iterable<Known>): Uint8Array;
@@ -297,6 +305,7 @@ export declare class BlockReader implements Reader {
 }
 export declare class Receiver implements Reader {
     constructor(options?: { ifs?: number; number?: number; most?: Whole });
+    restart(number?: number): void;
     readonly message: Uint8Array;
     feed(octets: Octets): number | null;
     finish(): void;

@@ -20,6 +20,12 @@ export function isRefusal(kind) {
 /** The library's name of a reason. */
 export const reasonOf = (codec, reason) => textOf('scard_reason_text', codec, reason);
 
+/** What is wrong with the octet that is refused for a reason, in a sentence of the library, or "". */
+export function sentenceOf(codec, name) {
+    const number = Array.from({ length: 255 }, (_, index) => index + 1).find((it) => reasonOf(codec, it) === name);
+    return textOf('scard_reason_sentence_text', codec, number ?? 0);
+}
+
 /** The names of the reasons for which a codec refuses octets, by their numbers from 1 on. */
 export function reasons(codec) {
     return Array.from({ length: 255 }, (_, index) => reasonOf(codec, index + 1)).filter(Boolean);

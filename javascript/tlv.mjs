@@ -11,6 +11,8 @@ export const LARGEST = api.constants.SCARD_TLV_LARGEST;
 const PART = structSize('scard_part');
 const TAG = structSize('scard_tag');
 const LONGEST_TAG = memberOf('scard_tag', 'octets').count;
+/** The most octets of a header: a tag, and the length of the largest forest. */
+const HEADER_ROOM = 7;
 
 /** A tag as the library takes it. */
 function tagMembers(octets) {
@@ -18,6 +20,31 @@ function tagMembers(octets) {
     if (held.length > LONGEST_TAG) throw new InvalidArgument(`a tag has at most ${LONGEST_TAG} octets`);
     return { octets: [...held, 0, 0, 0].slice(0, LONGEST_TAG), count: held.length };
 }
+
+/** The octets of a tag, which is given as octets or as digits. */
+const tagOctets = (tag) => (typeof tag === 'string' ? fromHex(tag) : octetsOf(tag));
+
+/** Calls an encoder that takes a tag and a length. */
+function tagged(name, tag, length) {
+    return within((take) => {
+        const said = take(TAG);
+        writeStruct('scard_tag', said, tagMembers(tagOctets(tag)));
+        return encoded(name, HEADER_ROOM, said, length);
+    });
+}
+
+/** Octets one after the other. */
+function joined(pieces) {
+    const all = new Uint8Array(pieces.reduce((sum, it) => sum + it.length, 0));
+    pieces.reduce((place, it) => (all.set(it, place), place + it.length), 0);
+    return all;
+}
+
+/** The octets of data objects, with the shortest length fields. */
+const built = (objects) => joined([...objects].flatMap(({ tag, value }) => {
+    const octets = Array.isArray(value) ? built(value) : octetsOf(value);
+    return [tagged('scard_tlv_header', tag, octets.length), octets];
+}));
 
 const tagOf = ({ octets, count }) => octets.slice(0, count);
 
@@ -72,6 +99,14 @@ export class Tlv {
     /** The forest that all of the octets are, of at most `most` octets. */
     static decode(octets, most = LARGEST) {
         return new Tlv(octets, most);
+    }
+
+    /**
+     * The forest of these objects, with the shortest length fields. An object has a `tag`, digits or octets, and a
+     * `value`: octets, or an array of the objects inside it.
+     */
+    static build(objects) {
+        return new Tlv(built(objects));
     }
 
     /** Throws as `decode` does, and makes nothing. */
@@ -225,6 +260,11 @@ export class Dol {
     /** The list that all of the octets are. */
     static decode(octets) {
         return new Dol(octets);
+    }
+
+    /** The list of these entries, each with a `tag`, digits or octets, and a `length`. */
+    static build(entries) {
+        return new Dol(joined([...entries].map(({ tag, length }) => tagged('scard_dol_entry', tag, length))));
     }
 
     /**

@@ -34,10 +34,9 @@ def _members(made: Type[enum.IntEnum]) -> Tuple[Any, ...]:
 
 
 def begin() -> None:
-    """Passes all classes, and then makes what needs them."""
+    """Passes all classes to the library."""
     _scard.begin(*((it, ()) for it in _EXCEPTIONS), *((it, _fields(it)) for it in _VALUES),
                  *((it, _members(it)) for it in _ENUMS))
-    block._begin()
 
 
 begin()

@@ -1,6 +1,7 @@
 """The exceptions of the package. Those of one kind can be caught by their class, and all by Error."""
 from __future__ import annotations
 
+from . import _scard
 from ._numbers import Codec, T1Fault, TurnKind
 
 
@@ -20,6 +21,16 @@ class Refused(Error, ValueError):
 
     def __str__(self) -> str:
         return f"refused at {self.place}: {self.reason}"
+
+    @property
+    def sentence(self) -> str:
+        """What is wrong with the octet at `place`, in a sentence of the library.
+
+        >>> Refused(4, "BadTck", Codec.ATR).sentence
+        'TCK is wrong.'
+        """
+        numbers = (it for it in range(1, 256) if _scard.reason_name(self.codec, it) == self.reason)
+        return _scard.reason_sentence(self.codec, next(numbers, 0))
 
 
 class Short(Error, ValueError):

@@ -12,7 +12,7 @@ class TurnTexts(enum.IntEnum):
     @property
     def label(self) -> str:
         """The library's name of the kind."""
-        return _scard.turn_name(self) or self.name
+        return _scard.turn_name(self)
 
     @property
     def is_refusal(self) -> bool:

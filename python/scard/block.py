@@ -2,7 +2,7 @@
 from __future__ import annotations
 
 from dataclasses import dataclass
-from typing import Dict, Iterator, Optional, Tuple
+from typing import Iterator, Optional, Tuple
 
 from . import _scard
 from ._errors import Argument
@@ -85,10 +85,7 @@ class Block(Value):
     @property
     def control(self) -> Control:
         """What the control octet says."""
-        found = _CONTROLS.get(self.pcb)
-        if found is None:
-            raise Argument("no block has this control octet")
-        return found
+        return _control(self.pcb)
 
     @property
     def kind(self) -> Kind:
@@ -135,29 +132,18 @@ def _split(octets: bytes) -> Iterator[Block]:
         place += _scard.block_check(window, LONGEST_FIELD)
 
 
-def _s_block(about: About, is_response: bool) -> bytes:
-    """Any S-block about this: some carry an octet."""
-    try:
-        return _scard.block_s(0, about, is_response, b"")
-    except Argument:
-        return _scard.block_s(0, about, is_response, b"\x01")
+_KINDS = (Kind.I, Kind.R, Kind.REQUEST, Kind.RESPONSE)
+"""The kinds of blocks, from number 1 of the library on."""
 
 
-def _controls() -> Iterator[Tuple[int, Control]]:
-    """Each control octet that a block may have, with what it says: the library encodes one block of each."""
-    for number in (0, 1):
-        for more in (False, True):
-            yield _scard.block_i(0, number, more, b"")[1], Control(Kind.I, number, more)
-        for fault in Fault:
-            yield _scard.block_r(0, number, fault)[1], Control(Kind.R, number, fault=fault)
-    for about in About:
-        for is_response, kind in ((False, Kind.REQUEST), (True, Kind.RESPONSE)):
-            yield _s_block(about, is_response)[1], Control(kind, about=about)
-
-
-_CONTROLS: Dict[int, Control] = {}
-
-
-def _begin() -> None:
-    """Fills the table of control octets, once the library's values can be made."""
-    _CONTROLS.update(_controls())
+def _control(pcb: int) -> Control:
+    """What the library says of a control octet."""
+    number_of_kind, number, more, fault, about = _scard.block_parts(pcb)
+    if number_of_kind == 0:
+        raise Argument("no block has this control octet")
+    kind = _KINDS[number_of_kind - 1]
+    if kind is Kind.I:
+        return Control(kind, number, more != 0)
+    if kind is Kind.R:
+        return Control(kind, number, fault=Fault(fault))
+    return Control(kind, about=About(about))

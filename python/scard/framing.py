@@ -145,12 +145,20 @@ class Receiver(Reader):
     [None, 5]
     >>> receiver.message
     b'abc'
+    >>> receiver.restart()
+    >>> receiver.finish()
+    Traceback (most recent call last):
+    scard.Short: short at 0
     """
 
     __slots__ = ()
 
     def __init__(self, ifs: int = LONGEST_FIELD, number: int = 0, most: int = LONGEST_MESSAGE) -> None:
         super().__init__(Codec.CHAIN, ifs, number, most)
+
+    def restart(self, number: int = 0) -> None:
+        """Begins anew, for a chain whose first block has a number. The octets of the last message are overwritten."""
+        _scard.reader_restart(self._reader, number)
 
     @property
     def message(self) -> bytes:

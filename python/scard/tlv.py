@@ -16,11 +16,32 @@ Path = Union[str, Iterable[bytes]]
 """Tags from the outside in: hexadecimal digits with a slash between two tags, or the octets of each tag."""
 
 
+Tag = Union[str, bytes]
+"""A tag: its hexadecimal digits, or its octets."""
+
+Objects = Iterable[Tuple[Tag, Any]]
+"""Data objects: each a tag, and its value. The value is octets or, in a constructed object, `Objects` again."""
+
+
+def _tag_of(tag: Tag) -> bytes:
+    """The octets of a tag."""
+    return _scard.hex_decode(tag) if isinstance(tag, str) else tag
+
+
 def _path_of(path: Path) -> Tuple[bytes, ...]:
     """The tags of a path."""
-    if isinstance(path, str):
-        return tuple(_scard.hex_decode(tag) for tag in path.split("/"))
-    return tuple(path)
+    return tuple(map(_tag_of, path.split("/") if isinstance(path, str) else path))
+
+
+def _built(objects: Objects) -> bytes:
+    """The octets of data objects, with the shortest length fields."""
+    return b"".join(_object(_tag_of(tag), value) for tag, value in objects)
+
+
+def _object(tag: bytes, value: Any) -> bytes:
+    """The octets of a data object."""
+    octets = bytes(value) if isinstance(value, (bytes, bytearray, memoryview)) else _built(value)
+    return _scard.tlv_header(tag, len(octets)) + octets
 
 
 class Tlv:
@@ -57,6 +78,16 @@ class Tlv:
     def decode(octets: Octets, most: int = LARGEST) -> Tlv:
         """The forest that all of the octets are, of at most `most` octets."""
         return Tlv(octets, most)
+
+    @staticmethod
+    def build(objects: Objects) -> Tlv:
+        """The forest of these objects, with the shortest length fields.
+
+        >>> forest = Tlv.build([("6F", [("84", b"\\xA0\\x00"), ("A5", [])]), ("5F20", b"Ada")])
+        >>> forest.octets.hex()
+        '6f068402a000a5005f2003416461'
+        """
+        return Tlv(_built(objects))
 
     @staticmethod
     def check(octets: Octets, most: int = LARGEST) -> None:
@@ -229,6 +260,15 @@ class Dol:
         """The list that all of the octets are."""
         held = octets if type(octets) is bytes else bytes(memoryview(octets))
         return Dol(held, _scard.dol_entries(held))
+
+    @staticmethod
+    def build(entries: Iterable[Tuple[Tag, int]]) -> Dol:
+        """The list that asks for these tags, each with a length of 0 to 255 octets.
+
+        >>> Dol.build([("9F02", 6), ("9F1A", 2)]).octets.hex()
+        '9f02069f1a02'
+        """
+        return Dol.decode(b"".join(_scard.dol_entry(_tag_of(tag), length) for tag, length in entries))
 
     def fill(self, known: Iterable[Known]) -> bytes:
         """The octets that the list asks for. A tag that isn't known has zeros."""

@@ -3,17 +3,29 @@
 
 /* ---- names and words ---- */
 
-/* reason_name(codec, number) and turn_name(kind): the library's names. */
-static PyObject *reason_name(PyObject *module, arguments given, Py_ssize_t count)
+/* Returns the text that a call of the library gives for a codec and a reason. */
+static PyObject *reason_by(void (*call)(uint8_t, uint8_t, struct scard_text *), arguments given, Py_ssize_t count)
 {
     uint8_t codec, number;
     struct scard_text text;
-    (void)module;
     if (!count_is(count, 2) || !octet_of(given[0], &codec) || !octet_of(given[1], &number)) {
         return NULL;
     }
-    scard_reason_text(codec, number, &text);
+    call(codec, number, &text);
     return text_of(&text);
+}
+
+/* reason_name(codec, number), reason_sentence(codec, number) and turn_name(kind): the library's words. */
+static PyObject *reason_name(PyObject *module, arguments given, Py_ssize_t count)
+{
+    (void)module;
+    return reason_by(scard_reason_text, given, count);
+}
+
+static PyObject *reason_sentence(PyObject *module, arguments given, Py_ssize_t count)
+{
+    (void)module;
+    return reason_by(scard_reason_sentence_text, given, count);
 }
 
 static PyObject *turn_name(PyObject *module, arguments given, Py_ssize_t count)
@@ -392,6 +404,19 @@ static PyObject *block_r(PyObject *module, arguments given, Py_ssize_t count)
     return written(module, scard_block_r(nad, nr, fault, out, sizeof out), out);
 }
 
+/* block_parts(pcb): the kind, 0 for none, the number, whether more follow, the fault, and what an S-block is about. */
+static PyObject *block_parts(PyObject *module, arguments given, Py_ssize_t count)
+{
+    uint8_t octet;
+    struct scard_pcb pcb;
+    (void)module;
+    if (!count_is(count, 1) || !octet_of(given[0], &octet)) {
+        return NULL;
+    }
+    scard_block_parts(octet, &pcb);
+    return Py_BuildValue("(iiiii)", pcb.kind, pcb.number, pcb.more, pcb.fault, pcb.about);
+}
+
 /* block_s(nad, about, is_response, inf). */
 static PyObject *block_s(PyObject *module, arguments given, Py_ssize_t count)
 {
@@ -610,12 +635,12 @@ static PyObject *status_class(PyObject *module, arguments given, Py_ssize_t coun
 }
 
 PyMethodDef codec_functions[] = {
-    FUNCTION(reason_name), FUNCTION(turn_name), FUNCTION(note), FUNCTION(hex_decode), FUNCTION(is_text),
-    FUNCTION(lrc),
+    FUNCTION(reason_name), FUNCTION(reason_sentence), FUNCTION(turn_name), FUNCTION(note), FUNCTION(hex_decode),
+    FUNCTION(is_text), FUNCTION(lrc),
     FUNCTION(atr_decode), FUNCTION(atr_check), FUNCTION(atr_encode), FUNCTION(atr_t1), FUNCTION(atr_rates),
     FUNCTION(t1_cwt), FUNCTION(t1_bwt),
     FUNCTION(block_decode), FUNCTION(block_check), FUNCTION(block_encode), FUNCTION(block_i), FUNCTION(block_r),
-    FUNCTION(block_s), FUNCTION(chain_block), FUNCTION(chain_cut),
+    FUNCTION(block_s), FUNCTION(block_parts), FUNCTION(chain_block), FUNCTION(chain_cut),
     FUNCTION(command_decode), FUNCTION(command_encode), FUNCTION(response_decode), FUNCTION(response_encode),
     FUNCTION(status_class), LAST_FUNCTION,
 };

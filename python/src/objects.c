@@ -272,6 +272,9 @@ static bool tag_of(PyObject *module, PyObject *value, struct scard_tag *tag)
     return fits;
 }
 
+/* The most octets of a header or of an entry. */
+#define HEADER_ROOM 7
+
 /* No object is deeper than 16, so a longer path leads nowhere. */
 #define MOST_TAGS 16
 
@@ -382,6 +385,35 @@ static PyObject *entries_of(PyObject *module, const struct octets *octets)
                                      : raise_verdict(module, verdict, SCARD_CODEC_DOL);
     PyMem_Free(entries);
     return all;
+}
+
+/* tlv_header(tag, length): the header of a data object with the shortest length field. */
+static PyObject *tlv_header(PyObject *module, arguments given, Py_ssize_t count)
+{
+    uint8_t out[HEADER_ROOM];
+    uint64_t length;
+    struct scard_tag tag;
+    struct scard_verdict verdict;
+    if (!count_is(count, 2) || !number_of(given[1], SIZE_MAX, &length) || !tag_of(module, given[0], &tag)) {
+        return NULL;
+    }
+    verdict = scard_tlv_header(&tag, (size_t)length, out, sizeof out);
+    return verdict.status == SCARD_OK ? bytes_of(out, (size_t)verdict.place)
+                                      : raise_argument(module, "no data object has this tag and this length");
+}
+
+/* dol_entry(tag, length): an entry of a data object list. */
+static PyObject *dol_entry(PyObject *module, arguments given, Py_ssize_t count)
+{
+    uint8_t length, out[HEADER_ROOM];
+    struct scard_tag tag;
+    struct scard_verdict verdict;
+    if (!count_is(count, 2) || !octet_of(given[1], &length) || !tag_of(module, given[0], &tag)) {
+        return NULL;
+    }
+    verdict = scard_dol_entry(&tag, length, out, sizeof out);
+    return verdict.status == SCARD_OK ? bytes_of(out, (size_t)verdict.place)
+                                      : raise_argument(module, "no entry has this tag");
 }
 
 /* dol_entries(octets). */
@@ -496,5 +528,6 @@ static PyObject *dol_fill(PyObject *module, arguments given, Py_ssize_t count)
 PyMethodDef object_functions[] = {
     FUNCTION(tlv_check), FUNCTION(tlv_tidy), FUNCTION(tlv_parts), FUNCTION(tlv_count), FUNCTION(tlv_tag),
     FUNCTION(tlv_number), FUNCTION(tlv_value),
-    FUNCTION(tlv_inside), FUNCTION(tlv_first), FUNCTION(dol_entries), FUNCTION(dol_fill), LAST_FUNCTION,
+    FUNCTION(tlv_inside), FUNCTION(tlv_first), FUNCTION(tlv_header), FUNCTION(dol_entry), FUNCTION(dol_entries),
+    FUNCTION(dol_fill), LAST_FUNCTION,
 };

@@ -162,6 +162,28 @@ static PyObject *reader_octets(PyObject *module, arguments given, Py_ssize_t cou
                                       : raise_argument(module, "the value isn't complete");
 }
 
+/* reader_restart(reader, ns): begins a receiver of chains anew. */
+static PyObject *reader_restart(PyObject *module, arguments given, Py_ssize_t count)
+{
+    uint8_t ns;
+    struct scard_verdict verdict = {SCARD_ARGUMENT, 0, 0};
+    struct reader *reader;
+    if (!count_is(count, 2) || !octet_of(given[1], &ns)) {
+        return NULL;
+    }
+    reader = (struct reader *)kept_of(module, given[0], READER);
+    if (reader == NULL) {
+        return NULL;
+    }
+    if (reader->codec == SCARD_CODEC_CHAIN) {
+        verdict = scard_lent_receiver_restart(&reader->as.chain, reader->message, reader->max, ns);
+    }
+    if (verdict.status != SCARD_OK) {
+        return raise_verdict(module, verdict, reader->codec);
+    }
+    Py_RETURN_NONE;
+}
+
 /* reader_close(reader). */
 static PyObject *reader_close(PyObject *module, arguments given, Py_ssize_t count)
 {
@@ -262,6 +284,7 @@ static PyObject *framer_count(PyObject *module, arguments given, Py_ssize_t coun
 
 PyMethodDef reader_functions[] = {
     FUNCTION(reader_new), FUNCTION(reader_feed), FUNCTION(reader_finish), FUNCTION(reader_octets),
-    FUNCTION(reader_close), FUNCTION(framer_new), FUNCTION(framer_begin), FUNCTION(framer_feed),
-    FUNCTION(framer_is_whole), FUNCTION(framer_wait), FUNCTION(framer_burst), FUNCTION(framer_count), LAST_FUNCTION,
+    FUNCTION(reader_restart), FUNCTION(reader_close),
+    FUNCTION(framer_new), FUNCTION(framer_begin), FUNCTION(framer_feed), FUNCTION(framer_is_whole),
+    FUNCTION(framer_wait), FUNCTION(framer_burst), FUNCTION(framer_count), LAST_FUNCTION,
 };

@@ -168,6 +168,44 @@ static void fields(void)
     CHECK(is_refused(scard_block_s_response(0, SCARD_S_WTX, NULL, 0, out, sizeof out)));
 }
 
+/* The parts of each of the 18 PCBs. All other octets are none, and each octet of the struct is written. */
+static void pcbs(void)
+{
+    static const uint8_t rows[][6] = {
+        {0x00, SCARD_BLOCK_I, 0, 0, 0, 0},
+        {0x20, SCARD_BLOCK_I, 0, 1, 0, 0},
+        {0x40, SCARD_BLOCK_I, 1, 0, 0, 0},
+        {0x60, SCARD_BLOCK_I, 1, 1, 0, 0},
+        {0x80, SCARD_BLOCK_R, 0, 0, SCARD_FAULT_FREE, 0},
+        {0x81, SCARD_BLOCK_R, 0, 0, SCARD_FAULT_REDUNDANCY, 0},
+        {0x82, SCARD_BLOCK_R, 0, 0, SCARD_FAULT_OTHER, 0},
+        {0x90, SCARD_BLOCK_R, 1, 0, SCARD_FAULT_FREE, 0},
+        {0x91, SCARD_BLOCK_R, 1, 0, SCARD_FAULT_REDUNDANCY, 0},
+        {0x92, SCARD_BLOCK_R, 1, 0, SCARD_FAULT_OTHER, 0},
+        {0xC0, SCARD_BLOCK_S_REQUEST, 0, 0, 0, SCARD_S_RESYNCH},
+        {0xC1, SCARD_BLOCK_S_REQUEST, 0, 0, 0, SCARD_S_IFS},
+        {0xC2, SCARD_BLOCK_S_REQUEST, 0, 0, 0, SCARD_S_ABORT},
+        {0xC3, SCARD_BLOCK_S_REQUEST, 0, 0, 0, SCARD_S_WTX},
+        {0xE0, SCARD_BLOCK_S_RESPONSE, 0, 0, 0, SCARD_S_RESYNCH},
+        {0xE1, SCARD_BLOCK_S_RESPONSE, 0, 0, 0, SCARD_S_IFS},
+        {0xE2, SCARD_BLOCK_S_RESPONSE, 0, 0, 0, SCARD_S_ABORT},
+        {0xE3, SCARD_BLOCK_S_RESPONSE, 0, 0, 0, SCARD_S_WTX}};
+    static const uint8_t none[6] = {0, SCARD_BLOCK_NONE, 0, 0, 0, 0};
+    size_t row;
+    int octet;
+    for (octet = 0; octet < 256; octet++) {
+        const uint8_t *wanted = none;
+        struct scard_pcb pcb;
+        memset(&pcb, 0xA5, sizeof pcb);
+        for (row = 0; row < sizeof rows / sizeof rows[0]; row++) {
+            wanted = rows[row][0] == octet ? rows[row] : wanted;
+        }
+        scard_block_parts((uint8_t)octet, &pcb);
+        CHECK(pcb.kind == wanted[1] && pcb.number == wanted[2] && pcb.more == wanted[3]);
+        CHECK(pcb.fault == wanted[4] && pcb.about == wanted[5]);
+    }
+}
+
 static void chains(void)
 {
     struct octets message = of_hex("00A4040000");
@@ -385,6 +423,7 @@ int main(void)
     atrs();
     atr_fields();
     blocks();
+    pcbs();
     fields();
     chains();
     commands();

@@ -28,6 +28,7 @@ static void nothing(void)
     struct scard_block block;
     struct scard_command command;
     struct scard_response response;
+    const struct scard_tag tag = {{0x84, 0, 0}, 1};
     CHECK(scard_lrc(NULL, 0) == 0);
     CHECK(scard_hex_encode(NULL, 0, NULL, 0).status == SCARD_OK);
     CHECK(scard_hex_decode(NULL, 0, NULL, 0).status == SCARD_OK);
@@ -51,6 +52,8 @@ static void nothing(void)
     CHECK(scard_tlv_tidy(NULL, 0, 0, NULL, 0).status == SCARD_OK);
     CHECK(scard_tlv_parts(NULL, 0, 0, NULL, 0).status == SCARD_OK);
     CHECK(scard_tlv_first(NULL, 0, NULL, 0) == 0);
+    CHECK(scard_tlv_header(&tag, 0, NULL, 0).place == 2);
+    CHECK(scard_dol_entry(&tag, 0, NULL, 0).place == 2);
     CHECK(scard_dol_check(NULL, 0).status == SCARD_OK);
     CHECK(scard_dol_entries(NULL, 0, NULL, 0).status == SCARD_OK);
     CHECK(scard_dol_fill(NULL, 0, NULL, 0, NULL, 0).status == SCARD_OK);

@@ -75,6 +75,8 @@ static int objects(void)
         && scard_dol_check(list, sizeof list).status == SCARD_OK
         && scard_dol_entries(list, sizeof list, entries, 2).status == SCARD_OK
         && entries[1].tag.octets[0] == 0x95 && entries[1].len == 5
+        && scard_tlv_header(&entries[0].tag, 1, block, sizeof block).place == 3
+        && scard_dol_entry(&entries[0].tag, 6, block, sizeof block).place == 3 && memcmp(block, list, 3) == 0
         && scard_dol_fill(list, sizeof list, &known, 1, block, sizeof block).place == 11
         && memcmp(block, "\0\0\0\0\x90\0\0\0\0\0\0", 11) == 0;
 }
@@ -89,6 +91,7 @@ static int chain(void)
         && scard_lent_receiver_begin(&receiver, SIZE, 0, ROOM).status == SCARD_OK
         && scard_lent_receiver_feed(&receiver, answers[0], ROOM, block, verdict.place).status == SCARD_OK
         && scard_lent_receiver_message(&receiver, answers[0], ROOM).place == sizeof done
+        && scard_lent_receiver_restart(&receiver, answers[0], ROOM, 0).status == SCARD_OK && answers[0][0] == 0
         && scard_lent_block_reader_begin(&reader, SIZE).status == SCARD_OK
         && scard_lent_block_reader_feed(&reader, block, 3).status == SCARD_MORE
         && scard_lent_block_reader_feed(&reader, block + 3, verdict.place - 3).status == SCARD_OK;

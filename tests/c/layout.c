@@ -47,11 +47,12 @@ static void sizes(void)
     SIZE(SCARD_STRUCT_LENT_SESSION, scard_lent_session);
     SIZE(SCARD_STRUCT_LENT_CARD_SESSION, scard_lent_card_session);
     SIZE(SCARD_STRUCT_SESSION_NEXT, scard_session_next);
+    SIZE(SCARD_STRUCT_PCB, scard_pcb);
     CHECK(sizeof(struct scard_lent_terminal) < 128 && sizeof(struct scard_lent_card) < 128);
     CHECK(sizeof(struct scard_lent_check) == 92 && sizeof(struct scard_lent_check) < 128);
     CHECK(sizeof(struct scard_lent_receiver) == 32 && sizeof(struct scard_lent_judge) == 592);
     CHECK(sizeof(struct scard_lent_block_reader) == 264 && sizeof(struct scard_lent_atr_reader) == 40);
-    CHECK(scard_struct_size(0) == 0 && scard_struct_size(40) == 0 && scard_struct_size(255) == 0);
+    CHECK(scard_struct_size(0) == 0 && scard_struct_size(41) == 0 && scard_struct_size(255) == 0);
 }
 
 static void places(void)

@@ -175,6 +175,51 @@ static void most_blocks(void)
     CHECK(strcmp(line_of(v, SCARD_CODEC_CHAIN), "refused at 524285: TooManyBlocks") == 0);
 }
 
+static int all_are_zero(const uint8_t *octets, size_t count)
+{
+    size_t place = 0;
+    while (place < count && octets[place] == 0) {
+        place++;
+    }
+    return place == count;
+}
+
+/* Restarts a receiver after each number of octets of a chain, or of one that is refused, with both numbers. Then every
+ * octet of the buffer is 0, and the receiver takes a chain as a new one does.
+ */
+static void restarted(void)
+{
+    struct octets chain = of_hex(CHAIN), other = of_hex("00600200A4C60020020400260040010041"),
+                  wrong = of_hex("00200200A4860061");
+    size_t count;
+    for (count = 0; count <= chain.count + wrong.count; count++) {
+        const struct octets *first = count <= chain.count ? &chain : &wrong;
+        struct scard_lent_receiver state, begun;
+        uint8_t message[8];
+        const uint8_t ns = (uint8_t)(count & 1);
+        const struct octets *again = ns ? &other : &chain;
+        struct scard_verdict v;
+        memset(message, 0xA5, sizeof message);
+        CHECK(scard_lent_receiver_begin(&begun, 2, ns, 5).status == SCARD_OK);
+        CHECK(scard_lent_receiver_begin(&state, 2, 0, 5).status == SCARD_OK);
+        v = scard_lent_receiver_feed(&state, message, sizeof message, first->at,
+                                     first == &chain ? count : count - chain.count);
+        CHECK(v.status != SCARD_ARGUMENT);
+        v = scard_lent_receiver_restart(&state, message, sizeof message, ns);
+        CHECK(v.status == SCARD_OK && v.place == 0 && all_are_zero(message, sizeof message));
+        CHECK(memcmp(&state, &begun, sizeof state) == 0);
+        CHECK(scard_lent_receiver_feed(&state, message, sizeof message, again->at, again->count).status == SCARD_OK);
+        v = scard_lent_receiver_message(&state, message, sizeof message);
+        CHECK(v.status == SCARD_OK && is_hex(message, v.place, "00A4040000"));
+        CHECK(strcmp(line_of(scard_lent_receiver_restart(&state, message, sizeof message, 2), 3), "argument 0") == 0);
+        CHECK(strcmp(line_of(scard_lent_receiver_restart(&state, message, 4, ns), 3), "argument 0") == 0);
+        CHECK(is_hex(message, v.place, "00A4040000"));
+    }
+    free(chain.at);
+    free(other.at);
+    free(wrong.at);
+}
+
 static void argued(void)
 {
     struct scard_lent_receiver state, before;
@@ -247,6 +292,7 @@ int main(void)
     mutated();
     longest_fields();
     most_blocks();
+    restarted();
     argued();
     states();
     return verdict_of_checks("lent_receiver");

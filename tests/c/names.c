@@ -1,4 +1,6 @@
-/* The version of the library and its header, and the names of statuses, turns and reasons. */
+/* The version of the library and its header, the names of statuses, turns, classes, shapes, S-blocks and reasons, and
+ * the sentences on reasons.
+ */
 #include "check.h"
 #include "scard_session.h"
 
@@ -52,32 +54,77 @@ static void turns(void)
     TURN(REFUSED_ORDER);
     TURN(NO_END);
     TURN(NO_ROOM);
+    TURN(SESSION_FAILED);
+    TURN(SESSION_USED_UP);
+    TURN(SESSION_NO_STATUS);
+    TURN(SESSION_ECHO);
+    TURN(SESSION_WAIT);
     for (number = -300; number < 600; number++) {
         named += !is(scard_turn_name(number), "");
     }
-    CHECK(named == 13);
+    CHECK(named == 18);
 }
 
-#define SESSION_TURN(name) CHECK(is(scard_session_turn_name(SCARD_##name), #name))
-
-/* The kinds of a session have names too, and no two kinds have the same name. */
+/* No two kinds have the same name, and a session has those of a turn. */
 static void session_turns(void)
 {
-    int number, other, named = 0;
-    SESSION_TURN(SESSION_FAILED);
-    SESSION_TURN(SESSION_USED_UP);
-    SESSION_TURN(SESSION_NO_STATUS);
-    SESSION_TURN(SESSION_ECHO);
+    int number, other;
     for (number = -300; number < 600; number++) {
         const char *name = scard_session_turn_name(number);
-        const bool is_session = number >= SCARD_SESSION_FAILED && number <= SCARD_SESSION_ECHO;
-        named += !is(name, "");
-        CHECK(is_session ? strncmp(name, "SESSION_", 8) == 0 : is(name, scard_turn_name(number)));
+        CHECK(is(name, scard_turn_name(number)));
         for (other = -300; other < number && !is(name, ""); other++) {
             CHECK(!is(name, scard_session_turn_name(other)));
         }
     }
-    CHECK(named == 17);
+}
+
+#define CLASS(name) CHECK(is(scard_class_name(SCARD_CLASS_##name), #name))
+#define SHAPE(name) CHECK(is(scard_shape_name(SCARD_##name), #name))
+#define ABOUT(name) CHECK(is(scard_about_name(SCARD_S_##name), #name))
+
+static void classes_and_shapes(void)
+{
+    int number;
+    CLASS(NORMAL);
+    CLASS(WARNING);
+    CLASS(EXECUTION);
+    CLASS(CHECKING);
+    CLASS(PROPRIETARY);
+    CLASS(INVALID);
+    SHAPE(CASE_1);
+    SHAPE(CASE_2_SHORT);
+    SHAPE(CASE_3_SHORT);
+    SHAPE(CASE_4_SHORT);
+    SHAPE(CASE_2_LONG);
+    SHAPE(CASE_3_LONG);
+    SHAPE(CASE_4_LONG);
+    ABOUT(RESYNCH);
+    ABOUT(IFS);
+    ABOUT(ABORT);
+    ABOUT(WTX);
+    for (number = -300; number < 600; number++) {
+        CHECK(is(scard_class_name(number), "") == (number < SCARD_CLASS_NORMAL || number > SCARD_CLASS_INVALID));
+        CHECK(is(scard_shape_name(number), "") == (number < SCARD_CASE_1 || number > SCARD_CASE_4_LONG));
+        CHECK(is(scard_about_name(number), "") == (number < SCARD_S_RESYNCH || number > SCARD_S_WTX));
+    }
+}
+
+/* A reason has a sentence exactly if it has a name. Each begins with a capital letter and ends with a full stop. */
+static void sentences(void)
+{
+    int codec, reason;
+    CHECK(is(scard_reason_sentence(SCARD_CODEC_ATR, SCARD_ATR_BAD_TCK), "TCK is wrong."));
+    CHECK(is(scard_reason_sentence(SCARD_CODEC_TLV, SCARD_TLV_TOO_DEEP),
+             "An object begins inside an object of depth 16."));
+    CHECK(is(scard_reason_sentence(SCARD_CODEC_HEX, SCARD_HEX_ODD), "The number of digits is odd."));
+    for (codec = -2; codec < 300; codec++) {
+        for (reason = -2; reason < 300; reason++) {
+            const char *sentence = scard_reason_sentence(codec, reason);
+            const size_t size = strlen(sentence);
+            CHECK((size == 0) == is(scard_reason_name(codec, reason), ""));
+            CHECK(size == 0 || (sentence[0] >= 'A' && sentence[0] <= 'Z' && sentence[size - 1] == '.'));
+        }
+    }
 }
 
 static void reasons(void)
@@ -142,7 +189,9 @@ int main(void)
     statuses();
     turns();
     session_turns();
+    classes_and_shapes();
     reasons();
+    sentences();
     texts();
     return verdict_of_checks("names");
 }

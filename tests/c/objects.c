@@ -205,6 +205,90 @@ static void fronts(void)
     free(octets.at);
 }
 
+static struct scard_tag tag_of(const char *text)
+{
+    struct octets octets = of_hex(text);
+    struct scard_tag tag = {{0, 0, 0}, 0};
+    memcpy(tag.octets, octets.at, octets.count);
+    tag.count = (uint8_t)octets.count;
+    free(octets.at);
+    return tag;
+}
+
+/* Headers with the shortest length fields, and entries. A buffer that is one octet too small stays as it was. */
+static void built(void)
+{
+    static const struct {
+        const char *tag;
+        size_t len;
+        const char *header;
+    } rows[] = {
+        {"84", 0, "8400"}, {"84", 0x7F, "847F"}, {"84", 0x80, "848180"}, {"9F02", 0xFF, "9F0281FF"},
+        {"9F02", 0x100, "9F02820100"}, {"70", 0xFFFF, "7082FFFF"}, {"DF8101", 0x10000, "DF810183010000"},
+        {"7F49", SCARD_TLV_LARGEST, "7F4983100000"}};
+    size_t row;
+    for (row = 0; row < sizeof rows / sizeof rows[0]; row++) {
+        const struct scard_tag tag = tag_of(rows[row].tag);
+        const uint8_t len = (uint8_t)rows[row].len;
+        uint8_t out[7], entry[4];
+        size_t room = 7, needed = strlen(rows[row].header) / 2;
+        struct scard_verdict v = scard_tlv_header(&tag, rows[row].len, out, room);
+        CHECK(v.status == SCARD_OK && is_hex(out, v.place, rows[row].header));
+        memset(out, 0xA5, sizeof out);
+        v = scard_tlv_header(&tag, rows[row].len, out, needed - 1);
+        CHECK(v.status == SCARD_ARGUMENT && v.place == needed && out[0] == 0xA5);
+        v = scard_dol_entry(&tag, len, entry, sizeof entry);
+        CHECK(v.status == SCARD_OK && v.place == (size_t)tag.count + 1 && entry[tag.count] == len);
+        CHECK(memcmp(entry, tag.octets, tag.count) == 0);
+        memset(entry, 0xA5, sizeof entry);
+        v = scard_dol_entry(&tag, len, entry, tag.count);
+        CHECK(v.status == SCARD_ARGUMENT && v.place == (size_t)tag.count + 1 && entry[0] == 0xA5);
+    }
+}
+
+/* What isn't a tag, and a value that no forest can have. */
+static void not_built(void)
+{
+    static const char *const rows[] = {"", "00", "9F", "8401", "9F00", "9F80", "9F8180", "1F8001"};
+    const struct scard_tag tag = tag_of("84");
+    uint8_t out[7];
+    size_t row;
+    for (row = 0; row < sizeof rows / sizeof rows[0]; row++) {
+        const struct scard_tag wrong = tag_of(rows[row]);
+        memset(out, 0xA5, sizeof out);
+        CHECK(strcmp(line_of(scard_tlv_header(&wrong, 1, out, 7), SCARD_CODEC_TLV), "argument 0") == 0);
+        CHECK(strcmp(line_of(scard_dol_entry(&wrong, 1, out, 7), SCARD_CODEC_DOL), "argument 0") == 0);
+        CHECK(out[0] == 0xA5);
+    }
+    CHECK(strcmp(line_of(scard_tlv_header(&tag, SCARD_TLV_LARGEST + 1, out, 7), SCARD_CODEC_TLV), "argument 0") == 0);
+    CHECK(strcmp(line_of(scard_tlv_header(&tag, SIZE_MAX, out, 7), SCARD_CODEC_TLV), "argument 0") == 0);
+}
+
+/* A forest that is put together from headers, from the inside out, and the list of its tags. */
+static void put_together(void)
+{
+    static const uint8_t aid[] = {0xA0, 0x00, 0x00, 0x00, 0x03};
+    const struct scard_tag inner = tag_of("84"), outer = tag_of("6F");
+    uint8_t forest[32], list[8];
+    size_t count;
+    struct scard_verdict v = scard_tlv_header(&outer, 2 + sizeof aid, forest, sizeof forest);
+    CHECK(v.status == SCARD_OK);
+    count = v.place;
+    v = scard_tlv_header(&inner, sizeof aid, forest + count, sizeof forest - count);
+    CHECK(v.status == SCARD_OK);
+    count += v.place;
+    memcpy(forest + count, aid, sizeof aid);
+    count += sizeof aid;
+    CHECK(is_hex(forest, count, "6F078405A000000003"));
+    CHECK(scard_tlv_check(forest, count, SCARD_TLV_LARGEST).status == SCARD_OK);
+    v = scard_dol_entry(&outer, 7, list, sizeof list);
+    CHECK(v.status == SCARD_OK);
+    count = v.place;
+    v = scard_dol_entry(&inner, 5, list + count, sizeof list - count);
+    CHECK(v.status == SCARD_OK && is_hex(list, count + v.place, "6F078405"));
+    CHECK(scard_dol_check(list, count + v.place).status == SCARD_OK);
+}
+
 int main(void)
 {
     parts();
@@ -212,5 +296,8 @@ int main(void)
     fills();
     entries();
     fronts();
+    built();
+    not_built();
+    put_together();
     return verdict_of_checks("objects");
 }

@@ -66,6 +66,7 @@ static struct scard_part parts[2048];
 static struct scard_entry entries[2];
 static struct scard_lent_framer framer;
 static struct scard_text text;
+static struct scard_pcb pcb;
 static struct scard_note note;
 static const uint8_t answer_to_reset[] = {0x3B, 0x85, 0x81, 0x31, 0xFE, 0x45, 0x80, 0x73, 0x80, 0x01, 0x40, 0xBC};
 static const uint8_t list[] = {0x9F, 0x02, 0x06, 0x5A, 0x08};
@@ -162,7 +163,11 @@ static void names(void)
 {
     scard_status_text(SCARD_AT, &text);
     scard_turn_text(SCARD_DONE, &text);
+    scard_class_text(SCARD_CLASS_INVALID, &text);
+    scard_shape_text(SCARD_CASE_4_LONG, &text);
+    scard_about_text(SCARD_S_WTX, &text);
     scard_reason_text(SCARD_CODEC_CHAIN, SCARD_CHAIN_TOO_LONG, &text);
+    scard_reason_sentence_text(SCARD_CODEC_CHAIN, SCARD_CHAIN_TOO_LONG, &text);
     scard_note_of(SCARD_NOTED_STATUS, 0x6F, 0x00, &note);
     scard_note_of(SCARD_NOTED_INSTRUCTION, 0x00, 0xFE, &note);
     verdict.status = scard_is_text(forest, 40);
@@ -172,6 +177,7 @@ static void blocks(void)
 {
     verdict = scard_block_i(0, 0, false, command, 254, sent, sizeof sent);
     verdict = scard_block_decode(sent, verdict.place, 254, &block);
+    scard_block_parts(block.pcb, &pcb);
     verdict = scard_chain_cut(forest, 254, 254, 0, out, sizeof out);
 }
 
@@ -199,6 +205,7 @@ static void lent_receiver(void)
     verdict = scard_lent_receiver_begin(&receiver, 254, 0, sizeof out);
     verdict = scard_lent_receiver_feed(&receiver, out, sizeof out, sent, sizeof sent);
     verdict = scard_lent_receiver_finish(&receiver, out, sizeof out);
+    verdict = scard_lent_receiver_restart(&receiver, out, sizeof out, 1);
 }
 
 static void lent_readers(void)
@@ -249,6 +256,8 @@ static void lists(void)
 {
     verdict = scard_dol_check(list, sizeof list);
     verdict = scard_dol_entries(list, sizeof list, entries, 2);
+    verdict = scard_tlv_header(&entries[0].tag, 254, out, sizeof out);
+    verdict = scard_dol_entry(&entries[0].tag, 254, out, sizeof out);
     verdict = scard_dol_fill(list, sizeof list, NULL, 0, out, sizeof out);
 }
 

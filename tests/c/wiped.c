@@ -1,5 +1,6 @@
 /* The memory that an end or a receiver of chains frees contains no octet of a message, and it takes no more memory than
- * its limits need. This file has the memory functions, which check each block that is freed.
+ * its limits need. A receiver without a handle that begins anew leaves nothing in its buffer. This file has the memory
+ * functions, which check each block that is freed.
  */
 #include "check.h"
 #include "scard_heap.h"
@@ -201,6 +202,29 @@ static void begins_anew(holder *hold, opening *open)
     CHECK(holding() == 0 && left_behind == 0);
 }
 
+/* A receiver whose message the caller keeps begins anew with the PIN in its buffer, whole or without the block's end.
+ * After that every octet of the buffer is 0, also those that it never counted.
+ */
+static void restarts_with_zeros(void)
+{
+    uint8_t in[SCARD_BLOCK_ROOM], message[sizeof verify + 20];
+    const size_t count = block_of(0, verify, sizeof verify, in);
+    size_t missing, place, left;
+    for (missing = 0; missing <= 1; missing++) {
+        struct scard_lent_receiver state;
+        struct scard_verdict v;
+        memset(message, 0xA5, sizeof message);
+        CHECK(scard_lent_receiver_begin(&state, 32, 0, sizeof verify).status == SCARD_OK);
+        v = scard_lent_receiver_feed(&state, message, sizeof message, in, count - missing);
+        CHECK(v.status == (missing ? SCARD_MORE : SCARD_OK) && memcmp(message, verify, sizeof verify) == 0);
+        CHECK(scard_lent_receiver_restart(&state, message, sizeof message, 0).status == SCARD_OK);
+        for (left = 0, place = 0; place < sizeof message; place++) {
+            left += message[place] != 0;
+        }
+        CHECK(left == 0);
+    }
+}
+
 /* ---- how much is allocated ---- */
 
 static void is_exact(void)
@@ -231,6 +255,7 @@ int main(void)
     begins_anew(in_an_answer, scard_terminal_open);
     begins_anew(in_a_command_that_came, scard_card_open);
     begins_anew(in_a_reply, scard_card_open);
+    restarts_with_zeros();
     is_exact();
     return verdict_of_checks("wiped");
 }

@@ -18,13 +18,16 @@ const turn: Turn = terminal.transmit(octets);
 const forest = scard.Tlv.decode(new Uint8Array(2), 1024n);
 const tags: string[] = [...forest.walk()].map(String);
 const value: Uint8Array | undefined = forest.find('6F/A5/9F65')?.value;
+const built: scard.Tlv = scard.Tlv.build([{ tag: '6F', value: [{ tag: octets, value: octets }] }]);
+const asked: scard.Dol = scard.Dol.build([{ tag: '9F02', length: 6 }]);
+console.log(built.count, asked.entries);
 const filled: Uint8Array = scard.Dol.decode(octets).fill([{ tag: octets, value: octets, format: scard.Format.OTHER }]);
 const answered: { status: number; text: string } = await scard.answer(['check', 'block', '00'], 'text');
 
 try {
     new scard.Judge(32).block(scard.End.TERMINAL, octets, scard.Arrival.CAME, octets);
 } catch (error) {
-    if (error instanceof scard.Refused) console.log(error.place, error.reason);
+    if (error instanceof scard.Refused) console.log(error.place, error.reason, error.sentence);
 }
 console.log(inf, number, about, name, made, turn.octets, tags, value, filled, answered);
 

@@ -35,6 +35,7 @@ test('a refusal has its place, reason, codec, and what was expected', async () =
     const refused = await thrown(scard.Refused, () => scard.Block.decode(fromHex('00000500A4040000A4')));
     assert.deepEqual([refused.place, refused.reason, refused.codec], [8, 'BadLrc', scard.Codec.BLOCK]);
     assert.equal(refused.message, 'refused at 8: BadLrc');
+    assert.equal(refused.sentence, 'LRC is wrong.');
     assert.match(await refused.expected(), /exclusive-or of all octets of the block must be 00/);
     const short = await thrown(scard.Short, () => scard.Command.decode(fromHex('00A4')));
     assert.deepEqual([short.place, short.codec, short.name], [2, scard.Codec.COMMAND, 'Short']);
@@ -44,6 +45,12 @@ test('a refusal has its place, reason, codec, and what was expected', async () =
     assert.match(await over.expected(), /octet 2 is 05/);
     const digit = await thrown(scard.Refused, () => fromHex('0G'));
     assert.deepEqual([digit.place, digit.reason, await digit.expected()], [1, 'Digit', null]);
+    assert.equal(digit.sentence, "A character isn't a hexadecimal digit.");
+    for (const codec of Object.values(scard.Codec).filter(Boolean)) {
+        for (const reason of scard.reasons(codec)) {
+            assert.match(new scard.Refused(0, reason, codec).sentence, /^[A-Z].*\.$/);
+        }
+    }
     const piece = new scard.AtrReader();
     const said = await thrown(scard.Refused, () => piece.feed(fromHex('3C')));
     assert.deepEqual([said.reason, await said.expected()], ['BadTs', null]);
@@ -85,9 +92,14 @@ test('blocks and chains', async () => {
     const message = octetsBy(draws(1), 1000);
     for (const ifs of [1, 32, 254]) {
         const receiver = new scard.Receiver({ ifs });
-        for (const block of scard.cut(message, ifs)) receiver.feed(block.encode());
-        assert.deepEqual(receiver.message, message);
+        for (const number of [0, 1]) {
+            receiver.restart(number);
+            for (const block of scard.cut(message, ifs, number)) receiver.feed(block.encode());
+            assert.deepEqual(receiver.message, message);
+        }
+        await thrown(scard.InvalidArgument, () => receiver.restart(2));
         receiver.close();
+        await thrown(scard.Closed, () => receiver.restart());
     }
 });
 
@@ -128,6 +140,29 @@ test('data objects', async () => {
     await thrown(scard.InvalidArgument, () => scard.Tlv.decode(new Uint8Array(5), scard.LARGEST + 1));
     await thrown(scard.InvalidArgument, () => forest.find([new Uint8Array(4)]));
     assert.equal(scard.Tlv.decode(new Uint8Array()).find('6F'), null);
+});
+
+/** Objects as `Tlv.build` takes them. */
+const partsOf = (objects) => [...objects].map((it) =>
+    ({ tag: it.tag, value: it.isConstructed ? partsOf(it.objects) : it.value }));
+
+test('objects and lists that are built', async () => {
+    const long = '7000848180'.padEnd(270, '0');
+    for (const digits of ['', '006F0AA5059F650201028401AA50005F2001AA', '008481020102', long]) {
+        const forest = scard.Tlv.decode(fromHex(digits));
+        assert.deepEqual(scard.Tlv.build(partsOf(forest)).octets, forest.tidy());
+    }
+    const list = scard.Dol.build([{ tag: '9F02', length: 6 }, { tag: fromHex('95'), length: 255 }]);
+    assert.equal(toHex(list.octets), '9F020695FF');
+    for (const tag of ['', '00', '9F', '8401', '9F00', '1F8001', '9F8180', '9F818101']) {
+        await thrown(scard.InvalidArgument, () => scard.Tlv.build([{ tag, value: new Uint8Array() }]));
+        await thrown(scard.InvalidArgument, () => scard.Dol.build([{ tag, length: 1 }]));
+    }
+    const filled = (count) => scard.Tlv.build([{ tag: '84', value: new Uint8Array(count) }]);
+    await thrown(scard.Refused, () => filled(scard.LARGEST));
+    await thrown(scard.InvalidArgument, () => filled(scard.LARGEST + 1));
+    await thrown(scard.Refused, () => scard.Tlv.build([{ tag: '6F', value: fromHex('84') }]));
+    await thrown(RangeError, () => scard.Dol.build([{ tag: '84', length: 256 }]));
 });
 
 test('a large forest', () => {

@@ -53,6 +53,11 @@ def forest(draw, depth):
     return b"".join(parts)[:255] if depth == 0 else b"".join(parts)
 
 
+def parts_of(objects):
+    """Objects as `Tlv.build` takes them."""
+    return [(it.tag, parts_of(it.objects) if it.is_constructed else it.value) for it in objects]
+
+
 class Texts(unittest.TestCase):
     def test_doctests(self):
         runner = doctest.DocTestRunner()
@@ -164,6 +169,22 @@ class RoundTrips(unittest.TestCase):
             tree = scard.Tlv.decode(octets)
             self.assertEqual(b"".join(it.octets for it in tree), octets)
             self.walked(tree)
+            self.assertEqual(scard.Tlv.build(parts_of(tree)).octets, tree.tidy())
+
+    def test_what_is_not_built(self):
+        for tag in (b"", b"\0", b"\x9F", b"\x84\x01", b"\x9F\x00", b"\x1F\x80\x01", b"\x9F\x81\x80", bytes(4), "9F"):
+            self.assertRaises(scard.Argument, scard.Tlv.build, [(tag, b"")])
+            self.assertRaises(scard.Argument, scard.Dol.build, [(tag, 1)])
+        self.assertRaises(scard.Refused, scard.Tlv.build, [("84", bytes(scard.LARGEST))])
+        self.assertRaises(scard.Argument, scard.Tlv.build, [("84", bytes(scard.LARGEST + 1))])
+        self.assertRaises(scard.Refused, scard.Tlv.build, [("6F", b"\x84")])
+        self.assertRaises(OverflowError, scard.Dol.build, [("84", 256)])
+
+    def test_every_reason_has_a_sentence(self):
+        for codec in (it for it in scard.Codec if it):
+            for reason in scard.reasons(codec):
+                self.assertRegex(scard.Refused(0, reason, codec).sentence, r"^[A-Z].*\.$")
+        self.assertEqual(scard.Refused(0, "none", scard.Codec.ATR).sentence, "")
 
     def walked(self, tree):
         """Every object is where its parent has it, and the walk has each once."""
@@ -213,6 +234,11 @@ class RoundTrips(unittest.TestCase):
             self.assertEqual(b"".join(it.inf for it in blocks), message)
             reader, octets = scard.Receiver(ifs, 1), b"".join(it.encode() for it in blocks)
             self.assertEqual(reader.feed(octets), len(octets))
+            self.assertEqual(reader.message, message)
+            reader.restart(1)
+            self.assertRaises(scard.Argument, getattr, reader, "message")
+            self.assertEqual(reader.feed(octets), len(octets))
+            self.assertRaises(scard.Argument, reader.restart, 2)
             self.assertEqual(reader.message, message)
 
 

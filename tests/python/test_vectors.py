@@ -112,6 +112,11 @@ def built(words):
         return "refused: Duplicate\n"
 
 
+def objects_of(objects):
+    """Objects as `Tlv.build` takes them."""
+    return [(it.tag, objects_of(it.objects) if it.is_constructed else it.value) for it in objects]
+
+
 SIDES = {"t": scard.End.TERMINAL, "c": scard.End.CARD}
 RESPONSES = {scard.Owed.RESYNCH_RESPONSE: "RESYNCH", scard.Owed.IFS_RESPONSE: "IFS", scard.Owed.ABORT_RESPONSE: "ABORT",
              scard.Owed.WTX_RESPONSE: "WTX"}
@@ -176,6 +181,22 @@ class Vectors(unittest.TestCase):
                     if words[1] in READERS:
                         self.assertEqual(said(in_pieces, words[1], octets, ifs, first), text, where)
         self.assertGreater(tried, LEAST)
+
+    def test_what_is_decoded_is_built_again(self):
+        tried = 0
+        for name in ("tlv", "dol"):
+            for number, words, text in [*cases(name), *cases(f"{name}.changes")]:
+                octets = octets_of(words[2]) if words[0] == "check" else b""
+                if words[0] != "check" or len(words) != 3 or not text.startswith("ok"):
+                    continue
+                tried += 1
+                if name == "dol":
+                    again = scard.Dol.build((it.tag, it.length) for it in scard.Dol.decode(octets).entries).octets
+                    self.assertEqual(again, octets, number)
+                else:
+                    forest = scard.Tlv.decode(octets)
+                    self.assertEqual(scard.Tlv.build(objects_of(forest)).octets, forest.tidy(), number)
+        self.assertGreater(tried, 40)
 
     def test_decode_refuses_as_check_does(self):
         for name, decode in (("atr", lambda octets, ifs: scard.Atr.decode(octets)), ("block", scard.Block.decode)):

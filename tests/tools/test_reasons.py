@@ -72,6 +72,18 @@ class Reasons(OverCopies):
         said = '"an octet that nobody sends"'
         self.assertIn(f"            TlvReason::Unheard => {said},\n", self.text("crates/explainer/src/reason.rt"))
         self.assertIn(f"tlv_sentence tlv.Unheard = codes {said}\n", self.text("crates/explainer/specs/Sentences.antt"))
+        said = "An octet that nobody sends."
+        self.assertIn(f'        7 => b"{said}\\0",\n', self.text("crates/c_lent/src/sentence.rt"))
+        self.assertIn(f'tlv_says tlv.Unheard = codes "{said}"\n', self.text("crates/c_lent/specs/Sentences.antt"))
+
+    def test_a_comment_of_the_header_is_the_sentence_of_the_library_for_c(self):
+        self.change("include/scard.h", "/* TCK is wrong */", "/* TCK is odd; `place` is its place */")
+        status, said = self.said()
+        self.assertEqual((status, said.count("c_lent/src/sentence.rt"), said.count("c_lent/specs/Sentences.antt")),
+                         (1, 1, 1), said)
+        self.assertEqual(self.said("--write")[0], 0)
+        self.assertIn('        3 => b"TCK is odd.\\0",\n', self.text("crates/c_lent/src/sentence.rt"))
+        self.assertIn('atr_says atr.BadTck = codes "TCK is odd."\n', self.text("crates/c_lent/specs/Sentences.antt"))
 
     def test_a_case_that_is_gone_takes_its_rows_with_it(self):
         for codec in tool.CODECS:

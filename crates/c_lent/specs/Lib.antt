@@ -8,6 +8,7 @@ pub mod Chain
 pub mod Tlv
 pub mod Parts
 pub mod Dol
+pub mod Building
 pub mod Fill
 pub mod Turns
 pub mod Calls
@@ -23,6 +24,7 @@ pub mod KeptReceiver
 pub mod LentReceiver
 pub mod LentReaders
 pub mod Names
+pub mod Sentences
 pub mod Notes
 pub mod Version
 pub mod SessionNext

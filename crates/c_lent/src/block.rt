@@ -7,9 +7,9 @@ ghost use Rattle.block_core.specs.Block.{Parts, IsBlock, IsReason, Suits};
 ghost use Rattle.block_core.specs.declared.pcb.Pcb.TheVariants.{Info, Ready, Request, Response};
 ghost use Rattle.c_lent.specs.Verdict.{Tells, Puts, ok_at, wrong_argument};
 ghost use Rattle.c_lent.specs.Number.{number_of, fault_of, subject_of};
-ghost use Rattle.c_lent.specs.Block.{block_reason, block_seen, IsDecoded, IsUnfit, IsOf};
+ghost use Rattle.c_lent.specs.Block.{block_reason, block_seen, pcb_shown, IsDecoded, IsUnfit, IsOf, ShowsPcb};
 
-use crate::number::{fault_of, number_of, subject_of};
+use crate::number::{fault, fault_of, number, number_of, subject, subject_of};
 use crate::output::put;
 use crate::verdict::{Numbered, Verdict};
 use block_core::{BlockReason, BlockRef, LONGEST_BLOCK, Pcb};
@@ -23,6 +23,31 @@ pub struct CBlock {
     pub pcb: u8,
     pub inf_place: u8,
     pub inf_len: u8,
+}
+
+/// The parts of an octet that is no PCB.
+const NO_PCB: CPcb = CPcb {
+    kind: 0,
+    number: 0,
+    more: 0,
+    fault: 0,
+    about: 0,
+};
+
+/// The parts of a PCB. `kind` is 1 an I-block, 2 an R-block, 3 a request, 4 a response, and 0 no block. What a kind
+/// lacks is 0.
+#[repr(C)]
+#[derive(Clone, Copy)]
+pub struct CPcb {
+    pub kind: u8,
+    /// N(S) of an I-block, N(R) of an R-block.
+    pub number: u8,
+    /// 1 if the chain of an I-block continues after it.
+    pub more: u8,
+    /// What an R-block says: 0 no fault, 1 a fault of the redundancy check, 2 another fault.
+    pub fault: u8,
+    /// The subject of an S-block: 0 RESYNCH, 1 IFS, 2 ABORT, 3 WTX.
+    pub about: u8,
 }
 
 /// Decodes the block at the front of the octets, with an information size of 1 to 254.
@@ -43,6 +68,49 @@ pub fn block_decode(octets: &[u8], ifs: u8, out: &mut CBlock) -> Verdict
             Verdict::ok(taken)
         }
         Err(stop) => Verdict::stopped(stop),
+    }
+}
+
+/// Writes the parts of a PCB. The kind of an octet that is no PCB is 0.
+pub fn block_parts(pcb: u8, out: &mut CPcb)
+    ensures { ShowsPcb pcb out.new }
+{
+    *out = match Pcb::of(pcb) {
+        Some(pcb) => pcb_shown(pcb),
+        None => NO_PCB,
+    };
+}
+
+/// Returns the parts of a PCB as a struct of C.
+fn pcb_shown(pcb: Pcb) -> CPcb
+    ensures { result ≡ pcb_shown pcb }
+{
+    match pcb {
+        Pcb::Info { number: ns, more } => CPcb {
+            kind: 1,
+            number: number(ns),
+            more: u8::from(more),
+            ..NO_PCB
+        },
+        Pcb::Ready {
+            number: nr,
+            fault: told,
+        } => CPcb {
+            kind: 2,
+            number: number(nr),
+            fault: fault(told),
+            ..NO_PCB
+        },
+        Pcb::Request(about) => CPcb {
+            kind: 3,
+            about: subject(about),
+            ..NO_PCB
+        },
+        Pcb::Response(about) => CPcb {
+            kind: 4,
+            about: subject(about),
+            ..NO_PCB
+        },
     }
 }
 

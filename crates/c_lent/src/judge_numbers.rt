@@ -7,7 +7,7 @@ ghost use Rattle.c_lent.specs.Number.{number_of, fault_of, subject_of};
 ghost use Rattle.c_lent.specs.KeptJudge.{mark_in, number_in, asked_told, owed_told, fault_in, subject_in, side_of, side_in, doubt_in, pending_in, asked_in, owed_in, pcb_in, heard_as, nad_in};
 
 use crate::kept::{mark, mark_of};
-use crate::number::{fault_of, number_of, subject_of};
+use crate::number::{fault, fault_of, number, number_of, subject, subject_of};
 use block_core::{Fault, Number, Pcb, S};
 use judge_core::{Asked, Doubt, Heard, Owed, Pending, Side};
 
@@ -28,47 +28,16 @@ pub(crate) fn number_in(number: u8) -> Number
     number_of(number).unwrap_or(Number::One)
 }
 
-pub(crate) fn number(number: Number) -> u8
-    ensures told { result ≡ number_bit number 1 }
-    ensures kept { number_in result ≡ number }
-{
-    match number {
-        Number::Zero => 0,
-        Number::One => 1,
-    }
-}
-
 fn fault_in(fault: u8) -> Fault
     ensures { result ≡ fault_in fault }
 {
     fault_of(fault).unwrap_or(Fault::Other)
 }
 
-fn fault(fault: Fault) -> u8
-    ensures { fault_in result ≡ fault }
-{
-    match fault {
-        Fault::Free => 0,
-        Fault::Redundancy => 1,
-        Fault::Other => 2,
-    }
-}
-
 fn subject_in(about: u8) -> S
     ensures { result ≡ subject_in about }
 {
     subject_of(about).unwrap_or(S::Wtx)
-}
-
-fn subject(about: S) -> u8
-    ensures { subject_in result ≡ about }
-{
-    match about {
-        S::Resynch => 0,
-        S::Ifs => 1,
-        S::Abort => 2,
-        S::Wtx => 3,
-    }
 }
 
 /// Returns an end by its number: 0 the terminal, 1 the card.

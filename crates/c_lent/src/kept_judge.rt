@@ -4,10 +4,11 @@ ghost use Rattle.std.specs.Prelude.{◌≡◌};
 ghost use Rattle.c_lent.specs.KeptJudge.{doubt_in, end_of, heard_as, heard_of, monitor_of, pcb_in, watched_of};
 
 use crate::judge_numbers::{
-    Spelled, asked, asked_in, doubt, doubt_in, heard_as, mark_in, nad_in, nad_kept, number,
-    number_in, owed, owed_in, pcb, pcb_in, pending, pending_in, side, side_in,
+    Spelled, asked, asked_in, doubt, doubt_in, heard_as, mark_in, nad_in, nad_kept, number_in,
+    owed, owed_in, pcb, pcb_in, pending, pending_in, side, side_in,
 };
 use crate::kept::mark;
+use crate::number::number;
 use arrayvec::ArrayVec;
 use block_core::LONGEST_INF;
 use judge_core::{End, Heard, Monitor, Row, Watched};

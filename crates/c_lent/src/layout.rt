@@ -5,7 +5,7 @@ ghost use Rattle.c_lent.specs.Layout.{size_of_struct};
 
 use crate::apdu::{CCommand, CResponse};
 use crate::atr::{CAtr, CIndicated, CInterface, CRates, CT1};
-use crate::block::CBlock;
+use crate::block::{CBlock, CPcb};
 use crate::card_session::CCardSession;
 use crate::dol::CEntry;
 use crate::kept::{CCard, CTerminal};
@@ -76,6 +76,7 @@ pub fn struct_size(number: u8) -> usize
         37 => size_of::<CSession>(),
         38 => size_of::<CCardSession>(),
         39 => size_of::<CSessionNext>(),
+        40 => size_of::<CPcb>(),
         _ => 0,
     }
 }

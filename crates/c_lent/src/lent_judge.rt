@@ -8,9 +8,10 @@ ghost use Rattle.c_lent.specs.Names.{ended};
 ghost use Rattle.c_lent.specs.KeptJudge.{side_of, monitor_of};
 ghost use Rattle.c_lent.specs.LentJudge.{arrival_of, rule_number, rule_words, clause_words, due_of, no_due, verdict_number, rule_told, due_told, silence_number, unanswered_by, judgment_of, silence_told, owes_block, JudgesBlock};
 
-use crate::judge_numbers::{asked, number, owed, side_of};
+use crate::judge_numbers::{asked, owed, side_of};
 use crate::kept_judge::CJudge;
 use crate::names::CText;
+use crate::number::number;
 use crate::verdict::{Numbered, Verdict as Told};
 use judge_core::{After, Arrival, Monitor, Report, Rule, Said, Side, Silence, Verdict};
 use octet_core::is_reserved;

@@ -10,12 +10,12 @@ ghost use Rattle.octet_core.specs.Sizes.{IsReserved};
 ghost use Rattle.c_lent.specs.Lent.{IsAtFront};
 ghost use Rattle.c_lent.specs.KeptReceiver.{IsReceiver};
 ghost use Rattle.c_lent.specs.Turns.{joined_of};
-ghost use Rattle.c_lent.specs.LentReceiver.{ReceiverFed, ReceiverEnded};
+ghost use Rattle.c_lent.specs.LentReceiver.{ReceiverFed, ReceiverRestarted, ReceiverEnded};
 
 use crate::kept_receiver::CReceiver;
 use crate::number::number_of;
 use crate::verdict::Verdict;
-use chain_core::{LONGEST_MESSAGE, LentReceiver};
+use chain_core::{LONGEST_MESSAGE, LentReceiver, overwrite};
 use octet_core::is_reserved;
 
 /// Begins a receiver of one chain with an information size of 1 to 254. The first block has the number `ns`. The
@@ -49,6 +49,22 @@ pub fn lent_receiver_feed(state: &mut CReceiver, message: &mut [u8], piece: &[u8
     let answer = receiver.feed(message, piece);
     *state = CReceiver::of(&receiver);
     Verdict::fed(answer)
+}
+
+/// Begins a receiver anew, with a first block of this number, and the information size and the limit that it had. Each
+/// octet of the buffer is set to 0.
+pub fn lent_receiver_restart(state: &mut CReceiver, message: &mut [u8], ns: u8) -> Verdict
+    ensures { ReceiverRestarted state.old message.old (number_of ns) state.new message.new result }
+{
+    let Some(receiver) = state.fitting(message.len()) else {
+        return Verdict::argument();
+    };
+    let Some(number) = number_of(ns) else {
+        return Verdict::argument();
+    };
+    overwrite(message);
+    *state = CReceiver::of(&LentReceiver::begin(receiver.ifs, number, receiver.max));
+    Verdict::ok(0)
 }
 
 /// Ends a receiver, and returns the verdict on all octets that it was fed: `OK` with place 0 if they are a chain,

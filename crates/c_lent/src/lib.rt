@@ -11,6 +11,7 @@
 pub mod apdu;
 pub mod atr;
 pub mod block;
+pub mod building;
 pub mod call;
 pub mod card_session;
 pub mod chain;
@@ -35,6 +36,7 @@ pub mod octets;
 pub mod output;
 pub mod parts;
 pub mod reader_laws;
+pub mod sentence;
 pub mod session;
 pub mod session_next;
 pub mod timing;

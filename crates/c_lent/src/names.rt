@@ -1,7 +1,7 @@
-//! The names of statuses, turns and reasons.
+//! The names of statuses, turns, reasons, classes of status bytes, shapes of commands and subjects of S-blocks.
 
 ghost use Rattle.std.specs.Prelude.{◌≡◌};
-ghost use Rattle.c_lent.specs.Names.{ended, status_name, turn_name, reason_name, atr_name, block_name, chain_name, command_name, response_name, tlv_name, dol_name, hex_name};
+ghost use Rattle.c_lent.specs.Names.{ended, status_name, turn_name, class_name, shape_name, about_name, reason_name, atr_name, block_name, chain_name, command_name, response_name, tlv_name, dol_name, hex_name};
 
 /// A static text: its octets, with a 0 after them.
 #[repr(C)]
@@ -27,7 +27,7 @@ pub fn status_text(status: u8, out: &mut CText)
     *out = CText { octets };
 }
 
-/// Returns the name of the kind of a turn; "" for any other number.
+/// Returns the name of the kind of a turn, or of what a session does next; "" for any other number.
 pub fn turn_text(kind: u8, out: &mut CText)
     ensures { out.new.octets.now ≡ ended (turn_name kind) }
 {
@@ -45,6 +45,58 @@ pub fn turn_text(kind: u8, out: &mut CText)
         21 => b"REFUSED_ORDER\0",
         32 => b"NO_END\0",
         33 => b"NO_ROOM\0",
+        64 => b"SESSION_FAILED\0",
+        65 => b"SESSION_USED_UP\0",
+        66 => b"SESSION_NO_STATUS\0",
+        67 => b"SESSION_ECHO\0",
+        68 => b"SESSION_WAIT\0",
+        _ => b"\0",
+    };
+    *out = CText { octets };
+}
+
+/// Returns the name of a class of status bytes; "" for any other number.
+pub fn class_text(kind: u8, out: &mut CText)
+    ensures { out.new.octets.now ≡ ended (class_name kind) }
+{
+    let octets: &'static [u8] = match kind {
+        1 => b"NORMAL\0",
+        2 => b"WARNING\0",
+        3 => b"EXECUTION\0",
+        4 => b"CHECKING\0",
+        5 => b"PROPRIETARY\0",
+        6 => b"INVALID\0",
+        _ => b"\0",
+    };
+    *out = CText { octets };
+}
+
+/// Returns the name of the shape of a command; "" for any other number.
+pub fn shape_text(shape: u8, out: &mut CText)
+    ensures { out.new.octets.now ≡ ended (shape_name shape) }
+{
+    let octets: &'static [u8] = match shape {
+        1 => b"CASE_1\0",
+        2 => b"CASE_2_SHORT\0",
+        3 => b"CASE_3_SHORT\0",
+        4 => b"CASE_4_SHORT\0",
+        5 => b"CASE_2_LONG\0",
+        6 => b"CASE_3_LONG\0",
+        7 => b"CASE_4_LONG\0",
+        _ => b"\0",
+    };
+    *out = CText { octets };
+}
+
+/// Returns the name of the subject of an S-block; "" for any other number.
+pub fn about_text(about: u8, out: &mut CText)
+    ensures { out.new.octets.now ≡ ended (about_name about) }
+{
+    let octets: &'static [u8] = match about {
+        0 => b"RESYNCH\0",
+        1 => b"IFS\0",
+        2 => b"ABORT\0",
+        3 => b"WTX\0",
         _ => b"\0",
     };
     *out = CText { octets };

@@ -1,6 +1,8 @@
 //! The values of enums by their numbers in C.
 
 ghost use Rattle.std.specs.Prelude.{◌≡◌};
+ghost use Rattle.block_core.specs.Block.{number_bit, fault_code, supervisory_code};
+ghost use Rattle.c_lent.specs.KeptJudge.{number_in, fault_in, subject_in};
 ghost use Rattle.c_lent.specs.Number.{number_of, fault_of, subject_of};
 
 use block_core::{Fault, Number, S};
@@ -38,5 +40,41 @@ pub fn subject_of(about: u8) -> Option<S>
         2 => Some(S::Abort),
         3 => Some(S::Wtx),
         _ => None,
+    }
+}
+
+/// Returns the number of a block in C.
+pub(crate) fn number(number: Number) -> u8
+    ensures told { result ≡ number_bit number 1 }
+    ensures kept { number_in result ≡ number }
+{
+    match number {
+        Number::Zero => 0,
+        Number::One => 1,
+    }
+}
+
+/// Returns the number of a fault in C.
+pub(crate) fn fault(fault: Fault) -> u8
+    ensures told { result ≡ fault_code fault }
+    ensures kept { fault_in result ≡ fault }
+{
+    match fault {
+        Fault::Free => 0,
+        Fault::Redundancy => 1,
+        Fault::Other => 2,
+    }
+}
+
+/// Returns the number of an S-block's subject in C.
+pub(crate) fn subject(about: S) -> u8
+    ensures told { result ≡ supervisory_code about }
+    ensures kept { subject_in result ≡ about }
+{
+    match about {
+        S::Resynch => 0,
+        S::Ifs => 1,
+        S::Abort => 2,
+        S::Wtx => 3,
     }
 }

@@ -7,9 +7,9 @@ ghost use Rattle.block_core.specs.declared.pcb.Pcb.TheVariants.{Info, Ready, Req
 ghost use Rattle.c_lent.specs.Verdict.{Tells, Puts, ok_at, wrong_argument};
 ghost use Rattle.c_lent.specs.Number.{number_of, fault_of, subject_of};
 ghost use Rattle.octet_core.specs.Sizes.{IsReserved};
-ghost use Rattle.c_lent.specs.Block.{block_reason, IsDecoded, IsUnfit, IsOf};
+ghost use Rattle.c_lent.specs.Block.{block_reason, IsDecoded, IsUnfit, IsOf, ShowsPcb};
 
-use c_lent::block::CBlock;
+use c_lent::block::{CBlock, CPcb};
 use c_lent::verdict::Verdict;
 
 /// Decodes the block at the front of the octets, with an information size of 1 to 254. The place of `OK` is the length
@@ -24,6 +24,14 @@ pub extern "C" fn scard_block_decode(octets: &[u8], ifs: u8, out: &mut CBlock) -
     ensures stays { result.status ≢ 0 → out.new ≡ out.old }
 {
     c_lent::block::block_decode(octets, ifs, out)
+}
+
+/// Writes the parts of a PCB. The kind of an octet that is no PCB is 0, and so are its other parts.
+#[unsafe(no_mangle)]
+pub extern "C" fn scard_block_parts(pcb: u8, out: &mut CPcb)
+    ensures { ShowsPcb pcb out.new }
+{
+    c_lent::block::block_parts(pcb, out)
 }
 
 /// Encodes an I-block. Returns `ARGUMENT` with place 0 if `ns` isn't 0 or 1, or if the field has more than 254 octets.

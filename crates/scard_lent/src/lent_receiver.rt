@@ -10,7 +10,7 @@ ghost use Rattle.octet_core.specs.Sizes.{IsReserved};
 ghost use Rattle.c_lent.specs.Lent.{IsAtFront};
 ghost use Rattle.c_lent.specs.KeptReceiver.{IsReceiver};
 ghost use Rattle.c_lent.specs.Turns.{joined_of};
-ghost use Rattle.c_lent.specs.LentReceiver.{ReceiverFed, ReceiverEnded};
+ghost use Rattle.c_lent.specs.LentReceiver.{ReceiverFed, ReceiverRestarted, ReceiverEnded};
 
 use c_lent::kept_receiver::CReceiver;
 use c_lent::verdict::Verdict;
@@ -50,6 +50,20 @@ pub extern "C" fn scard_lent_receiver_feed(
     ensures { ReceiverFed state.old message.old piece.now state.new message.new result }
 {
     c_lent::lent_receiver::lent_receiver_feed(state, message, piece)
+}
+
+/// Begins a receiver anew, with a first block of this number, and the information size and the limit that it had. Each
+/// octet of the buffer is set to 0. Returns `ARGUMENT` if `ns` isn't 0 or 1, or if the state and the buffer
+/// aren't a receiver. Then nothing changes.
+#[unsafe(no_mangle)]
+pub extern "C" fn scard_lent_receiver_restart(
+    state: &mut CReceiver,
+    message: &mut [u8],
+    ns: u8,
+) -> Verdict
+    ensures { ReceiverRestarted state.old message.old (number_of ns) state.new message.new result }
+{
+    c_lent::lent_receiver::lent_receiver_restart(state, message, ns)
 }
 
 /// Ends a receiver, and returns the verdict on all octets that it was fed: `OK` with place 0 if they are a chain,

@@ -5,6 +5,7 @@
 pub mod apdu;
 pub mod atr;
 pub mod block;
+pub mod building;
 pub mod card_session;
 pub mod chain;
 pub mod dol;
@@ -22,6 +23,7 @@ pub mod names;
 pub mod note;
 pub mod octets;
 pub mod parts;
+pub mod sentence;
 pub mod session;
 pub mod timing;
 pub mod tlv;

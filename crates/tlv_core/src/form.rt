@@ -99,7 +99,7 @@ impl Form {
     }
 
     /// Returns the shortest length field for `len`: one to five octets.
-    pub(crate) fn shortest_field(len: usize) -> ArrayVec<u8, 5>
+    pub fn shortest_field(len: usize) -> ArrayVec<u8, 5>
         requires { len < 2 ^ 32 }
         ensures { result.items ≡ length_field (shortest len) len }
     {

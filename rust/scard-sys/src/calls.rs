@@ -75,6 +75,11 @@ pub const SCARD_S_RESYNCH: u8 = 0;
 pub const SCARD_S_IFS: u8 = 1;
 pub const SCARD_S_ABORT: u8 = 2;
 pub const SCARD_S_WTX: u8 = 3;
+pub const SCARD_BLOCK_NONE: u8 = 0;
+pub const SCARD_BLOCK_I: u8 = 1;
+pub const SCARD_BLOCK_R: u8 = 2;
+pub const SCARD_BLOCK_S_REQUEST: u8 = 3;
+pub const SCARD_BLOCK_S_RESPONSE: u8 = 4;
 pub const SCARD_CASE_1: u8 = 1;
 pub const SCARD_CASE_2_SHORT: u8 = 2;
 pub const SCARD_CASE_3_SHORT: u8 = 3;
@@ -218,6 +223,7 @@ pub const SCARD_STRUCT_LENT_SETUP: u8 = 36;
 pub const SCARD_STRUCT_LENT_SESSION: u8 = 37;
 pub const SCARD_STRUCT_LENT_CARD_SESSION: u8 = 38;
 pub const SCARD_STRUCT_SESSION_NEXT: u8 = 39;
+pub const SCARD_STRUCT_PCB: u8 = 40;
 
 #[repr(C)]
 #[derive(Clone, Copy)]
@@ -309,6 +315,17 @@ pub struct scard_block {
 }
 const _: () = assert!(size_of::<scard_block>() == 4);
 const _: () = assert!(align_of::<scard_block>() == 1);
+#[repr(C)]
+#[derive(Clone, Copy)]
+pub struct scard_pcb {
+    pub kind: u8,
+    pub number: u8,
+    pub more: u8,
+    pub fault: u8,
+    pub about: u8,
+}
+const _: () = assert!(size_of::<scard_pcb>() == 5);
+const _: () = assert!(align_of::<scard_pcb>() == 1);
 #[repr(C)]
 #[derive(Clone, Copy)]
 pub struct scard_command {
@@ -683,6 +700,10 @@ extern "C" {
     pub fn scard_status_text(status: u8, out: *mut scard_text);
     pub fn scard_turn_text(kind: u8, out: *mut scard_text);
     pub fn scard_reason_text(codec: u8, reason: u8, out: *mut scard_text);
+    pub fn scard_class_text(kind: u8, out: *mut scard_text);
+    pub fn scard_shape_text(shape: u8, out: *mut scard_text);
+    pub fn scard_about_text(about: u8, out: *mut scard_text);
+    pub fn scard_reason_sentence_text(codec: u8, reason: u8, out: *mut scard_text);
     pub fn scard_note_of(about: u8, first: u8, second: u8, out: *mut scard_note);
     pub fn scard_is_text(octets: *const u8, count: usize) -> bool;
     pub fn scard_lrc(octets: *const u8, count: usize) -> u8;
@@ -701,6 +722,7 @@ extern "C" {
     pub fn scard_block_s_request(nad: u8, about: u8, inf: *const u8, count: usize, out: *mut u8, room: usize) -> scard_verdict;
     pub fn scard_block_s_response(nad: u8, about: u8, inf: *const u8, count: usize, out: *mut u8, room: usize) -> scard_verdict;
     pub fn scard_block_encode(nad: u8, pcb: u8, inf: *const u8, count: usize, out: *mut u8, room: usize) -> scard_verdict;
+    pub fn scard_block_parts(pcb: u8, out: *mut scard_pcb);
     pub fn scard_chain_block(message: *const u8, count: usize, start: usize, ifs: u8, ns: u8, out: *mut u8, room: usize) -> scard_verdict;
     pub fn scard_chain_cut(message: *const u8, count: usize, ifs: u8, ns: u8, out: *mut u8, room: usize) -> scard_verdict;
     pub fn scard_command_decode(octets: *const u8, count: usize, out: *mut scard_command) -> scard_verdict;
@@ -712,8 +734,10 @@ extern "C" {
     pub fn scard_tlv_tidy(octets: *const u8, count: usize, max: usize, out: *mut u8, room: usize) -> scard_verdict;
     pub fn scard_tlv_parts(octets: *const u8, count: usize, max: usize, parts: *mut scard_part, room: usize) -> scard_verdict;
     pub fn scard_tlv_first(parts: *const scard_part, count: usize, path: *const scard_tag, tags: usize) -> usize;
+    pub fn scard_tlv_header(tag: *const scard_tag, len: usize, out: *mut u8, room: usize) -> scard_verdict;
     pub fn scard_dol_check(octets: *const u8, count: usize) -> scard_verdict;
     pub fn scard_dol_entries(octets: *const u8, count: usize, entries: *mut scard_entry, room: usize) -> scard_verdict;
+    pub fn scard_dol_entry(tag: *const scard_tag, len: u8, out: *mut u8, room: usize) -> scard_verdict;
     pub fn scard_dol_fill(list: *const u8, count: usize, known: *const scard_known, known_count: usize, out: *mut u8, room: usize) -> scard_verdict;
     pub fn scard_lent_terminal_begin(state: *mut scard_lent_terminal, command: *mut u8, command_room: usize, answer: *mut u8, answer_room: usize, ifsc: u8, bwi: u8, cwi: u8) -> scard_verdict;
     pub fn scard_lent_card_begin(state: *mut scard_lent_card, command: *mut u8, command_room: usize, reply: *mut u8, reply_room: usize, ifsc: u8, bwi: u8, cwi: u8) -> scard_verdict;
@@ -734,6 +758,7 @@ extern "C" {
     pub fn scard_lent_receiver_feed(state: *mut scard_lent_receiver, message: *mut u8, room: usize, octets: *const u8, count: usize) -> scard_verdict;
     pub fn scard_lent_receiver_finish(state: *const scard_lent_receiver, message: *const u8, room: usize) -> scard_verdict;
     pub fn scard_lent_receiver_message(state: *const scard_lent_receiver, message: *const u8, room: usize) -> scard_verdict;
+    pub fn scard_lent_receiver_restart(state: *mut scard_lent_receiver, message: *mut u8, room: usize, ns: u8) -> scard_verdict;
     pub fn scard_lent_block_reader_begin(state: *mut scard_lent_block_reader, ifs: u8) -> scard_verdict;
     pub fn scard_lent_atr_reader_begin(state: *mut scard_lent_atr_reader);
     pub fn scard_lent_block_reader_feed(state: *mut scard_lent_block_reader, octets: *const u8, count: usize) -> scard_verdict;

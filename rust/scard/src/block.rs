@@ -79,6 +79,70 @@ pub enum About {
     Wtx = c::SCARD_S_WTX,
 }
 
+impl Fault {
+    /// The error with the library's number.
+    fn of(number: u8) -> Fault {
+        [Fault::Free, Fault::Redundancy, Fault::Other][number as usize]
+    }
+}
+
+impl About {
+    /// The kind with the library's number.
+    fn of(number: u8) -> About {
+        [About::Resynch, About::Ifs, About::Abort, About::Wtx][number as usize]
+    }
+}
+
+/// What a control octet says.
+///
+/// ```
+/// use scard::{About, Control};
+/// assert_eq!(Control::of(0x60), Some(Control::I { number: true, more: true }));
+/// assert_eq!(Control::of(0xE3), Some(Control::Response(About::Wtx)));
+/// assert_eq!(Control::of(0x83), None);
+/// ```
+#[derive(Clone, Copy, Debug, PartialEq, Eq, Hash)]
+pub enum Control {
+    /// An I-block.
+    I {
+        /// Its number.
+        number: bool,
+        /// Whether more blocks of its chain follow.
+        more: bool,
+    },
+    /// An R-block.
+    R {
+        /// The number of the I-block that it expects.
+        number: bool,
+        /// What it reports.
+        fault: Fault,
+    },
+    /// An S-block that requests.
+    Request(About),
+    /// An S-block that responds.
+    Response(About),
+}
+
+impl Control {
+    /// What a control octet says, or None if no block has it.
+    pub fn of(pcb: u8) -> Option<Control> {
+        // SAFETY: a struct of zeros is valid, and the call writes it.
+        let parts = unsafe {
+            let mut parts: c::scard_pcb = zeroed();
+            c::scard_block_parts(pcb, &mut parts);
+            parts
+        };
+        let number = parts.number != 0;
+        match parts.kind {
+            c::SCARD_BLOCK_I => Some(Control::I { number, more: parts.more != 0 }),
+            c::SCARD_BLOCK_R => Some(Control::R { number, fault: Fault::of(parts.fault) }),
+            c::SCARD_BLOCK_S_REQUEST => Some(Control::Request(About::of(parts.about))),
+            c::SCARD_BLOCK_S_RESPONSE => Some(Control::Response(About::of(parts.about))),
+            _ => None,
+        }
+    }
+}
+
 /// A block: its node address, its control octet, and its information field.
 #[derive(Clone, Copy, Debug, PartialEq, Eq)]
 pub struct Block<'a> {

@@ -11,6 +11,13 @@ pub trait Reason: Copy + fmt::Debug + Eq {
     fn of(number: u8) -> Option<Self>;
     /// The library's name of the reason.
     fn name(self) -> &'static str;
+    /// What is wrong with the refused octet, in a sentence of the library.
+    ///
+    /// ```
+    /// use scard::{AtrReason, Reason};
+    /// assert_eq!(AtrReason::BadTck.sentence(), "TCK is wrong.");
+    /// ```
+    fn sentence(self) -> &'static str;
 }
 
 /// Declares the reasons of one codec.
@@ -27,7 +34,13 @@ macro_rules! reasons {
             }
 
             fn name(self) -> &'static str {
-                name_of(c::$codec, self as u8)
+                // SAFETY: the call writes the struct.
+                text_of(|text| unsafe { c::scard_reason_text(c::$codec, self as u8, text) })
+            }
+
+            fn sentence(self) -> &'static str {
+                // SAFETY: as above.
+                text_of(|text| unsafe { c::scard_reason_sentence_text(c::$codec, self as u8, text) })
             }
         }
     };
@@ -63,13 +76,13 @@ reasons!(/// Why octets are no data object list.
         TagZero = SCARD_DOL_TAG_ZERO, TagSecond = SCARD_DOL_TAG_SECOND, TagLong = SCARD_DOL_TAG_LONG
     });
 
-/// The library's name of a reason.
-fn name_of(codec: u8, reason: u8) -> &'static str {
+/// A text of the library, by a call that writes where it is.
+fn text_of(call: impl FnOnce(&mut c::scard_text)) -> &'static str {
     // SAFETY: a struct of zeros is valid, and the call writes it. The text is a constant of the library, in ASCII, and
     // its size counts the 0 at its end.
     unsafe {
         let mut text: c::scard_text = zeroed();
-        c::scard_reason_text(codec, reason, &mut text);
+        call(&mut text);
         let octets = core::slice::from_raw_parts(text.text, (text.size as usize).saturating_sub(1));
         core::str::from_utf8(octets).unwrap_or("")
     }

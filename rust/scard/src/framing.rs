@@ -157,6 +157,24 @@ impl<'a> Receiver<'a> {
         Receiver { state, message }
     }
 
+    /// Begins anew, for a chain whose first block has a number. Every octet of the buffer is set to 0.
+    ///
+    /// ```
+    /// use scard::{cut, Ifs, Receiver};
+    /// let mut message = [0; 4];
+    /// let mut receiver = Receiver::new(Ifs::MOST, false, &mut message);
+    /// receiver.feed(&cut(b"PIN", Ifs::MOST, false).next().unwrap()).unwrap();
+    /// assert_eq!(receiver.message(), Some(&b"PIN"[..]));
+    /// receiver.restart(true);
+    /// assert!(receiver.message().is_none());
+    /// assert_eq!(message, [0; 4]);
+    /// ```
+    pub fn restart(&mut self, number: bool) {
+        let (message, room) = (self.message.as_mut_ptr(), self.message.len());
+        // SAFETY: the call writes the struct and the buffer, which is borrowed alone. It takes each of these arguments.
+        unsafe { c::scard_lent_receiver_restart(&mut self.state, message, room, number.into()) };
+    }
+
     /// Takes the next octets.
     pub fn feed(&mut self, octets: &[u8]) -> Result<Progress, Refusal<ChainReason>> {
         let (message, room) = (self.message.as_mut_ptr(), self.message.len());

@@ -22,14 +22,17 @@ mod tlv;
 
 pub use apdu::{Command, Response, Shape, StatusClass};
 pub use atr::{Atr, Interface, Rates, T1Fault, T1};
-pub use block::{cut, About, Block, Cut, Fault, Ifs, Octets, BLOCK_ROOM};
+pub use block::{cut, About, Block, Control, Cut, Fault, Ifs, Octets, BLOCK_ROOM};
 pub use ends::{Card, CallRefused, Terminal, Turn, LONGEST_ANSWER, LONGEST_COMMAND};
 pub use error::{
     AtrReason, BlockReason, ChainReason, CommandReason, DolReason, Failure, Reason, Refusal, ResponseReason, TlvReason,
 };
 pub use framing::{AtrReader, BlockReader, Framer, Progress, Receiver, TlvCheck};
 pub use session::{CardSession, Event, Session, Setup, Step};
-pub use tlv::{check, entries, fill, tidy, Entry, Forest, Format, Known, Part, Tag, TLV_LARGEST};
+pub use tlv::{
+    check, dol_entry, entries, fill, tidy, tlv_header, Entry, Forest, Format, Known, Part, Tag, HEADER_ROOM,
+    TLV_LARGEST,
+};
 
 /// The longitudinal redundancy check of octets: their exclusive-or (ISO/IEC 7816-3, clause 11.3).
 pub fn lrc(octets: &[u8]) -> u8 {

@@ -1,10 +1,14 @@
 //! Data objects and data object lists (EMV 4.3 Book 3, Annex B and clause 5.4).
 
+use crate::block::Octets;
 use crate::error::{decided, written, DolReason, Failure, Refusal, TlvReason};
 use scard_sys as c;
 
 /// The most octets of a forest.
 pub const TLV_LARGEST: usize = c::SCARD_TLV_LARGEST;
+
+/// The most octets of a header: a tag, and the length of the largest forest.
+pub const HEADER_ROOM: usize = 7;
 
 /// A tag of one to three octets.
 #[derive(Clone, Copy)]
@@ -136,6 +140,25 @@ pub fn tidy<'o>(octets: &[u8], out: &'o mut [u8]) -> Result<&'o [u8], Failure<Tl
     let verdict =
         unsafe { c::scard_tlv_tidy(octets.as_ptr(), octets.len(), TLV_LARGEST, out.as_mut_ptr(), out.len()) };
     written(verdict).map(move |count| &out[..count])
+}
+
+/// The header of a data object: its tag, and the shortest length field for a value of so many octets.
+///
+/// ```
+/// let tag = scard::Tag::new(&[0x9F, 0x02]).unwrap();
+/// assert_eq!(&*scard::tlv_header(tag, 0x80).unwrap(), &[0x9F, 0x02, 0x81, 0x80]);
+/// assert_eq!(&*scard::dol_entry(tag, 6).unwrap(), &[0x9F, 0x02, 6]);
+/// assert!(scard::tlv_header(scard::Tag::new(&[0x9F]).unwrap(), 1).is_err());
+/// ```
+pub fn tlv_header(tag: Tag, len: usize) -> Result<Octets<HEADER_ROOM>, Failure<TlvReason>> {
+    // SAFETY: the call reads the tag and writes at most the room.
+    Octets::written(|out| unsafe { c::scard_tlv_header(&tag.0, len, out.as_mut_ptr(), out.len()) })
+}
+
+/// The octets of an entry of a data object list: a tag, and the length of the value that the list requests.
+pub fn dol_entry(tag: Tag, len: u8) -> Result<Octets<HEADER_ROOM>, Failure<DolReason>> {
+    // SAFETY: as above.
+    Octets::written(|out| unsafe { c::scard_dol_entry(&tag.0, len, out.as_mut_ptr(), out.len()) })
 }
 
 /// An entry of a data object list.

@@ -11,8 +11,8 @@ from wasm import CALL, GLOBAL_GET, I32, I64, Unfit
 
 # the windows of machine.h: the first one for a pointer of the caller, and how many there are
 FIRST_GIVEN, WINDOWS = 2, 8
-# the limit of a message or forest, which doesn't count elements
-LIMIT = "max"
+# the limit of a message or forest, and the length of a value that isn't an argument: neither counts elements
+OTHER_NUMBERS = ("max", "len")
 KINDS = {"size_t": I64, "uint64_t": I64, "uint8_t": I32, "bool": I32, "uint16_t": I32, "uint32_t": I32}
 
 
@@ -36,7 +36,7 @@ def counted(call, place):
     is_size = after and after.type == "size_t" and not after.is_pointer
     if is_size and COUNT.match(after.name):
         return after.name
-    if one.type.startswith("struct ") and (not is_size or after.name == LIMIT):
+    if one.type.startswith("struct ") and (not is_size or after.name in OTHER_NUMBERS):
         return None
     raise Unfit(f"{call.name}: nothing says how long {one.name} is")
 
