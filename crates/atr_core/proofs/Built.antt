@@ -1,5 +1,7 @@
 -- The spelling of an answer to reset, put together part by part.
-use Rattle.std.proofs.Common.{◌≡◌, ℕ, ◌+◌, ◌<◌, ◌≤◌, ◌++◌, List, [], ◌∷◌, length, refl, sym, ap, ◌∙◌, arith, Bool, true, false, not, ◌==◌, slice_index_or, None, Some, option_to_list, subst, if◌then◌else◌}
+use Rattle.std.proofs.Common.{◌≡◌, ℕ, ◌+◌, ◌<◌, ◌≤◌, ◌++◌, List, [], ◌∷◌, length, refl, sym, ap, ◌∙◌, arith, Bool, true, false, not, ◌==◌, slice_index_or, None, Some, option_to_list, subst, if◌then◌else◌, bit_xor}
+use Rattle.std.specs.List.{fold}
+use Rattle.std.proofs.lemmas.List.Sums.{fold-append}
 use Rattle.std.proofs.lemmas.List.{length-append, append-nil}
 use Rattle.std.proofs.lemmas.Bool.Decides.{nat_tests}
 use Rattle.octet_core.specs.Octets.{AreOctets, xor_of}
@@ -51,6 +53,21 @@ checked-built a n o p q r t0 hn ho hp hq hr ht =
     hq ∙ ap (λ (l : List ℕ). l ++ td_octets a.indicated) third
     ∙ ap (λ (l : List ℕ). t ∷ l) (sym (interface-td a.first a.indicated)) in
     hr ∙ ap (λ (l : List ℕ). l ++ a.historical) fourth
+
+-- the exclusive-or of T0, the bytes after it, the TDs with theirs and the historical bytes, one after another, is that
+-- of what TCK checks
+pub sum-built : (a : AtrParts) (t0 s u r : ℕ) → t0 ≡ announcing a.first (goes_on a.indicated) (length a.historical)
+    → s ≡ fold bit_xor t0 (octets_of a.first) → u ≡ fold bit_xor s (td_octets a.indicated)
+    → r ≡ fold bit_xor u a.historical → r ≡ xor_of (checked_octets a)
+sum-built a t0 s u r ht hs hu hr =
+    let t : ℕ = announcing a.first (goes_on a.indicated) (length a.historical) in
+    let second : s ≡ fold bit_xor t (octets_of a.first) = hs ∙ ap (λ (z : ℕ). fold bit_xor z (octets_of a.first)) ht in
+    let third : u ≡ fold bit_xor t (interface_octets a.first a.indicated) =
+    hu ∙ ap (λ (z : ℕ). fold bit_xor z (td_octets a.indicated)) second
+    ∙ sym (fold-append bit_xor t (octets_of a.first) (td_octets a.indicated))
+    ∙ ap (fold bit_xor t) (sym (interface-td a.first a.indicated)) in
+    hr ∙ ap (λ (z : ℕ). fold bit_xor z a.historical) third
+    ∙ sym (fold-append bit_xor t (interface_octets a.first a.indicated) a.historical)
 
 -- what TCK checks has room after TS
 pub checked-room : (a : AtrParts) → IsProper a → 1 + length (checked_octets a) + length (option_to_list (tck_of a)) ≤ 33

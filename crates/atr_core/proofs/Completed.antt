@@ -15,13 +15,12 @@ use Rattle.atr_core.specs.declared.atr.Interface.{Interface}
 use Rattle.atr_core.specs.declared.atr.Indicated.{Indicated}
 use Rattle.atr_core.specs.declared.reason.AtrReason.{AtrReason}
 use Rattle.atr_core.specs.declared.reason.AtrReason.TheVariants.{BadTs, TooLong, BadTck}
-use Rattle.atr_core.specs.declared.partial.Announced.{Announced}
-use Rattle.atr_core.specs.declared.partial.Header.{Header}
-use Rattle.atr_core.specs.declared.partial.Tail.{Tail}
+use Rattle.atr_core.specs.declared.announced.Announced.{Announced}
 use Rattle.atr_core.specs.declared.partial.Partial.{Partial}
-use Rattle.atr_core.specs.declared.partial.Partial.TheVariants as partial
+use Rattle.atr_core.specs.declared.partial.Phase.{Phase}
+use Rattle.atr_core.specs.declared.partial.Phase.TheVariants as phase
 use Rattle.atr_core.specs.Atr.{count_of, AtrParts, ts_of, announcing, goes_on, octets_of, up_to_td, interface_octets, needs_tck, tck_of, checked_octets, IsProper, IsAtr, IsReason, Meets}
-use Rattle.atr_core.specs.Partial.{or_awaited, told, filled, is_announced, awaited_count, first_under, tds_under, from_t0, header_checked, header_taken, HeaderHolds, tail_checked, tail_taken, TailHolds, TailAwaits, Holds, is_whole, taken_of}
+use Rattle.atr_core.specs.Partial.{HeaderParts, TailParts, HoldsIn, taken_in, is_end, heading, tailing, bare_of, or_awaited, told, filled, is_announced, awaited_count, first_under, tds_under, from_t0, header_checked, header_taken, HeaderHolds, tail_checked, tail_taken, TailHolds, TailAwaits, Holds, is_whole, taken_of}
 use Rattle.atr_core.proofs.Unique.{one-spelled}
 use Rattle.atr_core.proofs.Reasons.{meets-stuck}
 use Rattle.atr_core.proofs.Lengths.{spelling-length, tck-length}
@@ -40,12 +39,9 @@ go-on v c (y ∷ more) proper octets is some = (v, y, more, encoded v (c ++ y �
 
 -- ---- TS
 
-plain : Convention → AtrParts
-plain c = record { convention = c; first = record { ta = None; tb = None; tc = None }; indicated = []; historical = [] }
-
-from-ts : (c : Convention) → IsAtr (plain c) (ts_of c ∷ 0 ∷ [])
-unfolding plain
-from-ts c = encoded (plain c) (ts_of c ∷ 0 ∷ [])
+-- an answer with no interface bytes and no historical bytes
+from-ts : (c : Convention) → IsAtr (bare_of c) (ts_of c ∷ 0 ∷ [])
+from-ts c = encoded (bare_of c) (ts_of c ∷ 0 ∷ [])
     (record { nibbles = record { protocols = tt; historical = omega arith }; most = omega arith })
     (octets-cons 0 [] (omega arith) (λ i. omega arith)) refl
 
@@ -181,13 +177,13 @@ some-awaited false false true d e = omega arith
 some-awaited false true c d e = omega arith
 some-awaited true b c d e = omega arith
 
-header-goes-on : (h : Header) → HeaderHolds h → is_announced h.awaited ≡ true → Unfinished (header_taken h)
+header-goes-on : (h : HeaderParts) → HeaderHolds h → is_announced h.awaited ≡ true → Unfinished (header_taken h)
 header-goes-on h holds awaits =
     let l : Announced = h.awaited in
     let g : Interface = filled h.bytes l in
     let a : Awaiting h.bytes.ta h.bytes.tb h.bytes.tc l.ta l.tb l.tc =
     awaiting h.bytes.ta h.bytes.tb h.bytes.tc l.ta l.tb l.tc holds.ordered.ta holds.ordered.tb holds.ordered.tc in
-    let before : List Indicated = tds_under h.under h.indicated.items g in
+    let before : List Indicated = tds_under h.under h.indicated g in
     let tds : List Indicated = before ++ tail_of l.td in
     let first : Interface = first_under h.under h.first g in
     let zeros : List ℕ = replicate h.historical_len 0 in
@@ -196,7 +192,7 @@ header-goes-on h holds awaits =
     let more : List ℕ = a.rest ++ td_zeros l.td in
     let tck : List ℕ = option_to_list (tck_of v) in
     let goes : announcing first (goes_on tds) h.historical_len ∷ interface_octets first tds ≡ header_checked h ++ more =
-    header-goes h.under h.first h.indicated.items h.bytes l h.historical_len a.rest holds.none a.is in
+    header-goes h.under h.first h.indicated h.bytes l h.historical_len a.rest holds.none a.is in
     let checked : checked_octets v ≡ (header_checked h ++ more) ++ zeros =
     (λ i. announcing first (goes_on tds) (k i) ∷ interface_octets first tds ++ zeros)
     ∙ ap (λ (b : List ℕ). b ++ zeros) goes in
@@ -205,7 +201,7 @@ header-goes-on h holds awaits =
     subst AreOctets (sym checked) (octets-append (header_checked h ++ more) zeros
     (octets-append (header_checked h) more (λ i. holds.octets (suc i)) more-octets) (zeros-octets h.historical_len))
     in
-    let needs : needs_tck tds ≡ h.tck = needs-tail before l.td ∙ needs-same h.under h.indicated.items g h.bytes
+    let needs : needs_tck tds ≡ h.tck = needs-tail before l.td ∙ needs-same h.under h.indicated g h.bytes
     ∙ sym holds.tck in
     let need : count_of (needs_tck tds) ≡ count_of h.tck = ap count_of needs in
     let count : length more ≡ awaited_count l =
@@ -213,7 +209,7 @@ header-goes-on h holds awaits =
     let proper : IsProper v = record {
       nibbles = record {
         protocols = protocols-end before l.td
-            (protocols-same h.under h.indicated.items h.bytes g holds.protocols);
+            (protocols-same h.under h.indicated h.bytes g holds.protocols);
         historical =
             omega (arith, k, holds.few);
       };
@@ -238,21 +234,21 @@ header-goes-on h holds awaits =
 
 -- ---- historical bytes and TCK
 
-tail-goes-on : (t : Tail) → TailHolds t → TailAwaits t → Unfinished (tail_taken t)
+tail-goes-on : (t : TailParts) → TailHolds t → TailAwaits t → Unfinished (tail_taken t)
 tail-goes-on t holds awaits =
-    let left : ℕ = t.historical_len - length t.historical.items in
+    let left : ℕ = t.historical_len - length t.historical in
     let zeros : List ℕ = replicate left 0 in
-    let hist : List ℕ = t.historical.items ++ zeros in
-    let tds : List Indicated = t.indicated.items in
+    let hist : List ℕ = t.historical ++ zeros in
+    let tds : List Indicated = t.indicated in
     let inter : List ℕ = interface_octets t.first tds in
     let n : length zeros ≡ left = length-replicate {A = ℕ} left 0 in
-    let k : length hist ≡ t.historical_len = omega (arith, length-append t.historical.items zeros, n, holds.within) in
+    let k : length hist ≡ t.historical_len = omega (arith, length-append t.historical zeros, n, holds.within) in
     let v : AtrParts = record { convention = t.convention; first = t.first; indicated = tds; historical = hist } in
     let tck : List ℕ = option_to_list (tck_of v) in
     let checked : checked_octets v ≡ tail_checked t ++ zeros =
     (λ i. announcing t.first (goes_on tds) (k i) ∷ inter ++ hist)
     ∙ ap (λ (b : List ℕ). announcing t.first (goes_on tds) t.historical_len ∷ b)
-    (sym (append_assoc inter t.historical.items zeros)) in
+    (sym (append_assoc inter t.historical zeros)) in
     let octets : AreOctets (checked_octets v) =
     subst AreOctets (sym checked) (octets-append (tail_checked t) zeros (λ i. holds.octets (suc i))
     (zeros-octets left)) in
@@ -277,13 +273,16 @@ tail-goes-on t holds awaits =
 
 -- ---- all stages
 
+goes-on-in : (a : AtrParts) (s : Phase) → HoldsIn a s → is_end s ≡ false → Unfinished (taken_in a s)
+goes-on-in a phase.Start h unended = (bare_of Direct, ts_of Direct, 0 ∷ [], from-ts Direct)
+goes-on-in a (phase.Opened c) h unended = (bare_of c, 0, [], from-ts c)
+goes-on-in a (phase.Header d) h unended = header-goes-on (heading a d) h.0 h.1
+goes-on-in a (phase.Tail t) h unended = tail-goes-on (tailing a t) h.0 h.1
+goes-on-in a phase.Whole h unended = absurd (cc)
+
 -- after what has come more must, unless it is all
 pub goes-on : (p : Partial) → Holds p → is_whole p ≡ false → Unfinished (taken_of p)
-goes-on partial.Start s unended = (plain Direct, ts_of Direct, 0 ∷ [], from-ts Direct)
-goes-on (partial.Opened c) s unended = (plain c, 0, [], from-ts c)
-goes-on (partial.Header h) s unended = header-goes-on h s.0 s.1
-goes-on (partial.Tail t) s unended = tail-goes-on t s.0 s.1
-goes-on (partial.Whole a) s unended = absurd (cc)
+goes-on p h unended = goes-on-in p.atr p.phase h unended
 
 -- what a longer spelling begins with is none
 unspelled : (c : List ℕ) (v : AtrParts) (n : ℕ) → n ≤ length c → Unfinished c → IsAtr v (take n c) → ⊥

@@ -8,7 +8,7 @@ use Rattle.octet_core.proofs.Lists.{octets-take}
 use Rattle.atr_core.specs.declared.atr.Convention.{Convention}
 use Rattle.atr_core.specs.declared.atr.Interface.{Interface}
 use Rattle.atr_core.specs.declared.atr.Indicated.{Indicated}
-use Rattle.atr_core.specs.declared.partial.Announced.{Announced}
+use Rattle.atr_core.specs.declared.announced.Announced.{Announced}
 use Rattle.atr_core.specs.Atr.{AtrParts, ts_of, bit_of, count_of, goes_on, td_bit, announcing, octets_of, interface_octets, td_octets, needs_tck, tck_of, checked_octets, spelling, IsAtr}
 use Rattle.atr_core.specs.Partial.{or_awaited, Announces}
 use Rattle.atr_core.specs.Whole.{IsSection, AreTds, AreTdsSoFar, IsEnded, HasSection, HasTds, HasTdsSoFar, HasHead, HasHeadBefore, tck_after}

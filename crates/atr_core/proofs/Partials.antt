@@ -3,18 +3,15 @@ use Rattle.std.proofs.Common.{◌≡◌, ◌≢◌, ℕ, suc, ◌+◌, ◌/◌, 
 use mir.Val.{bool_byte}
 use Rattle.std.proofs.lemmas.List.{length-append, append-nil}
 use Rattle.std.specs.List.{AllByRecursion, fold}
-use Rattle.arrayvec.specs.ArrayVec.{ArrayVec}
 use Rattle.octet_core.specs.Octets.{AreOctets, xor_of}
 use Rattle.octet_core.specs.Grammar.{IsFirst}
 use Rattle.octet_core.proofs.Lists.{octets-cons, octets-append, tail_is}
 use Rattle.atr_core.specs.declared.atr.Interface.{Interface}
 use Rattle.atr_core.specs.declared.atr.Indicated.{Indicated}
 use Rattle.atr_core.specs.declared.reason.AtrReason.TheVariants.{TooLong, BadTck}
-use Rattle.atr_core.specs.declared.partial.Announced.{Announced}
-use Rattle.atr_core.specs.declared.partial.Header.{Header}
-use Rattle.atr_core.specs.declared.partial.Tail.{Tail}
+use Rattle.atr_core.specs.declared.announced.Announced.{Announced}
 use Rattle.atr_core.specs.Atr.{count_of, AtrParts, ts_of, announcing, goes_on, octets_of, up_to_td, interface_octets, needs_tck, tck_of, checked_octets, EndsInTd, HasNibbles, IsProper, IsAtr, IsReason}
-use Rattle.atr_core.specs.Partial.{or_awaited, told, filled, no_bytes, Announces, awaits_byte, is_announced, AwaitsTd, awaited_count, InOrder, Puts, first_under, tds_under, first_of, tds_of, from_t0, header_checked, header_taken, HeaderHolds, tail_checked, tail_taken, parts_of, TailHolds, TailAwaits, TailEnds, IsTailStep}
+use Rattle.atr_core.specs.Partial.{HeaderParts, TailParts, closed, or_awaited, told, filled, no_bytes, Announces, awaits_byte, is_announced, AwaitsTd, awaited_count, InOrder, Puts, first_under, tds_under, first_of, tds_of, from_t0, header_checked, header_taken, HeaderHolds, tail_checked, tail_taken, parts_of, TailHolds, TailAwaits, TailEnds, IsTailStep}
 use Rattle.atr_core.proofs.Unique.{present, td_of, no-td}
 use Rattle.atr_core.proofs.Reasons.{ones-of}
 use Rattle.atr_core.proofs.Lengths.{spelling-length}
@@ -79,25 +76,26 @@ from_t0-byte (Some p) first xs f g l m k x same is =
     ∙ ap (λ (b : List ℕ). a ∷ b) (sym (append_assoc (up_to_td first xs (told f l p)) (octets_of f) (x ∷ [])))
 
 -- so it is one more of all that have come
-pub byte-taken : (h : Header) (g : Interface) (m : Announced) (x s n : ℕ) → Puts h.bytes h.awaited x g m
+pub byte-taken : (h : HeaderParts) (g : Interface) (m : Announced) (x s n : ℕ) → Puts h.bytes h.awaited x g m
     → header_taken (record h { bytes = g; awaited = m; sum = s; count = n }) ≡ header_taken h ++ x ∷ []
 byte-taken h g m x s n p = ap (λ (b : List ℕ). ts_of h.convention ∷ b)
-    (from_t0-byte h.under h.first h.indicated.items h.bytes g h.awaited m h.historical_len x p.same p.octets)
+    (from_t0-byte h.under h.first h.indicated h.bytes g h.awaited m h.historical_len x p.same p.octets)
 
 -- and the fields agree with the octets also after it
-pub byte-holds : (h : Header) (g : Interface) (m : Announced) (x : ℕ) → HeaderHolds h → x < 256
+pub byte-holds : (h : HeaderParts) (g : Interface) (m : Announced) (x : ℕ) → HeaderHolds h → x < 256
     → Puts h.bytes h.awaited x g m
     → HeaderHolds (record h { bytes = g; awaited = m; sum = bit_xor h.sum x; count = h.count + 1 })
 byte-holds h g m x holds lt p =
-    let more = from_t0-byte h.under h.first h.indicated.items h.bytes g h.awaited m h.historical_len x p.same p.octets
+    let more = from_t0-byte h.under h.first h.indicated h.bytes g h.awaited m h.historical_len x p.same p.octets
     in
     let taken = byte-taken h g m x (bit_xor h.sum x) (h.count + 1) p in
     record {
       few = holds.few;
-      protocols = protocols-same h.under h.indicated.items h.bytes g holds.protocols;
+      protocols = protocols-same h.under h.indicated h.bytes g holds.protocols;
       none = holds.none;
+      blank = holds.blank;
       ordered = p.ordered;
-      tck = holds.tck ∙ needs-same h.under h.indicated.items h.bytes g;
+      tck = holds.tck ∙ needs-same h.under h.indicated h.bytes g;
       octets = subst AreOctets (sym taken) (octets-push (header_taken h) x holds.octets lt);
       sum = ap (λ (s : ℕ). bit_xor s x) holds.sum ∙ sym (xor_of-push (header_checked h) x) ∙ ap xor_of (sym more);
       count = omega (arith, holds.count, ap length taken, length-append (header_taken h) (x ∷ []));
@@ -152,6 +150,16 @@ up-least f (y ∷ xs) td = omega (
   length-append (octets_of f) (announcing y.bytes true y.protocol ∷ up_to_td y.bytes xs td),
 )
 
+-- T0 and all up to a TD are as many whatever the TD is
+up-length : (f : Interface) (xs : List Indicated) (x y : ℕ) → length (up_to_td f xs x) ≡ length (up_to_td f xs y)
+up-length f [] x y = omega (arith, length-append (octets_of f) (x ∷ []), length-append (octets_of f) (y ∷ []))
+up-length f (n ∷ xs) x y = omega (
+  arith,
+  up-length n.bytes xs x y,
+  length-append (octets_of f) (announcing n.bytes true n.protocol ∷ up_to_td n.bytes xs x),
+  length-append (octets_of f) (announcing n.bytes true n.protocol ∷ up_to_td n.bytes xs y),
+)
+
 few-tds : (u : Option ℕ) (first : Interface) (xs : List Indicated) (f : Interface) (l : Announced) (k : ℕ)
     → IfNone u (xs ≡ []) → 1 + length (from_t0 u first xs f l k) ≤ 33 → length xs < 31
 few-tds None first xs f l k none le = omega (arith, ap length none)
@@ -159,8 +167,8 @@ few-tds (Some p) first xs f l k none le =
     omega (arith, le, up-least first xs (told f l p), length-append (up_to_td first xs (told f l p)) (octets_of f))
 
 -- one TD more has room
-pub td-room : (h : Header) → HeaderHolds h → length h.indicated.items < 31
-td-room h holds = few-tds h.under h.first h.indicated.items h.bytes h.awaited h.historical_len holds.none
+pub td-room : (h : HeaderParts) → HeaderHolds h → length h.indicated < 31
+td-room h holds = few-tds h.under h.first h.indicated h.bytes h.awaited h.historical_len holds.none
     (omega (arith, holds.count, holds.most))
 
 -- ---- a TD comes
@@ -191,11 +199,11 @@ fresh g m e =
     record { ta = λ _. (a, b, c); tb = λ _. (b, c); tc = λ _. c }
 
 -- a TD that comes where one is awaited is one octet more of those that have come
-pub td-taken : (h : Header) (g : Interface) (m : Announced) (x : ℕ) (tck : Bool) (s n : ℕ) → HeaderHolds h
+pub td-taken : (h : HeaderParts) (g : Interface) (m : Announced) (x : ℕ) (tck : Bool) (s n : ℕ) → HeaderHolds h
     → AwaitsTd h.awaited → g ≡ no_bytes → Announces m x
     → header_taken (record h {
       first = first_of h;
-      indicated = record { items = tds_of h };
+      indicated = tds_of h;
       under =
           Some (x % 16);
       bytes = g;
@@ -210,15 +218,16 @@ td-taken h g m x tck s n holds awaits none told-is =
     (λ i. ts_of h.convention ∷ a ∷ (up_to_td (first_of h) (tds_of h) (is i) ++ octets_of (none i)))
     ∙ ap (λ (l : List ℕ). ts_of h.convention ∷ a ∷ l) (append-nil (up_to_td (first_of h) (tds_of h) x))
     ∙ ap (λ (l : List ℕ). ts_of h.convention ∷ l)
-    (td-follows h.under h.first h.indicated.items h.bytes h.awaited h.historical_len x holds.none awaits.0 awaits.1)
+    (td-follows h.under h.first h.indicated h.bytes h.awaited h.historical_len x holds.none awaits.0 awaits.1)
 
 -- and the fields agree with the octets also after it, where the answer can have 33 octets at most
-pub td-holds : (h : Header) (g : Interface) (m : Announced) (x : ℕ) (tck : Bool) → HeaderHolds h → AwaitsTd h.awaited
+pub td-holds : (h : HeaderParts) (g : Interface) (m : Announced) (x : ℕ) (tck : Bool) → HeaderHolds h
+    → AwaitsTd h.awaited
     → x < 256 → g ≡ no_bytes → Announces m x → tck ≡ (not (x % 16 == 0) || h.tck)
     → h.count + 1 + count_ones (x / 16) + h.historical_len + count_of tck ≤ 33
     → HeaderHolds (record h {
       first = first_of h;
-      indicated = record { items = tds_of h };
+      indicated = tds_of h;
       under =
           Some (x % 16);
       bytes = g;
@@ -239,6 +248,7 @@ td-holds h g m x tck holds awaits lt none told-is tck-is most =
       few = holds.few;
       protocols = protocols-push (tds_of h) n holds.protocols (omega arith);
       none = tt;
+      blank = holds.blank;
       ordered = fresh g m none;
       tck = tck-is ∙ ap (λ (t : Bool). not (x % 16 == 0) || t) holds.tck ∙ sym (needs-push (tds_of h) n);
       octets = subst AreOctets (sym taken) (octets-push (header_taken h) x holds.octets lt);
@@ -253,7 +263,7 @@ some None first xs f l k = omega arith
 some (Some p) first xs f l k = omega arith
 
 -- where it can't, the reason is that the answer is too long
-pub td-refused : (h : Header) (x : ℕ) → HeaderHolds h → AwaitsTd h.awaited
+pub td-refused : (h : HeaderParts) (x : ℕ) → HeaderHolds h → AwaitsTd h.awaited
     → 33 < h.count + 1 + count_ones (x / 16) + h.historical_len + count_of (not (x % 16 == 0) || h.tck)
     → IsReason TooLong (header_taken h ++ x ∷ [])
 unfolding IsFirst
@@ -262,7 +272,7 @@ td-refused h x holds awaits over =
     let is : b ≡ ts_of h.convention ∷ announcing (first_of h) true h.historical_len ∷ up_to_td (first_of h) (tds_of h) x
     =
     ap (λ (l : List ℕ). ts_of h.convention ∷ l)
-    (sym (td-follows h.under h.first h.indicated.items h.bytes h.awaited h.historical_len x holds.none awaits.0
+    (sym (td-follows h.under h.first h.indicated h.bytes h.awaited h.historical_len x holds.none awaits.0
     awaits.1)) in
     let ends : EndsInTd b h.historical_len (tds_of h) x =
     record { few = holds.few; protocols = holds.protocols; convention = h.convention; first = first_of h; is = is }
@@ -275,7 +285,7 @@ td-refused h x holds awaits over =
         arith,
         m.0,
         length-append (header_checked h) (x ∷ []),
-        some h.under h.first h.indicated.items h.bytes h.awaited h.historical_len,
+        some h.under h.first h.indicated h.bytes h.awaited h.historical_len,
       ),
       inl ((h.historical_len, tds_of h, x, ends, omega (arith, over, count, tck)), refl),
     )
@@ -310,13 +320,12 @@ all-come (Some p) first xs f l k none e t =
     ∙ ap (λ (z : ℕ). announcing first true k ∷ up_to_td first xs z ++ octets_of f) (sym same)
 
 -- the octets after the last interface byte
-unfoldable pub ended : Header → Tail
+unfoldable pub ended : HeaderParts → TailParts
 ended h = record {
   convention = h.convention;
   first = first_of h;
-  indicated = record { items = tds_of h };
-  historical =
-      record { items = [] };
+  indicated = tds_of h;
+  historical = h.historical;
   historical_len = h.historical_len;
   tck = h.tck;
   sum = h.sum;
@@ -331,55 +340,96 @@ none-announced : (l : Announced) → is_announced l ≡ false → (awaits_byte l
 none-announced l e = both (awaits_byte l) l.td e
 
 -- where nothing is awaited, the octets from T0 on stay the same when the historical bytes begin
-pub end-checked : (h : Header) → HeaderHolds h → is_announced h.awaited ≡ false
+pub end-checked : (h : HeaderParts) → HeaderHolds h → is_announced h.awaited ≡ false
     → tail_checked (ended h) ≡ header_checked h
 unfolding ended
 end-checked h holds none =
     let parts = none-announced h.awaited none in
-    append-nil (announcing (first_of h) (goes_on (tds_of h)) h.historical_len ∷ interface_octets (first_of h)
-    (tds_of h))
-    ∙ all-come h.under h.first h.indicated.items h.bytes h.awaited h.historical_len holds.none parts.0 parts.1
+    let front : List ℕ = announcing (first_of h) (goes_on (tds_of h)) h.historical_len ∷ interface_octets (first_of h)
+    (tds_of h) in
+    ap (λ (l : List ℕ). front ++ l) holds.blank ∙ append-nil front
+    ∙ all-come h.under h.first h.indicated h.bytes h.awaited h.historical_len holds.none parts.0 parts.1
 
 -- so do all that have come
-pub end-taken : (h : Header) → HeaderHolds h → is_announced h.awaited ≡ false → tail_taken (ended h) ≡ header_taken h
+pub end-taken : (h : HeaderParts) → HeaderHolds h → is_announced h.awaited ≡ false
+    → tail_taken (ended h) ≡ header_taken h
 unfolding ended
 end-taken h holds none = ap (λ (l : List ℕ). ts_of h.convention ∷ l) (end-checked h holds none)
 
 -- and the fields agree with the octets also then
-pub end-holds : (h : Header) → HeaderHolds h → is_announced h.awaited ≡ false → TailHolds (ended h)
+pub end-holds : (h : HeaderParts) → HeaderHolds h → is_announced h.awaited ≡ false → TailHolds (ended h)
 unfolding ended
 end-holds h holds none =
     let taken = end-taken h holds none in
     let inter : List ℕ = interface_octets (first_of h) (tds_of h) in
     record {
       few = holds.few;
-      within = omega arith;
+      within = omega (arith, ap length holds.blank);
       protocols = holds.protocols;
       tck = holds.tck;
       octets = subst AreOctets (sym taken) holds.octets;
       sum = holds.sum ∙ ap xor_of (sym (end-checked h holds none));
-      most = omega (arith, holds.most, holds.count, ap length taken, length-append inter []);
+      most = omega (
+        arith,
+        holds.most,
+        holds.count,
+        ap length taken,
+        ap length holds.blank,
+        length-append inter h.historical,
+      );
+    }
+
+-- the answer with the bytes that come now is no longer than the octets that have come, and TCK
+length-closed : (u : Option ℕ) (first : Interface) (xs : List Indicated) (f : Interface) (l : Announced) (k : ℕ)
+    → IfNone u (xs ≡ [])
+    → length (from_t0 u first xs f l k) ≡ 1 + length (interface_octets (first_under u first f) (tds_under u xs f))
+length-closed None first xs f l k none = omega (arith, ap (λ (z : List Indicated). length (interface_octets f z)) none)
+length-closed (Some p) first xs f l k none =
+    let n : Indicated = record { protocol = p; bytes = f } in
+    omega (
+      arith,
+      ap length (interface-mid first xs n []),
+      length-append (up_to_td first xs (told f l p)) (octets_of f),
+      length-append (up_to_td first xs (announcing f false p)) (octets_of f),
+      up-length first xs (told f l p) (announcing f false p),
+    )
+
+-- so it has a spelling, of at most 33 octets
+pub closed-proper : (h : HeaderParts) → HeaderHolds h → IsProper (closed h)
+closed-proper h holds =
+    let same : count_of h.tck ≡ count_of (needs_tck (tds_of h)) = ap count_of holds.tck in
+    record {
+      nibbles = record { protocols = holds.protocols; historical = omega (arith, ap length holds.blank) };
+      most = omega (
+        arith,
+        holds.count,
+        holds.most,
+        spelling-length (closed h),
+        same,
+        ap length holds.blank,
+        length-closed h.under h.first h.indicated h.bytes h.awaited h.historical_len holds.none,
+      );
     }
 
 -- ---- historical bytes and TCK
 
 -- a historical byte that comes is one octet more from T0 on
-pub historical-taken : (t : Tail) (v : ArrayVec ℕ) (x s : ℕ) → v.items ≡ t.historical.items ++ x ∷ []
+pub historical-taken : (t : TailParts) (v : List ℕ) (x s : ℕ) → v ≡ t.historical ++ x ∷ []
     → tail_checked (record t { historical = v; sum = s }) ≡ tail_checked t ++ x ∷ []
 historical-taken t v x s e =
-    let front : List ℕ = announcing t.first (goes_on t.indicated.items) t.historical_len ∷ interface_octets t.first
-    t.indicated.items in
-    ap (λ (l : List ℕ). front ++ l) e ∙ sym (append_assoc front t.historical.items (x ∷ []))
+    let front : List ℕ = announcing t.first (goes_on t.indicated) t.historical_len ∷ interface_octets t.first
+    t.indicated in
+    ap (λ (l : List ℕ). front ++ l) e ∙ sym (append_assoc front t.historical (x ∷ []))
 
 -- and the fields agree with the octets also after it, where one more was to come
-pub historical-holds : (t : Tail) (v : ArrayVec ℕ) (x : ℕ) → TailHolds t → length t.historical.items < t.historical_len
-    → x < 256 → v.items ≡ t.historical.items ++ x ∷ []
+pub historical-holds : (t : TailParts) (v : List ℕ) (x : ℕ) → TailHolds t → length t.historical < t.historical_len
+    → x < 256 → v ≡ t.historical ++ x ∷ []
     → TailHolds (record t { historical = v; sum = bit_xor t.sum x })
 historical-holds t v x holds less lt e =
     let more = historical-taken t v x (bit_xor t.sum x) e in
     record {
       few = holds.few;
-      within = omega (arith, less, ap length e, length-append t.historical.items (x ∷ []));
+      within = omega (arith, less, ap length e, length-append t.historical (x ∷ []));
       protocols = holds.protocols;
       tck = holds.tck;
       octets = subst AreOctets (sym (ap (λ (l : List ℕ). ts_of t.convention ∷ l) more))
@@ -388,24 +438,44 @@ historical-holds t v x holds less lt e =
       most = holds.most;
     }
 
+-- the answer with it is proper
+pub historical-proper : (t : TailParts) (x : ℕ) → TailHolds t → length t.historical < t.historical_len
+    → IsProper (record (parts_of t) { historical = t.historical ++ x ∷ [] })
+historical-proper t x holds less =
+    let same : count_of t.tck ≡ count_of (needs_tck t.indicated) = ap count_of holds.tck in
+    record {
+      nibbles = record {
+        protocols = holds.protocols;
+        historical = omega (arith, holds.few, less, length-append t.historical (x ∷ []));
+      };
+      most = omega (
+        arith,
+        holds.most,
+        less,
+        spelling-length (record (parts_of t) { historical = t.historical ++ x ∷ [] }),
+        length-append t.historical (x ∷ []),
+        same,
+      );
+    }
+
 -- once all historical bytes have come
-pub all-checked : (t : Tail) → length t.historical.items ≡ t.historical_len
+pub all-checked : (t : TailParts) → length t.historical ≡ t.historical_len
     → checked_octets (parts_of t) ≡ tail_checked t
-all-checked t e = ap (λ (k : ℕ). announcing t.first (goes_on t.indicated.items) k ∷ interface_octets t.first
-    t.indicated.items ++ t.historical.items) e
+all-checked t e = ap (λ (k : ℕ). announcing t.first (goes_on t.indicated) k ∷ interface_octets t.first
+    t.indicated ++ t.historical) e
 
 -- once all historical bytes have come, their number and the protocols fit into the low nibbles
-pub tail-nibbles : (t : Tail) → TailHolds t → length t.historical.items ≡ t.historical_len → HasNibbles (parts_of t)
+pub tail-nibbles : (t : TailParts) → TailHolds t → length t.historical ≡ t.historical_len → HasNibbles (parts_of t)
 tail-nibbles t holds e = record { protocols = holds.protocols; historical = omega (arith, holds.few, e) }
 
 -- so the answer has a spelling, of at most 33 octets
-pub tail-proper : (t : Tail) → TailHolds t → length t.historical.items ≡ t.historical_len → IsProper (parts_of t)
+pub tail-proper : (t : TailParts) → TailHolds t → length t.historical ≡ t.historical_len → IsProper (parts_of t)
 tail-proper t holds e =
-    let same : count_of t.tck ≡ count_of (needs_tck t.indicated.items) = ap count_of holds.tck in
+    let same : count_of t.tck ≡ count_of (needs_tck t.indicated) = ap count_of holds.tck in
     record { nibbles = tail-nibbles t holds e; most = omega (arith, holds.most, spelling-length (parts_of t), e, same) }
 
 -- where TCK is to come, an octet that isn't the exclusive-or of those from T0 on is a wrong one
-pub tck-refused : (t : Tail) (x : ℕ) → TailHolds t → length t.historical.items ≡ t.historical_len → t.tck ≡ true
+pub tck-refused : (t : TailParts) (x : ℕ) → TailHolds t → length t.historical ≡ t.historical_len → t.tck ≡ true
     → x ≢ t.sum → IsReason BadTck (tail_taken t ++ x ∷ [])
 unfolding IsFirst
 tck-refused t x holds e tck differs =
@@ -433,7 +503,7 @@ tck-refused t x holds e tck differs =
     )
 
 -- and with the octet that is, they are a whole answer
-pub tck-taken : (t : Tail) (x : ℕ) → TailHolds t → length t.historical.items ≡ t.historical_len → t.tck ≡ true
+pub tck-taken : (t : TailParts) (x : ℕ) → TailHolds t → length t.historical ≡ t.historical_len → t.tck ≡ true
     → x ≡ t.sum → IsAtr (parts_of t) (tail_taken t ++ x ∷ [])
 tck-taken t x holds e tck same =
     let a : AtrParts = parts_of t in
@@ -447,7 +517,7 @@ tck-taken t x holds e tck same =
     ∙ ap (λ (l : List ℕ). ts_of t.convention ∷ checked_octets a ++ l) (sym stands))
 
 -- where no TCK is to come
-tail-whole : (t : Tail) → TailHolds t → length t.historical.items ≡ t.historical_len → t.tck ≡ false
+tail-whole : (t : TailParts) → TailHolds t → length t.historical ≡ t.historical_len → t.tck ≡ false
     → IsAtr (parts_of t) (tail_taken t)
 tail-whole t holds e tck =
     let a : AtrParts = parts_of t in
@@ -460,7 +530,7 @@ tail-whole t holds e tck =
     ∙ ap (λ (l : List ℕ). ts_of t.convention ∷ checked_octets a ++ l) (sym none))
 
 -- the octets with the one that came, told apart by whether more must come
-pub tail-step : (octets : List ℕ) (t : Tail) (b : Bool) → TailHolds t → tail_taken t ≡ octets
+pub tail-step : (octets : List ℕ) (t : TailParts) (b : Bool) → TailHolds t → tail_taken t ≡ octets
     → MatchBool b (TailAwaits t) (TailEnds t) → IsTailStep octets t (Ok (not b))
 tail-step octets t true holds is awaits = (holds, awaits, is)
 tail-step octets t false holds is ends = (
@@ -474,6 +544,6 @@ counted-true false le = absurd (omega arith)
 counted-true true le = refl
 
 -- where all historical bytes have come and more is awaited, it is TCK
-pub tck-awaited : (t : Tail) → TailHolds t → TailAwaits t → t.historical_len ≤ length t.historical.items
-    → (length t.historical.items ≡ t.historical_len) × (t.tck ≡ true)
+pub tck-awaited : (t : TailParts) → TailHolds t → TailAwaits t → t.historical_len ≤ length t.historical
+    → (length t.historical ≡ t.historical_len) × (t.tck ≡ true)
 tck-awaited t holds awaits le = (omega (arith, le, holds.within), counted-true t.tck (omega (arith, awaits, le)))

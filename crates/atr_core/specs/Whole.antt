@@ -4,18 +4,7 @@ use Rattle.std.specs.List.{AllByRecursion}
 use Rattle.octet_core.specs.Octets.{xor_of}
 use Rattle.atr_core.specs.declared.atr.Interface.{Interface}
 use Rattle.atr_core.specs.declared.atr.Indicated.{Indicated}
-use Rattle.atr_core.specs.declared.whole.Parts.{Parts}
-use Rattle.atr_core.specs.Atr.{AtrParts, announcing, goes_on, octets_of, td_octets, needs_tck}
-
--- the answer with these parts
-abbrev pub made_of : Parts → AtrParts
-made_of p = record {
-  convention = p.convention;
-  first = p.first;
-  indicated = p.indicated.items;
-  historical =
-      p.historical.items;
-}
+use Rattle.atr_core.specs.Atr.{announcing, goes_on, octets_of, td_octets, needs_tck}
 
 -- the bytes that the octet announces, whether a TD follows, and the rest of the octets after the bytes
 pub record IsSection (octet : ℕ) (octets : List ℕ) (bytes : Interface) (td : Bool) (rest : List ℕ) : Type 0 where

@@ -1,10 +1,14 @@
 //! Answers to reset as values.
 
-ghost use Rattle.std.specs.Prelude.{◌≡◌, ◌<◌, ◌≤◌, ◌↔◌, IsTrue, SomeIff, length, sum_by, ◌+◌};
+ghost use Rattle.std.specs.Prelude.{◌≡◌, ◌<◌, ◌≤◌, ◌↔◌, ◌++◌, ◌∷◌, [], IfNone, IfSome, IsTrue, SomeIff, length, sum_by, ◌+◌};
 ghost use Rattle.std.specs.Option.{option_or};
 ghost use Rattle.std.specs.List.{AllByRecursion};
-ghost use Rattle.atr_core.specs.Atr.{AtrParts, IsProper, interface_octets, needs_tck, octets_of};
+ghost use Rattle.octet_core.specs.Grammar.{Accepts, self_ended};
+ghost use Rattle.atr_core.specs.declared.atr.Convention.TheVariants.{Direct};
+ghost use Rattle.atr_core.specs.Atr.{AtrParts, IsAtr, IsProper, interface_octets, needs_tck, octets_of};
+ghost use Rattle.atr_core.specs.Partial.{IsBlank, bare_of, with_section};
 
+use crate::whole::read_parts;
 use arrayvec::ArrayVec;
 use std::marker::Model;
 
@@ -133,34 +137,77 @@ impl Atr {
         })
     }
 
-    /// Makes an answer of parts that are known to be proper.
-    pub(crate) fn of_parts(
-        convention: Convention,
-        first: Interface,
-        indicated: ArrayVec<Indicated, 31>,
-        historical: ArrayVec<u8, 15>,
-    ) -> Atr
-        requires { let parts : AtrParts = record {
-          convention = convention;
-          first = first;
-          indicated = indicated.items;
-          historical = historical.items;
-        } in
-            IsProper parts }
-        ensures { let parts : AtrParts = record {
-          convention = convention;
-          first = first;
-          indicated = indicated.items;
-          historical = historical.items;
-        } in
-            result ≡ parts }
+    /// Makes an answer of TS 3B, with no interface bytes and no historical bytes.
+    pub(crate) fn bare() -> Atr
+        ensures { result ≡ bare_of Direct }
     {
         Atr {
-            convention,
-            first,
-            indicated,
-            historical,
+            convention: Convention::Direct,
+            first: Interface::default(),
+            indicated: ArrayVec::new(),
+            historical: ArrayVec::new(),
         }
+    }
+
+    /// Sets the convention of an answer that is blank, and drops the bytes that T0 announces.
+    pub(crate) fn begin(&mut self, convention: Convention)
+        requires { IsBlank self.old }
+        ensures { self.new ≡ bare_of convention }
+    {
+        (self.convention, self.first) = (convention, Interface::default());
+    }
+
+    /// Drops all TDs and historical bytes.
+    pub(crate) fn clear(&mut self)
+        ensures { IsBlank self.new }
+    {
+        self.indicated.clear();
+        self.historical.clear();
+    }
+
+    /// Adds the interface bytes of T0, or, if they are under a TD, the TD with this protocol.
+    pub(crate) fn add_section(&mut self, under: Option<u8>, bytes: Interface)
+        requires room { length self.old.indicated < 31 }
+        requires proper { IsProper (with_section self.old under bytes) }
+        ensures { self.new ≡ with_section self.old under bytes }
+    {
+        match under {
+            None => self.first = bytes,
+            Some(protocol) => self.indicated.push(Indicated { protocol, bytes }),
+        }
+    }
+
+    /// Appends a historical byte.
+    pub(crate) fn push_historical(&mut self, octet: u8)
+        requires room { length self.old.historical < 15 }
+        requires proper { IsProper
+            (record self.old { historical = self.old.historical ++ octet ∷ [] }) }
+        ensures { self.new ≡ record self.old { historical = self.old.historical ++ octet ∷ [] } }
+    {
+        self.historical.push(octet);
+    }
+
+    /// Reads the answer at the front of the octets in its place, and returns how many octets it takes. The result is
+    /// `None` if there is no whole answer there; it doesn't say why.
+    #[inline]
+    pub(crate) fn read(&mut self, octets: &[u8]) -> Option<usize>
+        requires { IsBlank self.old }
+        ensures found { IfSome result
+            (λ count. Accepts self_ended IsAtr octets.now self.new count) }
+        ensures left { IfNone result (IsBlank self.new) }
+    {
+        let read = read_parts(
+            octets,
+            &mut self.convention,
+            &mut self.first,
+            &mut self.indicated,
+            &mut self.historical,
+        );
+        if read.is_none() {
+            self.indicated.clear();
+            self.historical.clear();
+        }
+        read
     }
 
     /// Returns how the card encodes octets, as TS says.

@@ -6,7 +6,6 @@ ghost use Rattle.atr_core.specs.Atr.{AtrParts, IsAtr, IsReason};
 
 use crate::length::whole_len;
 use crate::partial::Partial;
-use crate::whole::Parts;
 use crate::{Atr, AtrReason};
 use octet_core::Stop;
 
@@ -19,9 +18,9 @@ pub fn decode(octets: &[u8]) -> Result<(Atr, usize), Stop<AtrReason>>
     ensures found { IfOk result (λ found. Accepts self_ended IsAtr octets.now found.0 found.1) }
     ensures refused { IfErr result (λ stop. Refuses self_ended IsAtr IsReason octets.now stop) }
 {
-    let mut parts = Parts::new();
-    match parts.read(octets) {
-        Some(count) => Ok((parts.atr(), count)),
+    let mut atr = Atr::bare();
+    match atr.read(octets) {
+        Some(count) => Ok((atr, count)),
         None => by_octets(octets),
     }
 }
@@ -37,7 +36,7 @@ impl AtrRoom {
     /// Makes memory with no answer in it.
     pub fn new() -> Self {
         AtrRoom {
-            partial: Partial::Start,
+            partial: Partial::new(),
         }
     }
 
@@ -47,14 +46,14 @@ impl AtrRoom {
             (λ found. Accepts self_ended IsAtr octets.now found.0.now found.1) }
         ensures refused { IfErr result (λ stop. Refuses self_ended IsAtr IsReason octets.now stop) }
     {
-        self.partial = Partial::Start;
+        self.partial.restart();
         let count = match self.partial.take_piece(0, octets) {
             Ok(count) => count,
             Err(refusal) => return Err(refusal.stop()),
         };
-        match &self.partial {
-            Partial::Whole(atr) => Ok((atr, count)),
-            _ => Err(Stop::Short { place: count }),
+        match self.partial.answer() {
+            Some(atr) => Ok((atr, count)),
+            None => Err(Stop::Short { place: count }),
         }
     }
 }
@@ -81,14 +80,15 @@ fn len_by_octets(octets: &[u8]) -> Result<usize, Stop<AtrReason>>
         × Accepts self_ended IsAtr octets.now atr count) }
     ensures refused { IfErr result (λ stop. Refuses self_ended IsAtr IsReason octets.now stop) }
 {
-    let mut partial = Partial::Start;
+    let mut partial = Partial::new();
     let count = match partial.take_octets(0, octets) {
         Ok(count) => count,
         Err(refusal) => return Err(refusal.stop()),
     };
-    match partial {
-        Partial::Whole(_) => Ok(count),
-        _ => Err(Stop::Short { place: count }),
+    if partial.is_whole() {
+        Ok(count)
+    } else {
+        Err(Stop::Short { place: count })
     }
 }
 
@@ -98,13 +98,13 @@ fn by_octets(octets: &[u8]) -> Result<(Atr, usize), Stop<AtrReason>>
     ensures found { IfOk result (λ found. Accepts self_ended IsAtr octets.now found.0 found.1) }
     ensures refused { IfErr result (λ stop. Refuses self_ended IsAtr IsReason octets.now stop) }
 {
-    let mut partial = Partial::Start;
+    let mut partial = Partial::new();
     let count = match partial.take_octets(0, octets) {
         Ok(count) => count,
         Err(refusal) => return Err(refusal.stop()),
     };
-    match partial {
-        Partial::Whole(atr) => Ok((atr, count)),
-        _ => Err(Stop::Short { place: count }),
+    match partial.into_answer() {
+        Some(atr) => Ok((atr, count)),
+        None => Err(Stop::Short { place: count }),
     }
 }

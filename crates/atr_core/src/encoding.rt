@@ -1,16 +1,15 @@
 //! Encoding of answers to reset.
 
-ghost use Rattle.std.specs.Prelude.{◌≡◌, ◌+◌, ◌<◌, ◌≤◌, ◌++◌, length};
+ghost use Rattle.std.specs.Prelude.{◌≡◌, ◌+◌, ◌<◌, ◌≤◌, ◌++◌, bit_xor, fold, length};
 ghost use Rattle.std.specs.Option.{option_to_list};
 ghost use Rattle.std.specs.List.{AllByRecursion};
 ghost use Rattle.arrayvec.specs.ArrayVec.{array_vec_len};
-ghost use Rattle.octet_core.specs.Octets.{AreOctets};
+ghost use Rattle.octet_core.specs.Octets.{AreOctets, xor_of};
 ghost use Rattle.atr_core.specs.Atr.{IsAtr, IsProper, announcing, bit_of, checked_octets, octets_of, tck_of, td_octets, ts_of};
 
 use crate::atr::has_tck;
 use crate::{Atr, Convention, Indicated, Interface};
 use arrayvec::ArrayVec;
-use octet_core::lrc;
 
 /// Encodes the answer, from TS to TCK (ISO/IEC 7816-3, clause 8.2).
 pub fn encode(atr: &Atr) -> ArrayVec<u8, 33>
@@ -31,7 +30,7 @@ impl Atr {
     pub fn tck(&self) -> Option<u8>
         ensures { result ≡ tck_of self.now }
     {
-        has_tck(self.indicated()).then(|| lrc(checked_octets(self).as_slice()))
+        has_tck(self.indicated()).then(|| checked_sum(self))
     }
 }
 
@@ -57,7 +56,9 @@ fn ts(convention: Convention) -> u8
     }
 }
 
-/// Returns the octets that TCK checks: from T0 to the last historical byte.
+/// Returns the octets that TCK checks: from T0 to the last historical byte. This is a separate function so that its
+/// list is on the stack only while it runs.
+#[inline(never)]
 fn checked_octets(atr: &Atr) -> ArrayVec<u8, 32>
     ensures value { result.items ≡ checked_octets atr.now }
     ensures proper { IsProper atr.now }
@@ -73,6 +74,58 @@ fn checked_octets(atr: &Atr) -> ArrayVec<u8, 32>
     push_indicated(&mut octets, atr.indicated());
     push_all(&mut octets, historical);
     octets
+}
+
+/// Returns the exclusive-or of the octets that TCK checks. No octets are put together for it.
+fn checked_sum(atr: &Atr) -> u8
+    ensures { result ≡ xor_of (checked_octets atr.now) }
+{
+    let historical = atr.historical();
+    let t0 = announcing(
+        atr.first(),
+        !atr.indicated().is_empty(),
+        historical.len() as u8,
+    );
+    let sum = with_indicated(with_bytes(t0, atr.first()), atr.indicated());
+    with_octets(sum, historical)
+}
+
+/// Returns the exclusive-or of `sum` and octets.
+fn with_octets(sum: u8, octets: &[u8]) -> u8
+    ensures { result ≡ fold bit_xor sum octets.now }
+{
+    octets.iter().fold(sum, |sum, octet| sum ^ *octet)
+}
+
+/// Returns the exclusive-or of `sum`, each TD and the interface bytes that it announces.
+fn with_indicated(sum: u8, indicated: &[Indicated]) -> u8
+    requires { AllByRecursion (λ x. x.protocol < 16) indicated.now }
+    ensures { result ≡ fold bit_xor sum (td_octets indicated.now) }
+{
+    let mut sum = sum;
+    let mut rest = indicated;
+    while let [x, after @ ..] = rest {
+        sum = with_bytes(sum ^ x.octet(!after.is_empty()), x.bytes);
+        rest = after;
+    }
+    sum
+}
+
+/// Returns the exclusive-or of `sum` and the interface bytes that are present.
+fn with_bytes(sum: u8, bytes: Interface) -> u8
+    ensures { result ≡ fold bit_xor sum (octets_of bytes) }
+{
+    with_byte(with_byte(with_byte(sum, bytes.ta), bytes.tb), bytes.tc)
+}
+
+/// Returns the exclusive-or of `sum` and an interface byte, if it is present.
+fn with_byte(sum: u8, byte: Option<u8>) -> u8
+    ensures { result ≡ fold bit_xor sum (option_to_list byte) }
+{
+    match byte {
+        Some(byte) => sum ^ byte,
+        None => sum,
+    }
 }
 
 /// Appends each TD and the interface bytes that it announces.

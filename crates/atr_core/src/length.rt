@@ -5,7 +5,8 @@ ghost use Rattle.octet_core.specs.Grammar.{Accepts, self_ended};
 ghost use Rattle.atr_core.specs.Atr.{AtrParts, IsAtr};
 ghost use Rattle.atr_core.specs.Whole.{HasHeadBefore};
 
-use crate::partial::{Announced, opened};
+use crate::announced::Announced;
+use crate::partial::opened;
 use crate::whole::ended_after;
 
 /// Returns how many octets the answer at the front of the octets takes. The result is `None` if there is no

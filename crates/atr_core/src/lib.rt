@@ -7,9 +7,11 @@
 //! mean. No call allocates.
 #![tactic(auto)]
 
+mod announced;
 pub mod atr;
 pub mod decoding;
 pub mod encoding;
+mod header;
 pub mod laws;
 mod length;
 pub mod params;
@@ -17,6 +19,7 @@ mod partial;
 pub mod rating;
 pub mod reader;
 pub mod reason;
+mod tail;
 mod whole;
 
 pub use atr::{Atr, Convention, Indicated, Interface};

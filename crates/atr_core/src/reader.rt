@@ -1,6 +1,6 @@
 //! Reading of answers to reset that come in pieces.
 
-ghost use Rattle.std.specs.Prelude.{◌≡◌, ◌↔◌, ◌≤◌, ℕ, List, [], None, false, IfNone, IfSome, IsSome, IsNone, MatchOption, Ok, length};
+ghost use Rattle.std.specs.Prelude.{◌≡◌, ◌↔◌, ℕ, List, false, IsSome, IsNone, MatchOption, length};
 ghost use Rattle.octet_core.specs.Reader.{IsFed, IsFinished};
 ghost use Rattle.atr_core.specs.Atr.{AtrParts, IsAtr, IsReason};
 ghost use Rattle.atr_core.specs.Partial.{Holds, is_whole, taken_of};
@@ -11,7 +11,6 @@ ghost use Rattle.std.specs.Prelude.{IsTrue};
 use crate::atr::MOST_OCTETS;
 use crate::encoding::push_all;
 use crate::partial::Partial;
-use crate::whole::Parts;
 use crate::{Atr, AtrReason};
 use arrayvec::ArrayVec;
 use octet_core::{Refusal, Stop};
@@ -95,7 +94,7 @@ impl AtrReader {
         ensures { result ≡ nothing_taken }
     {
         AtrReader {
-            stage: Stage::Taken(Partial::Start),
+            stage: Stage::Taken(Partial::new()),
             octets: ArrayVec::new(),
         }
     }
@@ -162,7 +161,7 @@ impl AtrReader {
     pub fn reset(&mut self)
         ensures { self.new ≡ nothing_taken }
     {
-        self.stage = Stage::Taken(Partial::Start);
+        self.stage = Stage::Taken(Partial::new());
         self.octets.clear();
     }
 }
@@ -186,19 +185,6 @@ impl Partial {
             }
         }
         self.take_octets(count, piece)
-    }
-
-    /// Takes a whole answer from the front of a piece, before which no octet has come. Returns how many
-    /// octets it has, or `None` if there is no whole answer at the front.
-    #[inline(never)]
-    fn take_whole(&mut self, piece: &[u8]) -> Option<usize>
-        ensures taken { IfSome result (λ count. IsTaken [] piece.now self.new (Ok count)) }
-        ensures left { IfNone result (self.new ≡ self.old) }
-    {
-        let mut parts = Parts::new();
-        let count = parts.read(piece)?;
-        *self = Partial::Whole(parts.atr());
-        Some(count)
     }
 
     /// Takes octets of a piece as `take_piece` does, octet by octet.

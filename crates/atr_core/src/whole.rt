@@ -1,27 +1,19 @@
 //! Reading of a whole answer to reset in one pass.
 
-ghost use Rattle.std.specs.Prelude.{◌≡◌, ◌+◌, ◌-◌, ◌<◌, ◌≤◌, ◌++◌, ℕ, Bool, [], IfSome, length, take};
+ghost use Rattle.std.specs.Prelude.{◌≡◌, ◌+◌, ◌-◌, ◌<◌, ◌≤◌, ◌++◌, ℕ, [], IfSome, length, take};
 ghost use Rattle.std.specs.Option.{option_to_list};
 ghost use Rattle.octet_core.specs.Grammar.{Accepts, self_ended};
-ghost use Rattle.atr_core.specs.Atr.{IsAtr, IsProper, bit_of};
+ghost use Rattle.atr_core.specs.Atr.{IsAtr, bit_of};
 ghost use Rattle.atr_core.specs.Partial.{or_awaited};
-ghost use Rattle.atr_core.specs.Whole.{AreTds, IsEnded, IsSection, made_of, tck_after};
+ghost use Rattle.atr_core.specs.Whole.{AreTds, IsEnded, IsSection, tck_after};
 
+use crate::announced::Announced;
 use crate::atr::{MOST_OCTETS, has_tck};
 use crate::encoding::push_all;
-use crate::partial::{Announced, opened};
-use crate::{Atr, Convention, Indicated, Interface};
+use crate::partial::opened;
+use crate::{Convention, Indicated, Interface};
 use arrayvec::ArrayVec;
 use octet_core::lrc;
-
-/// The parts of an answer, each written to its final place.
-#[derive(Drop)]
-pub(crate) struct Parts {
-    convention: Convention,
-    first: Interface,
-    indicated: ArrayVec<Indicated, 31>,
-    historical: ArrayVec<u8, 15>,
-}
 
 /// The interface bytes that T0 or a TD announces, as read from the front of octets.
 #[derive(Clone, Copy)]
@@ -33,55 +25,41 @@ struct Section<'a> {
     rest: &'a [u8],
 }
 
-impl Parts {
-    /// Makes parts before any is read.
-    #[inline]
-    pub(crate) fn new() -> Parts
-        ensures indicated { result.indicated.items ≡ [] }
-        ensures historical { result.historical.items ≡ [] }
-    {
-        Parts {
-            convention: Convention::Direct,
-            first: Interface::default(),
-            indicated: ArrayVec::new(),
-            historical: ArrayVec::new(),
-        }
-    }
-
-    /// Reads the answer at the front of the octets, and returns how many octets it takes. The result is
-    /// `None` if there is no whole answer there; it doesn't say why.
-    #[inline]
-    pub(crate) fn read(&mut self, octets: &[u8]) -> Option<usize>
-        requires indicated { self.old.indicated.items ≡ [] }
-        requires historical { self.old.historical.items ≡ [] }
-        ensures { IfSome result (λ count.
-            Accepts self_ended IsAtr octets.now (made_of self.new) count) }
-    {
-        let [ts, from @ ..] = octets else {
-            return None;
-        };
-        let [t0, after @ ..] = from else {
-            return None;
-        };
-        let Ok(convention) = opened(*ts) else {
-            return None;
-        };
-        let section = read_section(*t0, after)?;
-        self.convention = convention;
-        self.first = section.bytes;
-        let tail = read_tds(&mut self.indicated, section.td, section.rest)?;
-        let tck = read_historical(&mut self.historical, usize::from(*t0 % 16), tail)?;
-        ended(from, tck, has_tck(self.indicated.as_slice()))
-    }
-
-    /// Returns the answer with these parts.
-    #[inline]
-    pub(crate) fn atr(self) -> Atr
-        requires { IsProper (made_of self) }
-        ensures { result ≡ made_of self }
-    {
-        Atr::of_parts(self.convention, self.first, self.indicated, self.historical)
-    }
+/// Reads the answer at the front of the octets, and returns how many octets it takes. Its parts are written to their
+/// final place. The result is `None` if there is no whole answer there; it doesn't say why.
+#[inline]
+pub(crate) fn read_parts(
+    octets: &[u8],
+    convention: &mut Convention,
+    first: &mut Interface,
+    indicated: &mut ArrayVec<Indicated, 31>,
+    historical: &mut ArrayVec<u8, 15>,
+) -> Option<usize>
+    requires indicated { indicated.old.items ≡ [] }
+    requires historical { historical.old.items ≡ [] }
+    ensures { IfSome result (λ count. Accepts self_ended IsAtr octets.now
+        (record {
+          convention = convention.new;
+          first = first.new;
+          indicated = indicated.new.items;
+          historical = historical.new.items;
+        }) count) }
+{
+    let [ts, from @ ..] = octets else {
+        return None;
+    };
+    let [t0, after @ ..] = from else {
+        return None;
+    };
+    let Ok(said) = opened(*ts) else {
+        return None;
+    };
+    let section = read_section(*t0, after)?;
+    *convention = said;
+    *first = section.bytes;
+    let tail = read_tds(indicated, section.td, section.rest)?;
+    let tck = read_historical(historical, usize::from(*t0 % 16), tail)?;
+    ended(from, tck, has_tck(indicated.as_slice()))
 }
 
 /// Reads the interface bytes that T0 or a TD announces from the front of the octets after it.

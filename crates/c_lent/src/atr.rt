@@ -238,7 +238,7 @@ pub fn tell(atr: &Atr, out: &mut CAtr)
     out.indicated_count = indicated.len() as u8;
     tell_indicated(indicated, &mut out.indicated);
     out.historical_count = octets.len() as u8;
-    out.historical = historical_array(octets);
+    tell_historical(octets, &mut out.historical);
     out.has_tck = u8::from(tck.is_some());
     out.tck = tck.unwrap_or(0);
 }
@@ -266,15 +266,14 @@ fn indicated_seen(x: Indicated) -> CIndicated
     }
 }
 
-/// Returns the historical bytes as an array: zeros come after them.
-fn historical_array(octets: &[u8]) -> [u8; 15]
+/// Writes the historical bytes to an array: zeros come after them.
+fn tell_historical(octets: &[u8], out: &mut [u8; 15])
     requires { length octets.now ≤ 15 }
-    ensures front { take (length octets.now) result ≡ octets.now }
-    ensures all { result ≡ octets.now ++ replicate (15 - length octets.now) 0 }
+    ensures front { take (length octets.now) out.new ≡ octets.now }
+    ensures all { out.new ≡ octets.now ++ replicate (15 - length octets.now) 0 }
 {
-    let mut array = [0; 15];
-    array[..octets.len()].copy_from_slice(octets);
-    array
+    *out = [0; 15];
+    out[..octets.len()].copy_from_slice(octets);
 }
 
 fn convention_seen(convention: Convention) -> u8

@@ -63,7 +63,8 @@ step-of before sound event octets burst card line granted own out result is same
     subst (λ (o : List ℕ). IsSteppedBy before (event_of sound) o burst card line granted own out result) same
     (subst (λ (n : ℕ). IsSteppedBy before n octets burst card line granted own out result) is h)
 
-unfoldable pub line-ran : {A B : Type 0} (old now new : A → List Sound → Type 0) (before_host host : B → List Event → Type 0)
+unfoldable pub line-ran : {A B : Type 0} (old now new : A → List Sound → Type 0)
+    (before_host host : B → List Event → Type 0)
     (card : CardState) (line : Line) (events : List Event) (before : Placed) (sound : Sound) (after : Placed)
     → Ran old now before_host host card line events before → Sounds now new (sound ∷ [])
     → (turn : IsLineTurn before sound after)
@@ -137,7 +138,8 @@ pub line-stopped : {A B : Type 0} (old now new : A → List Sound → Type 0)
     (before_host host : B → List Event → Type 0) (card : CardState) (line : Line) (most : ℕ) (fault : CardFault)
     (events : List Event) (before : Placed) (sound : Sound) (burst : List ℕ) (granted own : ℕ) (out : List ℕ)
     (card_after : CardState) (line_after : Line) → (ran : Ran old now before_host host card line events before)
-    → length ran.sounds + length ran.acts < most → Sounds now new (sound ∷ []) → IsAsked before.next before.out sound → HasHeard before.line.framer burst
+    → length ran.sounds + length ran.acts < most → Sounds now new (sound ∷ []) → IsAsked before.next before.out sound
+    → HasHeard before.line.framer burst
     → IsSteppedBy before (event_of sound) (octets_of sound) burst card_after line_after granted own out (Err fault)
     → Stopped old new before_host host card line most fault
 line-stopped old now new before_host host card line most fault events before sound burst granted own out card_after

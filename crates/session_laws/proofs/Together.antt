@@ -41,7 +41,8 @@ has-served first events last is =
     let all = is.served.begins.follows 0 [] used_up is.placed.card now in (
       all.0,
       subst (λ (card : CardState). Serves all.0 hears first events used_up card) is.is
-          (subst (λ (list : List Event). Serves all.0 hears first list used_up is.placed.card) (append-nil events) all.1),
+          (subst (λ (list : List Event). Serves all.0 hears first list used_up is.placed.card) (append-nil events)
+          all.1),
     )
 
 pub always-two-ends : AlwaysTwoEnds

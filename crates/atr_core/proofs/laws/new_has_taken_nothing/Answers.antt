@@ -1,7 +1,9 @@
 use Rattle.std.proofs.Common.{refl, sym, subst}
 use Rattle.octet_core.specs.Grammar.{Begins}
 use Rattle.atr_core.specs.Atr.{IsAtr}
-use Rattle.atr_core.specs.declared.partial.Partial.TheVariants as partial
+use Rattle.atr_core.specs.declared.atr.Convention.TheVariants.{Direct}
+use Rattle.atr_core.specs.declared.partial.Phase.TheVariants as phase
+use Rattle.atr_core.specs.Partial.{bare_of}
 use Rattle.atr_core.proofs.Feeding.{begun-open}
 use Rattle.atr_core.proofs.laws.new_has_taken_nothing.Goals as goal
 
@@ -12,6 +14,7 @@ returns c = λ t. (
     free = refl;
     is = e;
     begun =
-        subst (Begins IsAtr) (sym e) (begun-open partial.Start tt refl);
+        subst (Begins IsAtr) (sym e) (begun-open (record { atr = bare_of Direct; phase = phase.Start }) (refl, refl)
+        refl);
   },
 )

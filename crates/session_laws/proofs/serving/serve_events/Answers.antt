@@ -35,7 +35,8 @@ returns-in_err-action-clause-refused g c =
     let p = err_from_is_err_and c.from_residual.result c.from_residual.ensures.1 in
     rw (p.1, p.2) (host-stopped (g.D.TimedDevice.heard c.args.device.now) (g.D.TimedDevice.heard c.loop-left.device)
     (g.H.Host.served c.args.host.now) (g.H.Host.served c.loop-left.host) (g.H.Host.served c.reply_to.new.host) _ _ _ _ _
-    _ replied.0 _ _ _ _ _ c.loop-left.invariant.3.1 (omega (arith, c.loop-left.invariant.3.2)) replied.1 (replied.2 at.burst.0 at.burst.1))
+    _ replied.0 _ _ _ _ _ c.loop-left.invariant.3.1 (omega (arith, c.loop-left.invariant.3.2)) replied.1
+    (replied.2 at.burst.0 at.burst.1))
 
 pub loop-left-preserved-in-Asked : goal.loop-left-preserved-in-Asked
 unfolding host-ran
@@ -146,7 +147,8 @@ returns-then-is_last g c =
         c.step.new.out,
         _,
         ran,
-        no_more now.sounds (made-so-far now.sounds sound now.acts c.args.most _ c.loop-left.invariant.3.2 (search rules))
+        no_more now.sounds (made-so-far now.sounds sound now.acts c.args.most _ c.loop-left.invariant.3.2
+            (search rules))
             (rw same refl),
         over.served,
       );

@@ -2,7 +2,7 @@ use Rattle.std.proofs.Common.{◌≡◌, ◌∙◌, ◌-◌, ℕ, List, take, dr
 use Rattle.std.proofs.lemmas.Option.{IfSome_then}
 use Rattle.atr_core.specs.Atr.{AtrParts, needs_tck}
 use Rattle.atr_core.proofs.OnePass.{first-and-rest, whole-read}
-use Rattle.atr_core.proofs.whole.Parts.read.Goals as goal
+use Rattle.atr_core.proofs.whole.read_parts.Goals as goal
 
 pub returns : goal.returns
 returns c =
@@ -11,7 +11,7 @@ returns c =
     let after : List ℕ = take (length from - 1) (drop 1 from) in
     let section = c.in_ok-section.section in
     let a : AtrParts = record {
-      convention = c.in-Ok.convention;
+      convention = c.in-Ok.said;
       first = section.bytes;
       indicated =
           c.read_tds.new.indicated.items;
