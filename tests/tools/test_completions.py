@@ -30,7 +30,8 @@ FILES = "--junit --json --html"
 BENCH = (
     ("import report suite --scard --help", ""), ("report", "rep"), (f"{CAPTURE} --atr --help {FORMATS}", "import "),
     ("usbmon uart-csv", "import u"), (f"{CAPTURE} --answer {FILES} --help", "report ccid-log a.log "),
-    (f"--role --profile --declare --limit --only --list {FILES} --help", "suite "), ("card terminal", "suite --role "),
+    (f"--role --profile --device --serial --baud --clock --tolerance --declare --limit --only --list --topics {FILES} "
+     "--help", "suite "), ("card terminal", "suite --role "),
     ("iso emv", "suite --role card --profile "), ("", "suite --role card --declare "), ("--profile", "suite --p"),
     ("", "suite --role card -- "), ("usbmon", "--scard ./scard report usb"), ("--times --terminal", "import --t"),
     (f"{CAPTURE} --atr --help {FORMATS}", "import --session 2 "), ("", "import --rate "),
