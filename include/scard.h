@@ -173,16 +173,16 @@ struct scard_text {
  * - scard_status_text: of an enum scard_status ("SHORT").
  * - scard_turn_text: of an enum scard_turn_kind ("SEND") or an enum scard_session_next_kind ("SESSION_FAILED").
  * - scard_reason_text: of an enum scard_codec and a reason of that codec ("BadTck").
- * - scard_class_text: of an enum scard_status_class ("WARNING").
+ * - scard_status_class_text: of an enum scard_status_class ("WARNING").
  * - scard_shape_text: of an enum scard_shape ("CASE_2_SHORT").
- * - scard_about_text: of an enum scard_block_about ("RESYNCH").
+ * - scard_s_block_text: of an enum scard_block_about ("RESYNCH").
  */
 void scard_status_text(uint8_t status, struct scard_text *out);
 void scard_turn_text(uint8_t kind, struct scard_text *out);
 void scard_reason_text(uint8_t codec, uint8_t reason, struct scard_text *out);
-void scard_class_text(uint8_t kind, struct scard_text *out);
+void scard_status_class_text(uint8_t kind, struct scard_text *out);
 void scard_shape_text(uint8_t shape, struct scard_text *out);
-void scard_about_text(uint8_t about, struct scard_text *out);
+void scard_s_block_text(uint8_t about, struct scard_text *out);
 
 /* Writes to *out a sentence on a reason of a codec, to show to people: what is wrong with the octet at `place` of a
  * verdict AT ("TCK is wrong."). It is the comment on the reason above. For an unknown number the sentence is "". The
@@ -207,10 +207,10 @@ static inline const char *scard_turn_name(int kind)
     return name.text;
 }
 
-static inline const char *scard_class_name(int kind)
+static inline const char *scard_status_class_name(int kind)
 {
     struct scard_text name;
-    scard_class_text((uint8_t)(kind < 0 || kind > 255 ? 255 : kind), &name);
+    scard_status_class_text((uint8_t)(kind < 0 || kind > 255 ? 255 : kind), &name);
     return name.text;
 }
 
@@ -221,10 +221,10 @@ static inline const char *scard_shape_name(int shape)
     return name.text;
 }
 
-static inline const char *scard_about_name(int about)
+static inline const char *scard_s_block_name(int about)
 {
     struct scard_text name;
-    scard_about_text((uint8_t)(about < 0 || about > 255 ? 255 : about), &name);
+    scard_s_block_text((uint8_t)(about < 0 || about > 255 ? 255 : about), &name);
     return name.text;
 }
 

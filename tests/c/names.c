@@ -78,9 +78,9 @@ static void session_turns(void)
     }
 }
 
-#define CLASS(name) CHECK(is(scard_class_name(SCARD_CLASS_##name), #name))
+#define CLASS(name) CHECK(is(scard_status_class_name(SCARD_CLASS_##name), #name))
 #define SHAPE(name) CHECK(is(scard_shape_name(SCARD_##name), #name))
-#define ABOUT(name) CHECK(is(scard_about_name(SCARD_S_##name), #name))
+#define ABOUT(name) CHECK(is(scard_s_block_name(SCARD_S_##name), #name))
 
 static void classes_and_shapes(void)
 {
@@ -103,9 +103,9 @@ static void classes_and_shapes(void)
     ABOUT(ABORT);
     ABOUT(WTX);
     for (number = -300; number < 600; number++) {
-        CHECK(is(scard_class_name(number), "") == (number < SCARD_CLASS_NORMAL || number > SCARD_CLASS_INVALID));
+        CHECK(is(scard_status_class_name(number), "") == (number < SCARD_CLASS_NORMAL || number > SCARD_CLASS_INVALID));
         CHECK(is(scard_shape_name(number), "") == (number < SCARD_CASE_1 || number > SCARD_CASE_4_LONG));
-        CHECK(is(scard_about_name(number), "") == (number < SCARD_S_RESYNCH || number > SCARD_S_WTX));
+        CHECK(is(scard_s_block_name(number), "") == (number < SCARD_S_RESYNCH || number > SCARD_S_WTX));
     }
 }
 

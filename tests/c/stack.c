@@ -163,9 +163,9 @@ static void names(void)
 {
     scard_status_text(SCARD_AT, &text);
     scard_turn_text(SCARD_DONE, &text);
-    scard_class_text(SCARD_CLASS_INVALID, &text);
+    scard_status_class_text(SCARD_CLASS_INVALID, &text);
     scard_shape_text(SCARD_CASE_4_LONG, &text);
-    scard_about_text(SCARD_S_WTX, &text);
+    scard_s_block_text(SCARD_S_WTX, &text);
     scard_reason_text(SCARD_CODEC_CHAIN, SCARD_CHAIN_TOO_LONG, &text);
     scard_reason_sentence_text(SCARD_CODEC_CHAIN, SCARD_CHAIN_TOO_LONG, &text);
     scard_note_of(SCARD_NOTED_STATUS, 0x6F, 0x00, &note);

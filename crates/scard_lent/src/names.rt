@@ -23,7 +23,7 @@ pub extern "C" fn scard_turn_text(kind: u8, out: &mut CText)
 
 /// Returns the name of a class of status bytes; "" for any other number.
 #[unsafe(no_mangle)]
-pub extern "C" fn scard_class_text(kind: u8, out: &mut CText)
+pub extern "C" fn scard_status_class_text(kind: u8, out: &mut CText)
     ensures { out.new.octets.now ≡ ended (class_name kind) }
 {
     c_lent::names::class_text(kind, out)
@@ -39,7 +39,7 @@ pub extern "C" fn scard_shape_text(shape: u8, out: &mut CText)
 
 /// Returns the name of the subject of an S-block; "" for any other number.
 #[unsafe(no_mangle)]
-pub extern "C" fn scard_about_text(about: u8, out: &mut CText)
+pub extern "C" fn scard_s_block_text(about: u8, out: &mut CText)
     ensures { out.new.octets.now ≡ ended (about_name about) }
 {
     c_lent::names::about_text(about, out)

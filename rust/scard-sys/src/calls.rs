@@ -700,9 +700,9 @@ extern "C" {
     pub fn scard_status_text(status: u8, out: *mut scard_text);
     pub fn scard_turn_text(kind: u8, out: *mut scard_text);
     pub fn scard_reason_text(codec: u8, reason: u8, out: *mut scard_text);
-    pub fn scard_class_text(kind: u8, out: *mut scard_text);
+    pub fn scard_status_class_text(kind: u8, out: *mut scard_text);
     pub fn scard_shape_text(shape: u8, out: *mut scard_text);
-    pub fn scard_about_text(about: u8, out: *mut scard_text);
+    pub fn scard_s_block_text(about: u8, out: *mut scard_text);
     pub fn scard_reason_sentence_text(codec: u8, reason: u8, out: *mut scard_text);
     pub fn scard_note_of(about: u8, first: u8, second: u8, out: *mut scard_note);
     pub fn scard_is_text(octets: *const u8, count: usize) -> bool;

@@ -4,6 +4,7 @@ the caller's octets and structs to the module's function as windows (machine.h).
 import re
 import textwrap
 
+from apart import is_apart
 from bodies import TYPES, Passes, Writer, frames_of, looks_at_stack, own_frame
 from constants import Constants, rows
 from header import COUNT, NUMBERS
@@ -133,8 +134,8 @@ INLINE struct shaped shape_of_{name}(u32 leads_to)
 class Calls:
     """Writes the calls of a header over a module."""
 
-    def __init__(self, module, structs, calls, passes=Passes()):
-        self.module, self.structs, self.passes = module, structs, passes
+    def __init__(self, module, structs, calls, passes=Passes(), apart=()):
+        self.module, self.structs, self.passes, self.apart = module, structs, passes, tuple(apart)
         self.calls = [it for it in calls if it.name in module.exports]
         self.absent = [it.name for it in calls if it.name not in module.exports]
         if len(self.calls) != len(module.exports):
@@ -180,7 +181,8 @@ class Calls:
         function = self.module.functions[place]
         takes = [f"{TYPES[kind]} v{at}" for at, kind in enumerate(function.takes)]
         gives = TYPES[function.gives[0]] if function.gives else "void"
-        return wrapped(f"static {gives} {self.names[place]}(", ", ".join(["struct call *m", *takes]), ")")
+        kept = "KEPT" if is_apart(self.names[place], self.apart) else "static"
+        return wrapped(f"{kept} {gives} {self.names[place]}(", ", ".join(["struct call *m", *takes]), ")")
 
     def function(self, place):
         """Writes a function of the module."""

@@ -53,6 +53,15 @@ static void scard_trap(void)
 #define INLINE static inline
 #endif
 
+/* For functions that their source keeps apart from their callers. Under -Os gcc would merge one that is called once, and
+ * its locals would be on the stack below all that the caller calls.
+ */
+#if defined(__GNUC__) && defined(__OPTIMIZE_SIZE__)
+#define KEPT __attribute__((noinline)) static
+#else
+#define KEPT static
+#endif
+
 /* For functions that make one access: gcc may call them instead of inlining many, though that takes longer. */
 #if defined(__GNUC__) && defined(__OPTIMIZE__) && !defined(__OPTIMIZE_SIZE__)
 #define ACCESS __attribute__((unused, always_inline)) static inline

@@ -30,11 +30,11 @@ ABSENT = "/* These calls of scard.h aren't in this file, since they take memory:
 HERE = pathlib.Path(__file__).resolve().parent
 
 
-def text(octets, head, passes=Passes()):
-    """The file of C for a module and a header."""
+def text(octets, head, passes=Passes(), apart=()):
+    """The file of C for a module and a header. `apart` has the functions that the sources keep apart."""
     module = wasm.read(octets)
     structs, said = header.read(head)
-    made = Calls(module, structs, said, passes)
+    made = Calls(module, structs, said, passes, apart)
     functions = [made.function(it) for it in range(len(module.functions))]
     calls = [made.call(it) for it in made.calls]
     heads = [made.head(it) + ";" for it in range(len(module.functions))]
