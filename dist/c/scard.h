@@ -128,7 +128,7 @@ enum scard_chain_reason {
     SCARD_CHAIN_BAD_PCB = 2,         /* no block has this PCB */
     SCARD_CHAIN_NOT_INFO = 3,        /* the block is an R- or S-block */
     SCARD_CHAIN_BAD_SEQUENCE = 4,    /* the I-block has the wrong number */
-    SCARD_CHAIN_TOO_MANY_BLOCKS = 5, /* M=1 in the last block that a chain may have */
+    SCARD_CHAIN_TOO_MANY_BLOCKS = 5, /* the last block that a chain may have has M=1 */
     SCARD_CHAIN_BAD_LEN = 6,         /* LEN is FF */
     SCARD_CHAIN_OVER_IFS = 7,        /* LEN exceeds the information size */
     SCARD_CHAIN_TOO_LONG = 8,        /* the message would exceed its limit */
@@ -159,7 +159,7 @@ enum scard_dol_reason {
 };
 
 enum scard_hex_reason {
-    SCARD_HEX_DIGIT = 1, /* not a hexadecimal digit */
+    SCARD_HEX_DIGIT = 1, /* a character isn't a hexadecimal digit */
     SCARD_HEX_ODD = 2    /* the number of digits is odd; `place` is the length of the text */
 };
 
@@ -171,16 +171,30 @@ struct scard_text {
     scard_size size;  /* the number of its octets, including the terminating 0 */
 };
 
-/* Write the name of a number to *out. scard_status_text takes an enum scard_status ("SHORT"), scard_turn_text an enum
- * scard_turn_kind ("SEND"). scard_reason_text takes an enum scard_codec and a reason of that codec ("BadTck"). For an
- * unknown number the name is "". The library owns the text.
+/* Write the name of a number to *out. For an unknown number the name is "". The library owns the text.
+ *
+ * - scard_status_text: of an enum scard_status ("SHORT").
+ * - scard_turn_text: of an enum scard_turn_kind ("SEND") or an enum scard_session_next_kind ("SESSION_FAILED").
+ * - scard_reason_text: of an enum scard_codec and a reason of that codec ("BadTck").
+ * - scard_status_class_text: of an enum scard_status_class ("WARNING").
+ * - scard_shape_text: of an enum scard_shape ("CASE_2_SHORT").
+ * - scard_s_block_text: of an enum scard_block_about ("RESYNCH").
  */
 void scard_status_text(uint8_t status, struct scard_text *out);
 void scard_turn_text(uint8_t kind, struct scard_text *out);
 void scard_reason_text(uint8_t codec, uint8_t reason, struct scard_text *out);
+void scard_status_class_text(uint8_t kind, struct scard_text *out);
+void scard_shape_text(uint8_t shape, struct scard_text *out);
+void scard_s_block_text(uint8_t about, struct scard_text *out);
 
-/* Return the same names as C strings, for C and C++. The library owns the strings, so don't free them. For an unknown
- * number the name is "".
+/* Writes to *out a sentence on a reason of a codec, to show to people: what is wrong with the octet at `place` of a
+ * verdict AT ("TCK is wrong."). It is the comment on the reason above. For an unknown number the sentence is "". The
+ * library owns the text.
+ */
+void scard_reason_sentence_text(uint8_t codec, uint8_t reason, struct scard_text *out);
+
+/* Return the same texts as C strings, for C and C++. The library owns the strings, so don't free them. For an unknown
+ * number the text is "".
  */
 static inline const char *scard_status_name(int status)
 {
@@ -196,12 +210,41 @@ static inline const char *scard_turn_name(int kind)
     return name.text;
 }
 
+static inline const char *scard_status_class_name(int kind)
+{
+    struct scard_text name;
+    scard_status_class_text((uint8_t)(kind < 0 || kind > 255 ? 255 : kind), &name);
+    return name.text;
+}
+
+static inline const char *scard_shape_name(int shape)
+{
+    struct scard_text name;
+    scard_shape_text((uint8_t)(shape < 0 || shape > 255 ? 255 : shape), &name);
+    return name.text;
+}
+
+static inline const char *scard_s_block_name(int about)
+{
+    struct scard_text name;
+    scard_s_block_text((uint8_t)(about < 0 || about > 255 ? 255 : about), &name);
+    return name.text;
+}
+
 static inline const char *scard_reason_name(int codec, int reason)
 {
     struct scard_text name;
     int is_number = codec >= 0 && codec <= 255 && reason >= 0 && reason <= 255;
     scard_reason_text((uint8_t)(is_number ? codec : 0), (uint8_t)(is_number ? reason : 0), &name);
     return name.text;
+}
+
+static inline const char *scard_reason_sentence(int codec, int reason)
+{
+    struct scard_text sentence;
+    int is_number = codec >= 0 && codec <= 255 && reason >= 0 && reason <= 255;
+    scard_reason_sentence_text((uint8_t)(is_number ? codec : 0), (uint8_t)(is_number ? reason : 0), &sentence);
+    return sentence.text;
 }
 
 /* ---- explanations in words ---- */
@@ -405,6 +448,27 @@ SCARD_MUST_USE
 struct scard_verdict scard_block_encode(uint8_t nad, uint8_t pcb, const uint8_t *inf, size_t count,
                                         uint8_t *out, size_t room);
 
+/* The kind of a block, by its PCB. */
+enum scard_block_kind {
+    SCARD_BLOCK_NONE = 0, /* no block has this PCB */
+    SCARD_BLOCK_I = 1,
+    SCARD_BLOCK_R = 2,
+    SCARD_BLOCK_S_REQUEST = 3,
+    SCARD_BLOCK_S_RESPONSE = 4
+};
+
+/* The parts of a PCB. A part that the kind of block doesn't have is 0. */
+struct scard_pcb {
+    uint8_t kind;   /* enum scard_block_kind */
+    uint8_t number; /* N(S) of an I-block, or N(R) of an R-block: 0 or 1 */
+    uint8_t more;   /* I-block: 1 if more blocks of the chain follow */
+    uint8_t fault;  /* R-block: enum scard_block_fault */
+    uint8_t about;  /* S-block: enum scard_block_about */
+};
+
+/* Writes the parts of the control octet `pcb` to *out (ISO/IEC 7816-3, clause 11.3.2.2). */
+void scard_block_parts(uint8_t pcb, struct scard_pcb *out);
+
 /* ---- chains of I-blocks (ISO/IEC 7816-3, clause 11.6) ---- */
 
 /* Encodes one block of a message's chain, and writes it to `out`. The block carries the octets of the message from
@@ -542,6 +606,14 @@ struct scard_verdict scard_tlv_parts(const uint8_t *octets, size_t count, size_t
  */
 size_t scard_tlv_first(const struct scard_part *parts, size_t count, const struct scard_tag *path, size_t tags);
 
+/* Writes the header of a data object to `out`: its tag, and the shortest length field for a value of `len` octets
+ * (ISO/IEC 8825-1, clause 8.1). The octets of the value come after it. Those of a constructed object are the objects
+ * inside it. `len` is at most SCARD_TLV_LARGEST. Room: at most 7. ARGUMENT with place 0: `tag` is no tag, or `len` is
+ * larger. Returns OK, ARGUMENT.
+ */
+SCARD_MUST_USE
+struct scard_verdict scard_tlv_header(const struct scard_tag *tag, size_t len, uint8_t *out, size_t room);
+
 /* Checks whether the octets are a valid data object list (EMV 4.3 Book 3, clause 5.4): tags, and a length octet after
  * each. The call allocates nothing. Returns OK, SHORT, AT (enum scard_dol_reason).
  */
@@ -561,6 +633,12 @@ struct scard_entry {
  */
 SCARD_MUST_USE
 struct scard_verdict scard_dol_entries(const uint8_t *octets, size_t count, struct scard_entry *entries, size_t room);
+
+/* Writes an entry of a data object list to `out`: its tag, and the length of the value that the list requests. Room: at
+ * most 4. ARGUMENT with place 0: `tag` is no tag. Returns OK, ARGUMENT.
+ */
+SCARD_MUST_USE
+struct scard_verdict scard_dol_entry(const struct scard_tag *tag, uint8_t len, uint8_t *out, size_t room);
 
 /* How scard_dol_fill cuts or pads a value to the length that a list requests. */
 enum scard_format {
@@ -986,6 +1064,14 @@ struct scard_verdict scard_lent_receiver_finish(const struct scard_lent_receiver
 SCARD_MUST_USE
 struct scard_verdict scard_lent_receiver_message(const struct scard_lent_receiver *state,
                                                  const uint8_t *message, size_t room);
+
+/* Begins a receiver anew, for a chain whose first block has the number `ns`, 0 or 1. It keeps the information size and
+ * the limit. The call sets every octet of the buffer to 0, so nothing is left of the last message. Returns OK with
+ * place 0; or ARGUMENT (`ns` isn't 0 or 1, or as above), and then nothing changes.
+ */
+SCARD_MUST_USE
+struct scard_verdict scard_lent_receiver_restart(struct scard_lent_receiver *state, uint8_t *message, size_t room,
+                                                 uint8_t ns);
 
 /* ---- a block and an answer to reset in pieces, without an allocator ---- */
 
@@ -1664,7 +1750,8 @@ enum scard_struct {
     SCARD_STRUCT_LENT_SETUP = 36,
     SCARD_STRUCT_LENT_SESSION = 37,
     SCARD_STRUCT_LENT_CARD_SESSION = 38,
-    SCARD_STRUCT_SESSION_NEXT = 39
+    SCARD_STRUCT_SESSION_NEXT = 39,
+    SCARD_STRUCT_PCB = 40
 };
 
 /* Returns the size in octets that a struct has in the library, to compare with its sizeof. `number` is an enum

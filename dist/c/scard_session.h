@@ -140,21 +140,10 @@ struct scard_setup {
  *   and begin again.
  */
 
-/* Returns the name of a kind: of those above, such as "SESSION_FAILED", or of scard_turn_name. */
+/* Returns the name of a kind: that of scard_turn_name. */
 static inline const char *scard_session_turn_name(int kind)
 {
-    switch (kind) {
-    case SCARD_SESSION_FAILED:
-        return "SESSION_FAILED";
-    case SCARD_SESSION_USED_UP:
-        return "SESSION_USED_UP";
-    case SCARD_SESSION_NO_STATUS:
-        return "SESSION_NO_STATUS";
-    case SCARD_SESSION_ECHO:
-        return "SESSION_ECHO";
-    default:
-        return scard_turn_name(kind);
-    }
+    return scard_turn_name(kind);
 }
 
 /* ---- the loop of both ends ---- */
