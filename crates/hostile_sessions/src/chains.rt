@@ -227,14 +227,6 @@ impl Failing {
             Failing::End => After::End,
         }
     }
-
-    /// Returns the result of reading if the reader fails in this way after `place` octets.
-    fn at(self, place: usize) -> Came {
-        match self {
-            Failing::End => Came::Ended(place),
-            Failing::Fails | Failing::Interrupted => Came::Failed(place),
-        }
-    }
 }
 
 /// Whether a writer that fails for good after `place` octets has taken exactly these, and the fault

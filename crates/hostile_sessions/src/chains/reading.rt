@@ -48,6 +48,16 @@ enum Came {
     Ended(usize),
 }
 
+impl Failing {
+    /// Returns the result of reading if the reader fails in this way after `place` octets.
+    fn at(self, place: usize) -> Came {
+        match self {
+            Failing::End => Came::Ended(place),
+            Failing::Fails | Failing::Interrupted => Came::Failed(place),
+        }
+    }
+}
+
 /// Whether the result says that a reader that fails for good did so after `place` octets.
 fn is_read_until(
     alloc: Global,
