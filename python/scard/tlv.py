@@ -30,7 +30,9 @@ def _tag_of(tag: Tag) -> bytes:
 
 def _path_of(path: Path) -> Tuple[bytes, ...]:
     """The tags of a path."""
-    return tuple(map(_tag_of, path.split("/") if isinstance(path, str) else path))
+    if isinstance(path, str):
+        return tuple(_tag_of(tag) for tag in path.split("/"))
+    return tuple(_tag_of(tag) for tag in path)
 
 
 def _built(objects: Objects) -> bytes:
