@@ -445,6 +445,8 @@ class Writer:
 
     def set(self, place):
         value = self.pop()
+        if value.text == f"v{place}":
+            return
         self.settle(f"v{place}")
         self.say(f"v{place} = {value.text};")
         self.near.changed(place)
