@@ -18184,7 +18184,6 @@ after8:;
     store8(m, v7 + v1, 0, v2);
     v7 = 0ull;
 after7:;
-    v6 = v6;
 after2:;
     p158 = held(m, v0, 16);
     put_held64(p158, 8, m, v0, v6);
