@@ -1,0 +1,59 @@
+#!/usr/bin/env python3
+"""Tests tools/gate/facts: it names each list that differs from its source, and what the list lacks."""
+
+import sys
+import unittest
+import unittest.mock
+
+sys.dont_write_bytecode = True
+from copies import OverCopies, printed, script
+
+tool = script("gate/facts")
+# a name of each fact, and the file of each list that repeats it
+REPEATED = [
+    (tool.RULE, '"no repeat"', '"none again"', [tool.JUDGE, tool.SCHEMA]),
+    (tool.RULE, '"11.3.4"', '"11.3.5"', [tool.JUDGE]),
+    (tool.RULE, "    Unasked,\n", "    Unwanted,\n", [tool.HEADER]),
+    (tool.STATE, '"any block"', '"all"', [tool.JUDGE, tool.SCHEMA]),
+    ("crates/card_kinds/src/block.rt", '"WTX"', '"WAIT"', [tool.SAYING, tool.SCHEMA, tool.HEADER, tool.SECOND]),
+    ("crates/card_words/src/words.rt", '"dol" => Ok', '"list" => Ok', [tool.OBJECT, tool.SCHEMA, tool.ANSWERS, tool.BASH]),
+    (tool.FORMS, '"draw", &DRAW', '"paint", &DRAW', [tool.BASH]),
+    (tool.FORM, '"dump" => Ok', '"lump" => Ok', [tool.BASH]),
+]
+FILES = sorted({tool.RULE, tool.STATE, tool.PCB, tool.KIND, tool.FORM, tool.SAYING, tool.OBJECT, tool.FORMS, tool.JUDGE,
+                tool.ANSWERS, tool.SCHEMA, tool.HEADER, tool.BASH, tool.SECOND, *(it[0] for it in REPEATED)})
+
+
+class Facts(OverCopies):
+    FILES = FILES
+
+    def setUp(self):
+        super().setUp()
+        patch = unittest.mock.patch.object(tool, "TOP", self.top)
+        patch.start()
+        self.addCleanup(patch.stop)
+
+    def said(self, *words):
+        """The status and the output of a call."""
+        return printed(tool.main, [*words])
+
+    def test_the_lists_of_the_repository_are_as_their_sources(self):
+        self.assertEqual(self.said()[0], 0)
+
+    def test_each_list_without_a_new_name_is_named(self):
+        for source, old, new, lists in REPEATED:
+            self.change(source, old, new)
+            status, said = self.said()
+            self.assertEqual(status, 1)
+            for file in lists:
+                self.assertRegex(said, rf"facts: .*: {file}.* lacks \[", (source, old))
+            self.restore(source)
+
+    def test_another_order_is_named(self):
+        self.change(tool.SCHEMA, '"RESYNCH", "IFS"', '"IFS", "RESYNCH"')
+        self.assertEqual(self.said()[0], 1)
+        self.assertIn("has another order", self.said()[1])
+
+
+if __name__ == "__main__":
+    unittest.main()
