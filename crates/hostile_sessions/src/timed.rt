@@ -1,17 +1,21 @@
-//! Exchanges over lines with a clock, on which each block may be harmed: one octet is changed, octets are missing at
-//! its end or follow it, or all of it is lost.
+//! Calls of the loops over steps, on a line on which each block may be harmed: one octet is changed, octets are
+//! missing at its end or follow it, or all of it is lost.
 //!
 //! No answer may be wrong. The card may act only on commands that were sent, and on each of them at most once.
 
-ghost use Rattle.std.specs.Prelude.{◌<◌, ◌≤◌, length};
+ghost use Rattle.std.specs.Prelude.{◌≡◌, ◌<◌, ◌≤◌, length, false, IfSome};
+ghost use Rattle.session_core.specs.Wire.{is_set};
+ghost use Rattle.session_laws.specs.Ending.{HasBurst};
 
 use atr_core::T1Params;
-use line_core::{Host, Silences, TimedDevice, TimedLine, TransceiveFault, exchange, serve};
+use line_core::{Framer, Host, TimedDevice};
 use rand_core::utils::NextWord;
 use rand_pcg::Pcg32;
+use session_core::{Action, FOREVER, Limits, Line, Progress, Rules};
+use session_laws::{ask_ifs_ends, exchange_ends, resynch_ends, serve_events};
 use std::alloc::Global;
 use std::io;
-use t1_core::{Card, Terminal};
+use t1_core::{LentCard, LentTerminal};
 use test_support::{Case, Fault, Share};
 
 /// The answer to reset of a card that takes fields of 32 octets.
@@ -23,14 +27,19 @@ const SESSIONS: u32 = 500;
 const EXCHANGES: u8 = 20;
 
 /// The most blocks of an exchange.
-const BLOCKS: usize = 100;
+const BLOCKS: u32 = 100;
 
-const SILENCES: Silences = Silences {
-    bwt: 1_000,
-    cwt: 100,
-    after: 22,
-    refuses_empty: true,
+/// The limits of a call.
+const LIMITS: Limits = Limits {
+    time: FOREVER,
+    blocks: BLOCKS,
 };
+
+/// The most turns of a card for one block: more than a block has octets.
+const TURNS: usize = 1_000;
+
+/// How many octets a command has.
+const COMMAND: usize = 5;
 
 /// How many octets a reply has, more than one block takes: zeros, and at the end a number and the status bytes.
 const REPLY: usize = 60;
@@ -89,7 +98,7 @@ impl Queue {
 }
 
 /// Returns the command with this number. It has a sum, so that other octets are hardly ever a command.
-fn command_of(number: u8) -> [u8; 5] {
+fn command_of(number: u8) -> [u8; COMMAND] {
     [0x00, 0xB0, number, number ^ 0x5A, 0x00]
 }
 
@@ -214,12 +223,87 @@ impl TimedDevice for Desk {
     }
 }
 
+/// Returns the line of an end that hasn't used it yet. Times are in microseconds.
+fn line_of(is_card: u8) -> Line
+    ensures burst { HasBurst result }
+    ensures end { is_set result.rules.is_card ≡ is_set is_card }
+    ensures clock { is_set result.rules.has_clock ≡ false }
+{
+    let rules = Rules {
+        bwt: 1_000,
+        cwt: 100,
+        bgt: 22,
+        after: 22,
+        octet: 12,
+        most_time: FOREVER,
+        most_blocks: BLOCKS,
+        has_clock: 0,
+        has_echo: 0,
+        refuses_empty: 1,
+        is_card,
+    };
+    let progress = Progress::new(&rules);
+    let framer = Framer::new();
+    Line {
+        rules,
+        progress,
+        framer,
+    }
+}
+
+/// A card with its buffers and its application.
+#[derive(Drop)]
+struct Chip {
+    card: LentCard,
+    command: [u8; COMMAND],
+    reply: [u8; REPLY],
+    application: Application,
+}
+
+impl Chip {
+    fn new(params: T1Params) -> Chip {
+        let mut command = [0; COMMAND];
+        let mut reply = [0; REPLY];
+        Chip {
+            card: LentCard::begin(params, &mut command, &mut reply),
+            command,
+            reply,
+            application: Application {
+                next: 0,
+                wrong: 0,
+                reply: [0; REPLY],
+            },
+        }
+    }
+
+    /// Serves what came to the card, and returns what it sent.
+    fn serve(&mut self, here: Queue) -> Queue {
+        let mut desk = Desk {
+            here,
+            said: Queue::new(),
+        };
+        if self.card.fits(self.command.len(), self.reply.len()) {
+            let _served = serve_events(
+                &mut self.card,
+                &mut line_of(1),
+                &mut self.command,
+                &mut self.reply,
+                &mut desk,
+                &mut self.application,
+                &mut [0; ROOM],
+                TURNS,
+            )
+            .is_ok();
+        }
+        desk.said
+    }
+}
+
 /// The terminal's side, with the card at its end.
 #[derive(Drop)]
 struct Wire {
     generator: Pcg32,
-    card: Card,
-    application: Application,
+    chip: Chip,
     back: Queue,
 }
 
@@ -227,17 +311,9 @@ impl TimedDevice for Wire {
     ghost heard = { λ _ _ _. Unit {0} };
 
     fn send(&mut self, octets: &[u8]) -> io::Result<()> {
-        let desk = Desk {
-            here: harmed(&mut self.generator, octets),
-            said: Queue::new(),
-        };
-        let mut line = TimedLine::new(desk, SILENCES);
-        let _served = serve(&mut self.card, &mut line, &mut self.application, 2).is_ok();
-        let said = line.into_device().said;
-        self.back = harmed(
-            &mut self.generator,
-            said.octets.get(..said.end).unwrap_or(&[]),
-        );
+        let said = self.chip.serve(harmed(&mut self.generator, octets));
+        let sent = said.octets.get(..said.end).unwrap_or(&[]);
+        self.back = harmed(&mut self.generator, sent);
         Ok(())
     }
 
@@ -255,58 +331,138 @@ struct Tally {
     wrong: u32,
 }
 
-/// Runs the exchange with this number, and returns whether the card is still alive.
-fn exchanged(
-    terminal: &mut Terminal,
-    line: &mut TimedLine<Wire>,
-    number: u8,
-    tally: &mut Tally,
-) -> bool {
-    match exchange(terminal, line, &command_of(number), BLOCKS) {
-        Ok(answer) if answer == reply_of(number).as_slice() => tally.right = tally
-            .right
-            .saturating_add(1),
-        Err(TransceiveFault::GivenUp) => tally.given_up = tally.given_up.saturating_add(1),
-        Err(TransceiveFault::Dead) => {
-            tally.dead = tally.dead.saturating_add(1);
-            return false;
+/// What the terminal's application calls for.
+#[derive(Clone, Copy)]
+enum Call {
+    Resynch,
+    /// A size of information fields.
+    Size(u8),
+    /// The exchange with this number.
+    Exchange(u8),
+}
+
+/// A terminal with its buffers.
+#[derive(Drop)]
+struct Post {
+    terminal: LentTerminal,
+    command: [u8; COMMAND],
+    answer: [u8; REPLY],
+}
+
+impl Post {
+    fn new(params: T1Params) -> Post {
+        let mut command = [0; COMMAND];
+        let mut answer = [0; REPLY];
+        Post {
+            terminal: LentTerminal::begin(params, &mut command, &mut answer),
+            command,
+            answer,
         }
-        _ => tally.wrong = tally.wrong.saturating_add(1),
     }
-    true
+
+    /// Runs the loop of a call, and returns its last action.
+    fn run(&mut self, line: &mut Line, wire: &mut Wire, call: Call) -> Option<Action>
+        requires terminal { is_set line.old.rules.is_card ≡ false }
+        requires clock { is_set line.old.rules.has_clock ≡ false }
+        requires burst { HasBurst line.old }
+        ensures { IfSome result (λ _. (is_set line.new.rules.is_card ≡ false)
+            × (is_set line.new.rules.has_clock ≡ false) × HasBurst line.new) }
+    {
+        let Post {
+            terminal: end,
+            command,
+            answer,
+        } = self;
+        if !end.fits(command.len(), answer.len()) {
+            return None;
+        }
+        let room = &mut [0; ROOM];
+        let ended = match call {
+            Call::Resynch => resynch_ends(end, line, command, answer, wire, room).ok()?,
+            Call::Size(size) => {
+                ask_ifs_ends(end, line, LIMITS, command, answer, size, wire, room).ok()?
+            }
+            Call::Exchange(number) => {
+                let octets = command_of(number);
+                exchange_ends(end, line, LIMITS, command, answer, &octets, wire, room).ok()?
+            }
+        };
+        Some(ended.action)
+    }
+}
+
+/// Counts a card that is dead, or a loop that ended as none may, and returns whether the session goes on after the
+/// call before the exchanges.
+fn has_begun(action: Action, tally: &mut Tally) -> bool {
+    match action {
+        Action::GivenUp | Action::IfsSet => true,
+        Action::Dead => {
+            tally.dead = tally.dead.saturating_add(1);
+            false
+        }
+        _ => {
+            tally.wrong = tally.wrong.saturating_add(1);
+            false
+        }
+    }
+}
+
+/// Counts how the exchange with this number ended, and returns whether the session goes on.
+fn counted(action: Action, answer: &[u8], number: u8, tally: &mut Tally) -> bool {
+    match action {
+        Action::Answered(count) if answer.get(..count) == Some(&reply_of(number)) => {
+            tally.right = tally.right.saturating_add(1);
+            true
+        }
+        Action::GivenUp => {
+            tally.given_up = tally.given_up.saturating_add(1);
+            true
+        }
+        Action::Dead => {
+            tally.dead = tally.dead.saturating_add(1);
+            false
+        }
+        _ => {
+            tally.wrong = tally.wrong.saturating_add(1);
+            false
+        }
+    }
 }
 
 /// Runs a session of a new terminal and a new card.
-fn session(alloc: Global, seed: u32, tally: &mut Tally) -> Result<(), Fault> {
+fn session(seed: u32, tally: &mut Tally) {
     let Some(params) = T1Params::new(32, 4, 5) else {
-        return Err(Fault::Stream);
+        return tally.wrong = tally.wrong.saturating_add(1);
     };
-    let mut terminal = Terminal::new(alloc, params)?;
     let wire = Wire {
         generator: Pcg32::new(u64::from(seed), 7),
-        card: Card::new(alloc, params)?,
-        application: Application {
-            next: 0,
-            wrong: 0,
-            reply: [0; REPLY],
-        },
+        chip: Chip::new(params),
         back: Queue::new(),
     };
-    go_through(&mut terminal, wire, tally);
-    Ok(())
+    go_through(Post::new(params), wire, tally);
 }
 
-/// Runs all exchanges of a session.
-fn go_through(terminal: &mut Terminal, wire: Wire, tally: &mut Tally) {
-    let mut line = TimedLine::new(wire, SILENCES);
+/// Runs a session: RESYNCH, a request for a size, and the exchanges.
+fn go_through(mut post: Post, mut wire: Wire, tally: &mut Tally) {
+    let mut line = line_of(0);
+    let calls = [Call::Resynch, Call::Size(48)];
+    for call in calls {
+        let Some(action) = post.run(&mut line, &mut wire, call) else {
+            return tally.wrong = tally.wrong.saturating_add(1);
+        };
+        if !has_begun(action, tally) {
+            return;
+        }
+    }
     for number in 0..EXCHANGES {
-        if !exchanged(terminal, &mut line, number, tally) {
+        let Some(action) = post.run(&mut line, &mut wire, Call::Exchange(number)) else {
+            return tally.wrong = tally.wrong.saturating_add(1);
+        };
+        if !counted(action, &post.answer, number, tally) {
             break;
         }
     }
-    tally.wrong = tally
-        .wrong
-        .saturating_add(line.into_device().application.wrong);
+    tally.wrong = tally.wrong.saturating_add(wire.chip.application.wrong);
 }
 
 /// Runs sessions in which a quarter of all blocks are harmed.
@@ -319,7 +475,7 @@ pub(crate) fn harm_each(alloc: Global, share: Share) -> Result<String, Fault> {
     };
     for seed in 0..SESSIONS {
         if share.has(seed as usize) {
-            session(alloc, seed, &mut tally)?;
+            session(seed, &mut tally);
         }
     }
     told(alloc, &tally)

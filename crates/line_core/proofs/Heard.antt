@@ -1,13 +1,13 @@
 -- What a framer keeps of a burst, and what that says of it.
-use Rattle.std.proofs.Common.{◌≡◌, ℕ, ◌+◌, ◌-◌, ◌<◌, ◌&&◌, ◌==◌, List, ◌++◌, length, take, min, Bool, true, false, nat_lt, refl, sym, ap, ◌∙◌, arith, inl, inr, get_or, slice_index, eq-eqb}
+use Rattle.std.proofs.Common.{◌≡◌, ℕ, ◌+◌, ◌-◌, ◌<◌, ◌&&◌, ◌==◌, List, ◌++◌, length, take, min, Bool, true, refl, sym, ap, ◌∙◌, arith, inl, inr, get_or, slice_index, eq-eqb}
 use Rattle.std.proofs.lemmas.List.{length-append, length-take, take-append-le, take_all, take_min, append-nil, get_or-take}
 use Rattle.std.proofs.lemmas.Slice.{take-put_mid}
-use Rattle.std.proofs.lemmas.Bool.{cases_lt, ne_eqb}
+use Rattle.std.proofs.lemmas.Bool.{cases_lt}
 use Rattle.std.proofs.Math.Seq.{take-append-add}
 use borrow.Rule.Slice.PartMut.{put_mid}
 use Rattle.octet_core.specs.Octets.{xor_of}
 use Rattle.line_core.specs.declared.framing.Framer.{Framer}
-use Rattle.line_core.specs.Bursts.{HasHeard, handed, is_whole, is_empty, most_counted}
+use Rattle.line_core.specs.Bursts.{HasHeard, handed, is_whole, most_counted}
 
 -- the first octets of joined lists are those of the one, and then of the other
 pub take-joined : (n : ℕ) (a b : List ℕ) → take n (a ++ b) ≡ take n a ++ take (n - length a) b
@@ -63,19 +63,3 @@ whole f burst part len sum h small len-is count-is part-is sum-is =
     eq-eqb (length burst) (slice_index burst 2 + 4) (omega arith) in
     let sums : sum ≡ xor_of burst = sum-is ∙ ap xor_of (part-is ∙ all) in
     ap (λ (s : ℕ). s == 0) sums ∙ ap (λ (b : Bool). b && (xor_of burst == 0)) (sym same)
-
-not-four : (n : ℕ) → 4 < n → (n == 4) ≡ false
-not-four n more = ne_eqb n 4 (λ is. omega (arith, is, more))
-
--- whether what is kept of a burst has four octets says whether the burst has
-pub empty-front : (burst part : List ℕ) → part ≡ take handed burst → is_empty part ≡ is_empty burst
-empty-front burst part is = elim (cases_lt handed (length burst)) [
-  | inl lt ↦
-      let long : length part ≡ handed =
-      ap length is ∙ length-take handed burst ∙ (let e : min handed (length burst) ≡ handed = omega arith in e) in
-      let of_part : (length part == 4) ≡ false = not-four (length part) (omega (arith, long)) in
-      let of_burst : (length burst == 4) ≡ false = not-four (length burst) (omega arith) in
-      ap (λ (b : Bool). b && nat_lt (slice_index part 1) 0x80) of_part
-      ∙ sym (ap (λ (b : Bool). b && nat_lt (slice_index burst 1) 0x80) of_burst)
-  | inr le ↦ ap is_empty (is ∙ take_all handed burst le)
-]

@@ -1,7 +1,5 @@
 pub mod Heard
-pub mod Handed
 pub mod Harmed
-pub mod Timing
 pub mod Ready
 pub mod Running
 pub mod Answered

@@ -1,6 +1,6 @@
 -- Octets on a line with the silences between them: bursts, and what may happen to one on its way. The clauses are those
 -- of ISO/IEC 7816-3:2006.
-use Rattle.std.specs.Prelude.{◌≡◌, ◌≢◌, ◌<◌, ◌⊎◌, ℕ, ◌+◌, List, [], ◌∷◌, ◌++◌, length, take, slice_index, min, Bool, ◌&&◌, ◌==◌, nat_lt, if◌then◌else◌}
+use Rattle.std.specs.Prelude.{◌≡◌, ◌≢◌, ◌<◌, ◌⊎◌, ℕ, ◌+◌, List, [], ◌∷◌, ◌++◌, length, take, slice_index, min, Bool, ◌&&◌, ◌==◌, if◌then◌else◌}
 use Rattle.octet_core.specs.Octets.{AreOctets, xor_of}
 use Rattle.block_core.specs.Block.{Parts, IsProper, spelling}
 use Rattle.t1_core.specs.Came.{Came, got, damaged, invalid, quiet, class_of}
@@ -17,13 +17,9 @@ handed = 259
 abbrev pub is_whole : List ℕ → Bool
 is_whole burst = (length burst == slice_index burst 2 + 4) && (xor_of burst == 0)
 
--- four octets, and bit 8 of the PCB is 0, as in an I-block (11.3.2.2)
-abbrev pub is_empty : List ℕ → Bool
-is_empty octets = (length octets == 4) && nat_lt (slice_index octets 1) 0x80
-
--- the burst is a whole I-block without information
-abbrev pub is_empty_info : List ℕ → Bool
-is_empty_info burst = is_whole burst && is_empty burst
+-- a block with a wrong check octet
+abbrev pub damaged_block : List ℕ
+damaged_block = 0x00 ∷ 0x00 ∷ 0x00 ∷ 0x01 ∷ []
 
 -- How long a silence must be to end the burst: before the first octet, the wait for it; inside a block, CWT (11.4.3);
 -- after a whole block, a shorter one, which is BGT unless another was asked for (11.4.3) *(own)*.

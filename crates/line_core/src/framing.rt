@@ -1,8 +1,8 @@
 //! Division of octets and silences into bursts (ISO/IEC 7816-3, clause 11.4.3).
 
-ghost use Rattle.std.specs.Prelude.{◌≡◌, ◌≤◌, ◌++◌, ◌&&◌, [], ℕ, List, length, take, min};
+ghost use Rattle.std.specs.Prelude.{◌≡◌, ◌≤◌, ◌++◌, [], ℕ, List, length, take, min};
 ghost use Rattle.octet_core.specs.Octets.{xor_of};
-ghost use Rattle.line_core.specs.Bursts.{HasHeard, handed, is_whole, is_empty, is_empty_info, wait_of};
+ghost use Rattle.line_core.specs.Bursts.{HasHeard, handed, is_whole, wait_of};
 
 use crate::exchanging::LONGEST_ARRIVAL;
 use octet_core::lrc;
@@ -77,13 +77,6 @@ impl Framer {
         self.count == u64::from(self.octets[2]) + 4 && sum_of(self.burst()) == 0
     }
 
-    /// Whether the burst is exactly one whole I-block without information.
-    pub fn is_empty_info(&self) -> bool
-        ensures { (burst : List ℕ) → HasHeard self.now burst → result ≡ is_empty_info burst }
-    {
-        is_empty_info(self.burst(), self.is_whole())
-    }
-
     /// Returns how long a silence must be to end the burst, in any unit of time. It is `first` before the first octet,
     /// `after` if the burst is a whole block with the right LRC, and `inside` otherwise.
     pub fn wait(&self, first: u64, inside: u64, after: u64) -> u64
@@ -98,13 +91,6 @@ impl Framer {
             inside
         }
     }
-}
-
-/// Whether the octets are an I-block without information, if they are a whole block.
-fn is_empty_info(octets: &[u8], is_whole: bool) -> bool
-    ensures { result ≡ (is_whole && is_empty octets.now) }
-{
-    is_whole && octets.len() == 4 && octets[1] < 0x80
 }
 
 /// Returns the exclusive-or of the octets. It isn't inlined: next to a test of its result, the compiler takes one octet

@@ -10,10 +10,10 @@
 //! At the other end, [`serve`] makes a card answer what comes over a [`CardLine`], with the replies of its
 //! [`Host`]: `specs/Service.antt`. [`laws`] states what holds of both ends over one line.
 //!
-//! A [`TimedLine`] is a line of either kind over a [`TimedDevice`], the driver of a serial port. A [`Framer`]
-//! divides what comes into bursts at the silences, and a burst counts as a block only as a whole:
-//! `specs/Bursts.antt` and `specs/Timed.antt`. An [`UntimedLine`] is a line over a reader and a writer of octets,
-//! without a clock.
+//! A [`Framer`] divides what comes into bursts at the silences, and a burst counts as a block only as a whole:
+//! `specs/Bursts.antt`. An [`UntimedLine`] is a line over a reader and a writer of octets, without a clock. A
+//! [`TimedDevice`] is the driver of a serial port, which receives under a time limit (`specs/Timed.antt`): the sessions
+//! of session_core run over it.
 #![tactic(auto)]
 
 pub mod commanding;
@@ -35,4 +35,4 @@ pub use line::{Received, TerminalLine};
 pub use resynching::begin_by_resynch;
 pub use serving::{CardLine, Host, ServeFault, serve};
 pub use streaming::UntimedLine;
-pub use timed::{Silences, TimedDevice, TimedLine};
+pub use timed::TimedDevice;

@@ -17,7 +17,7 @@ use std::io::{self, ErrorKind};
 
 /// A line over a reader and a writer that can't see a silence. It ends a block where LEN says, and never looks at what
 /// follows. So one damaged LEN can make another block of it. It is suitable for packets, pipes and tests, where octets
-/// arrive as they were sent. Over a serial port use a [`TimedLine`](crate::TimedLine).
+/// arrive as they were sent. Over a serial port use a session in steps, such as those of session_core.
 ///
 /// It is a `TerminalLine` for a terminal, and a `CardLine` for a card.
 ///

@@ -2,8 +2,7 @@
 -- of ISO/IEC 7816-3:2006. Times are in microseconds.
 use Rattle.std.specs.Prelude.{◌^◌, ◌%◌, ◌≡◌, ℕ, ◌+◌, ◌-◌, ◌*◌, ◌/◌, List, [], ◌∷◌, ◌++◌, length, take, drop, slice_index, min, max, Bool, true, false, ◌&&◌, ◌||◌, ◌==◌, not, nat_eq, nat_lt, nat_le, if◌then◌else◌}
 use Rattle.std.specs.List.{starts_with}
-use Rattle.line_core.specs.Bursts.{HasHeard, handed, is_whole}
-use Rattle.line_core.specs.Timed.{damaged_block}
+use Rattle.line_core.specs.Bursts.{HasHeard, damaged_block, handed, is_whole}
 use Rattle.line_core.specs.declared.framing.Framer.{Framer}
 use Rattle.session_core.specs.declared.event.Event.{Event}
 use Rattle.session_core.specs.declared.event.Event.TheVariants.{Sent, Came, Garbled, Silent, Failed as fails}

@@ -4,7 +4,7 @@ use Rattle.std.proofs.lemmas.Grind.{common_steps}
 use Rattle.std.proofs.lemmas.List.{append-nil, append_assoc}
 use Rattle.std.specs.declared.io.Error.{Error}
 use Rattle.block_core.specs.Block.{Parts, IsPut, spelling}
-use Rattle.t1_core.specs.Terminal.{TerminalState, TerminalInput, transmit, terminal_turn, turn_of, state_after}
+use Rattle.t1_core.specs.Terminal.{TerminalState, TerminalInput, terminal_turn, turn_of, state_after}
 use Rattle.t1_core.specs.Put.{IsTerminalPut}
 use Rattle.t1_core.specs.Waiting.{waiting_times}
 use Rattle.t1_core.specs.declared.turns.TerminalTurn.{TerminalTurn}
@@ -29,7 +29,7 @@ use Rattle.session_core.specs.Wire as wire
 use Rattle.session_core.specs.Actions.{action_of, answered_with}
 use Rattle.session_core.specs.Terminals.{AfterTurn, TurnsTo, IsStepped}
 use Rattle.session_laws.specs.Ending.{goes}
-use Rattle.session_laws.specs.Running.{Standing, step_by, IsTurn, spoken_by, Turns, none, more, IsBegun, Ran}
+use Rattle.session_laws.specs.Running.{Standing, step_by, IsTurn, spoken_by, Turns, none, more, Gone, Opening, IsBegun, Ran, standing}
 use Rattle.session_laws.specs.Talking.{Spoken, spoken_in, all_spoken, ending_by, AreSpoken, all, all_but_one, IsRun}
 use Rattle.session_laws.proofs.Steps.{either}
 use Rattle.session_laws.proofs.Sessions.{ok-same, not-both}
@@ -275,18 +275,39 @@ all-at t0 n0 first sounds spoken last at (more before_sounds before_spoken befor
 
 -- ---- the exchange
 
-pub begun-at : (t : TerminalState) (line : Line) (octets : List ℕ) (limits : Limits) (first : Standing)
-    → IsBegun t line octets limits first
-    → IsAt (state_after t (terminal_turn t (transmit octets)))
-    (next_of (turn_of (terminal_turn t (transmit octets)))) [] first
-begun-at t line octets limits first begun =
-    turns-at (transmit octets) t _ _ [] _ _ _ _ _ _ _ _ first (at-first _ _) begun.turns
+pub begun-at : (t : TerminalState) (line : Line) (opening : Opening) (first : Standing) → IsBegun t line opening first
+    → IsAt (state_after t (terminal_turn t opening.input)) (next_of (turn_of (terminal_turn t opening.input))) [] first
+begun-at t line opening first begun =
+    turns-at opening.input t _ _ [] _ _ _ _ _ _ _ _ first (at-first _ _) begun.turns
 
 -- the exchange that is over is a run of the terminal's table
-pub ran-run : {A : Type 0} (old new : A → List Sound → Type 0) (t : TerminalState) (line : Line) (octets : List ℕ)
-    (limits : Limits) (spoken : List Spoken) (last : Standing) → Ran old new t line octets limits spoken last
-    → goes last.next ≡ false → (fault : Error) → IsRun t octets spoken (ending_by fault last.next) last.terminal
-ran-run old new t line octets limits spoken last ran off fault =
-    let over = (all-at _ _ ran.first ran.sounds spoken last (begun-at t line octets limits ran.first ran.begun)
-    ran.turns).over off fault in
+pub ran-run : {A : Type 0} (old new : A → List Sound → Type 0) (t : TerminalState) (line : Line) (opening : Opening)
+    (spoken : List Spoken) (last : Standing) (blocks waited : ℕ)
+    → Ran old new t line opening spoken last blocks waited → goes last.next ≡ false
+    → (fault : Error) → IsRun t opening.input spoken (ending_by fault last.next) last.terminal
+ran-run old new t line opening spoken last blocks waited ran off fault =
+    let over = (all-at _ _ ran.first ran.gone.sounds spoken last (begun-at t line opening ran.first ran.begun)
+    ran.gone.turns).over off fault in
     record { most = over.most; talks = over.talks; are = over.are; runs = over.runs }
+
+-- the result of a loop that began so
+abbrev pub IsRanSo : {A : Type 0} → (A → List Sound → Type 0) → (A → List Sound → Type 0) → TerminalState → Line
+    → Opening → TerminalState → Line → Action → ℕ → ℕ → Type 0
+IsRanSo {A} old new t line opening left line_after action blocks waited =
+    (own : ℕ) × (out : List ℕ) × (spoken : List Spoken)
+    × Ran old new t line opening spoken (standing left line_after own out action) blocks waited
+    × ((fault : Error) → IsRun t opening.input spoken (ending_by fault action) left)
+
+pub gone-run : {A : Type 0} (old new : A → List Sound → Type 0) (t : TerminalState) (line : Line) (opening : Opening)
+    (first : Standing) (spoken : List Spoken) (last : Standing) (blocks waited : ℕ) → IsBegun t line opening first
+    → Gone old new first spoken last blocks waited → goes last.next ≡ false
+    → IsRanSo old new t line opening last.terminal last.line last.next blocks waited
+gone-run old new t line opening first spoken last blocks waited begun gone off =
+    let ran : Ran old new t line opening spoken last blocks waited =
+    record { first = first; begun = begun; gone = gone } in (
+      last.own,
+      last.out,
+      spoken,
+      ran,
+      λ fault. ran-run old new t line opening spoken last blocks waited ran off fault,
+    )

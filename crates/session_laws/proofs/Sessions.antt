@@ -14,7 +14,7 @@ use Rattle.session_core.specs.declared.progress.Phase.TheVariants.{Listening}
 use Rattle.session_core.specs.declared.progress.Rules.{Rules}
 use Rattle.session_core.specs.declared.lines.Line.{Line}
 use Rattle.session_core.specs.declared.lines.Start.{Start}
-use Rattle.session_core.specs.declared.lines.Start.TheVariants.{Exchange, Talk}
+use Rattle.session_core.specs.declared.lines.Start.TheVariants.{Clear, Exchange, Talk}
 use Rattle.session_core.specs.declared.setup.Limits.{Limits}
 use Rattle.session_core.specs.declared.action.Action.{Action}
 use Rattle.session_core.specs.Wire.{Ruled, Doing, Step, step_of, ruled, seen, most_counted, is_set}
@@ -22,7 +22,7 @@ use Rattle.session_core.specs.Lines.{IsMoved, held_over, stepped}
 use Rattle.session_core.specs.Actions.{action_of, count_of, answered_with}
 use Rattle.session_core.specs.Terminals.{IsOver, IsTurned, AfterTurn, TurnsTo, IsStepped, sending, limited, limits_in}
 use Rattle.session_laws.specs.Ending.{IsLess, rest, rest_in, to_begin, to_send, sent_by, for_block, goes, sends, rest_of, blocks_of, IsNext, IsWithin, fuel, events_in}
-use Rattle.session_laws.proofs.Steps.{either, yes, stepped-less, talks-less, begins-less}
+use Rattle.session_laws.proofs.Steps.{either, yes, stepped-less, talks-less, begins-less, clears-less}
 
 -- a count that stops at its greatest value leaves as much as the count of all octets
 pub same-rest : (phase : Phase) (left own count : ℕ)
@@ -188,19 +188,21 @@ by-next next step rules p burst t now t_after line own own_after out out_after a
     (ok-same action (action_of next own) (Ok action) refl stepped.4 ∙ ap (λ (n : Next). action_of n own) e)
 
 pub begun : (before : Line) (limits : Limits) (line : Line) (action : Action) {most : ℕ}
-    → is_card_of before.rules ≡ false → limits.blocks ≤ 4294967295
+    → is_card_of before.rules ≡ false → is_set before.rules.has_clock ≡ false → limits.blocks ≤ 4294967295
     → IsNext (limited before.rules limits) most limits.blocks line action
     ⊎ (IsNext before.rules most limits.blocks line action × (goes action ≡ false))
     → IsWithin limits.blocks 0 line action
-begun before limits line action terminal limit_is (inl next) = record {
+begun before limits line action terminal clock limit_is (inl next) = record {
   terminal = rw next.rules_are terminal;
+  clock = rw next.rules_are clock;
   burst = next.burst;
   counted = λ _. rw next.rules_are limit_is;
   few = λ e. let few : blocks_of line action ≤ limits.blocks = next.few e in omega (arith, few);
   within = omega arith;
 }
-begun before limits line action terminal limit_is (inr next) = record {
+begun before limits line action terminal clock limit_is (inr next) = record {
   terminal = rw next.0.rules_are terminal;
+  clock = rw next.0.rules_are clock;
   burst = next.0.burst;
   counted = λ e. let bad : true ≡ false = sym e ∙ next.1 in cc;
   few = λ e. let few : blocks_of line action ≤ limits.blocks = next.0.few e in omega (arith, few);
@@ -222,6 +224,7 @@ continues most sent sent_after before line last action within on is next =
     let all : sent + (sends last + to_send (ruled before.rules) (seen before.progress)) ≤ most = within.few on in (
       record {
         terminal = rw next.rules_are within.terminal;
+        clock = rw next.rules_are within.clock;
         burst = next.burst;
         counted = λ _. rw next.rules_are (within.counted on);
         few = λ e. let few : blocks_of line action ≤ to_send (ruled before.rules) (seen before.progress) = next.few e in
@@ -253,19 +256,41 @@ stepped-next event before line burst octets block t now t_after own own_after ou
 
 -- ---- the loop
 
--- an exchange has begun
+-- an application has begun
+pub opened-within : (t : TerminalState) (input : TerminalInput) (start : Start) (limits : Limits) (before line : Line)
+    (burst : List ℕ) (now : ℕ) (t_after : TerminalState) (own own_after : ℕ) (out out_after : List ℕ) (action : Action)
+    (most : ℕ) → LeavesSent start limits before.rules (seen before.progress) burst now most limits.blocks
+    → is_card_of before.rules ≡ false → is_set before.rules.has_clock ≡ false → limits.blocks ≤ 4294967295
+    → TurnsTo t input start limits before.rules (seen before.progress) burst now t_after line own own_after out
+    out_after (Ok action)
+    → IsWithin limits.blocks 0 line action
+opened-within t input start limits before line burst now t_after own own_after out out_after action most leaves terminal
+    clock limit_is turns =
+    begun before limits line action terminal clock limit_is
+    (after-turn turns.acted (count_of t_after.answered) start limits before.rules (seen before.progress) burst now
+    line own own_after action most limits.blocks leaves turns.after)
+
 pub begun-within : (t : TerminalState) (input : TerminalInput) (limits : Limits) (before line : Line) (burst : List ℕ)
     (now : ℕ) (t_after : TerminalState) (own own_after : ℕ) (out out_after : List ℕ) (action : Action)
-    → is_card_of before.rules ≡ false → limits.blocks ≤ 4294967295
+    → is_card_of before.rules ≡ false → is_set before.rules.has_clock ≡ false → limits.blocks ≤ 4294967295
     → TurnsTo t input Exchange limits before.rules (seen before.progress) burst now t_after line own own_after out
     out_after (Ok action)
     → IsWithin limits.blocks 0 line action
-begun-within t input limits before line burst now t_after own own_after out out_after action terminal limit_is turns =
-    begun before limits line action terminal limit_is
-    (after-turn turns.acted (count_of t_after.answered) Exchange limits before.rules (seen before.progress) burst now
-    line
-    own own_after action _ limits.blocks
-    (λ waiting. begins-less (ruled (limited before.rules limits)) _ burst now) turns.after)
+begun-within t input limits before line burst now t_after own own_after out out_after action terminal clock limit_is
+    turns =
+    opened-within t input Exchange limits before line burst now t_after own own_after out out_after action _
+    (λ waiting. begins-less (ruled (limited before.rules limits)) _ burst now) terminal clock limit_is turns
+
+pub cleared-within : (t : TerminalState) (input : TerminalInput) (limits : Limits) (before line : Line)
+    (burst : List ℕ) (now : ℕ) (t_after : TerminalState) (own own_after : ℕ) (out out_after : List ℕ) (action : Action)
+    → is_card_of before.rules ≡ false → is_set before.rules.has_clock ≡ false → limits.blocks ≤ 4294967295
+    → TurnsTo t input Clear limits before.rules (seen before.progress) burst now t_after line own own_after out
+    out_after (Ok action)
+    → IsWithin limits.blocks 0 line action
+cleared-within t input limits before line burst now t_after own own_after out out_after action terminal clock limit_is
+    turns =
+    opened-within t input Clear limits before line burst now t_after own own_after out out_after action _
+    (λ waiting. clears-less (ruled (limited before.rules limits)) _ burst now) terminal clock limit_is turns
 
 -- something happened
 pub stepped-within : (most sent sent_after event : ℕ) (before line : Line) (burst octets block : List ℕ)

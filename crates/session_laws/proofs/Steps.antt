@@ -7,7 +7,7 @@ use Rattle.session_core.specs.declared.progress.Phase.TheVariants.{Idle, Late, C
 use Rattle.std.proofs.lemmas.Bool.{leb-false, ltb-true}
 use Rattle.std.proofs.lemmas.List.{length-append, length-drop}
 use Rattle.session_core.specs.Lines.{stepped}
-use Rattle.session_core.specs.Wire.{Ruled, Doing, Step, step_of, waits, stops, dropping, drops, dropped, says, settles, talks, is_used_up, most_noise, most_counted, hands, is_refused, judges, is_certain, judged, ends, goes_on, is_over, begun, spoiled, weighed, hears, misses, follows, hears_echo, echoed, agrees, unheard, met, sent_in, sent, timed, took, takes, spends, unechoed, missed, cleared, silent_in, came_in, left_in, used_up, silent, failed, has_none_left, takes_in, came, time_of, is_sending, is_waiting, is_idle, on_sent, on_came, on_silent, on_failed, counted, silence_in, broken, wait_in, echo_wait, begins}
+use Rattle.session_core.specs.Wire.{Ruled, Doing, Step, step_of, waits, stops, dropping, drops, dropped, says, settles, talks, is_used_up, most_noise, most_counted, hands, is_refused, judges, is_certain, judged, ends, goes_on, is_over, begun, spoiled, weighed, hears, misses, follows, hears_echo, echoed, agrees, unheard, met, sent_in, sent, timed, took, takes, spends, unechoed, missed, cleared, silent_in, came_in, left_in, used_up, silent, failed, has_none_left, takes_in, came, time_of, is_sending, is_waiting, is_idle, on_sent, on_came, on_silent, on_failed, counted, silence_in, broken, wait_in, echo_wait, begins, clears}
 use Rattle.session_laws.specs.Ending.{IsLess, rest, rest_in, to_begin, to_send, held_in, sent_by, for_block}
 
 -- what holds of both branches holds of the test
@@ -89,6 +89,13 @@ pub begins-less : (r : Ruled) (p : Doing) (burst : List ℕ) (now : ℕ)
 unfolding begins
 begins-less r p burst now =
     waits-less r (record p { phase = Late; blocks = 0; spent = 0; echoes = 0; began = now }) burst 0 now
+    (r.most_blocks * for_block + 65539) r.most_blocks (omega arith) (omega arith)
+
+pub clears-less : (r : Ruled) (p : Doing) (burst : List ℕ) (now : ℕ)
+    → IsLess r (r.most_blocks * for_block + 65539) r.most_blocks (clears r p burst now)
+unfolding clears
+clears-less r p burst now =
+    drops-less r (record p { blocks = 0; spent = 0; echoes = 0; began = now }) Clearing burst now
     (r.most_blocks * for_block + 65539) r.most_blocks (omega arith) (omega arith)
 
 -- ---- a burst ends

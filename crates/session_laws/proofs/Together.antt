@@ -11,25 +11,20 @@ use Rattle.line_core.specs.Joined.{Call, IsCall, HaveRun, HaveServed, talks_of, 
 use Rattle.session_laws.specs.Together.{IsExchanged, HaveExchanged, IsListening, AlwaysTwoEnds, AlwaysMatched, AlwaysInOrder, AlwaysPatient, AlwaysOnce}
 
 -- a call's run, with what the call says of it
-pub run-of : (t : TerminalState) (call : Call) (command : List ℕ) → IsExchanged t call command
-    → Runs call.most (next_of (turn_of (terminal_turn t (transmit command))))
-    (state_after t (terminal_turn t (transmit command))) (talks_of call.trips) call.ending call.left
-run-of t call command is =
-    subst (λ (talks : List Talk). Runs call.most (next_of (turn_of (terminal_turn t (transmit command))))
-    (state_after t (terminal_turn t (transmit command))) talks call.ending call.left) is.talks
-    (subst (λ (most : ℕ). Runs most (next_of (turn_of (terminal_turn t (transmit command))))
-    (state_after t (terminal_turn t (transmit command))) is.run.talks call.ending call.left) is.most is.run.runs)
+pub run-of : (t : TerminalState) (call : Call) → IsExchanged t call
+    → Runs call.most (next_of (turn_of (terminal_turn t call.input))) (state_after t (terminal_turn t call.input))
+    (talks_of call.trips) call.ending call.left
+run-of t call is =
+    subst (λ (talks : List Talk). Runs call.most (next_of (turn_of (terminal_turn t call.input)))
+    (state_after t (terminal_turn t call.input)) talks call.ending call.left) is.talks
+    (subst (λ (most : ℕ). Runs most (next_of (turn_of (terminal_turn t call.input)))
+    (state_after t (terminal_turn t call.input)) is.run.talks call.ending call.left) is.most is.run.runs)
 
 pub have-run : (t : TerminalState) (calls : List Call) (last : TerminalState) → HaveExchanged t calls last
     → HaveRun t calls last
 have-run t [] last is = is
-have-run t (call ∷ calls) last (first, more) = (
-  subst (λ (input : TerminalInput). IsCall input) (sym first.1.input) first.1.octets,
-  subst (λ (input : TerminalInput). Runs call.most (next_of (turn_of (terminal_turn t input)))
-      (state_after t (terminal_turn t input)) (talks_of call.trips) call.ending call.left) (sym first.1.input)
-      (run-of t call first.0 first.1),
-  have-run call.left calls last more,
-)
+have-run t (call ∷ calls) last (first, more) =
+    (first.input, run-of t call first, have-run call.left calls last more)
 
 -- a card that listens has served what came
 pub has-served : (first : CardState) (events : List Event) (last : CardState) → IsListening first events last
@@ -67,7 +62,11 @@ always-patient two patient limits ifsc calls t c loops =
     patient limits ifsc calls (events_in calls ∷ []) t c (two limits limits ifsc calls t c loops)
 
 pub always-once : joined.AlwaysOnce → AlwaysOnce
-always-once once of_terminal of_card ifsc call command c size exchanged listening =
+always-once once of_terminal of_card ifsc call command c size is exchanged listening =
+    let t = terminal_with of_terminal ifsc in
     let served = has-served (card_with of_card ifsc) (events_of call.trips) c listening in
     once of_terminal of_card ifsc command call.most call.trips call.ending call.left served.0 used_up c size
-    exchanged.octets (run-of (terminal_with of_terminal ifsc) call command exchanged) served.1
+    (subst IsCall is exchanged.input)
+    (subst (λ (input : TerminalInput). Runs call.most (next_of (turn_of (terminal_turn t input)))
+    (state_after t (terminal_turn t input)) (talks_of call.trips) call.ending call.left) is (run-of t call exchanged))
+    served.1

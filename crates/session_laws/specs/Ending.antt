@@ -107,6 +107,7 @@ fuel line next = if goes next then rest_of line + 1 else 0
 -- a terminal that has sent so many blocks of an exchange, before its next action
 pub record IsWithin (most sent : ℕ) (line : Line) (next : Action) : Type 0 where
   pub terminal : is_set line.rules.is_card ≡ false
+  pub clock : is_set line.rules.has_clock ≡ false
   pub burst : HasBurst line
   pub counted : goes next ≡ true → line.rules.most_blocks ≤ 4294967295
   pub few : goes next ≡ true → sent + blocks_of line next ≤ most

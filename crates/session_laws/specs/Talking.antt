@@ -2,7 +2,7 @@
 -- the talks of an exchange over a line (line_core), so its laws hold of them.
 use Rattle.std.specs.Prelude.{◌≡◌, ℕ, List, [], ◌∷◌, ◌++◌, take}
 use Rattle.std.specs.declared.io.Error.{Error}
-use Rattle.t1_core.specs.Terminal.{TerminalState, transmit, terminal_turn, turn_of, state_after}
+use Rattle.t1_core.specs.Terminal.{TerminalState, TerminalInput, terminal_turn, turn_of, state_after}
 use Rattle.line_core.specs.Bursts.{handed}
 use Rattle.line_core.specs.Line.{Arrival, block, nothing, failure, Talk}
 use Rattle.line_core.specs.Exchange.{Ending, done, given_up, dead, line_failed, Runs, next_of}
@@ -49,11 +49,12 @@ pub data AreSpoken (spoken : List Spoken) : List Talk → Type 0 where
   all_but_one : (talks : List Talk) (last : Talk) (fault : Error) → all_spoken talks ≡ spoken
       → last.arrival ≡ failure fault → AreSpoken spoken (talks ++ last ∷ [])
 
--- The exchange of a command is a run of the terminal's table over these talks, as `line_core::exchange` makes one.
-pub record IsRun (t : TerminalState) (octets : List ℕ) (spoken : List Spoken) (ending : Ending) (left : TerminalState)
+-- A call with this input is a run of the terminal's table over these talks, as calls of line_core are.
+pub record IsRun (t : TerminalState) (input : TerminalInput) (spoken : List Spoken) (ending : Ending)
+    (left : TerminalState)
     : Type 0 where
   pub most : ℕ
   pub talks : List Talk
   pub are : AreSpoken spoken talks
-  pub runs : Runs most (next_of (turn_of (terminal_turn t (transmit octets))))
-      (state_after t (terminal_turn t (transmit octets))) talks ending left
+  pub runs : Runs most (next_of (turn_of (terminal_turn t input))) (state_after t (terminal_turn t input)) talks ending
+      left

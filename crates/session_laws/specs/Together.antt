@@ -1,30 +1,28 @@
--- Both loops over one line: `exchange_ends` at the terminal and `serve_events` at the card. What one end sends comes to
--- the other, except what is lost or damaged (line_core, `specs/Joined.antt`). So what line_core promises of `exchange` and
--- `serve` holds of the loops over steps.
+-- The loops over one line: `exchange_ends` and `ask_ifs_ends` at the terminal, and `serve_events` at the card. What one
+-- end sends comes to the other, except what is lost or damaged (line_core, `specs/Joined.antt`). So what line_core
+-- promises of `exchange`, `ask_ifs` and `serve` holds of the loops over steps.
 use Rattle.std.specs.Prelude.{◌≡◌, ◌≤◌, ℕ, List, [], ◌∷◌}
-use Rattle.octet_core.specs.Octets.{AreOctets}
 use Rattle.t1_core.specs.Terminal.{TerminalState, transmit, Limits, terminal_with}
 use Rattle.t1_core.specs.Card.{CardState, card_with}
 use Rattle.t1_core.specs.Promises.{Matches, NoneGivenUp, Serves as InOrder}
 use Rattle.line_core.specs.Service.{Event, hears}
-use Rattle.line_core.specs.Joined.{Call, talks_of, events_of, events_in, exchanges_of, services_of, ArePatient, IsOnce, TwoEnds}
+use Rattle.line_core.specs.Joined.{Call, IsCall, talks_of, events_of, events_in, exchanges_of, services_of, ArePatient, IsOnce, TwoEnds}
 use Rattle.session_laws.specs.Talking.{Spoken, IsRun}
 use Rattle.session_laws.specs.Serving.{Placed, IsServed}
 
--- The terminal exchanged this command by its steps, from this state. The talks of the call are those of its run.
-pub record IsExchanged (t : TerminalState) (call : Call) (command : List ℕ) : Type 0 where
-  pub input : call.input ≡ transmit command
-  pub octets : AreOctets command
+-- The terminal made this call, with a command or a size, by its steps from this state. The talks of the call are those of
+-- its run.
+pub record IsExchanged (t : TerminalState) (call : Call) : Type 0 where
+  pub input : IsCall call.input
   pub spoken : List Spoken
-  pub run : IsRun t command spoken call.ending call.left
+  pub run : IsRun t call.input spoken call.ending call.left
   pub most : run.most ≡ call.most
   pub talks : run.talks ≡ talks_of call.trips
 
--- The terminal exchanged commands by its steps, one after another, from this state to the last one.
+-- The terminal made these calls by its steps, one after another, from this state to the last one.
 abbrev pub HaveExchanged : TerminalState → List Call → TerminalState → Type 0
 HaveExchanged t [] last = last ≡ t
-HaveExchanged t (call ∷ calls) last =
-    ((command : List ℕ) × IsExchanged t call command) × HaveExchanged call.left calls last
+HaveExchanged t (call ∷ calls) last = IsExchanged t call × HaveExchanged call.left calls last
 
 -- These are the events of a card in steps since it was in the first state, and it waits for the next block in the last.
 pub record IsListening (first : CardState) (events : List Event) (last : CardState) : Type 0 where
@@ -68,6 +66,6 @@ AlwaysPatient = (limits : Limits) (ifsc : ℕ) (calls : List Call) (t : Terminal
 -- the host was passed the command, and the answer is its reply.
 abbrev pub AlwaysOnce : Type 0
 AlwaysOnce = (of_terminal of_card : Limits) (ifsc : ℕ) (call : Call) (command : List ℕ) (c : CardState) → ifsc ≤ 254
-    → IsExchanged (terminal_with of_terminal ifsc) call command
+    → call.input ≡ transmit command → IsExchanged (terminal_with of_terminal ifsc) call
     → IsListening (card_with of_card ifsc) (events_of call.trips) c
     → IsOnce command call.ending call.left.answered (services_of (events_of call.trips) [])

@@ -1,13 +1,14 @@
 //! The loop of a terminal.
 
 ghost use Rattle.std.specs.Prelude.{◌≡◌, ◌≤◌, ℕ, List, length, true, false, IfOk, IfErr};
-ghost use Rattle.t1_core.specs.Views.{terminal_held, IsLentTerminal};
-ghost use Rattle.session_core.specs.Wire.{is_set};
-ghost use Rattle.session_laws.specs.Ending.{HasBurst, goes, sends, waited_by, is_limited};
 ghost use Rattle.std.specs.declared.io.Error.{Error};
+ghost use Rattle.t1_core.specs.Views.{terminal_held, IsLentTerminal};
 ghost use Rattle.line_core.specs.Timed.{Sound, Sounds};
+ghost use Rattle.session_core.specs.Wire.{is_set};
+ghost use Rattle.session_core.specs.Terminals.{asking_resynch};
+ghost use Rattle.session_laws.specs.Ending.{HasBurst, HasWaited, IsWithin, goes, sends, waited_by, is_limited};
 ghost use Rattle.session_laws.specs.Talking.{Spoken, IsRun, ending_by};
-ghost use Rattle.session_laws.specs.Running.{Ran, IsRefused, standing};
+ghost use Rattle.session_laws.specs.Running.{Gone, Ran, IsRefused, IsStopped, command_within, resynchronising, size_within, standing};
 
 use crate::device::{LONGEST_BLOCK, SILENT, done};
 use line_core::TimedDevice;
@@ -54,6 +55,66 @@ fn waited(event: u8, action: &Action) -> u64
     }
 }
 
+/// Does what each action says, from the first one on, until the session rests. The terminal has begun within these
+/// limits.
+fn run<D: TimedDevice>(
+    end: &mut LentTerminal,
+    line: &mut Line,
+    own: &mut usize,
+    limits: Limits,
+    command: &[u8],
+    answer: &mut [u8],
+    first: Action,
+    device: &mut D,
+    room: &mut [u8],
+    out: &mut [u8; LONGEST_BLOCK],
+) -> Result<Ended, TerminalFault>
+    requires fit { IsLentTerminal end.old (length command.now) (length answer.old) }
+    requires within { IsWithin limits.blocks 0 line.old first }
+    requires waited { is_limited limits.time → HasWaited limits.time 0 line.old first }
+    requires room { 1 ≤ length room.old }
+    ensures fit { IsLentTerminal end.new (length command.now) (length answer.new) }
+    ensures again { IfOk result (λ _. (is_set line.new.rules.is_card ≡ false)
+        × (is_set line.new.rules.has_clock ≡ false) × HasBurst line.new) }
+    ensures few { IfOk result (λ ended. ended.blocks ≤ limits.blocks) }
+    ensures soon { is_limited limits.time → IfOk result (λ ended. ended.waited ≤ limits.time) }
+    ensures over { IfOk result (λ ended. goes ended.action ≡ false) }
+    ensures gone { IfOk result (λ ended. (spoken : List Spoken)
+        × Gone (D.heard device.old) (D.heard device.new)
+        (standing (terminal_held end.old command.now answer.old) line.old own.old out.old first) spoken
+        (standing (terminal_held end.new command.now answer.new) line.new own.new out.new ended.action)
+        ended.blocks ended.waited) }
+    ensures stopped { IfErr result (λ fault. (sounds : List Sound)
+        × Sounds (D.heard device.old) (D.heard device.new) sounds
+        × IsStopped (standing (terminal_held end.old command.now answer.old) line.old own.old out.old first) fault
+        sounds) }
+{
+    let mut blocks: u32 = 0;
+    let mut time: u64 = 0;
+    let mut action = first;
+    while goes(&action) {
+        let (event, count) = done(&action, device, out, room);
+        blocks += sends(&action);
+        time = time.saturating_add(waited(event, &action));
+        action = step(
+            end,
+            line,
+            own,
+            command,
+            answer,
+            event,
+            &room[..count],
+            0,
+            out,
+        )?;
+    }
+    Ok(Ended {
+        action,
+        blocks,
+        waited: time,
+    })
+}
+
 /// Exchanges a command for its answer over a device: does what each action says, and passes the result to the session.
 ///
 /// This always returns. The terminal sends at most as many blocks as its limit permits. The silences for which it waited
@@ -76,46 +137,118 @@ pub fn exchange_ends<D: TimedDevice>(
     requires burst { HasBurst line.old }
     requires room { 1 ≤ length room.old }
     ensures fit { IsLentTerminal end.new (length command.new) (length answer.new) }
-    ensures again { IfOk result (λ _. (is_set line.new.rules.is_card ≡ false) × HasBurst line.new) }
+    ensures again { IfOk result (λ _. (is_set line.new.rules.is_card ≡ false)
+        × (is_set line.new.rules.has_clock ≡ false) × HasBurst line.new) }
     ensures few { IfOk result (λ ended. ended.blocks ≤ limits.blocks) }
     ensures soon { is_limited limits.time → IfOk result (λ ended. ended.waited ≤ limits.time) }
     ensures run { IfOk result (λ ended. (own : ℕ) × (out : List ℕ) × (spoken : List Spoken)
         × Ran (D.heard device.old) (D.heard device.new) (terminal_held end.old command.old answer.old) line.old
-        octets.now limits spoken
+        (command_within octets.now limits) spoken
         (standing (terminal_held end.new command.new answer.new) line.new own out ended.action)
-        × ((fault : Error) → IsRun (terminal_held end.old command.old answer.old) octets.now spoken
-        (ending_by fault ended.action) (terminal_held end.new command.new answer.new))) }
+        ended.blocks ended.waited
+        × ((fault : Error) → IsRun (terminal_held end.old command.old answer.old)
+        (command_within octets.now limits).input spoken (ending_by fault ended.action)
+        (terminal_held end.new command.new answer.new))) }
     ensures over { IfOk result (λ ended. goes ended.action ≡ false) }
     ensures refused { IfErr result (λ fault. (sounds : List Sound)
         × Sounds (D.heard device.old) (D.heard device.new) sounds
-        × IsRefused (terminal_held end.old command.old answer.old) line.old octets.now limits fault sounds) }
+        × IsRefused (terminal_held end.old command.old answer.old) line.old
+        (command_within octets.now limits) fault sounds) }
 {
     let mut out = [0; LONGEST_BLOCK];
     let mut own = 0;
-    let mut blocks: u32 = 0;
-    let mut time: u64 = 0;
-    let mut action = terminal::exchange(
+    let action = terminal::exchange(
         end, line, &mut own, limits, command, answer, octets, 0, &mut out,
     )?;
-    while goes(&action) {
-        let (event, count) = done(&action, device, &out, room);
-        blocks += sends(&action);
-        time = time.saturating_add(waited(event, &action));
-        action = step(
-            end,
-            line,
-            &mut own,
-            command,
-            answer,
-            event,
-            &room[..count],
-            0,
-            &mut out,
-        )?;
-    }
-    Ok(Ended {
-        action,
-        blocks,
-        waited: time,
-    })
+    run(
+        end, line, &mut own, limits, command, answer, action, device, room, &mut out,
+    )
+}
+
+/// Asks the card over a device to send fields of at most so many octets. It ends as an exchange does, and the last action
+/// is [`Action::IfsSet`] if the card accepted.
+pub fn ask_ifs_ends<D: TimedDevice>(
+    end: &mut LentTerminal,
+    line: &mut Line,
+    limits: Limits,
+    command: &[u8],
+    answer: &mut [u8],
+    size: u8,
+    device: &mut D,
+    room: &mut [u8],
+) -> Result<Ended, TerminalFault>
+    requires fit { IsLentTerminal end.old (length command.now) (length answer.old) }
+    requires terminal { is_set line.old.rules.is_card ≡ false }
+    requires clock { is_set line.old.rules.has_clock ≡ false }
+    requires burst { HasBurst line.old }
+    requires room { 1 ≤ length room.old }
+    ensures fit { IsLentTerminal end.new (length command.now) (length answer.new) }
+    ensures again { IfOk result (λ _. (is_set line.new.rules.is_card ≡ false)
+        × (is_set line.new.rules.has_clock ≡ false) × HasBurst line.new) }
+    ensures few { IfOk result (λ ended. ended.blocks ≤ limits.blocks) }
+    ensures soon { is_limited limits.time → IfOk result (λ ended. ended.waited ≤ limits.time) }
+    ensures run { IfOk result (λ ended. (own : ℕ) × (out : List ℕ) × (spoken : List Spoken)
+        × Ran (D.heard device.old) (D.heard device.new) (terminal_held end.old command.now answer.old) line.old
+        (size_within size limits) spoken
+        (standing (terminal_held end.new command.now answer.new) line.new own out ended.action)
+        ended.blocks ended.waited
+        × ((fault : Error) → IsRun (terminal_held end.old command.now answer.old)
+        (size_within size limits).input spoken (ending_by fault ended.action)
+        (terminal_held end.new command.now answer.new))) }
+    ensures over { IfOk result (λ ended. goes ended.action ≡ false) }
+    ensures refused { IfErr result (λ fault. (sounds : List Sound)
+        × Sounds (D.heard device.old) (D.heard device.new) sounds
+        × IsRefused (terminal_held end.old command.now answer.old) line.old (size_within size limits) fault
+        sounds) }
+{
+    let mut out = [0; LONGEST_BLOCK];
+    let mut own = 0;
+    let action = terminal::ask_ifs(
+        end, line, &mut own, limits, command, answer, size, 0, &mut out,
+    )?;
+    run(
+        end, line, &mut own, limits, command, answer, action, device, room, &mut out,
+    )
+}
+
+/// Begins over a device with a card that can't be reset: drops octets until the line is silent, and asks for RESYNCH
+/// (ISO/IEC 7816-3, clause 11.6.3.2). The terminal and the line were just begun. The last action is
+/// [`Action::GivenUp`] if the card answered: then both ends are as at their start. No limit of an exchange applies.
+pub fn resynch_ends<D: TimedDevice>(
+    end: &mut LentTerminal,
+    line: &mut Line,
+    command: &[u8],
+    answer: &mut [u8],
+    device: &mut D,
+    room: &mut [u8],
+) -> Result<Ended, TerminalFault>
+    requires fit { IsLentTerminal end.old (length command.now) (length answer.old) }
+    requires terminal { is_set line.old.rules.is_card ≡ false }
+    requires clock { is_set line.old.rules.has_clock ≡ false }
+    requires burst { HasBurst line.old }
+    requires room { 1 ≤ length room.old }
+    ensures fit { IsLentTerminal end.new (length command.now) (length answer.new) }
+    ensures again { IfOk result (λ _. (is_set line.new.rules.is_card ≡ false)
+        × (is_set line.new.rules.has_clock ≡ false) × HasBurst line.new) }
+    ensures run { IfOk result (λ ended. (own : ℕ) × (out : List ℕ) × (spoken : List Spoken)
+        × Ran (D.heard device.old) (D.heard device.new)
+        (asking_resynch (terminal_held end.old command.now answer.old)) line.old resynchronising spoken
+        (standing (terminal_held end.new command.now answer.new) line.new own out ended.action)
+        ended.blocks ended.waited
+        × ((fault : Error) → IsRun (asking_resynch (terminal_held end.old command.now answer.old))
+        resynchronising.input spoken (ending_by fault ended.action)
+        (terminal_held end.new command.now answer.new))) }
+    ensures over { IfOk result (λ ended. goes ended.action ≡ false) }
+    ensures refused { IfErr result (λ fault. (sounds : List Sound)
+        × Sounds (D.heard device.old) (D.heard device.new) sounds
+        × IsRefused (asking_resynch (terminal_held end.old command.now answer.old)) line.old resynchronising
+        fault sounds) }
+{
+    let mut out = [0; LONGEST_BLOCK];
+    let mut own = 0;
+    let action = terminal::resynch(end, line, &mut own, command, answer, 0, &mut out)?;
+    let limits = Limits::NONE;
+    run(
+        end, line, &mut own, limits, command, answer, action, device, room, &mut out,
+    )
 }

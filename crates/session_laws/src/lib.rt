@@ -11,5 +11,5 @@ mod exchanging;
 pub mod laws;
 mod serving;
 
-pub use exchanging::{Ended, exchange_ends};
+pub use exchanging::{Ended, ask_ifs_ends, exchange_ends, resynch_ends};
 pub use serving::serve_events;

@@ -1,7 +1,6 @@
 //! Calls of both ends over lines in memory that fail, are silent or give the same block again and again.
 
 mod calls;
-mod clocks;
 mod printed;
 mod readers;
 mod serving;

@@ -1,84 +1,46 @@
-use Rattle.std.proofs.Common.{rules, [], false, ◌≡◌, ◌+◌, true}
+use Rattle.std.proofs.Common.{rules, []}
 use Rattle.std.proofs.lemmas.Result.{err_from_is_err_and}
-use Rattle.t1_core.specs.Views.{terminal_held}
-use Rattle.session_laws.specs.Ending.{goes, sends}
-use Rattle.session_laws.specs.Running.{standing}
-use Rattle.session_laws.proofs.Sessions.{begun-within, stepped-within, front-fits, front-short}
-use Rattle.session_laws.proofs.Runs.{no-sounds, begun-ran, more-ran, turn-of}
-use Rattle.session_laws.proofs.Refusals.{command-refused, burst-refused, step-of}
-use Rattle.session_laws.proofs.Links.{ran-run}
-use Rattle.session_laws.proofs.Waits.{begun-waited, stepped-waited}
+use Rattle.session_laws.specs.Running.{command_within}
+use Rattle.session_laws.proofs.Sessions.{begun-within}
+use Rattle.session_laws.proofs.Runs.{no-sounds, ok-by, err-by}
+use Rattle.session_laws.proofs.Refusals.{opening-refused, opened-stopped}
+use Rattle.session_laws.proofs.Links.{gone-run}
+use Rattle.session_laws.proofs.Waits.{begun-waited}
 use Rattle.session_laws.proofs.exchanging.exchange_ends.Goals as goal
 
-pub loop-out-init : goal.loop-out-init
-loop-out-init g c = (
-  c.exchange.ensures.fit,
-  begun-within _ _ c.args.limits c.args.line.now _ _ _ _ _ _ _ _ _
-      c.requires.terminal (search rules) (c.in_ok-action.ensures.turn _ c.requires.burst.1),
-  begun-waited _ _ c.args.limits c.args.line.now _ _ _ _ _ _ _ _ _ c.requires.clock
-      (c.in_ok-action.ensures.turn _ c.requires.burst.1),
-  search rules,
-  c.requires.room,
-  (
-    [],
-    begun-ran (g.D.TimedDevice.heard c.args.device.now) _ _ _ _ _ record {
+pub run-requires-clause-within : goal.run-requires-clause-within
+run-requires-clause-within g c =
+    begun-within _ _ c.args.limits c.args.line.now _ _ _ _ _ _ _ _ _ c.requires.terminal c.requires.clock (search rules)
+    (c.in_ok-action.ensures.turn _ c.requires.burst.1)
+
+pub run-requires-clause-waited : goal.run-requires-clause-waited
+run-requires-clause-waited g c =
+    begun-waited _ _ c.args.limits c.args.line.now _ _ _ _ _ _ _ _ _ c.requires.clock
+    (c.in_ok-action.ensures.turn _ c.requires.burst.1)
+
+pub returns-clause-run : goal.returns-clause-run
+returns-clause-run g c =
+    ok-by _ _ _ c.run.result
+    (λ ended gone off. gone-run (g.D.TimedDevice.heard c.args.device.now) (g.D.TimedDevice.heard c.run.new.device) _
+    c.args.line.now (command_within c.args.octets.now c.args.limits) _ gone.0 _ _ _ record {
       out = _;
       burst = _;
       heard = c.requires.burst.1;
       turns = c.in_ok-action.ensures.turn _ c.requires.burst.1;
-    },
-  ),
-)
+    } gone.1 off)
+    c.run.ensures.gone c.run.ensures.over
 
-pub loop-out-smaller : goal.loop-out-smaller
-loop-out-smaller g c =
-    let on : goes c.loop-out.action ≡ true = search rules in
-    let count : c.loop-out.blocks + c.sends-blocks.result ≡ c.loop-out.blocks + sends c.loop-out.action =
-    search rules in
-    (stepped-within c.args.limits.blocks c.loop-out.blocks (c.loop-out.blocks + c.sends-blocks.result) _ c.loop-out.line
-    _ _ _ _ _ _ _ _ _ _ _ c.loop-out.action _ c.loop-out.invariant.1 on count c.loop-out.invariant.1.burst.1
-    (c.in_ok-action-2.ensures.step _ c.loop-out.invariant.1.burst.1)
-    (front-fits _ _ _ c.done-event.ensures.fits c.done-event.ensures.some)
-    (front-short _ _ c.loop-out.invariant.3)).1
-
-pub loop-out-preserved : goal.loop-out-preserved
-loop-out-preserved g c =
-    let on : goes c.loop-out.action ≡ true = search rules in
-    let count : c.loop-out.blocks + c.sends-blocks.result ≡ c.loop-out.blocks + sends c.loop-out.action =
-    search rules in (
-      c.step.ensures.fit,
-      (stepped-within c.args.limits.blocks c.loop-out.blocks
-          (c.loop-out.blocks + c.sends-blocks.result) _ c.loop-out.line
-          _ _ _ _ _ _ _ _ _ _ _ c.loop-out.action _ c.loop-out.invariant.1 on count c.loop-out.invariant.1.burst.1
-          (c.in_ok-action-2.ensures.step _ c.loop-out.invariant.1.burst.1)
-          (front-fits _ _ _ c.done-event.ensures.fits c.done-event.ensures.some)
-          (front-short _ _ c.loop-out.invariant.3)).0,
-      (λ limited. stepped-waited c.args.limits.time c.loop-out.time _ _ c.loop-out.line _ _ _ _ _ _ _ _ _ _ _
-          c.loop-out.action _ (c.loop-out.invariant.2 limited) on (search rules) (search rules) limited
-          (c.in_ok-action-2.ensures.step _ c.loop-out.invariant.1.burst.1)
-          (front-fits _ _ _ c.done-event.ensures.fits c.done-event.ensures.some)),
-      search rules,
-      search rules,
-      (
-        _,
-        more-ran _ (g.D.TimedDevice.heard c.loop-out.device) _ _ _ _ _ _ _ _ _ c.loop-out.invariant.5.1
-            c.done-event.ensures.called.1
-            (turn-of _ _ _ _ _ _ c.done-event.ensures.called.2 on c.done-event.ensures.called.3
-            c.done-event.ensures.called.4 c.loop-out.invariant.1.burst.1
-            (c.in_ok-action-2.ensures.step _ c.loop-out.invariant.1.burst.1)),
-      ),
-    )
-
-pub returns-clause-run : goal.returns-clause-run
-returns-clause-run g c =
-    let off : goes c.loop-out.action ≡ false = search rules in
-    let ran = c.loop-out.invariant.5 in (
-      c.loop-out.own,
-      c.loop-out.out,
-      ran.0,
-      ran.1,
-      λ fault. ran-run _ _ _ c.args.line.now _ c.args.limits _ _ ran.1 off fault,
-    )
+pub returns-clause-refused : goal.returns-clause-refused
+returns-clause-refused g c =
+    err-by _ _ c.run.result
+    (λ fault is. opened-stopped (g.D.TimedDevice.heard c.args.device.now) (g.D.TimedDevice.heard c.run.new.device) _
+    c.args.line.now (command_within c.args.octets.now c.args.limits) _ fault record {
+      out = _;
+      burst = _;
+      heard = c.requires.burst.1;
+      turns = c.in_ok-action.ensures.turn _ c.requires.burst.1;
+    } is)
+    c.run.ensures.stopped
 
 pub returns-in_err-action-clause-refused : goal.returns-in_err-action-clause-refused
 returns-in_err-action-clause-refused g c =
@@ -86,20 +48,6 @@ returns-in_err-action-clause-refused g c =
     rw (p.1, p.2) (
       [],
       no-sounds (g.D.TimedDevice.heard c.args.device.now),
-      command-refused _ _ _ _ _ _ _ _ _ _ _ _ _ (c.in_err-action.ensures.turn _ c.requires.burst.1),
+      opening-refused _ _ (command_within c.args.octets.now c.args.limits) _ _ _ _ _ _ _ _ _
+          (c.in_err-action.ensures.turn _ c.requires.burst.1),
     )
-
-pub returns-in_err-action-2-clause-refused : goal.returns-in_err-action-2-clause-refused
-returns-in_err-action-2-clause-refused g c =
-    let (sound, adds, asked_for, event, octets) = c.done-event.ensures.called in
-    let burst = c.loop-out.invariant.1.burst in
-    let before = standing (terminal_held c.loop-out.«end» c.exchange.new.command c.loop-out.answer) c.loop-out.line
-    c.loop-out.own c.loop-out.out c.loop-out.action in
-    let after = terminal_held c.step.new.«end» c.exchange.new.command c.step.new.answer in
-    let p = err_from_is_err_and c.from_residual-in_err-action-2.result c.from_residual-in_err-action-2.ensures.1 in
-    rw (p.1, p.2) (burst-refused (g.D.TimedDevice.heard c.args.device.now) (g.D.TimedDevice.heard c.loop-out.device)
-    (g.D.TimedDevice.heard c.done-event.new.device) _ _ _ _ _ _ before sound burst.0 after c.step.new.line
-    c.step.new.own
-    c.step.new.out c.loop-out.invariant.5.1 adds asked_for burst.1
-    (step-of before sound _ _ burst.0 after c.step.new.line c.step.new.own c.step.new.out _ event octets
-    (c.in_err-action-2.ensures.step burst.0 burst.1)))
