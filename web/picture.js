@@ -16,31 +16,10 @@ function lighting(name, places, note, attributes, ...inside) {
   return made(name, { "data-lit": places.join(" "), title, ...attributes }, ...group, ...inside);
 }
 
-// The octets of lines whose names the program says after the octets before them.
-function named(lines, answers) {
-  const next = answers.map(([first]) => noted(first).split(" "));
-  return lines.map((line) => {
-    const [first] = line.split(" ");
-    const name = NAMES[first] ?? (first.startsWith("T") ? first : "?");
-    return range(0, next.length).filter((at) => next[at].includes(name));
-  });
+// The octets of a line, by the bounds of their ranges.
+function octetsOf(bounds) {
+  return bounds.flatMap((from, at) => (at % 2 ? [] : range(from, bounds[at + 1])));
 }
-
-// The octets up to the first beginning whose answer has the line too. The last line has the rest, the first one all.
-function grown(lines, answers) {
-  const all = answers.length - 1;
-  const has = (last) => (it) => lines.slice(1, last + 1).every((line, at) => bare(it[at + 1] ?? "") === line);
-  const ends = lines.map((_, at) => (at + 1 < lines.length ? answers.findIndex(has(at)) : all));
-  return ends.map((end, at) => (at ? range(ends[at - 1], end) : range(0, all)));
-}
-
-// The octets of a response's lines: as many as its first line has, and the rest.
-function parted([first], answers) {
-  const count = first.match(/[0-9A-F]{2}/g)?.length ?? 0;
-  return [range(0, count), range(count, answers.length - 1)];
-}
-
-const PLACES = { atr: named, block: named, chain: named, command: grown, dol: grown, response: parted };
 
 // Makes the tree of data objects, as their depths nest them, each with the program's line and its note.
 function tree(objects, notes, places) {
@@ -54,7 +33,7 @@ function tree(objects, notes, places) {
   return open[0];
 }
 
-// Makes the strip of a value's octets, and finds those of each line: the program answers for each beginning of them.
+// Makes the strip of a value's octets, with those of each line. An octet says what the program says after those before.
 async function strip(ask, { values, values: { form, kind }, input }) {
   const read = await ask(["show", "response", "--stdin", form, "--json"], input);
   const { part = "", status: last = "" } = read.status === 0 && form !== "lines" ? JSON.parse(read.text) : {};
@@ -72,11 +51,10 @@ async function strip(ask, { values, values: { form, kind }, input }) {
   const below = [made("div", { class: "strip", role: "radiogroup", "aria-label": "Octets" }, ...boxes),
     made("p", { id: "lit", role: "status" })];
   if (stop) return { lines, places: [range(Number(stop), octets.length).slice(0, 1)], below };
-  if (kind !== "tlv") return { lines, places: PLACES[kind](lines, answers), below };
-  const { objects, notes } = JSON.parse((await ask(wordsOf({ ...show, json: "1" }), input)).text);
-  const counts = notes.map(({ note }) => Number(note.match(/, (\d+) octets?,/)[1]));
-  const places = objects.map(({ at, value_at: from }, number) => range(at, from + counts[number]));
-  return { lines, places: [range(0, octets.length), ...places], below: [...below, tree(objects, notes, places)] };
+  const { objects, notes, places } = JSON.parse((await ask(wordsOf({ ...show, json: "1" }), input)).text);
+  const lit = places.map(octetsOf);
+  if (kind === "tlv") below.push(tree(objects, notes, lit.slice(1)));
+  return { lines, places: lit, below };
 }
 
 // Adds to the program's drawing what judge says of blocks, below them, and its moments at the left, to scale.

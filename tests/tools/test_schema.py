@@ -47,11 +47,12 @@ class Schema(unittest.TestCase):
         block = {
             "version": 1, "kind": "block", "verdict": "ok", "octets": 9, "nad": "00",
             "pcb": {"kind": "I", "number": 0, "more": 0}, "inf": "00A4040000", "lrc": "A5",
+            "places": [[0, 1], [1, 2], [3, 8], [8, 9]],
         }
         self.assertTrue(self.validator.is_valid(block))
         for name, value in (
             ("version", 2), ("kind", "atr"), ("verdict", "refused"), ("octets", "9"), ("nad", "0"), ("lrc", None),
-            ("pcb", {"kind": "I", "number": 0}), ("inf", "00a4"), ("other", []),
+            ("pcb", {"kind": "I", "number": 0}), ("inf", "00a4"), ("places", [[0]]), ("places", []), ("other", []),
         ):
             wrong = copy.deepcopy(block)
             wrong[name] = value

@@ -14,7 +14,7 @@ sys.dont_write_bytecode = True
 from copies import TOP, printed, script
 
 tool = script("gate/try-vectors")
-from answers import text_of
+from answers import are_placed, text_of
 from cases import case_of, field_of, octets
 
 # It gives each octet of standard input as its text if one read gets it.
@@ -154,6 +154,15 @@ class Answers(unittest.TestCase):
         self.assertEqual(text_of(noted), "status 9000 normal  # ended\n")
         command = {"verdict": "ok", "case": 2, "length": "short", "le": None, "blocks": [1, 2]}
         self.assertEqual(text_of(command), "blocks 1,2\ncase 2 short\nle none\n")
+
+    def test_places(self):
+        chain = {"verdict": "ok", "octets": 9, "blocks": 2, "message": "AB", "places": [[0, 9], [3, 3, 7, 8]]}
+        self.assertTrue(are_placed(chain))
+        for wrong in ([[0, 9]], [[0, 9], []], [[0, 9], [3, 3, 7]], [[0, 10], [3, 4]], [[0, 9], [4, 3]]):
+            self.assertFalse(are_placed({**chain, "places": wrong}), wrong)
+        checked = {"verdict": "ok", "octets": 9}
+        self.assertTrue(are_placed(checked))
+        self.assertFalse(are_placed({**checked, "places": []}))
 
     def test_verdicts(self):
         self.assertEqual(text_of({"verdict": "ok", "lines": 3}), "ok 3 lines\n")

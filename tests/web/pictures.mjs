@@ -43,6 +43,13 @@ function isOfCommand([name, value], own, all) {
   return data === "" ? own === "" : lengthBefore(data).some((it) => own === it.toUpperCase() + data);
 }
 
+// The octets of so many blocks at the front, by the LEN of each.
+function frontOf(all, count) {
+  let end = 0;
+  for (let block = 0; block < count; block++) end += 8 + 2 * parseInt(all.slice(end + 4, end + 6), 16);
+  return all.slice(0, end);
+}
+
 // Whether a line of an answer to reset lights up the right octets.
 function isOfAtr([name, value], own, all) {
   if (name === "convention") return own === all.slice(0, 2);
@@ -53,7 +60,7 @@ function isOfAtr([name, value], own, all) {
 const RIGHT = {
   atr: isOfAtr,
   block: ([name, value], own, all) => own === (name === "pcb" ? all.slice(2, 4) : octetsOf(value)),
-  chain: ([name, value], own) => own === (name === "message" ? octetsOf(value) : ""),
+  chain: ([name, value], own, all) => own === (name === "message" ? octetsOf(value) : frontOf(all, Number(value))),
   response: ([, value], own) => own === octetsOf(value),
   command: isOfCommand,
   dol: ([name, value], own, all) => (name === "entries" ? own === all

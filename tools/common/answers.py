@@ -167,3 +167,16 @@ def text_of(answer):
     lines = "".join(f"{it}: {verdict_line(answer[it])}" for it in ("terminal", "card") if it in answer)
     lines += verdict_line(answer) + "".join(member_lines(answer, it) for it in LINES if it in answer)
     return with_notes(lines, answer.get("notes", []))
+
+
+def are_right(bounds, octets):
+    """Whether bounds are those of ranges of so many octets, in their order."""
+    return bool(bounds) and len(bounds) % 2 == 0 and sorted(bounds) == bounds and 0 <= bounds[0] <= bounds[-1] <= octets
+
+
+def are_placed(answer):
+    """Whether each line of a value that is shown has its octets, and no other answer has any."""
+    if VALUES.isdisjoint(answer):
+        return "places" not in answer
+    places = answer["places"]
+    return len(places) == text_of(answer).count("\n") and all(are_right(it, answer["octets"]) for it in places)

@@ -8,4 +8,5 @@ pub mod NoSign
 pub mod Noting
 pub mod Tds
 pub mod Pushes
+pub mod Placing
 pub mod NotesApart

@@ -1,5 +1,5 @@
 -- How a verdict's text is made.
-use Rattle.std.proofs.Common.{◌≡◌, ◌∙◌, ◌-◌, ℕ, List, [], ◌∷◌, length, drop, Result, Ok, Err, IfOk, ap, arith, subst, sym}
+use Rattle.std.proofs.Common.{◌≡◌, ◌∙◌, ◌-◌, ℕ, Bool, List, [], ◌∷◌, length, drop, Result, Ok, Err, IfOk, ap, arith, subst, sym}
 use Rattle.std.proofs.lemmas.List.{length-append}
 use Rattle.std.proofs.Math.Seq.{drop-append_seam}
 use Rattle.octet_core.specs.Octets.{xor_of}
@@ -7,8 +7,10 @@ use Rattle.block_core.specs.Block.{Parts, front_of, spelling}
 use Rattle.octet_core.specs.declared.stop.Refused.{Refused}
 use Rattle.octet_core.specs.declared.stop.Refused.TheVariants as refusal
 use Rattle.octet_core.specs.declared.stop.Stop.{Stop}
-use Rattle.card_kinds.specs.Verdicts.{TellsBy, refused}
-use Rattle.card_kinds.specs.Codec.{Codec, Stops, StopsUnlessMemory}
+use Rattle.card_kinds.specs.Verdicts.{TellsBy, refused, shown_in}
+use Rattle.card_kinds.specs.Codec.{Codec, Stops, StopsUnlessMemory, Takes}
+use Rattle.layouts.specs.declared.layout.Layout.{Layout}
+use Rattle.card_words.specs.declared.request.Kind.{Kind}
 use Rattle.card_kinds.specs.declared.answer.Answer.{Answer}
 use Rattle.card_kinds.specs.declared.status.Status.{Status}
 use Rattle.card_kinds.specs.declared.status.Status.TheVariants as status
@@ -33,6 +35,12 @@ is-refused {V} {R} c told untold b name answer stop text ended named is h same o
 pub of-stop : {V R : Type 0} (c : Codec V R) (b : List ℕ) (answer : Refused R) (stop : Stop R)
     → answer ≡ refusal.Stop stop → StopsUnlessMemory c b answer → Stops c b stop
 of-stop c b answer stop is h = subst (StopsUnlessMemory c b) is h
+
+-- what shows a value of n octets shows one of as many as it says
+pub is-shown : {V R : Type 0} (noted : Bool) (layout : Layout) (kind : Kind) (c : Codec V R) (b : List ℕ) (v : V)
+    (n taken : ℕ) (text : List ℕ) → Takes c b v n → taken ≡ n → text ≡ shown_in noted layout kind c v n
+    → (x : V) × Takes c b x taken × (text ≡ shown_in noted layout kind c x taken)
+is-shown noted layout kind c b v n taken text takes is said = (v, rw is takes, rw is said)
 
 -- ---- blocks
 

@@ -1,7 +1,7 @@
 -- What the program prints about an answer to reset.
-use Rattle.std.specs.Prelude.{ℕ, ◌+◌, ◌%◌, List, [], ◌∷◌, ◌++◌, codes, decimal, Bool, Option, Some, None, Result, Ok, Err}
+use Rattle.std.specs.Prelude.{ℕ, ◌+◌, ◌-◌, ◌%◌, List, [], ◌∷◌, ◌++◌, codes, decimal, length, Bool, Option, Some, None, Result, Ok, Err}
 use Rattle.hex.specs.Hex.{encode_upper}
-use Rattle.atr_core.specs.Atr.{AtrParts, IsAtr, IsReason, announcing, goes_on, tck_of}
+use Rattle.atr_core.specs.Atr.{AtrParts, IsAtr, IsReason, announcing, count_of, goes_on, needs_tck, tck_of}
 use Rattle.atr_core.specs.Rates.{rates_of}
 use Rattle.atr_core.specs.T1.{T1Values, t1_params_of}
 use Rattle.atr_core.specs.declared.atr.Convention.{Convention}
@@ -13,6 +13,7 @@ pub use Rattle.atr_core.specs.Names.{reason_name as reason_text}
 use Rattle.atr_core.specs.Names.{param_fault_name}
 use Rattle.notes.specs.Noted.{where_noted}
 use Rattle.notes.specs.Says.{note_of, t1_says, ta_says, tck_says, td_says, text_note}
+use Rattle.card_kinds.specs.Places.{each_octet, from_to}
 use Rattle.card_kinds.specs.Texts.{octets_text}
 use Rattle.layouts.specs.Items.{with_item}
 use Rattle.octet_core.specs.Grammar.{self_ended}
@@ -150,6 +151,25 @@ abbrev pub atr_members : AtrParts → List ℕ
 atr_members a = codes ",\"convention\":\"" ++ (convention_text a.convention
     ++ (codes "\",\"interface\":[" ++ (interface_items a ++ tail_members a)))
 
+-- ---- the octets of each line, if the answer takes n octets
+
+-- the place after the historical bytes: TCK is the last octet, if it is present
+abbrev pub tck_place : AtrParts → ℕ → ℕ
+tck_place a n = n - count_of (needs_tck a.indicated)
+
+-- the place after the interface bytes
+abbrev pub historical_place : AtrParts → ℕ → ℕ
+historical_place a n = tck_place a n - length a.historical
+
+-- the historical bytes and TCK; what the interface bytes mean has no octets of its own
+abbrev pub tail_places : AtrParts → ℕ → List (List (ℕ × ℕ))
+tail_places a n = from_to (historical_place a n) (tck_place a n) ∷ from_to (tck_place a n) n ∷ from_to n n ∷ from_to n n
+    ∷ from_to n n ∷ []
+
+-- TS, and the interface bytes after T0
+abbrev pub atr_places : AtrParts → ℕ → List (List (ℕ × ℕ))
+atr_places a n = from_to 0 1 ∷ (each_octet 2 (historical_place a n - 2) ++ tail_places a n)
+
 abbrev pub atr_codec : Codec AtrParts AtrReason
 atr_codec = record {
   ending = self_ended;
@@ -158,4 +178,5 @@ atr_codec = record {
   name = reason_text;
   lines = atr_text;
   members = atr_members;
+  places = atr_places;
 }

@@ -1,5 +1,5 @@
 -- What the program prints about a block.
-use Rattle.std.specs.Prelude.{ℕ, List, [], ◌∷◌, ◌++◌, length, slice_index, Bool, true, false, codes, decimal}
+use Rattle.std.specs.Prelude.{ℕ, ◌-◌, List, [], ◌∷◌, ◌++◌, length, slice_index, Bool, true, false, codes, decimal}
 use Rattle.hex.specs.Hex.{encode_upper}
 use Rattle.octet_core.specs.Octets.{xor_of}
 use Rattle.block_core.specs.Block.{Parts, IsBlock, IsReason, front_of, number_bit, fault_code, pcb_octet}
@@ -10,6 +10,7 @@ use Rattle.block_core.specs.declared.pcb.S.TheVariants.{Resynch, Ifs, Abort, Wtx
 pub use Rattle.block_core.specs.Names.{reason_name as reason_text}
 use Rattle.notes.specs.Noted.{where_noted}
 use Rattle.notes.specs.Says.{count_note, lrc_says, nad_says, note_of, pcb_says}
+use Rattle.card_kinds.specs.Places.{from_to}
 use Rattle.card_kinds.specs.Texts.{octets_text}
 use Rattle.octet_core.specs.Grammar.{self_ended}
 use Rattle.block_core.specs.declared.reason.BlockReason.{BlockReason}
@@ -72,6 +73,10 @@ lrc_members v lrc = codes ",\"nad\":\"" ++ (encode_upper (v.nad ∷ [])
 abbrev pub block_members : Parts → List ℕ
 block_members v = lrc_members v (xor_of (front_of v))
 
+-- the octets of each line, if the block takes n octets; no line has LEN
+abbrev pub block_places : Parts → ℕ → List (List (ℕ × ℕ))
+block_places v n = from_to 0 1 ∷ from_to 1 2 ∷ from_to 3 (n - 1) ∷ from_to (n - 1) n ∷ []
+
 -- the codec for an information size
 abbrev pub block_codec : ℕ → Codec Parts BlockReason
 block_codec ifs = record {
@@ -82,4 +87,5 @@ block_codec ifs = record {
       reason_text;
   lines = block_text;
   members = block_members;
+  places = block_places;
 }

@@ -1,5 +1,5 @@
 -- What the program prints about a chain.
-use Rattle.std.specs.Prelude.{◌≡◌, ℕ, List, [], ◌∷◌, ◌++◌, length, codes, decimal, Bool, true, None}
+use Rattle.std.specs.Prelude.{◌≡◌, ℕ, zero, suc, ◌+◌, List, [], ◌∷◌, ◌++◌, length, slice_index, codes, decimal, Bool, true, None}
 use Rattle.hex.specs.Hex.{encode_upper}
 use Rattle.octet_core.specs.Grammar.{Accepts, self_ended}
 use Rattle.block_core.specs.Block.{Parts, spelling}
@@ -10,6 +10,7 @@ use Rattle.chain_core.specs.Taking.{Taking}
 pub use Rattle.chain_core.specs.Names.{reason_name as reason_text}
 use Rattle.notes.specs.Noted.{where_noted}
 use Rattle.notes.specs.Says.{count_note}
+use Rattle.card_kinds.specs.Places.{from_to}
 use Rattle.card_kinds.specs.Texts.{octets_text}
 use Rattle.chain_core.specs.declared.reason.ChainReason.{ChainReason}
 use Rattle.card_kinds.specs.Codec.{Codec}
@@ -37,6 +38,26 @@ joined_members blocks message = codes ",\"blocks\":" ++ (decimal blocks
 abbrev pub chain_members : List (List ℕ) → List ℕ
 chain_members fields = joined_members (length fields) (message_of fields)
 
+-- the fields of blocks in a row, of which the first block begins at this place: each is after NAD, PCB and LEN, and
+-- before the LRC
+abbrev pub field_ranges : ℕ → List (List ℕ) → List (ℕ × ℕ)
+field_ranges at [] = []
+field_ranges at (field ∷ fields) = (at + 3, at + 3 + length field) ∷ field_ranges (at + 3 + length field + 1) fields
+
+-- the octets of each line, if the chain takes n octets
+abbrev pub chain_places : List (List ℕ) → ℕ → List (List (ℕ × ℕ))
+chain_places fields n = from_to 0 n ∷ field_ranges 0 fields ∷ []
+
+-- the fields of so many blocks from this place of the octets b on, by the LEN of each
+abbrev pub ranges_in : ℕ → ℕ → List ℕ → List (ℕ × ℕ)
+ranges_in zero at b = []
+ranges_in (suc blocks) at b = (at + 3, at + 3 + slice_index b (at + 2))
+    ∷ ranges_in blocks (at + 3 + slice_index b (at + 2) + 1) b
+
+-- the octets of each line, if so many blocks are the n octets at the front of b
+abbrev pub joined_places : ℕ → List ℕ → ℕ → List (List (ℕ × ℕ))
+joined_places blocks b n = from_to 0 n ∷ ranges_in blocks 0 b ∷ []
+
 -- the receiver r has taken the chain at the front of the octets b, which has n octets
 pub record IsReceived (ifs : ℕ) (number : Number) (b : List ℕ) (r : Taking) (n : ℕ) : Type 0 where
   pub fields : List (List ℕ)
@@ -56,4 +77,5 @@ chain_codec ifs number = record {
   name = reason_text;
   lines = chain_text;
   members = chain_members;
+  places = chain_places;
 }

@@ -6,9 +6,11 @@ use Rattle.octet_core.specs.declared.stop.Stop.{Stop}
 use Rattle.layouts.specs.declared.layout.Layout.{Layout}
 use Rattle.layouts.specs.declared.layout.Layout.TheVariants.{Lines, Json}
 use Rattle.card_kinds.specs.Json.{notes_member}
+use Rattle.card_kinds.specs.Places.{places_member}
 
 -- where a value V ends, which octets spell it, why octets are refused, the names of these reasons R, the lines of a
--- value, with notes or without, and its members of a JSON object, each after a comma
+-- value, with notes or without, its members of a JSON object, each after a comma, and the octets of each of its lines,
+-- if the value takes so many octets
 pub record Codec (V R : Type 0) : Type 1 where
   pub ending : Ending
   pub Spells : V → List ℕ → Type 0
@@ -16,6 +18,7 @@ pub record Codec (V R : Type 0) : Type 1 where
   pub name : R → List ℕ
   pub lines : Bool → V → List ℕ
   pub members : V → List ℕ
+  pub places : V → ℕ → List (List (ℕ × ℕ))
 
 -- members of an object; if it is noted, also the member for the notes on these lines
 abbrev pub members_by : Bool → List ℕ → List ℕ → List ℕ
@@ -27,9 +30,9 @@ abbrev pub said_by : Layout → Bool → List ℕ → List ℕ → List ℕ
 said_by Lines noted lines members = lines
 said_by Json noted lines members = members_by noted lines members
 
--- a value as lines or as members of an object, with notes if it is noted
-abbrev pub said_in : {V R : Type 0} → Bool → Layout → Codec V R → V → List ℕ
-said_in noted layout c v = said_by layout noted (c.lines noted v) (c.members v)
+-- a value of n octets as lines or as members of an object, with notes if it is noted
+abbrev pub said_in : {V R : Type 0} → Bool → Layout → Codec V R → V → ℕ → List ℕ
+said_in noted layout c v n = said_by layout noted (c.lines noted v) (c.members v ++ places_member (c.places v n))
 
 -- the first n octets of b spell v
 abbrev pub Takes : {V R : Type 0} → Codec V R → List ℕ → V → ℕ → Type 0

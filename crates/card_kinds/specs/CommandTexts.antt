@@ -1,5 +1,5 @@
 -- What the program prints about a command.
-use Rattle.std.specs.Prelude.{ℕ, List, ◌++◌, Bool, Option, Some, None, codes, decimal, length, slice_index}
+use Rattle.std.specs.Prelude.{ℕ, ◌-◌, List, [], ◌∷◌, ◌++◌, Bool, Option, Some, None, codes, decimal, length, slice_index}
 use Rattle.hex.specs.Hex.{encode_upper}
 use Rattle.apdu_core.specs.Command.{CommandParts, IsCommand, IsReason, le_of, part_of, shape_of}
 use Rattle.apdu_core.specs.declared.command.Shape.{Shape}
@@ -7,6 +7,7 @@ use Rattle.apdu_core.specs.declared.command.Shape.TheVariants.{Empty, ShortLe, S
 pub use Rattle.apdu_core.specs.Names.{command_reason_name as reason_text}
 use Rattle.notes.specs.Noted.{where_noted}
 use Rattle.notes.specs.Says.{header_note, le_says, note_of, part_note}
+use Rattle.card_kinds.specs.Places.{from_to}
 use Rattle.card_kinds.specs.Texts.{octets_text}
 use Rattle.octet_core.specs.Grammar.{whole}
 use Rattle.apdu_core.specs.declared.reason.CommandReason.{CommandReason}
@@ -56,6 +57,21 @@ command_members c =
     ++ (encode_upper c.header ++ (codes "\",\"part\":\""
     ++ (encode_upper (part_of c.body) ++ (codes "\",\"le\":" ++ le_or (codes "null") (le_of c.body))))))
 
+-- how many octets Le has: with an extended Le alone also the octet 00 before it
+abbrev pub le_size : Shape → ℕ
+le_size Empty = 0
+le_size ShortLe = 1
+le_size ShortPart = 0
+le_size ShortBoth = 1
+le_size LongLe = 3
+le_size LongPart = 0
+le_size LongBoth = 2
+
+-- the octets of each line, if the command takes n octets; the data field has Lc before it
+abbrev pub command_places : CommandParts → ℕ → List (List (ℕ × ℕ))
+command_places c n = from_to 0 n ∷ from_to 0 4 ∷ from_to 4 (n - le_size (shape_of c.body))
+    ∷ from_to (n - le_size (shape_of c.body)) n ∷ []
+
 abbrev pub command_codec : Codec CommandParts CommandReason
 command_codec = record {
   ending = whole;
@@ -64,4 +80,5 @@ command_codec = record {
   name = reason_text;
   lines = command_text;
   members = command_members;
+  places = command_places;
 }

@@ -1,5 +1,5 @@
 -- What the program prints about a forest of data objects.
-use Rattle.std.specs.Prelude.{ℕ, List, [], ◌∷◌, ◌++◌, ◌-◌, ◌==◌, length, Bool, codes, decimal, if◌then◌else◌}
+use Rattle.std.specs.Prelude.{ℕ, List, [], ◌∷◌, ◌++◌, ◌+◌, ◌-◌, ◌==◌, length, Bool, codes, decimal, if◌then◌else◌}
 use Rattle.std.specs.List.{repeat}
 use Rattle.hex.specs.Hex.{encode_upper}
 use Rattle.tlv_core.specs.Tag.{constructed_bit, length_field}
@@ -10,6 +10,7 @@ use Rattle.tlv_core.specs.Tidy.{tidy}
 pub use Rattle.tlv_core.specs.Names.{reason_name as reason_text}
 use Rattle.notes.specs.Noted.{where_noted}
 use Rattle.notes.specs.Says.{header_place, object_note}
+use Rattle.card_kinds.specs.Places.{from_to}
 use Rattle.card_kinds.specs.Texts.{octets_text}
 use Rattle.layouts.specs.Items.{with_item}
 use Rattle.octet_core.specs.Grammar.{whole}
@@ -78,6 +79,18 @@ forest_members t = parts_members (parts_of 1 0 t)
 abbrev pub forest_text : Bool → Tree → List ℕ
 forest_text noted t = parts_text noted (parts_of 1 0 t)
 
+-- the octets of each object, from its tag to the end of its value
+abbrev pub object_places : List PartValue → List (List (ℕ × ℕ))
+object_places [] = []
+object_places (p ∷ parts) = from_to (header_place p) (p.place + length p.value) ∷ object_places parts
+
+-- the octets of each line, if the objects take n octets
+abbrev pub parts_places : List PartValue → ℕ → List (List (ℕ × ℕ))
+parts_places parts n = from_to 0 n ∷ object_places parts
+
+abbrev pub forest_places : Tree → ℕ → List (List (ℕ × ℕ))
+forest_places t n = parts_places (parts_of 1 0 t) n
+
 abbrev pub forest_codec : Codec Tree TlvReason
 forest_codec = record {
   ending = whole;
@@ -87,4 +100,5 @@ forest_codec = record {
       reason_text;
   lines = forest_text;
   members = forest_members;
+  places = forest_places;
 }

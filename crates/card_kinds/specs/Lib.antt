@@ -1,6 +1,7 @@
 pub mod Statuses
 pub mod Texts
 pub mod Json
+pub mod Places
 pub mod Codec
 pub mod AtrTexts
 pub mod ChainTexts

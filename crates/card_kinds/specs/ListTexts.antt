@@ -4,10 +4,11 @@ use Rattle.hex.specs.Hex.{encode_upper}
 pub use Rattle.tlv_core.specs.Names.{dol_reason_name as reason_text}
 use Rattle.notes.specs.Noted.{where_noted}
 use Rattle.notes.specs.Says.{list_note}
+use Rattle.card_kinds.specs.Places.{from_to}
 use Rattle.card_kinds.specs.Texts.{octets_text}
 use Rattle.layouts.specs.Items.{with_item}
 use Rattle.octet_core.specs.Grammar.{whole}
-use Rattle.tlv_core.specs.Dol.{IsDol, IsDolReason}
+use Rattle.tlv_core.specs.Dol.{IsDol, IsDolReason, place_after}
 use Rattle.tlv_core.specs.declared.reason.DolReason.{DolReason}
 use Rattle.card_kinds.specs.Codec.{Codec}
 
@@ -38,6 +39,15 @@ abbrev pub dol_members : List (List ℕ × ℕ) → List ℕ
 dol_members entries = codes ",\"count\":" ++ (decimal (length entries) ++ (codes ",\"entries\":[" ++
     (with_entries [] entries ++ codes "]")))
 
+-- the octets of each entry, its tag and its length, from this place on
+abbrev pub entry_places : ℕ → List (List ℕ × ℕ) → List (List (ℕ × ℕ))
+entry_places at [] = []
+entry_places at (e ∷ entries) = from_to at (place_after at e) ∷ entry_places (place_after at e) entries
+
+-- the octets of each line, if the list takes n octets
+abbrev pub dol_places : List (List ℕ × ℕ) → ℕ → List (List (ℕ × ℕ))
+dol_places entries n = from_to 0 n ∷ entry_places 0 entries
+
 -- the octets that fill a list
 abbrev pub filled_text : List ℕ → List ℕ
 filled_text octets = octets_text octets ++ codes "\n"
@@ -50,4 +60,5 @@ list_codec = record {
   name = reason_text;
   lines = dol_text;
   members = dol_members;
+  places = dol_places;
 }

@@ -1,5 +1,5 @@
 -- What the program prints about a response.
-use Rattle.std.specs.Prelude.{ℕ, List, [], ◌∷◌, ◌++◌, Bool, codes}
+use Rattle.std.specs.Prelude.{ℕ, ◌-◌, List, [], ◌∷◌, ◌++◌, Bool, codes}
 use Rattle.hex.specs.Hex.{encode_upper}
 use Rattle.apdu_core.specs.Response.{ResponseParts, IsResponse, IsReason}
 pub use Rattle.apdu_core.specs.Names.{response_reason_name as reason_text}
@@ -8,6 +8,7 @@ use Rattle.apdu_core.specs.declared.status.StatusClass.{StatusClass}
 use Rattle.apdu_core.specs.declared.status.StatusClass.TheVariants.{Normal, Warning, Execution, Checking, Proprietary, Invalid}
 use Rattle.notes.specs.Noted.{where_noted}
 use Rattle.notes.specs.Says.{note_of, status_says}
+use Rattle.card_kinds.specs.Places.{from_to}
 use Rattle.card_kinds.specs.Texts.{octets_text}
 use Rattle.octet_core.specs.Grammar.{whole}
 use Rattle.apdu_core.specs.declared.reason.ResponseReason.{ResponseReason}
@@ -39,6 +40,10 @@ status_members sw1 sw2 = codes ",\"status\":\"" ++ (encode_upper (sw1 ∷ sw2 �
 abbrev pub response_members : ResponseParts → List ℕ
 response_members r = codes ",\"part\":\"" ++ (encode_upper r.part ++ (codes "\"" ++ status_members r.sw1 r.sw2))
 
+-- the octets of each line, if the response takes n octets
+abbrev pub response_places : ResponseParts → ℕ → List (List (ℕ × ℕ))
+response_places r n = from_to 0 (n - 2) ∷ from_to (n - 2) n ∷ []
+
 abbrev pub response_codec : Codec ResponseParts ResponseReason
 response_codec = record {
   ending = whole;
@@ -47,4 +52,5 @@ response_codec = record {
   name = reason_text;
   lines = response_text;
   members = response_members;
+  places = response_places;
 }

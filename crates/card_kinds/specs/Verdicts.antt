@@ -82,7 +82,7 @@ laid_out Lines kind said n = said
 laid_out Json kind said n = object_line (kind_name kind) (accepted_members n ++ said)
 
 abbrev pub shown_in : {V R : Type 0} → Bool → Layout → Kind → Codec V R → V → ℕ → List ℕ
-shown_in noted layout kind c v n = laid_out layout kind (said_in noted layout c v) n
+shown_in noted layout kind c v n = laid_out layout kind (said_in noted layout c v n) n
 
 -- a refusal, in each layout
 abbrev pub refused_in : {R : Type 0} → Layout → Kind → (R → List ℕ) → Stop R → List ℕ

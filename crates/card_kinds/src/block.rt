@@ -5,9 +5,10 @@ ghost use Rattle.block_core.specs.Block.{fault_code, front_of, number_bit, pcb_o
 ghost use Rattle.notes.specs.Noted.{where_noted};
 ghost use Rattle.notes.specs.Says.{note_of, pcb_says};
 ghost use Rattle.octet_core.specs.Octets.{xor_of};
-ghost use Rattle.card_kinds.specs.BlockTexts.{block_codec, block_lines, field_lines, lrc_members, more_number, pcb_object, pcb_text, rest_lines, supervisory_text};
+ghost use Rattle.card_kinds.specs.BlockTexts.{block_codec, block_lines, block_places, field_lines, lrc_members, more_number, pcb_object, pcb_text, rest_lines, supervisory_text};
 
 use crate::codec::{Codec, Outcome};
+use crate::places::push_place;
 use crate::shown::{Showable, Shown};
 use crate::text::{push_hex, push_octet, push_word};
 use block_core::{Block, BlockReason, BlockRef, Fault, Number, Pcb, S};
@@ -66,12 +67,27 @@ impl Showable for Checked<'_> {
 
     ghost members = { λ checked. lrc_members checked.block checked.lrc };
 
+    ghost places = { λ checked n. block_places checked.block n };
+
     fn push_lines(&self, _alloc: Global, text: &mut String, noted: bool) -> Result<(), AllocError> {
         push_lines(text, &self.block, self.lrc, noted)
     }
 
     fn push_members(&self, _alloc: Global, text: &mut String) -> Result<(), AllocError> {
         push_members(text, &self.block, self.lrc)
+    }
+
+    fn push_places(
+        &self,
+        _alloc: Global,
+        items: &mut String,
+        taken: usize,
+    ) -> Result<(), AllocError> {
+        let lrc = taken.saturating_sub(1);
+        push_place(items, 0, 1)?;
+        push_place(items, 1, 2)?;
+        push_place(items, 3, lrc)?;
+        push_place(items, lrc, taken)
     }
 }
 

@@ -1,20 +1,22 @@
 //! What the program prints about a chain.
 
-ghost use Rattle.std.specs.Prelude.{◌≡◌, ◌++◌, ℕ, List, length, true, None, refl, IfOk, IfErr, OnOk, string_bytes};
+ghost use Rattle.std.specs.Prelude.{◌≡◌, ◌++◌, ◌<◌, ℕ, List, [], length, slice_index, true, None, refl, IfOk, IfErr, OnOk, string_bytes};
 ghost use Rattle.octet_core.specs.Grammar.{self_ended, RefusesUnlessMemory};
 ghost use Rattle.chain_core.specs.Chain.{chain_blocks, message_of, IsChain, IsReason};
 ghost use Rattle.chain_core.specs.Cut.{cut_of};
 ghost use Rattle.hex.specs.Hex.{encode_upper};
 ghost use Rattle.block_core.specs.Block.{spelling};
-ghost use Rattle.card_kinds.specs.ChainTexts.{blocks_text, chain_codec, joined_members, joined_text, longest_message, IsReceived};
+ghost use Rattle.card_kinds.specs.Places.{with_ranges};
+ghost use Rattle.card_kinds.specs.ChainTexts.{blocks_text, chain_codec, joined_members, joined_places, joined_text, longest_message, ranges_in, IsReceived};
 
 use crate::codec::{Codec, Outcome};
+use crate::places::{push_place, push_range};
 use crate::shown::{Showable, Shown};
 use crate::text::{push_hex, push_word};
 use block_core::{Block, Number, encode};
 use card_words::{Expected, FieldSize};
 use chain_core::{ChainReason, LONGEST_MESSAGE, Receiver, cut};
-use layouts::Layout;
+use layouts::{Layout, push_separator};
 use notes::{chain_refusal_note, push_count_note};
 use octet_core::{Refused, Stop};
 use std::alloc::{AllocError, Global};
@@ -41,7 +43,7 @@ impl Codec for Receiver {
         noted: bool,
     ) -> Outcome<Shown, ChainReason> {
         let (receiver, taken) = received(alloc, octets, expected.ifs, expected.number)?;
-        let joined = Joined::of(&receiver);
+        let joined = Joined::of(&receiver, octets);
         Ok(Shown::of(alloc, &joined, taken, expected.kind, layout, noted)?)
     }
 
@@ -55,17 +57,20 @@ impl Codec for Receiver {
     }
 }
 
-/// The number of blocks of a chain, and its message.
+/// The number of blocks of a chain, its message, and octets with the chain at their front.
 #[derive(Clone, Copy)]
 struct Joined<'a> {
     blocks: u32,
     message: &'a [u8],
+    octets: &'a [u8],
 }
 
 impl Showable for Joined<'_> {
     ghost lines = { λ noted joined. joined_text noted joined.blocks joined.message.now };
 
     ghost members = { λ joined. joined_members joined.blocks joined.message.now };
+
+    ghost places = { λ joined n. joined_places joined.blocks joined.octets.now n };
 
     fn push_lines(&self, _alloc: Global, text: &mut String, noted: bool) -> Result<(), AllocError> {
         write!(text, "blocks {}\nmessage ", self.blocks)?;
@@ -79,21 +84,58 @@ impl Showable for Joined<'_> {
         push_hex(text, self.message)?;
         text.push_str("\"")
     }
+
+    fn push_places(
+        &self,
+        alloc: Global,
+        items: &mut String,
+        taken: usize,
+    ) -> Result<(), AllocError> {
+        let fields = field_ranges(alloc, self.blocks, self.octets)?;
+        push_place(items, 0, taken)?;
+        push_separator(items)?;
+        write!(items, "[{fields}]")
+    }
 }
 
 impl<'a> Joined<'a> {
-    /// Returns the blocks and the message of a receiver that has taken a chain.
-    fn of(receiver: &'a Receiver) -> Joined<'a>
-        ensures { (fields : List (List ℕ)) → receiver.now.blocks ≡ length fields
+    /// Returns the blocks and the message of a receiver that has taken the chain at the front of the octets.
+    fn of(receiver: &'a Receiver, octets: &'a [u8]) -> Joined<'a>
+        ensures joined { (fields : List (List ℕ)) → receiver.now.blocks ≡ length fields
             → receiver.now.joined ≡ message_of fields → receiver.now.done ≡ true
             → receiver.now.refusal ≡ None
             → (result.blocks ≡ length fields) × (result.message.now ≡ message_of fields) }
+        ensures octets { result.octets.now ≡ octets.now }
     {
         Joined {
             blocks: receiver.blocks(),
             message: receiver.message().unwrap_or(&[]),
+            octets,
         }
     }
+}
+
+/// Returns the octets of the fields of so many blocks at the front of the octets, as ranges.
+fn field_ranges(alloc: Global, blocks: u32, octets: &[u8]) -> Result<String, AllocError>
+    ensures { IfOk result (λ text. string_bytes text
+        ≡ with_ranges [] (ranges_in blocks 0 octets.now)) }
+{
+    let mut ranges = String::new(alloc);
+    let mut at = 0;
+    for _ in 0..blocks {
+        let end = at + 3 + octet_at(octets, at + 2);
+        push_range(&mut ranges, at + 3, end)?;
+        at = end + 1;
+    }
+    Ok(ranges)
+}
+
+/// Returns the octet at a place, or 0 if there is none.
+fn octet_at(octets: &[u8], place: usize) -> usize
+    ensures octet { result ≡ slice_index octets.now place }
+    ensures few { result < 256 }
+{
+    octets.get(place).copied().map_or(0, usize::from)
 }
 
 /// Returns a receiver that has taken the chain at the front of the octets, and the chain's length.

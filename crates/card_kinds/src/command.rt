@@ -2,9 +2,10 @@
 
 ghost use Rattle.std.specs.Prelude.{◌≡◌, ◌++◌, OnOk, refl, string_bytes};
 ghost use Rattle.apdu_core.specs.Command.{CommandParts};
-ghost use Rattle.card_kinds.specs.CommandTexts.{body_text, command_codec, command_members, command_text, le_or, shape_members, shape_text};
+ghost use Rattle.card_kinds.specs.CommandTexts.{body_text, command_codec, command_members, command_places, command_text, le_or, le_size, shape_members, shape_text};
 
 use crate::codec::{Codec, Outcome};
+use crate::places::push_place;
 use crate::shown::{Showable, Shown};
 use crate::text::{push_hex, push_word};
 use apdu_core::{Command, CommandReason, CommandRef, Shape};
@@ -54,12 +55,27 @@ impl Showable for CommandRef<'_> {
 
     ghost members = { command_members };
 
+    ghost places = { command_places };
+
     fn push_lines(&self, _alloc: Global, text: &mut String, noted: bool) -> Result<(), AllocError> {
         push_lines(text, self, noted)
     }
 
     fn push_members(&self, _alloc: Global, text: &mut String) -> Result<(), AllocError> {
         push_members(text, self)
+    }
+
+    fn push_places(
+        &self,
+        _alloc: Global,
+        items: &mut String,
+        taken: usize,
+    ) -> Result<(), AllocError> {
+        let le = taken.saturating_sub(le_size(self.shape()));
+        push_place(items, 0, taken)?;
+        push_place(items, 0, 4)?;
+        push_place(items, 4, le)?;
+        push_place(items, le, taken)
     }
 }
 
@@ -132,6 +148,18 @@ fn shape_name(shape: Shape) -> &'static str
         Shape::LongLe => "case 2 extended",
         Shape::LongPart => "case 3 extended",
         Shape::LongBoth => "case 4 extended",
+    }
+}
+
+/// Returns how many octets Le has: with an extended Le alone also the octet 00 before it.
+fn le_size(shape: Shape) -> usize
+    ensures { result ≡ le_size shape }
+{
+    match shape {
+        Shape::Empty | Shape::ShortPart | Shape::LongPart => 0,
+        Shape::ShortLe | Shape::ShortBoth => 1,
+        Shape::LongBoth => 2,
+        Shape::LongLe => 3,
     }
 }
 

@@ -8,12 +8,14 @@ ghost use Rattle.tlv_core.specs.Reasons.{IsReason};
 ghost use Rattle.tlv_core.specs.Flat.{part_seen};
 ghost use Rattle.card_kinds.specs.Codec.{IsVerdict};
 ghost use Rattle.card_kinds.specs.Verdicts.{Tells};
-ghost use Rattle.card_kinds.specs.ForestTexts.{forest_codec, header_members, lines_text, objects_head, part_object, part_text, parts_members, parts_text, place_members, tidied_text, value_member, value_text, with_objects};
+ghost use Rattle.card_kinds.specs.Places.{with_places};
+ghost use Rattle.card_kinds.specs.ForestTexts.{forest_codec, header_members, lines_text, object_places, objects_head, part_object, part_text, parts_members, parts_places, parts_text, place_members, tidied_text, value_member, value_text, with_objects};
 ghost use Rattle.notes.specs.Says.{header_place};
 ghost use Rattle.layouts.specs.Items.{with_item};
 
 use crate::answer::Answer;
 use crate::codec::{Codec, Judged, Outcome};
+use crate::places::push_place;
 use crate::shown::{Showable, Shown};
 use crate::text::{octets_word, push_hex, push_word};
 use card_words::{Expected, FieldSize};
@@ -63,12 +65,24 @@ impl Showable for FlatForest<'_> {
 
     ghost members = { parts_members };
 
+    ghost places = { parts_places };
+
     fn push_lines(&self, alloc: Global, text: &mut String, noted: bool) -> Result<(), AllocError> {
         push_lines(alloc, text, self.parts(), noted)
     }
 
     fn push_members(&self, alloc: Global, text: &mut String) -> Result<(), AllocError> {
         push_members(alloc, text, self.parts())
+    }
+
+    fn push_places(
+        &self,
+        _alloc: Global,
+        items: &mut String,
+        taken: usize,
+    ) -> Result<(), AllocError> {
+        push_place(items, 0, taken)?;
+        push_part_places(items, self.parts())
     }
 }
 
@@ -165,6 +179,18 @@ fn push_object(text: &mut String, part: &Part<'_>) -> Result<(), AllocError>
     push_header(text, part)?;
     push_value_member(text, part)?;
     text.push_str("}")
+}
+
+/// Appends the octets of each object, from its tag to the end of its value.
+fn push_part_places(items: &mut String, parts: &[Part<'_>]) -> Result<(), AllocError>
+    ensures { OnOk result (string_bytes items.new
+        ≡ with_places (string_bytes items.old) (object_places (map part_seen parts.now))) }
+{
+    for part in parts {
+        let end = part.place.checked_add(part.value.len()).ok_or(AllocError)?;
+        push_place(items, header_place(part), end)?;
+    }
+    Ok(())
 }
 
 /// Appends the tag and the length field of an object.

@@ -4,11 +4,13 @@ ghost use Rattle.std.specs.Prelude.{◌≡◌, ◌++◌, [], List, ℕ, IfOk, On
 ghost use Rattle.tlv_core.specs.Fill.{filled, HasDuplicate};
 ghost use Rattle.card_kinds.specs.Codec.{IsVerdict};
 ghost use Rattle.card_kinds.specs.Verdicts.{IsFilled, IsFilledBy};
-ghost use Rattle.card_kinds.specs.ListTexts.{dol_members, dol_text, entries_text, entry_object, entry_text, filled_text, list_codec, with_entries};
+ghost use Rattle.card_kinds.specs.Places.{with_places};
+ghost use Rattle.card_kinds.specs.ListTexts.{dol_members, dol_places, dol_text, entries_text, entry_object, entry_places, entry_text, filled_text, list_codec, with_entries};
 ghost use Rattle.layouts.specs.Items.{with_item};
 
 use crate::answer::Answer;
 use crate::codec::{Codec, Judged, Outcome};
+use crate::places::push_place;
 use crate::shown::{Showable, Shown};
 use crate::text::{octets_word, push_hex};
 use card_words::{Expected, Fault, FieldSize, Knowns};
@@ -58,12 +60,24 @@ impl Showable for Dol {
 
     ghost members = { dol_members };
 
+    ghost places = { dol_places };
+
     fn push_lines(&self, _alloc: Global, text: &mut String, noted: bool) -> Result<(), AllocError> {
         push_lines(text, self.entries(), noted)
     }
 
     fn push_members(&self, alloc: Global, text: &mut String) -> Result<(), AllocError> {
         push_members(alloc, text, self.entries())
+    }
+
+    fn push_places(
+        &self,
+        _alloc: Global,
+        items: &mut String,
+        taken: usize,
+    ) -> Result<(), AllocError> {
+        push_place(items, 0, taken)?;
+        push_entry_places(items, self.entries())
     }
 }
 
@@ -144,6 +158,20 @@ fn entry_items(alloc: Global, entries: &[(Tag, u8)]) -> Result<String, AllocErro
         push_entry_item(&mut items, tag, *length)?;
     }
     Ok(items)
+}
+
+/// Appends the octets of each entry, its tag and its length.
+fn push_entry_places(items: &mut String, entries: &[(Tag, u8)]) -> Result<(), AllocError>
+    ensures { OnOk result (string_bytes items.new
+        ≡ with_places (string_bytes items.old) (entry_places 0 entries.now)) }
+{
+    let mut at: usize = 0;
+    for (tag, _) in entries {
+        let end = at.checked_add(tag.octets().len() + 1).ok_or(AllocError)?;
+        push_place(items, at, end)?;
+        at = end;
+    }
+    Ok(())
 }
 
 /// Appends an entry to the items of an array.

@@ -2,9 +2,10 @@
 
 ghost use Rattle.std.specs.Prelude.{◌≡◌, ◌++◌, OnOk, refl, string_bytes};
 ghost use Rattle.apdu_core.specs.Response.{ResponseParts};
-ghost use Rattle.card_kinds.specs.ResponseTexts.{class_text, name_of, response_codec, response_members, response_text, status_members};
+ghost use Rattle.card_kinds.specs.ResponseTexts.{class_text, name_of, response_codec, response_members, response_places, response_text, status_members};
 
 use crate::codec::{Codec, Outcome};
+use crate::places::push_place;
 use crate::shown::{Showable, Shown};
 use crate::text::{push_hex, push_word};
 use apdu_core::{Response, ResponseReason, ResponseRef, StatusClass, status_class};
@@ -54,12 +55,25 @@ impl Showable for ResponseRef<'_> {
 
     ghost members = { response_members };
 
+    ghost places = { response_places };
+
     fn push_lines(&self, _alloc: Global, text: &mut String, noted: bool) -> Result<(), AllocError> {
         push_lines(text, self, noted)
     }
 
     fn push_members(&self, _alloc: Global, text: &mut String) -> Result<(), AllocError> {
         push_members(text, self)
+    }
+
+    fn push_places(
+        &self,
+        _alloc: Global,
+        items: &mut String,
+        taken: usize,
+    ) -> Result<(), AllocError> {
+        let status = taken.saturating_sub(2);
+        push_place(items, 0, status)?;
+        push_place(items, status, taken)
     }
 }
 

@@ -1,8 +1,9 @@
 //! The texts of values, with the notes on their lines.
 
-ghost use Rattle.std.specs.Prelude.{◌≡◌, ◌++◌, ℕ, List, Bool, true, IfOk, OnOk, string_bytes};
+ghost use Rattle.std.specs.Prelude.{◌≡◌, ◌++◌, ℕ, List, Bool, [], true, IfOk, OnOk, string_bytes};
 ghost use Rattle.card_kinds.specs.Codec.{members_by, said_by};
 ghost use Rattle.card_kinds.specs.Json.{accepted_members, notes_member, object_line};
+ghost use Rattle.card_kinds.specs.Places.{places_member, with_places};
 ghost use Rattle.card_kinds.specs.Verdicts.{kind_name, laid_out};
 
 use crate::json::{kind_name, notes_member, push_accepted, push_head};
@@ -30,6 +31,9 @@ pub(crate) trait Showable {
     /// The value's members of a JSON object. Each begins with a comma.
     ghost members: { Self → List ℕ };
 
+    /// The octets of each of its lines, if it takes so many octets.
+    ghost places: { Self → ℕ → List (List (ℕ × ℕ)) };
+
     /// Appends the value's lines to a text, with notes if it is `noted`.
     fn push_lines(&self, alloc: Global, text: &mut String, noted: bool) -> Result<(), AllocError>
         ensures { OnOk result (string_bytes text.new
@@ -39,6 +43,11 @@ pub(crate) trait Showable {
     fn push_members(&self, alloc: Global, text: &mut String) -> Result<(), AllocError>
         ensures { OnOk result (string_bytes text.new
             ≡ string_bytes text.old ++ members self.now) };
+
+    /// Appends the place of each of the value's lines to the items of an array, if the value takes `taken` octets.
+    fn push_places(&self, alloc: Global, items: &mut String, taken: usize) -> Result<(), AllocError>
+        ensures { OnOk result (string_bytes items.new
+            ≡ with_places (string_bytes items.old) (places self.now taken)) };
 }
 
 impl Shown {
@@ -52,8 +61,8 @@ impl Shown {
         noted: bool,
     ) -> Result<Shown, AllocError>
         ensures text { IfOk result (λ shown. string_bytes shown.text
-            ≡ laid_out layout kind (said_by layout noted (V.lines noted value.now) (V.members value.now))
-            taken) }
+            ≡ laid_out layout kind (said_by layout noted (V.lines noted value.now)
+            (V.members value.now ++ places_member (V.places value.now taken))) taken) }
         ensures taken { IfOk result (λ shown. shown.taken ≡ taken) }
     {
         let mut text = String::with_capacity(alloc, ROOM)?;
@@ -73,7 +82,8 @@ fn push_value<V: Showable>(
     noted: bool,
 ) -> Result<(), AllocError>
     ensures { OnOk result (string_bytes text.new ≡ string_bytes text.old ++ laid_out layout kind
-        (said_by layout noted (V.lines noted value.now) (V.members value.now)) taken) }
+        (said_by layout noted (V.lines noted value.now)
+        (V.members value.now ++ places_member (V.places value.now taken))) taken) }
 {
     match layout {
         Layout::Lines => value.push_lines(alloc, text, noted),
@@ -92,30 +102,60 @@ fn push_object<V: Showable>(
 ) -> Result<(), AllocError>
     ensures { OnOk result (string_bytes text.new ≡ string_bytes text.old
         ++ object_line (kind_name kind) (accepted_members taken
-        ++ members_by noted (V.lines noted value.now) (V.members value.now))) }
+        ++ members_by noted (V.lines noted value.now)
+        (V.members value.now ++ places_member (V.places value.now taken)))) }
 {
     push_head(text, kind_name(kind))?;
     push_accepted(text, taken)?;
-    push_said(alloc, text, value, noted)?;
+    push_said(alloc, text, value, taken, noted)?;
     text.push_str("}\n")
 }
 
-/// Appends the members of a value and, if it is `noted`, the notes on its lines.
+/// Appends the members of a value, the places of its lines and, if it is `noted`, the notes on its lines.
 fn push_said<V: Showable>(
     alloc: Global,
     text: &mut String,
     value: &V,
+    taken: usize,
     noted: bool,
 ) -> Result<(), AllocError>
     ensures { OnOk result (string_bytes text.new ≡ string_bytes text.old
-        ++ members_by noted (V.lines noted value.now) (V.members value.now)) }
+        ++ members_by noted (V.lines noted value.now)
+        (V.members value.now ++ places_member (V.places value.now taken))) }
 {
     value.push_members(alloc, text)?;
+    push_places(alloc, text, value, taken)?;
     if noted {
         push_notes(alloc, text, value)
     } else {
         Ok(())
     }
+}
+
+/// Appends the places of the lines of a value as a member.
+fn push_places<V: Showable>(
+    alloc: Global,
+    text: &mut String,
+    value: &V,
+    taken: usize,
+) -> Result<(), AllocError>
+    ensures { OnOk result (string_bytes text.new ≡ string_bytes text.old
+        ++ places_member (V.places value.now taken)) }
+{
+    let items = places_of(alloc, value, taken)?;
+    text.push_str(",\"places\":[")?;
+    text.push_str(items.as_str())?;
+    text.push_str("]")
+}
+
+/// Returns the places of the lines of a value as the items of an array.
+fn places_of<V: Showable>(alloc: Global, value: &V, taken: usize) -> Result<String, AllocError>
+    ensures { IfOk result (λ text. string_bytes text
+        ≡ with_places [] (V.places value.now taken)) }
+{
+    let mut items = String::with_capacity(alloc, ROOM)?;
+    value.push_places(alloc, &mut items, taken)?;
+    Ok(items)
 }
 
 /// Appends the notes on the lines of a value as a member.

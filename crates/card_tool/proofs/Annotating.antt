@@ -6,6 +6,7 @@ use Rattle.card_kinds.proofs.NoSign.{no-sign}
 use Rattle.card_kinds.proofs.Noting.{refusal-ends, value-lines}
 use Rattle.card_kinds.specs.Codec.{Codec, IsVerdict, Stops, Takes}
 use Rattle.card_kinds.specs.Json.{accepted_members, notes_member, object_head, object_line, with_member, with_notes}
+use Rattle.card_kinds.specs.Places.{places_member}
 use Rattle.card_kinds.specs.Texts.{refused_text}
 use Rattle.card_kinds.specs.Verdicts.{Shows, ShowsWhere, accepted, codec_of, kind_name, refused, shown_in, status_of}
 use Rattle.card_kinds.specs.declared.status.Status.{Status}
@@ -124,7 +125,8 @@ module _ (expected : Expected) (b text : List ℕ) (ended : Status) where
         is_shown = accepted v n h refl e;
         noted = noted;
         has_notes = of-value expected b noted ended v n h refl e;
-        is_text = is ∙ value-member (kind_name expected.kind) (accepted_members n) (c.members v) noted;
+        is_text = is ∙ value-member (kind_name expected.kind) (accepted_members n)
+            (c.members v ++ places_member (c.places v n)) noted;
       }
 
   -- a refusal with words as a note on its line

@@ -1,6 +1,7 @@
 use Rattle.std.proofs.Common.{◌≡◌, ◌++◌, append_assoc, codes, refl, string_bytes}
 use Rattle.card_kinds.specs.Codec.{members_by}
 use Rattle.card_kinds.specs.Json.{accepted_members, object_line}
+use Rattle.card_kinds.specs.Places.{places_member}
 use Rattle.card_kinds.specs.Verdicts.{kind_name}
 use Rattle.card_kinds.proofs.Pushes.{last-pushed}
 use Rattle.card_kinds.proofs.shown.push_object.Goals as goal
@@ -10,7 +11,7 @@ returns g c =
     let whole : string_bytes c.push_said.new.text ++ codes "}\n" ≡ string_bytes c.args.text.now
     ++ object_line (kind_name c.args.kind) (accepted_members c.args.taken
     ++ members_by c.args.noted (g.V.Showable.lines c.args.noted c.args.value.now)
-    (g.V.Showable.members c.args.value.now))
+    (g.V.Showable.members c.args.value.now ++ places_member (g.V.Showable.places c.args.value.now c.args.taken)))
     =
     simp (
       c.in_ok-push_said.ensures,
