@@ -190,6 +190,17 @@ void scard_s_block_text(uint8_t about, struct scard_text *out);
  */
 void scard_reason_sentence_text(uint8_t codec, uint8_t reason, struct scard_text *out);
 
+/* Returns how many more octets must come at least, if octets end early: a value of the codec begins with them, no such
+ * value ends before so many more have come, and some value ends then. `codec` is an enum scard_codec. Call it after a
+ * verdict SHORT on the octets, or after MORE with all octets that a reader took. A terminal that reads a serial port can
+ * then request so many octets and never requests one that doesn't belong to the value.
+ *
+ * - It is 0 if the octets are a whole value, and if `codec` is SCARD_CODEC_HEX or no codec.
+ * - It doesn't check the octets. If a verdict on them is AT, the number has no meaning. For SCARD_CODEC_TLV it is 0 then.
+ * - The sizes of a call, such as `ifs`, don't change it.
+ */
+size_t scard_least(uint8_t codec, const uint8_t *octets, size_t count);
+
 /* Return the same texts as C strings, for C and C++. The library owns the strings, so don't free them. For an unknown
  * number the text is "".
  */

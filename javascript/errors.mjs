@@ -54,10 +54,15 @@ export class Refused extends Undecoded {
     }
 }
 
-/** Octets end too early: there are `place` of them, and more could still complete a value. */
+/**
+ * Octets end too early: there are `place` of them, and more could still complete a value. `least` says how many more
+ * must come at least: no value ends before, and some value ends then. It is null if a reader throws the error, since a
+ * reader doesn't keep the octets.
+ */
 export class Short extends Undecoded {
-    constructor(place, codec, octets, options = []) {
+    constructor(place, codec, octets, options = [], least = null) {
         super(`short at ${place}`, place, codec, octets, options);
+        this.least = least;
     }
 }
 

@@ -92,6 +92,7 @@ export declare class Refused extends ScardError {
 export declare class Short extends ScardError {
     readonly place: number;
     readonly codec: number;
+    readonly least: number | null;
     expected(): Promise<string | null>;
 }
 export declare class InvalidArgument extends ScardError {}

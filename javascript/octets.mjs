@@ -3,11 +3,16 @@ import { Duplicate, InvalidArgument, Refused, Short } from './errors.mjs';
 import { call, copyOf, octetsOf, within } from './library.mjs';
 import { Codec, nameOf, reasonOf, Status } from './names.mjs';
 
+/** How many more octets must come at least for a value that begins with these, or null without octets. */
+function leastOf(codec, octets) {
+    return octets ? within((take) => Number(call('scard_least', take, codec, octets))) : null;
+}
+
 /** The place of a verdict that is OK. Throws what any other one says of octets. */
 export function placeOf(verdict, codec = null, octets = null, options = []) {
     switch (verdict.status) {
         case Status.OK: return verdict.place;
-        case Status.SHORT: throw new Short(verdict.place, codec, octets?.slice(), options);
+        case Status.SHORT: throw new Short(verdict.place, codec, octets?.slice(), options, leastOf(codec, octets));
         case Status.AT:
             throw new Refused(verdict.place, reasonOf(codec, verdict.reason), codec, octets?.slice(), options);
         case Status.DUPLICATE: throw new Duplicate();

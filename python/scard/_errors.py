@@ -1,6 +1,8 @@
 """The exceptions of the package. Those of one kind can be caught by their class, and all by Error."""
 from __future__ import annotations
 
+from typing import Optional
+
 from . import _scard
 from ._numbers import Codec, T1Fault, TurnKind
 
@@ -34,12 +36,25 @@ class Refused(Error, ValueError):
 
 
 class Short(Error, ValueError):
-    """Octets end too early: there are `place` of them, and more could still complete a value."""
+    """Octets end too early: there are `place` of them, and more could still complete a value.
 
-    def __init__(self, place: int, codec: int) -> None:
-        super().__init__(place, codec)
+    `least` says how many more must come at least. No value ends before, and some value ends then. So a program that
+    reads a serial port can request that many octets. It is None if a reader of chains or of a forest raises the
+    exception, since such a reader doesn't keep the octets.
+
+    >>> from scard import Block, Short
+    >>> try:
+    ...     Block.decode(bytes.fromhex("00000500A4"))
+    ... except Short as short:
+    ...     print(short.place, short.least)
+    5 4
+    """
+
+    def __init__(self, place: int, codec: int, least: Optional[int] = None) -> None:
+        super().__init__(place, codec, least)
         self.place = place
         self.codec = Codec(codec)
+        self.least = least
 
     def __str__(self) -> str:
         return f"short at {self.place}"

@@ -147,9 +147,12 @@ static PyObject *atr_decode(PyObject *module, arguments given, Py_ssize_t count)
         return NULL;
     }
     verdict = scard_atr_decode(octets.at, octets.count, &atr);
+    if (verdict.status != SCARD_OK) {
+        raise_verdict_on(module, verdict, SCARD_CODEC_ATR, octets.at, octets.count);
+    }
     octets_release(&octets);
     if (verdict.status != SCARD_OK) {
-        return raise_verdict(module, verdict, SCARD_CODEC_ATR);
+        return NULL;
     }
     values[0] = PyBool_FromLong(atr.convention != 0);
     values[1] = interface_made(module, &atr.first);
@@ -164,13 +167,16 @@ static PyObject *atr_check(PyObject *module, arguments given, Py_ssize_t count)
 {
     struct octets octets;
     struct scard_verdict verdict;
+    PyObject *place;
     if (!count_is(count, 1) || !octets_of(given[0], &octets)) {
         return NULL;
     }
     verdict = scard_atr_check(octets.at, octets.count);
+    place = verdict.status == SCARD_OK
+                ? PyLong_FromUnsignedLongLong(verdict.place)
+                : raise_verdict_on(module, verdict, SCARD_CODEC_ATR, octets.at, octets.count);
     octets_release(&octets);
-    return verdict.status == SCARD_OK ? PyLong_FromUnsignedLongLong(verdict.place)
-                                      : raise_verdict(module, verdict, SCARD_CODEC_ATR);
+    return place;
 }
 
 /* Takes interface bytes from the items of a tuple, from `first` on. */
@@ -323,8 +329,8 @@ static bool block_of(PyObject *module, arguments given, Py_ssize_t count, struct
     }
     *verdict = scard_block_decode(octets->at, octets->count, ifs, block);
     if (verdict->status != SCARD_OK) {
+        raise_verdict_on(module, *verdict, SCARD_CODEC_BLOCK, octets->at, octets->count);
         octets_release(octets);
-        raise_verdict(module, *verdict, SCARD_CODEC_BLOCK);
         return false;
     }
     return true;
@@ -502,8 +508,9 @@ static PyObject *command_decode(PyObject *module, arguments given, Py_ssize_t co
     }
     verdict = scard_command_decode(octets.at, octets.count, &command);
     if (verdict.status != SCARD_OK) {
+        raise_verdict_on(module, verdict, SCARD_CODEC_COMMAND, octets.at, octets.count);
         octets_release(&octets);
-        return raise_verdict(module, verdict, SCARD_CODEC_COMMAND);
+        return NULL;
     }
     values[0] = PyLong_FromLong(command.cla);
     values[1] = PyLong_FromLong(command.ins);
@@ -580,8 +587,9 @@ static PyObject *response_decode(PyObject *module, arguments given, Py_ssize_t c
     }
     verdict = scard_response_decode(octets.at, octets.count, &response);
     if (verdict.status != SCARD_OK) {
+        raise_verdict_on(module, verdict, SCARD_CODEC_RESPONSE, octets.at, octets.count);
         octets_release(&octets);
-        return raise_verdict(module, verdict, SCARD_CODEC_RESPONSE);
+        return NULL;
     }
     values[0] = bytes_of(octets.at, (size_t)response.data_len);
     values[1] = PyLong_FromLong(response.sw1);

@@ -22,9 +22,12 @@ static PyObject *tlv_check(PyObject *module, arguments given, Py_ssize_t count)
     Py_BEGIN_ALLOW_THREADS
     verdict = scard_tlv_check(octets.at, octets.count, (size_t)max);
     Py_END_ALLOW_THREADS
+    if (verdict.status != SCARD_OK) {
+        raise_verdict_on(module, verdict, SCARD_CODEC_TLV, octets.at, octets.count);
+    }
     octets_release(&octets);
     if (verdict.status != SCARD_OK) {
-        return raise_verdict(module, verdict, SCARD_CODEC_TLV);
+        return NULL;
     }
     Py_RETURN_NONE;
 }
@@ -42,7 +45,7 @@ static PyObject *tidy_made(PyObject *module, const struct octets *octets, size_t
     verdict = scard_tlv_tidy(octets->at, octets->count, max, out, octets->count);
     Py_END_ALLOW_THREADS
     tidy = verdict.status == SCARD_OK ? bytes_of(out, (size_t)verdict.place)
-                                      : raise_verdict(module, verdict, SCARD_CODEC_TLV);
+                                      : raise_verdict_on(module, verdict, SCARD_CODEC_TLV, octets->at, octets->count);
     PyMem_Free(out);
     return tidy;
 }
@@ -82,7 +85,7 @@ static PyObject *parts_made(PyObject *module, const struct octets *octets, size_
     struct parts *parts;
     PyObject *capsule;
     if (!has_some && verdict.status != SCARD_OK) {
-        return raise_verdict(module, verdict, SCARD_CODEC_TLV);
+        return raise_verdict_on(module, verdict, SCARD_CODEC_TLV, octets->at, octets->count);
     }
     capsule = kept_new(PARTS, sizeof *parts + (size_t)verdict.place * sizeof parts->at[0]);
     if (capsule == NULL) {
@@ -382,7 +385,7 @@ static PyObject *entries_of(PyObject *module, const struct octets *octets)
     }
     verdict = scard_dol_entries(octets->at, octets->count, entries, room);
     all = verdict.status == SCARD_OK ? entries_made(module, entries, (size_t)verdict.place)
-                                     : raise_verdict(module, verdict, SCARD_CODEC_DOL);
+                                     : raise_verdict_on(module, verdict, SCARD_CODEC_DOL, octets->at, octets->count);
     PyMem_Free(entries);
     return all;
 }
@@ -494,7 +497,7 @@ static PyObject *filled(PyObject *module, const struct octets *list, const struc
     const size_t room = verdict.status == SCARD_ARGUMENT ? (size_t)verdict.place : 0;
     PyObject *out;
     if (verdict.status != SCARD_OK && room == 0) {
-        return raise_verdict(module, verdict, SCARD_CODEC_DOL);
+        return raise_verdict_on(module, verdict, SCARD_CODEC_DOL, list->at, list->count);
     }
     out = PyBytes_FromStringAndSize(NULL, (Py_ssize_t)room);
     if (out != NULL) {

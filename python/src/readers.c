@@ -122,6 +122,21 @@ static struct scard_verdict finish(const struct reader *reader)
     }
 }
 
+/* Returns null with the exception for the verdict of a reader. A reader of a block or of an answer to reset has the
+ * octets, and says how many more must come at least.
+ */
+static PyObject *raise_finished(PyObject *module, struct scard_verdict verdict, const struct reader *reader)
+{
+    switch (reader->codec) {
+    case SCARD_CODEC_ATR:
+        return raise_verdict_on(module, verdict, reader->codec, reader->as.atr.octets, reader->as.atr.count);
+    case SCARD_CODEC_BLOCK:
+        return raise_verdict_on(module, verdict, reader->codec, reader->as.block.octets, reader->as.block.count);
+    default:
+        return raise_verdict(module, verdict, reader->codec);
+    }
+}
+
 /* reader_finish(reader): raises unless the value is complete. */
 static PyObject *reader_finish(PyObject *module, arguments given, Py_ssize_t count)
 {
@@ -132,7 +147,7 @@ static PyObject *reader_finish(PyObject *module, arguments given, Py_ssize_t cou
     }
     verdict = finish(reader);
     if (verdict.status != SCARD_OK) {
-        return raise_verdict(module, verdict, reader->codec);
+        return raise_finished(module, verdict, reader);
     }
     Py_RETURN_NONE;
 }

@@ -163,7 +163,7 @@ PyObject *raise_verdict(PyObject *module, struct scard_verdict verdict, uint8_t 
         return raise_made(module, MADE_REFUSED,
                      Py_BuildValue("(Ksi)", place, scard_reason_name(codec, verdict.reason), (int)codec));
     case SCARD_SHORT:
-        return raise_made(module, MADE_SHORT, Py_BuildValue("(Ki)", place, (int)codec));
+        return raise_made(module, MADE_SHORT, Py_BuildValue("(KiO)", place, (int)codec, Py_None));
     case SCARD_DUPLICATE:
         return raise_made(module, MADE_DUPLICATE, Py_BuildValue("(s)", "two known values have the same tag"));
     case SCARD_MEMORY:
@@ -171,6 +171,18 @@ PyObject *raise_verdict(PyObject *module, struct scard_verdict verdict, uint8_t 
     default:
         return raise_argument(module, "an argument is out of its range");
     }
+}
+
+PyObject *raise_verdict_on(PyObject *module, struct scard_verdict verdict, uint8_t codec, const uint8_t *octets,
+                           size_t count)
+{
+    const unsigned long long place = verdict.place;
+    if (verdict.status != SCARD_SHORT) {
+        return raise_verdict(module, verdict, codec);
+    }
+    return raise_made(module, MADE_SHORT,
+                      Py_BuildValue("(KiK)", place, (int)codec,
+                                    (unsigned long long)scard_least(codec, octets, count)));
 }
 
 /* ---- states in capsules ---- */

@@ -75,6 +75,10 @@ PyObject *text_of(const struct scard_text *text);
 /* Returns null with the exception for a verdict that isn't SCARD_OK. */
 PyObject *raise_verdict(PyObject *module, struct scard_verdict verdict, uint8_t codec);
 
+/* Returns the same for a verdict on octets: if they are short, the exception says how many more must come at least. */
+PyObject *raise_verdict_on(PyObject *module, struct scard_verdict verdict, uint8_t codec, const uint8_t *octets,
+                           size_t count);
+
 /* Returns null with the exception for an argument that the library doesn't take. */
 PyObject *raise_argument(PyObject *module, const char *text);
 

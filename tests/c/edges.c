@@ -30,6 +30,7 @@ static void nothing(void)
     struct scard_response response;
     const struct scard_tag tag = {{0x84, 0, 0}, 1};
     CHECK(scard_lrc(NULL, 0) == 0);
+    CHECK(scard_least(SCARD_CODEC_BLOCK, NULL, 0) == 4);
     CHECK(scard_hex_encode(NULL, 0, NULL, 0).status == SCARD_OK);
     CHECK(scard_hex_decode(NULL, 0, NULL, 0).status == SCARD_OK);
     CHECK(scard_atr_check(NULL, 0).status == SCARD_SHORT);

@@ -1,13 +1,15 @@
 /* Runs the conformance vectors of the folder `vectors`, in the format of docs/VECTORS.md. It runs each line of `check`,
  * and each line of `build` that doesn't read standard input, through the header. If there is a reader, it also runs the
- * line octet by octet. It runs blocks and answers to reset in every two pieces too. The folder is the first word, or
- * ./vectors.
+ * line octet by octet. It runs blocks and answers to reset in every two pieces too. It cuts values at each octet, and
+ * searches for the fewest octets that complete them by the decoders alone, to compare with scard_least. The folder is
+ * the first word, or ./vectors.
  */
 #include "check.h"
 
 #define LONGEST_LINE 8192
 #define MOST_WORDS 16
 #define LONGEST_MESSAGE 131072
+#define LONGEST_CUT 64
 
 /* A line: its words after the program's name, without the options, and the text that has to come, as the line has it.
  */
@@ -150,6 +152,59 @@ static void check_kept(int codec, const struct row *row, struct octets octets, s
     }
 }
 
+/* Returns the verdict of a codec's decoder. */
+static struct scard_verdict verdict_of_row(int codec, const struct row *row, struct octets octets)
+{
+    return codec == SCARD_CODEC_CHAIN ? chain_of(octets, row->ifs, row->number)
+                                      : verdict_of_codec(codec, octets, (uint8_t)row->ifs);
+}
+
+/* Checks how many more octets must come at least, for octets that end early. By the decoder alone: no octet brings a
+ * value nearer by more than one, some octet brings it nearer by one, and it is whole when no octet is missing.
+ */
+static void check_next(int codec, const struct row *row, struct octets octets)
+{
+    size_t least = scard_least((uint8_t)codec, octets.at, octets.count), nearer = 0;
+    struct octets longer = {(uint8_t *)malloc(octets.count + 1), octets.count + 1};
+    int next;
+    CHECK(longer.at != NULL && least > 0);
+    if (octets.count > 0) {
+        memcpy(longer.at, octets.at, octets.count);
+    }
+    for (next = 0; next < 256; next++) {
+        struct scard_verdict v;
+        longer.at[octets.count] = (uint8_t)next;
+        v = verdict_of_row(codec, row, longer);
+        if (v.status != SCARD_AT) {
+            size_t left = scard_least((uint8_t)codec, longer.at, longer.count);
+            CHECK((v.status == SCARD_OK) == (left == 0));
+            CHECK(left + 1 >= least);
+            nearer += left + 1 == least;
+        }
+    }
+    CHECK(nearer > 0);
+    free(longer.at);
+}
+
+/* Checks the same after each octet of a value, and that the rest of the value is no shorter. */
+static void check_least(int codec, const struct row *row, struct octets octets, struct scard_verdict whole)
+{
+    size_t count = whole.status == SCARD_OK ? 0 : octets.count;
+    if (whole.status == SCARD_AT || whole.place > LONGEST_CUT) {
+        return;
+    }
+    for (; count <= whole.place; count++) {
+        struct octets front = {octets.at, count};
+        struct scard_verdict v = verdict_of_row(codec, row, front);
+        size_t least = scard_least((uint8_t)codec, octets.at, count);
+        CHECK(v.status == SCARD_SHORT || (v.status == SCARD_OK && least == 0));
+        CHECK(whole.status != SCARD_OK || least <= whole.place - count);
+        if (v.status == SCARD_SHORT) {
+            check_next(codec, row, front);
+        }
+    }
+}
+
 /* Makes the answer to `check KIND HEX`. */
 static void check_kind(const struct row *row)
 {
@@ -160,9 +215,9 @@ static void check_kind(const struct row *row)
     while (codec < 8 && strcmp(kinds[codec], row->words[1]) != 0) {
         codec++;
     }
-    v = codec == SCARD_CODEC_CHAIN ? chain_of(octets, row->ifs, row->number)
-                                   : verdict_of_codec(codec, octets, (uint8_t)row->ifs);
+    v = verdict_of_row(codec, row, octets);
     say_verdict(v, codec);
+    check_least(codec, row, octets, v);
     check_kept(codec, row, octets, v);
 #ifndef WITHOUT_HANDLES
     check_reader(codec, row, octets, v);

@@ -38,7 +38,7 @@ test('a refusal has its place, reason, codec, and what was expected', async () =
     assert.equal(refused.sentence, 'LRC is wrong.');
     assert.match(await refused.expected(), /exclusive-or of all octets of the block must be 00/);
     const short = await thrown(scard.Short, () => scard.Command.decode(fromHex('00A4')));
-    assert.deepEqual([short.place, short.codec, short.name], [2, scard.Codec.COMMAND, 'Short']);
+    assert.deepEqual([short.place, short.codec, short.name, short.least], [2, scard.Codec.COMMAND, 'Short', 2]);
     assert.match(await short.expected(), /at least 2 more must come/);
     const over = await thrown(scard.Refused, () => scard.Block.decode(fromHex('00000500A4040000A5'), 4));
     assert.equal(over.reason, 'OverIfs');

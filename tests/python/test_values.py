@@ -59,6 +59,24 @@ def parts_of(objects):
 
 
 class Texts(unittest.TestCase):
+    def test_least(self):
+        """How many more octets must come at least, at each cut of a value that isn't a value itself."""
+        rows = ((scard.Block.decode, "000001AAAB", (4, 3, 2, 2, 1)), (scard.Command.decode, "00A40400", (4, 3, 2, 1)),
+                (scard.Response.decode, "9000", (2, 1)), (scard.Atr.decode, "3B80800101", (2, 1, 1, 1, 1)),
+                (scard.Tlv.decode, "70035A0112", (None, 1, 3, 2, 1)), (scard.Dol.decode, "9F0206", (None, 2, 1)))
+        for decode, text, leasts in rows:
+            octets = bytes.fromhex(text)
+            for cut, least in enumerate(leasts):
+                if least is not None:
+                    with self.assertRaises(scard.Short, msg=(text, cut)) as raised:
+                        decode(octets[:cut])
+                    self.assertEqual((raised.exception.place, raised.exception.least), (cut, least))
+        for reader, least in ((scard.BlockReader(), 2), (scard.AtrReader(), 1), (scard.TlvReader(), None)):
+            reader.feed(b"\x3B\x00" if isinstance(reader, scard.BlockReader) else b"\x3B")
+            with self.assertRaises(scard.Short) as raised:
+                reader.finish()
+            self.assertEqual(raised.exception.least, least)
+
     def test_doctests(self):
         runner = doctest.DocTestRunner()
         tests = doctest.DocTestFinder().find(scard, "scard", module=False, globs=dict(vars(scard)))

@@ -24,6 +24,7 @@ pub mod kept_check;
 pub mod kept_judge;
 pub mod kept_receiver;
 pub mod layout;
+pub mod least;
 pub mod lent;
 pub mod lent_check;
 pub mod lent_judge;

@@ -1,4 +1,3 @@
-pub mod Listing
 pub mod Pairing
 pub mod Placing
 pub mod Wording

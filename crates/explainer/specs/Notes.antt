@@ -9,7 +9,9 @@ use Rattle.atr_core.specs.Atr.{AtrParts, IsAtr, IsReason}
 use Rattle.atr_core.specs.T1.{t1_params_of, T1Values}
 use Rattle.atr_core.specs.declared.params.ParamFault.{ParamFault}
 use Rattle.atr_core.specs.declared.reason.AtrReason.{AtrReason}
-use Rattle.tlv_core.specs.Tag.{is_tag}
+use Rattle.shortfall.specs.Apdu.{command_least, response_least}
+use Rattle.shortfall.specs.Block.{block_least}
+use Rattle.shortfall.specs.List.{list_least}
 use Rattle.card_words.specs.declared.request.Kind.{Kind}
 use Rattle.card_words.specs.declared.request.Kind.TheVariants as kind
 use Rattle.card_words.specs.declared.session.Session.{Session}
@@ -41,36 +43,12 @@ short_note count None = codes "octets so far: " ++ (decimal count ++ codes "; mo
 short_note count (Some least) = codes "octets so far: "
     ++ (decimal count ++ (codes "; at least " ++ (decimal least ++ codes " more must come\n")))
 
--- how many octets a block has by its LEN, or at least if LEN is missing (ISO/IEC 7816-3, 11.3)
-abbrev pub block_has : List ℕ → ℕ
-block_has (nad ∷ pcb ∷ len ∷ more) = len + 4
-block_has octets = 4
-
--- how many octets a command has at least by its length fields (ISO/IEC 7816-4, 5.1)
-abbrev pub extended_has : List ℕ → ℕ
-extended_has (high ∷ low ∷ x ∷ more) = 7 + high * 256 + low
-extended_has more = 7
-
-abbrev pub command_has : List ℕ → ℕ
-command_has (cla ∷ ins ∷ p1 ∷ p2 ∷ lc ∷ more) = if lc == 0 then extended_has more else 5 + lc
-command_has octets = 4
-
--- the octets of the tag that is being read at the end of a data object list; a whole tag if its length comes next
-abbrev pub begun_after : List ℕ → List ℕ → List ℕ
-begun_after tag [] = tag
-begun_after tag (x ∷ more) = begun_after (if is_tag tag then [] else tag ++ x ∷ []) more
-
--- how many more octets a short list needs at least: the length after a whole tag, else one more octet of the tag as
--- well (EMV 4.3 Book 3, 5.4)
-abbrev pub list_wants : List ℕ → ℕ
-list_wants b = if is_tag (begun_after [] b) then 1 else 2
-
 -- how many more octets are needed at least if octets of this kind are short, and if that is known
 abbrev pub least_of : Kind → List ℕ → Option ℕ
-least_of kind.Block b = Some (block_has b - length b)
-least_of kind.Command b = Some (command_has b - length b)
-least_of kind.Response b = Some (2 - length b)
-least_of kind.Dol b = Some (list_wants b)
+least_of kind.Block b = Some (block_least b)
+least_of kind.Command b = Some (command_least b)
+least_of kind.Response b = Some (response_least b)
+least_of kind.Dol b = Some (list_least b)
 least_of _ b = None
 
 -- how many octets are left after a value that ends by itself

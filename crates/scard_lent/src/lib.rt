@@ -13,6 +13,7 @@ pub mod filling;
 pub mod framing;
 pub mod hexadecimal;
 pub mod layout;
+pub mod least;
 pub mod lent;
 pub mod lent_check;
 pub mod lent_judge;

@@ -18,6 +18,9 @@ pub trait Reason: Copy + fmt::Debug + Eq {
     /// assert_eq!(AtrReason::BadTck.sentence(), "TCK is wrong.");
     /// ```
     fn sentence(self) -> &'static str;
+    /// How many more octets a value of this kind needs at least, if it begins with these.
+    #[doc(hidden)]
+    fn least(octets: &[u8]) -> usize;
 }
 
 /// Declares the reasons of one codec.
@@ -41,6 +44,11 @@ macro_rules! reasons {
             fn sentence(self) -> &'static str {
                 // SAFETY: as above.
                 text_of(|text| unsafe { c::scard_reason_sentence_text(c::$codec, self as u8, text) })
+            }
+
+            fn least(octets: &[u8]) -> usize {
+                // SAFETY: the call reads so many octets.
+                unsafe { c::scard_least(c::$codec, octets.as_ptr(), octets.len()) }
             }
         }
     };
@@ -116,6 +124,23 @@ pub enum Failure<R> {
     Values,
     /// Two known values have the same tag.
     Duplicate,
+}
+
+impl<R: Reason> Refusal<R> {
+    /// How many more octets must come at least after those that were short: no value ends before, and some value ends
+    /// then. A program that reads a serial port can request that many. It is 0 if the octets were refused.
+    ///
+    /// ```
+    /// use scard::{Block, Ifs};
+    /// let octets = [0, 0, 5, 0, 0xA4];
+    /// assert_eq!(Block::decode(&octets, Ifs::MOST).unwrap_err().least(&octets), 4);
+    /// ```
+    pub fn least(&self, octets: &[u8]) -> usize {
+        match self {
+            Refusal::Short { .. } => R::least(octets),
+            Refusal::At { .. } => 0,
+        }
+    }
 }
 
 impl<R: Reason> fmt::Display for Refusal<R> {

@@ -1,4 +1,4 @@
--- How many octets a data object list wants.
+-- What a data object list leaves under way.
 use Rattle.std.proofs.Common.{◌≡◌, ◌∙◌, ◌+◌, ◌-◌, ◌<◌, ◌≤◌, ℕ, List, [], ◌∷◌, ◌++◌, Bool, true, false, Option, Some, None, refl, ap, sym, arith, length, get_or, drop, take, slice_range}
 use Rattle.std.specs.Prelude.{is_some, if◌then◌else◌}
 use Rattle.std.specs.Option.{MatchOption}
@@ -6,7 +6,7 @@ use Rattle.std.proofs.lemmas.List.{drop_more, drop_all, take_more, take_all, get
 use Rattle.octet_core.specs.Octets.{AreOctets}
 use Rattle.tlv_core.specs.Tag.{IsTag, is_tag}
 use Rattle.tlv_core.proofs.TagTests.{tested-tag, tag-tests}
-use Rattle.explainer.specs.Notes.{begun_after}
+use Rattle.shortfall.specs.List.{begun_after}
 
 -- whether octets are a tag, by the tag that they are
 pub tag-test : (b : List ℕ) (r : Option (List ℕ)) → AreOctets b

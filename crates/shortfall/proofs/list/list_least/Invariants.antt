@@ -1,6 +1,6 @@
 use Rattle.std.proofs.Common.{◌≡◌, ◌≤◌, [], drop, slice_range}
-use Rattle.explainer.specs.Notes.{begun_after}
-use Rattle.explainer.proofs.octets.wanting_of_list.Given as goal
+use Rattle.shortfall.specs.List.{begun_after}
+use Rattle.shortfall.proofs.list.list_least.Given as goal
 
 -- what is under way, with the octets that are left, is what all octets leave
 abbrev pub invariant-loop-at : goal.invariant-loop-at

@@ -1,7 +1,7 @@
 use Rattle.std.proofs.Common.{◌<◌, ◌∙◌, arith, length, rules, sym}
-use Rattle.explainer.proofs.Listing.{begun-more, begun-tag}
-use Rattle.explainer.proofs.octets.wanting_of_list.Goals as goal
-use Rattle.explainer.proofs.octets.wanting_of_list.Goals.{then-is_tag, else-is_tag}
+use Rattle.shortfall.proofs.Listing.{begun-more, begun-tag}
+use Rattle.shortfall.proofs.list.list_least.Goals as goal
+use Rattle.shortfall.proofs.list.list_least.Goals.{then-is_tag, else-is_tag}
 
 pub loop-at-preserved : goal.loop-at-preserved
 loop-at-preserved c =

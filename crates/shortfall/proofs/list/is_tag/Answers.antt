@@ -1,6 +1,6 @@
 use Rattle.std.proofs.Common.{◌∙◌, arith}
-use Rattle.explainer.proofs.Listing.{tag-test}
-use Rattle.explainer.proofs.octets.is_tag.Goals as goal
+use Rattle.shortfall.proofs.Listing.{tag-test}
+use Rattle.shortfall.proofs.list.is_tag.Goals as goal
 
 pub returns : goal.returns
 returns c = c.is_some.ensures ∙ tag-test c.args.octets.now c.new.result (λ i. omega (arith, c.type_inv.octets i))

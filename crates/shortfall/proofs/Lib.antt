@@ -1,0 +1,10 @@
+pub mod Blocks
+pub mod Apdus
+pub mod Listing
+pub mod Lists
+pub mod Chains
+pub mod Atrs
+pub mod Forests
+pub mod ChainLaw
+pub mod AtrLaw
+pub mod ForestLaw
