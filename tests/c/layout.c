@@ -157,6 +157,9 @@ static void places(void)
     PLACE(scard_lent_judge, card, 288);
     PLACE(scard_lent_judge, blocks, 576);
     PLACE(scard_lent_judge, nad, 585);
+    PLACE(scard_lent_judge, pairs, 586);
+    PLACE(scard_lent_judge, other, 587);
+    PLACE(scard_lent_judge, last, 588);
     PLACE(scard_due, asked, 4);
     PLACE(scard_judgment, unanswered, 16);
     PLACE(scard_judgment, verdict, 24);

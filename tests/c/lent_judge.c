@@ -56,6 +56,9 @@ static const char *words_of(const struct scard_judgment *it, int is_block)
     case SCARD_JUDGED_DAMAGE:
         strcpy(line + at, "damage");
         break;
+    case SCARD_JUDGED_ELSEWHERE:
+        strcpy(line + at, "elsewhere");
+        break;
     case SCARD_JUDGED_UNSEEN:
         sprintf(line + at, "unseen %lu", (unsigned long)it->before);
         break;
@@ -117,6 +120,25 @@ static void permitted(void)
         {'t', "00C10140", NULL, "permitted"}, {'c', "00E10140", NULL, "permitted"}, LAST_ROW,
     };
     session(rows);
+}
+
+/* Blocks of a second logical connection, between those of the first and within its chain. */
+static void elsewhere(void)
+{
+    static const struct event rows[] = {
+        {'t', COMMAND, NULL, "permitted"}, {'c', "0000029000", NULL, "permitted"},
+        {'t', "21000400A40000", NULL, "elsewhere"}, {'c', "1200029000", NULL, "elsewhere"},
+        {'t', "00600100", NULL, "permitted"}, {'c', "008000", NULL, "permitted"},
+        {'t', "21400400A40000", "21400400A40000", "elsewhere"}, {'q', NULL, NULL, ""},
+        {'t', "00000101", "00000101", "permitted"}, {'c', "1240029000", NULL, "elsewhere"},
+        {'t', "009100", NULL, "possible silence after 8, permitted"}, LAST_ROW,
+    };
+    static const struct event wrong[] = {
+        {'t', COMMAND, NULL, "permitted"}, {'c', "0000029000", NULL, "permitted"},
+        {'t', "21000400A40000", NULL, "elsewhere"}, {'c', "2100029000", NULL, "node address, due 5 11 0 00"}, LAST_ROW,
+    };
+    session(rows);
+    session(wrong);
 }
 
 static void deviations(void)
@@ -318,6 +340,7 @@ static void counted(void)
 int main(void)
 {
     permitted();
+    elsewhere();
     deviations();
     repeats();
     sizes();

@@ -32,8 +32,14 @@ class Rules(unittest.TestCase):
 
     def test_each_rule_of_the_page_is_broken_somewhere(self):
         clause = clauses()
-        said = [lines[0] for _, steps in HISTORIES for _, lines in rows(steps, clause) if len(lines) > 1]
+        said = [line for _, steps in HISTORIES for _, lines in rows(steps, clause) for line in lines if ", due " in line]
         self.assertEqual({line.split(": ")[1].split(", due ")[0] for line in said}, clause.keys() - {SILENCE})
+
+    def test_a_block_of_another_connection_is_not_judged(self):
+        session = Session("t:I0 c:I0 t:I0~")
+        for word, is_elsewhere, is_judged in (("I0", True, False), ("I0", False, True)):
+            octets = octets_of("c", word, session.address("c", is_elsewhere))
+            self.assertEqual(session.line.is_elsewhere("card", octets), not is_judged)
 
     def test_a_block_in_order(self):
         self.assertEqual(broken("t:I0 c:I0", "I1"), (None, "I-block 1"))

@@ -65,24 +65,28 @@ class Schema(unittest.TestCase):
     def test_mistakes_in_a_judgment_do_not_fit(self):
         found = {
             "kind": "deviation", "block": 2, "end": "card", "rule": "no I-block", "due": "I-block 0",
-            "clause": "11.6.2.3 rule 2.1",
+            "clause": "11.6.2.3 rule 2.1", "line": 2, "octets": "00900090",
         }
         judged = {
-            "version": 1, "kind": "judge", "verdict": "deviates", "blocks": 2, "deviations": 1, "terminal": 0,
-            "card": 1, "unseen": 0, "told": [found],
+            "version": 1, "kind": "judge", "verdict": "deviates", "atr": "3B00", "blocks": 2, "deviations": 1,
+            "terminal": 0, "card": 1, "unseen": 0, "told": [found],
         }
         self.assertTrue(self.validator.is_valid(judged))
         for name, value in (
             ("verdict", "ok"), ("verdict", "unsure"), ("deviations", 0), ("late", 0), ("card_damaged", 0), ("told", {}),
-            ("other", 1),
+            ("atr", "3"), ("other", 1),
         ):
             self.assertFalse(self.validator.is_valid({**judged, name: value}), name)
-        unsure = {"version": 1, "kind": "judge", "verdict": "unsure", "blocks": 2, "unseen": 1, "told": []}
+        unsure = {"version": 1, "kind": "judge", "verdict": "unsure", "atr": "", "blocks": 2, "unseen": 1, "told": []}
         self.assertTrue(self.validator.is_valid(unsure))
         self.assertFalse(self.validator.is_valid({**unsure, "verdict": "ok"}))
+        del unsure["unseen"]
+        self.assertFalse(self.validator.is_valid(unsure))
+        self.assertTrue(self.validator.is_valid({**unsure, "not_judged": 1}))
+        self.assertFalse(self.validator.is_valid({**unsure, "not_judged": 1, "verdict": "ok"}))
         for name, value in (
             ("kind", "late"), ("block", 0), ("end", "reader"), ("rule", "no block at all"), ("due", "I-block 2"),
-            ("clause", "2.1"), ("before", 1),
+            ("clause", "2.1"), ("before", 1), ("line", 0), ("octets", "0"), ("moment", -1),
         ):
             self.assertFalse(self.validator.is_valid({**judged, "told": [{**found, name: value}]}), name)
         for name in found:

@@ -69,6 +69,7 @@ FINDINGS = (
     ("state", "state", "state {state}: terminal {terminal}, card {card}"),
     ("pps", "kind", "pps F {F|reserved} D {D|reserved}"),
     ("neither", "line", "line {line}: neither PPS nor a block"),
+    ("elsewhere", "block", "block {block} {end}: another logical connection, not judged  ({clause})"),
     ("late", "block", LATE),
     ("early", "block", EARLY),
     ("unwaited", "before", UNWAITED),
@@ -152,11 +153,12 @@ def judgment_lines(answer):
     text, blocks = "".join(map(finding_line, answer["told"])), counted(answer["blocks"], "block")
     damage = [answer.get(name, 0) for name in ("terminal_damaged", "card_damaged")]
     damaged = f", damaged terminal {damage[0]} card {damage[1]}" if any(damage) else ""
+    others = f", not judged {answer['not_judged']}" if "not_judged" in answer else ""
     if answer["verdict"] in ("ok", "unsure"):
         unseen = f", unseen {answer['unseen']}" if "unseen" in answer else ""
-        return f"{text}{answer['verdict']} {blocks}{unseen}{damaged}\n"
+        return f"{text}{answer['verdict']} {blocks}{unseen}{others}{damaged}\n"
     times = "".join(f", {it} {answer[it]}" for it in ("late", "early") if it in answer)
-    ends = ": terminal {terminal}, card {card}, unseen {unseen}" + times
+    ends = ": terminal {terminal}, card {card}, unseen {unseen}" + others + times
     return f"{text}{blocks}, {counted(answer['deviations'], 'deviation')}" + line_of(answer, ends + damaged)
 
 

@@ -147,8 +147,10 @@ class Changed(Line):
 
     def others(self, nad):
         """Node addresses that this end may not use (11.3.2.1)."""
-        if any(row.is_block() for row in self.rows):
+        if self.rows and self.rows[-1].word == TERMINAL:
             yield "of another pair", 0x21 if nad != 0x21 else 0x31
+            if nad != swapped(nad):
+                yield "that isn't swapped", swapped(nad)
         yield "of one end twice", 0x11
         yield "with bit 8", nad | 0x80
         yield "with bit 4", nad | 0x08

@@ -3,20 +3,20 @@ of vectors/judge.next.
 
 A history is steps with blanks between them: the end, a block, and perhaps how it arrived. `t:I0` is an I-block of
 the terminal with the number 0, `c:I1+` an I-block of the card with more to follow, `t:R1.2` an R-block with the
-error code 2, `c:WTX` a request of the card, `t:wtx` the response to it. `!` after a block says that it was damaged
-on its way, and `?` that it was lost. `reset` is a reset of the card. `t` or `c` alone says whose turn it is, and `@`
+error code 2, `c:WTX` a request of the card, `t:wtx` the response to it. `~` after a block says that it is of another
+logical connection. Then `!` says that it was damaged on its way, and `?` that it was lost. `reset` is a reset of the card. `t` or `c` alone says whose turn it is, and `@`
 that the node address is 21.
 """
 
 from t1_rules import SUBJECTS, Line, block_of, clauses, swapped, with_check
 
 ATR, IFSC = "3B808131204555", 32
-DAMAGED, LOST = "!", "?"
+DAMAGED, LOST, ELSEWHERE = "!", "?", "~"
 SIDES = {"t": "terminal", "c": "card"}
 FIELDS = {"t": "00A4040000", "c": "9000", "t+": "00D6", "c+": "AABB"}
 OCTETS = {"IFS": 0x10, "WTX": 0x02}
-# the address of the terminal's blocks in a session whose address isn't 00
-ADDRESS = 0x21
+# the address of the terminal's blocks in a session whose address isn't 00, and what makes that of another connection
+ADDRESS, OTHER = 0x21, 0x03
 
 HISTORIES = [
     ("Nothing", ""),
@@ -98,6 +98,17 @@ HISTORIES = [
     ("A command with the node address 21", "@ t:I0"),
     ("Its answer with the node address 12", "@ t:I0 c:I0"),
     ("A reset", "t:I0 c:I0 t:IFS c:ifs reset"),
+    ("A block of another connection", "t:I0 c:I0 t:I0~"),
+    ("One that was damaged", "t:I0 c:I0 t:I0~!"),
+    ("One that was lost", "t:I0 c:I0 t:I0~?"),
+    ("One that was lost, and yet the card sends", "t:I0 c:I0 t:I0~? c"),
+    ("The answer of another connection", "t:I0 c:I0 t:I0~ c:I0~"),
+    ("That answer, and the first connection after it", "t:I0 c:I0 t:I0~ c:I0~ t:I1"),
+    ("An exchange of another connection within the terminal's chain", "t:I0+ c:R1 t:I0~ c:I0~ t:I1"),
+    ("One within the card's chain", "t:I0 c:I0+ t:I0~ c:I0~ t:R1"),
+    ("One after the card asked for time", "t:I0 c:WTX t:I0~ c:I0~"),
+    ("One after a lost block", "t:I0? t:I0~ c:I0~ t:R0"),
+    ("A reset after another connection", "t:I0 c:I0 t:I0~ c:I0~ reset t:I0"),
 ]
 
 
@@ -146,7 +157,7 @@ class Session:
     """A line, and the trace of it so far."""
 
     def __init__(self, steps):
-        self.line, self.trace, self.turn = Line(IFSC), [], "t"
+        self.line, self.trace, self.told, self.turn = Line(IFSC), [], [], "t"
         words = steps.split()
         self.nad = ADDRESS if words[:1] == ["@"] else 0
         for word in words:
@@ -163,15 +174,19 @@ class Session:
         self.trace.append("reset")
         self.turn = "t"
 
-    def address(self, side):
-        """The node address of an end's blocks."""
-        return self.nad if side == "t" else swapped(self.nad)
+    def address(self, side, is_elsewhere=False):
+        """The node address of an end's blocks, perhaps in the other connection."""
+        nad = self.nad ^ OTHER if is_elsewhere else self.nad
+        return nad if side == "t" else swapped(nad)
 
     def takes(self, side, word):
         """Takes a step of a history."""
         end = word[-1] if word[-1] in (LOST, DAMAGED) else ""
-        octets = octets_of(side, word.rstrip(LOST + DAMAGED), self.address(side))
+        word = word.rstrip(LOST + DAMAGED)
+        octets = octets_of(side, word.rstrip(ELSEWHERE), self.address(side, word.endswith(ELSEWHERE)))
         said, came = arrival(octets, end)
+        if self.line.is_elsewhere(SIDES[side], octets):
+            self.told.append(not_judged(self.line.blocks + 1, SIDES[side]))
         self.line.takes(SIDES[side], octets, came)
         self.trace.append(f"{side} {octets.hex().upper()} {said}")
         self.turn = "t" if end == LOST or side == "c" else "c"
@@ -194,25 +209,35 @@ def next_blocks(session):
             yield supervision(nad, subject, is_response, [OCTETS[subject]] if subject in OCTETS else [])
             if subject in OCTETS:
                 yield supervision(nad, subject, is_response, [OCTETS[subject] + 1])
-    yield octets_of(side, f"I{session.line.ends[SIDES[side]].next}", nad ^ 0x03)
+    for other in (OTHER, swapped(OTHER)):
+        yield octets_of(side, f"I{session.line.ends[SIDES[side]].next}", nad ^ other)
     yield from (with_check(bytes([nad, *rest])) for rest in ([0x83, 0], [0x80, 1, 0], [0xC1, 1, 0], [0xE1, 1, 0xFF]))
 
 
-def summary(blocks, side, broken):
+def not_judged(number, side):
+    """The line about a block of another connection."""
+    return f"block {number} {side}: another logical connection, not judged  (11.3.2.1)"
+
+
+def summary(blocks, side, broken, others):
     """The last line of the judge."""
     counted = f"{blocks} block{'' if blocks == 1 else 's'}"
+    part = f", not judged {others}" if others else ""
     if not broken:
-        return f"ok {counted}"
+        return f"{'unsure' if others else 'ok'} {counted}{part}"
     ends = ", ".join(f"{end} {int(end == side)}" for end in SIDES.values())
-    return f"{counted}, 1 deviation: {ends}, unseen 0"
+    return f"{counted}, 1 deviation: {ends}, unseen 0{part}"
 
 
-def said(line, side, octets, clause):
+def said(session, side, octets, clause):
     """The lines that the judge prints for a trace that ends with a block."""
+    line, number = session.line, session.line.blocks + 1
+    if line.is_elsewhere(side, octets):
+        lines, broken = [*session.told, not_judged(number, side)], None
+        return [*lines, summary(number, side, broken, len(lines))]
     broken, due = line.broken(side, octets)
-    number = line.blocks + 1
     lines = [f"block {number} {side}: {broken}, due {due}  ({clause[broken]})"] if broken else []
-    return [*lines, summary(number, side, broken)]
+    return [*session.told, *lines, summary(number, side, broken, len(session.told))]
 
 
 def rows(steps, clause):
@@ -229,20 +254,20 @@ def rows(steps, clause):
 def row(session, octets, arrival, clause):
     """A trace with octets more that arrive so, and the lines that the judge prints for it."""
     last = f"{session.turn} {octets.hex().upper()} {arrival}"
-    return [*session.trace, last], said(session.line, SIDES[session.turn], octets, clause)
+    return [*session.trace, last], said(session, SIDES[session.turn], octets, clause)
 
 
 def vector(trace, lines):
     """A line of the file."""
-    status = 1 if len(lines) > 1 else 0
+    status = 0 if lines[-1].startswith("ok ") else 1
     return "\t".join([f"judge {ATR}", "".join(f"{it}\\n" for it in trace), str(status),
                       "".join(f"{it}\\n" for it in lines)])
 
 
 REMARK = """\
 # Every block after these: traces of a line that say of each block how it arrived, and end with one block of each kind
-# by the end whose turn it is, or with octets that it made wrong. Written by tools/daily/vectors. What comes is what tools/common/t1_rules.py says, a
-# second reading of the rules beside the program's.
+# by the end whose turn it is, or with octets that it made wrong. Written by tools/daily/vectors. What comes is what
+# tools/common/t1_rules.py says, a second reading of the rules beside the program's.
 """
 
 

@@ -35,6 +35,11 @@ def swapped(nad):
     return (nad << 4 | nad >> 4) & 0xFF
 
 
+def is_address(nad):
+    """Whether bits 4 and 8 are 0, and both addresses differ or are 0 (11.3.2.1)."""
+    return not nad & 0x88 and (nad == 0 or nad >> 4 != nad & 0x0F)
+
+
 class Block:
     """A block that arrived undamaged. `fault` is the rule that it breaks in any state, if any."""
 
@@ -338,17 +343,30 @@ class Line:
     def reset(self):
         """Resets the card."""
         self.ends = {"terminal": End("terminal", self.ifsc, "message"), "card": End("card", USUAL_SIZE, "nothing")}
-        self.nads = None
+        self.nads, self.opened, self.owes = None, set(), False
 
     def other(self, side):
         """The other end."""
         return self.ends["card" if side == "terminal" else "terminal"]
 
+    def pair(self, side, nad):
+        """The pair of node addresses of a block, as the terminal's blocks have it."""
+        return nad if side == "terminal" else swapped(nad)
+
     def is_foreign(self, side, nad):
-        """Whether a node address isn't that of the session."""
-        if self.nads is None:
+        """Whether a node address is none, or isn't that of the session."""
+        return not is_address(nad) or self.nads is not None and self.pair(side, nad) != self.nads
+
+    def is_elsewhere(self, side, octets):
+        """Whether octets are a block of another logical connection, which isn't judged. The terminal opens them. The
+        card answers in one of them, unless it owes an answer in the first."""
+        block = block_of(octets)
+        if block is None or block.fault or self.nads is None or not is_address(block.nad):
             return False
-        return nad != (self.nads if side == "terminal" else swapped(self.nads))
+        pair = self.pair(side, block.nad)
+        if pair == self.nads or side == "terminal":
+            return pair != self.nads
+        return pair in self.opened and not self.owes
 
     def broken(self, side, octets):
         """The rule that octets of an end would break now, if the line changes none, or None; and what is due."""
@@ -361,13 +379,27 @@ class Line:
 
     def takes(self, side, octets, came):
         """An end sends a block, and the other end receives the octets `came`, or nothing if it is None."""
+        if self.is_elsewhere(side, octets):
+            self.takes_elsewhere(side, octets, came)
+            return
         broken, _ = self.broken(side, octets)
         if broken:
             raise ValueError(f"block {self.blocks + 1} {side}: {broken}")
         self.blocks += 1
         if self.nads is None:
-            self.nads = octets[0] if side == "terminal" else swapped(octets[0])
+            self.nads = self.pair(side, octets[0])
+        self.owes = side == "terminal" and came == octets
         self.ends[side].sends(block_of(octets))
         self.other(side).hears(came)
         if came is None:
             self.ends[side].hears(None)
+
+    def takes_elsewhere(self, side, octets, came):
+        """A block of another connection. If it came damaged, the card may answer it in the first one."""
+        self.blocks += 1
+        self.owes = False
+        if side == "terminal":
+            self.opened.add(octets[0])
+            self.ends["card"].hears(None if came is None or came == octets else came)
+        else:
+            self.ends["card"].hears(None)

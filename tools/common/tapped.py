@@ -101,6 +101,44 @@ class Line:
         return self.rows
 
 
+class Doubled(Line):
+    """A line with two logical connections, each with ends of its own. The terminal turns from one to the other whenever
+    it is to send: between exchanges, within chains and after losses."""
+
+    def resets(self):
+        """The card is reset. Both connections are gone, and begin with pairs of their own."""
+        super().resets()
+        nads = self.rng.sample([nad for nad in (0x00, 0x21, 0x12, 0x65, 0x56) if nad != self.nad], 1)
+        self.connections = [[self.nad, self.ends, None]]
+        self.connections += [[nad, {side: End(side, self.rng, self.wishes) for side in self.ends}, None] for nad in nads]
+        self.turns = False
+
+    def turned(self, step):
+        """The step of the connection that goes on. The first block sets the addresses of the first one."""
+        self.connections[self.turns][2] = step
+        if (step is None or step[0] == TERMINAL) and any(row.is_block() for row in self.rows[self.begun():]):
+            self.turns = self.rng.random() < 0.4
+        self.nad, self.ends, step = self.connections[self.turns]
+        return step
+
+    def begun(self):
+        """The place in the rows after the last reset."""
+        return max((place for place, row in enumerate(self.rows) if row.word == RESET), default=-1) + 1
+
+    def runs(self, count):
+        """Carries so many blocks, each in the connection to which the terminal turned."""
+        step = None
+        for _ in range(count):
+            step = self.turned(step)
+            try:
+                step = self.carries(*(step or (TERMINAL, self.ends[TERMINAL].acts("message"))))
+            except GivesUp:
+                self.rows.append(Row(RESET))
+                self.resets()
+                step = None
+        return self.rows
+
+
 # ---- what a tap writes down
 
 def informed(row):
@@ -217,9 +255,13 @@ CLASSES = {
     "late": (HARMED, lambda rng, rows: late(rows)),
     "begun late": (HARMED, begun_late),
 }
+# the classes in which the terminal has two logical connections
+TWO = "two connections, "
+DOUBLED = {TWO + name: CLASSES[name] for name in CLASSES if name != "rough, unseen"}
 
 
 def trace(rng, name):
     """A trace of a class."""
-    wishes, tap = CLASSES[name]
-    return tap(rng, Line(rng, wishes).runs(rng.randint(2, 60)))
+    wishes, tap = {**CLASSES, **DOUBLED}[name]
+    line = (Doubled if name in DOUBLED else Line)(rng, wishes)
+    return tap(rng, line.runs(rng.randint(2, 60)))

@@ -20,6 +20,10 @@ use Rattle.judge_core.specs.declared.end.Owed.TheVariants.{NewMessage, NextBlock
 use Rattle.judge_core.specs.declared.end.End.{End}
 use Rattle.judge_core.specs.declared.courses.Heard.{Heard}
 use Rattle.judge_core.specs.declared.courses.Heard.TheVariants.{Beginning, Whole, Perhaps, Broken, Nothing}
+use Rattle.judge_core.specs.declared.connection.Last.{Last as LastOctets}
+use Rattle.judge_core.specs.declared.connection.Last.TheVariants as octets
+use Rattle.judge_core.specs.declared.connection.Pairs.{Pairs}
+use Rattle.judge_core.specs.declared.connection.Pairs.TheVariants as pairs
 use Rattle.judge_core.specs.declared.doubt.Doubt.{Doubt}
 use Rattle.judge_core.specs.declared.doubt.Doubt.TheVariants.{Clear, Refusable, Open}
 use Rattle.judge_core.specs.declared.monitor.Watched.{Watched}
@@ -158,11 +162,24 @@ abbrev pub nad_in : Bool → ℕ → Option ℕ
 nad_in false nad = None
 nad_in true nad = Some nad
 
+-- the pairs of node addresses by their number, with the second pair
+abbrev pub pairs_in : ℕ → ℕ → Pairs
+pairs_in kind other = if kind == 0 then pairs.First else (if kind == 1 then pairs.Two other else pairs.Many)
+
+abbrev pub last_in : ℕ → LastOctets
+last_in n =
+    if n == 0 then octets.Here
+    else (if n == 1 then octets.Unclear
+    else (if n == 2 then octets.Asked
+    else (if n == 3 then octets.Late else octets.Answered)))
+
 -- The monitor with this state. Any state is one.
 abbrev pub monitor_of : CJudge → Monitor
 monitor_of c = record {
   terminal = watched_of c.terminal;
   card = watched_of c.card;
   nad = nad_in (mark_in c.has_nad) c.nad;
+  pairs = pairs_in c.pairs c.other;
+  last = last_in c.last;
   blocks = c.blocks;
 }

@@ -13,7 +13,7 @@ use Rattle.judge_core.specs.declared.monitor.Silence.TheVariants.{No, Possible, 
 use Rattle.judge_core.specs.declared.monitor.Arrival.{Arrival}
 use Rattle.judge_core.specs.declared.monitor.Arrival.TheVariants.{Unsaid, Lost, Came}
 use Rattle.judge_core.specs.declared.monitor.Said.{Said}
-use Rattle.judge_core.specs.declared.monitor.Said.TheVariants.{Damage, Block}
+use Rattle.judge_core.specs.declared.monitor.Said.TheVariants.{Damage, Elsewhere, Block}
 use Rattle.judge_core.specs.declared.monitor.Report.{Report}
 use Rattle.judge_core.specs.Monitored.{silence_of, Takes}
 use Rattle.judge_core.specs.Rules.{rule_name, rule_clause}
@@ -88,17 +88,20 @@ verdict_number (Block Permitted) = 0
 verdict_number Damage = 1
 verdict_number (Block Unseen) = 2
 verdict_number (Block (Deviates broken due)) = 3
+verdict_number Elsewhere = 4
 
 -- the number of the broken rule, or 0
 abbrev pub rule_told : Said → ℕ
 rule_told (Block Permitted) = 0
 rule_told Damage = 0
+rule_told Elsewhere = 0
 rule_told (Block Unseen) = 0
 rule_told (Block (Deviates broken due)) = rule_number broken
 
 abbrev pub due_told : Said → CDue
 due_told (Block Permitted) = no_due
 due_told Damage = no_due
+due_told Elsewhere = no_due
 due_told (Block Unseen) = no_due
 due_told (Block (Deviates broken due)) = due_of due
 

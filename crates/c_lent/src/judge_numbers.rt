@@ -4,12 +4,12 @@ ghost use Rattle.std.specs.Prelude.{◌≡◌};
 ghost use Rattle.block_core.specs.Block.{number_bit};
 ghost use Rattle.c_lent.specs.Kept.{mark_of};
 ghost use Rattle.c_lent.specs.Number.{number_of, fault_of, subject_of};
-ghost use Rattle.c_lent.specs.KeptJudge.{mark_in, number_in, asked_told, owed_told, fault_in, subject_in, side_of, side_in, doubt_in, pending_in, asked_in, owed_in, pcb_in, heard_as, nad_in};
+ghost use Rattle.c_lent.specs.KeptJudge.{mark_in, number_in, asked_told, owed_told, fault_in, subject_in, side_of, side_in, doubt_in, pending_in, asked_in, owed_in, pcb_in, heard_as, last_in, nad_in, pairs_in};
 
 use crate::kept::{mark, mark_of};
 use crate::number::{fault, fault_of, number, number_of, subject, subject_of};
 use block_core::{Fault, Number, Pcb, S};
-use judge_core::{Asked, Doubt, Heard, Owed, Pending, Side};
+use judge_core::{Asked, Doubt, Heard, Last, Owed, Pairs, Pending, Side};
 
 /// A control octet as three numbers: the kind of block; its number or subject; whether more blocks follow, or its
 /// fault.
@@ -227,6 +227,52 @@ pub(crate) fn nad_in(has_nad: bool, nad: u8) -> Option<u8>
     ensures { result ≡ nad_in has_nad nad }
 {
     if has_nad { Some(nad) } else { None }
+}
+
+/// Returns the pairs of node addresses by their number, with the second pair.
+pub(crate) fn pairs_in(kind: u8, other: u8) -> Pairs
+    ensures { result ≡ pairs_in kind other }
+{
+    match kind {
+        0 => Pairs::First,
+        1 => Pairs::Two(other),
+        _ => Pairs::Many,
+    }
+}
+
+/// Returns the number of the pairs of node addresses, and the second pair, or 0.
+pub(crate) fn pairs(pairs: Pairs) -> (u8, u8)
+    ensures { pairs_in result.0 result.1 ≡ pairs }
+{
+    match pairs {
+        Pairs::First => (0, 0),
+        Pairs::Two(other) => (1, other),
+        Pairs::Many => (2, 0),
+    }
+}
+
+pub(crate) fn last_in(last: u8) -> Last
+    ensures { result ≡ last_in last }
+{
+    match last {
+        0 => Last::Here,
+        1 => Last::Unclear,
+        2 => Last::Asked,
+        3 => Last::Late,
+        _ => Last::Answered,
+    }
+}
+
+pub(crate) fn last(last: Last) -> u8
+    ensures { last_in result ≡ last }
+{
+    match last {
+        Last::Here => 0,
+        Last::Unclear => 1,
+        Last::Asked => 2,
+        Last::Late => 3,
+        Last::Answered => 4,
+    }
 }
 
 /// Returns whether there is a node address, and the address.

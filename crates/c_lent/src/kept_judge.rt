@@ -4,8 +4,8 @@ ghost use Rattle.std.specs.Prelude.{◌≡◌};
 ghost use Rattle.c_lent.specs.KeptJudge.{doubt_in, end_of, heard_as, heard_of, monitor_of, pcb_in, watched_of};
 
 use crate::judge_numbers::{
-    Spelled, asked, asked_in, doubt, doubt_in, heard_as, mark_in, nad_in, nad_kept, number_in,
-    owed, owed_in, pcb, pcb_in, pending, pending_in, side, side_in,
+    Spelled, asked, asked_in, doubt, doubt_in, heard_as, last, last_in, mark_in, nad_in, nad_kept,
+    number_in, owed, owed_in, pairs, pairs_in, pcb, pcb_in, pending, pending_in, side, side_in,
 };
 use crate::kept::mark;
 use crate::number::number;
@@ -66,6 +66,9 @@ pub struct CJudge {
     pub blocks: u64,
     pub has_nad: u8,
     pub nad: u8,
+    pub pairs: u8,
+    pub other: u8,
+    pub last: u8,
 }
 
 impl CHeard {
@@ -196,12 +199,16 @@ impl CJudge {
         ensures { monitor_of result ≡ monitor.now }
     {
         let (has_nad, nad) = nad_kept(monitor.nad);
+        let (pairs, other) = pairs(monitor.pairs);
         CJudge {
             terminal: CWatched::of(&monitor.terminal),
             card: CWatched::of(&monitor.card),
             blocks: monitor.blocks,
             has_nad: mark(has_nad),
             nad,
+            pairs,
+            other,
+            last: last(monitor.last),
         }
     }
 
@@ -213,6 +220,8 @@ impl CJudge {
             terminal: self.terminal.watched(),
             card: self.card.watched(),
             nad: nad_in(mark_in(self.has_nad), self.nad),
+            pairs: pairs_in(self.pairs, self.other),
+            last: last_in(self.last),
             blocks: self.blocks,
         }
     }

@@ -278,6 +278,7 @@ fn verdict_number(said: Said) -> u8
         Said::Damage => 1,
         Said::Block(Verdict::Unseen) => 2,
         Said::Block(Verdict::Deviates(..)) => 3,
+        Said::Elsewhere => 4,
     }
 }
 
@@ -286,7 +287,7 @@ fn rule_told(said: Said) -> u8
 {
     match said {
         Said::Block(Verdict::Deviates(broken, _)) => broken.number(),
-        Said::Block(Verdict::Permitted | Verdict::Unseen) | Said::Damage => 0,
+        Said::Block(Verdict::Permitted | Verdict::Unseen) | Said::Damage | Said::Elsewhere => 0,
     }
 }
 
@@ -295,7 +296,9 @@ fn due_told(said: Said) -> CDue
 {
     match said {
         Said::Block(Verdict::Deviates(_, due)) => CDue::of(due),
-        Said::Block(Verdict::Permitted | Verdict::Unseen) | Said::Damage => CDue::none(),
+        Said::Block(Verdict::Permitted | Verdict::Unseen) | Said::Damage | Said::Elsewhere => {
+            CDue::none()
+        }
     }
 }
 

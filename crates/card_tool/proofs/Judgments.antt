@@ -22,7 +22,7 @@ use Rattle.card_tool.specs.ExchangeTexts.{file_fault_text}
 use Rattle.card_tool.specs.Laid.{laid}
 use Rattle.card_tool.specs.FileNotes.{trace_note}
 use Rattle.card_tool.specs.Judged.{AreOf}
-use Rattle.card_tool.specs.JudgeTexts.{at_line, faulty, judged, judged_status, on_text, refused, scope_of, unusable_in, used, IsJudgeNote, IsOffer, IsTextNote, JudgesText, JudgesTrace}
+use Rattle.card_tool.specs.JudgeTexts.{at_line, faulty, judged, judged_in, judged_status, on_text, refused, scope_of, unusable_in, used, IsJudgeNote, IsOffer, IsTextNote, JudgesText, JudgesTrace}
 use Rattle.card_tool.specs.declared.judged.WithNote.{WithNote}
 use Rattle.card_tool.proofs.Simulations.{apart, if-ok, same-name}
 
@@ -59,12 +59,14 @@ some-offer atr ifsc (inr (none, e)) = absurd (cc e)
 
 -- ---- a text
 
-module _ (offered : Offered) (judging : Judging) (file : List ℕ) where
-  one-judged : (t u : List ℕ) (p q : Status) → JudgesText offered judging file t p → JudgesText offered judging file u q
+module _ (atr : List ℕ) (offered : Offered) (judging : Judging) (file : List ℕ) where
+  one-judged : (t u : List ℕ) (p q : Status) → JudgesText atr offered judging file t p
+      → JudgesText atr offered judging file u q
       → (t ≡ u) × (p ≡ q)
   one-judged t u p q (judged a h text stops) (judged b g other differs) =
       let same = one-judgment offered (scope_of judging) file a b h g in (
-        text ∙ ap (laid judging.layout (codes "judge")) same.0 ∙ sym other,
+        text ∙ ap (λ (said : List ℕ). laid judging.layout (codes "judge") (judged_in judging.layout atr said)) same.0
+            ∙ sym other,
         stops ∙ ap judged_status same.1 ∙ sym differs,
       )
   one-judged t u p q (judged a h text stops) (faulty x g known other differs) =
@@ -75,11 +77,11 @@ module _ (offered : Offered) (judging : Judging) (file : List ℕ) where
       let same = one-text-fault offered (scope_of judging) file x y known also h g in
       (text ∙ ap file_fault_text same ∙ sym other, stops ∙ sym differs)
 
-  some-judged : (t : List ℕ) × (p : Status) × JudgesText offered judging file t p
+  some-judged : (t : List ℕ) × (p : Status) × JudgesText atr offered judging file t p
   some-judged =
       elim (some-judgment offered (scope_of judging) file) [
         | inl one ↦ (
-          laid judging.layout (codes "judge") one.0.text,
+          laid judging.layout (codes "judge") (judged_in judging.layout atr one.0.text),
           judged_status one.0.is_ok,
           judged one.0 one.1 refl refl,
         )
@@ -88,12 +90,12 @@ module _ (offered : Offered) (judging : Judging) (file : List ℕ) where
 
 -- ---- what calls answer
 
-module _ (offered : Offered) (judging : Judging) (file : List ℕ) (fault : ExchangeFault) where
+module _ (atr : List ℕ) (offered : Offered) (judging : Judging) (file : List ℕ) (fault : ExchangeFault) where
   -- the line of a text's fault
   pub faulty-text : {E : Type 0} (r : Result Answer E) → Judges offered (scope_of judging) file (Err fault)
       → IfOk r (λ _. fault ≢ Memory) → IfOk r (λ answer. answer.text ≡ file_fault_text fault)
       → IfOk r (λ answer. answer.status ≡ status.Fault)
-      → IfOk r (λ answer. JudgesText offered judging file answer.text answer.status)
+      → IfOk r (λ answer. JudgesText atr offered judging file answer.text answer.status)
   faulty-text (Ok answer) told known text stops = faulty fault told known text stops
   faulty-text (Err e) told known text stops = tt
 
@@ -102,7 +104,7 @@ module _ (offered : Offered) (judging : Judging) (file : List ℕ) (fault : Exch
       → IfOk r (λ _. fault ≢ Memory)
       → IfOk r (AreOf (λ text stops. (text ≡ file_fault_text fault) × (stops ≡ status.Fault))
       (λ note. note ≡ trace_note file fault))
-      → IfOk r (AreOf (JudgesText offered judging file) (IsTextNote offered judging file))
+      → IfOk r (AreOf (JudgesText atr offered judging file) (IsTextNote offered judging file))
   faulty-noted (Ok made) told known h = (
     faulty fault told known h.0.0 h.0.1,
     if-ok made.note (λ note on. at_line fault told known on) h.1,
@@ -112,7 +114,7 @@ module _ (offered : Offered) (judging : Judging) (file : List ℕ) (fault : Exch
 -- a text with its note, where the answer to reset says so
 pub used-noted : {E : Type 0} (atr : List ℕ) (offered : Offered) (judging : Judging) (file : List ℕ)
     (r : Result WithNote E)
-    → IsOffer atr offered → IfOk r (AreOf (JudgesText offered judging file) (IsTextNote offered judging file))
+    → IsOffer atr offered → IfOk r (AreOf (JudgesText atr offered judging file) (IsTextNote offered judging file))
     → IfOk r (AreOf (JudgesTrace atr judging file) (IsJudgeNote atr judging file))
 used-noted atr offered judging file (Ok made) found h =
     (used offered found h.0, if-ok made.note (λ note on. on_text offered found on) h.1)
@@ -132,14 +134,14 @@ module _ (atr : List ℕ) (judging : Judging) (file : List ℕ) where
       absurd (apart atr b.values.ifsc a (found-by atr b g) f)
   one-traced t u p q (used a f told) (refused b g other differs) =
       absurd (apart atr a.values.ifsc b (found-by atr a f) g)
-  one-traced t u p q (used a f told) (used b g also) = one-judged b judging file t u p q
-      (subst (λ (offered : Offered). JudgesText offered judging file t p) (one-offer atr a b f g) told) also
+  one-traced t u p q (used a f told) (used b g also) = one-judged atr b judging file t u p q
+      (subst (λ (offered : Offered). JudgesText atr offered judging file t p) (one-offer atr a b f g) told) also
 
   some-traced : (found : Result ℕ (List ℕ)) → IsFound atr found → (t : List ℕ) × (p : Status)
       × JudgesTrace atr judging file t p
   some-traced (Ok ifsc) f =
       let offer = some-offer atr ifsc f in
-      let told = some-judged offer.0 judging file in
+      let told = some-judged atr offer.0 judging file in
       (told.0, told.1, used offer.0 offer.1 told.2)
   some-traced (Err name) f = (unusable name, status.Refused, refused name f refl refl)
 

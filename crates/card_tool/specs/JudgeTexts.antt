@@ -1,5 +1,6 @@
 -- What the program prints about a trace that it judges.
 use Rattle.std.specs.Prelude.{◌≡◌, ◌≢◌, ◌++◌, ℕ, List, [], codes, Bool, true, false, Option, Some, None, Ok, Err}
+use Rattle.hex.specs.Hex.{encode_upper}
 use Rattle.card_kinds.specs.Texts.{refused_as_text}
 use Rattle.card_kinds.specs.declared.status.Status.{Status}
 use Rattle.card_kinds.specs.declared.status.Status.TheVariants as status
@@ -50,13 +51,21 @@ abbrev pub judged_status : Bool → Status
 judged_status true = status.Accepted
 judged_status false = status.Refused
 
--- The answer about a text for a card that offers this: its judgment, or its first fault.
-pub data JudgesText (offered : Offered) (judging : Judging) (file text : List ℕ) (ended : Status) : Type 0 where
-  judged : (judgment : Judgment) → Judges offered (scope_of judging) file (Ok judgment)
-      → text ≡ laid judging.layout (codes "judge") judgment.text
-      → ended ≡ judged_status judgment.is_ok → JudgesText offered judging file text ended
-  faulty : (fault : ExchangeFault) → Judges offered (scope_of judging) file (Err fault) → fault ≢ Memory
-      → text ≡ file_fault_text fault → ended ≡ status.Fault → JudgesText offered judging file text ended
+-- a judgment for a card with this answer to reset: the lines, or the members of an object, of which the answer to reset
+-- is the first
+abbrev pub judged_in : Layout → List ℕ → List ℕ → List ℕ
+judged_in layout.Lines atr said = said
+judged_in layout.Json atr said = codes "\"atr\":\"" ++ (encode_upper atr ++ (codes "\"," ++ said))
+
+-- The answer about a text for a card with this answer to reset, which offers this: its judgment, or its first fault.
+pub data JudgesText (atr : List ℕ) (offered : Offered) (judging : Judging) (file text : List ℕ) (ended : Status) : Type
+    0
+  where
+    judged : (judgment : Judgment) → Judges offered (scope_of judging) file (Ok judgment)
+        → text ≡ laid judging.layout (codes "judge") (judged_in judging.layout atr judgment.text)
+        → ended ≡ judged_status judgment.is_ok → JudgesText atr offered judging file text ended
+    faulty : (fault : ExchangeFault) → Judges offered (scope_of judging) file (Err fault) → fault ≢ Memory
+        → text ≡ file_fault_text fault → ended ≡ status.Fault → JudgesText atr offered judging file text ended
 
 -- the answer to reset can't be used, by the name of the reason
 abbrev pub unusable_in : Layout → List ℕ → List ℕ
@@ -69,7 +78,7 @@ pub data JudgesTrace (atr : List ℕ) (judging : Judging) (file text : List ℕ)
   refused : (name : List ℕ) → IsFound atr (Err name)
       → text ≡ laid judging.layout (codes "judge") (unusable_in judging.layout name) → ended ≡ status.Refused
       → JudgesTrace atr judging file text ended
-  used : (offered : Offered) → IsOffer atr offered → JudgesText offered judging file text ended
+  used : (offered : Offered) → IsOffer atr offered → JudgesText atr offered judging file text ended
       → JudgesTrace atr judging file text ended
 
 -- ---- notes

@@ -8,7 +8,7 @@ ghost use Rattle.card_tool.specs.ExchangeTexts.{file_fault_text};
 ghost use Rattle.card_tool.specs.FileNotes.{trace_note};
 ghost use Rattle.card_kinds.specs.declared.status.Status.TheVariants as ended;
 ghost use Rattle.card_tool.specs.Judged.{AreOf};
-ghost use Rattle.card_tool.specs.JudgeTexts.{judged_status, only_of, scope_of, unusable_in, IsJudgeNote, IsOffer, IsTextNote, JudgesText, JudgesTrace};
+ghost use Rattle.card_tool.specs.JudgeTexts.{judged_in, judged_status, only_of, scope_of, unusable_in, IsJudgeNote, IsOffer, IsTextNote, JudgesText, JudgesTrace};
 ghost use Rattle.card_tool.specs.Laid.{laid};
 
 use crate::exchange::refused;
@@ -22,7 +22,7 @@ use exchange_core::{AtrFault, ExchangeFault};
 use explainer::session_note;
 use judge_core::Side;
 use layouts::Layout;
-use octet_core::Named;
+use octet_core::{Named, hex_upper};
 use std::alloc::{AllocError, Global};
 use trace_judge::{Judgment, Offer, Scope, judge_trace, rates_before};
 
@@ -66,17 +66,39 @@ fn only_of(ends: Ends) -> Option<Side>
     }
 }
 
-/// Returns what a judgment says: its text, and the status by whether each block is permitted as it was seen.
-fn answer_of(judgment: Judgment) -> Answer
-    ensures text { result.text ≡ judgment.text }
-    ensures status { result.status ≡ judged_status judgment.is_ok }
+/// Returns what a judgment says for a card with this answer to reset. The status says whether each block is permitted as
+/// it was seen.
+fn answer_of(
+    alloc: Global,
+    layout: Layout,
+    atr: &[u8],
+    judgment: Judgment,
+) -> Result<Answer, AllocError>
+    ensures text { IfOk result (λ answer. answer.text
+        ≡ judged_in layout atr.now judgment.text) }
+    ensures status { IfOk result (λ answer. answer.status ≡ judged_status judgment.is_ok) }
 {
-    let status = if judgment.is_ok {
+    let status = status_of(judgment.is_ok);
+    let said = judgment.text.into_inner();
+    match layout {
+        Layout::Lines => Ok(Answer::of(said, status)),
+        Layout::Json => {
+            let digits = hex_upper(alloc, atr)?;
+            let text = format!(in alloc; "\"atr\":\"{digits}\",{said}")?;
+            Ok(Answer::of(text, status))
+        }
+    }
+}
+
+/// Returns the status by whether each block is permitted as it was seen.
+fn status_of(is_ok: bool) -> Status
+    ensures { result ≡ judged_status is_ok }
+{
+    if is_ok {
         Status::Accepted
     } else {
         Status::Refused
-    };
-    Answer::of(judgment.text.into_inner(), status)
+    }
 }
 
 /// Returns what isn't permitted among the blocks of a text, or the text's fault. The note is on an answer to reset that
@@ -91,7 +113,7 @@ pub(crate) fn judged(
         (AreOf (JudgesTrace atr.now judging text.now) (IsJudgeNote atr.now judging text.now)) }
 {
     match offer_of(atr) {
-        Ok(offer) => text_judged(alloc, offer, judging, text),
+        Ok(offer) => text_judged(alloc, atr, offer, judging, text),
         Err(fault) => {
             let answer = unusable(alloc, judging.layout, fault.name())?;
             let note = session_note(alloc, atr);
@@ -116,19 +138,21 @@ fn unusable(alloc: Global, layout: Layout, name: &str) -> Result<Answer, AllocEr
     laid(alloc, layout, "judge", said)
 }
 
-/// Judges a text for a card that offers this.
+/// Judges a text for a card with this answer to reset, which offers this.
 fn text_judged(
     alloc: Global,
+    atr: &[u8],
     offer: Offer,
     judging: Judging,
     text: &[u8],
 ) -> Result<WithNote, AllocError>
-    ensures { IfOk result (AreOf (JudgesText offer judging text.now)
+    ensures { IfOk result (AreOf (JudgesText atr.now offer judging text.now)
         (IsTextNote offer judging text.now)) }
 {
     match judge_trace(alloc, offer, scope_of(judging), text) {
         Ok(judgment) => {
-            let answer = laid(alloc, judging.layout, "judge", answer_of(judgment))?;
+            let said = answer_of(alloc, judging.layout, atr, judgment)?;
+            let answer = laid(alloc, judging.layout, "judge", said)?;
             Ok(WithNote::alone(alloc, answer))
         }
         Err(fault) => fault_with_note(alloc, text, fault),

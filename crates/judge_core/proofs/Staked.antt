@@ -27,15 +27,15 @@ use Rattle.judge_core.specs.declared.monitor.Watched.{Watched}
 use Rattle.judge_core.specs.declared.monitor.Monitor.{Monitor}
 use Rattle.judge_core.specs.declared.monitor.Arrival.{Arrival}
 use Rattle.judge_core.specs.declared.monitor.Said.{Said}
-use Rattle.judge_core.specs.declared.monitor.Said.TheVariants.{Damage, Block}
+use Rattle.judge_core.specs.declared.monitor.Said.TheVariants.{Damage, Elsewhere, Block}
 use Rattle.judge_core.specs.declared.stakes.Stakes.{Stakes}
 use Rattle.judge_core.specs.declared.exercise.Exercise.TheVariants.{Breaks}
 use Rattle.judge_core.specs.Sends.{Sent, sends}
 use Rattle.judge_core.specs.Ends.{after, hears, missed}
 use Rattle.judge_core.specs.Courses.{attempted, by_damage, chosen, first_course, got_none, got_whole, judges, uncounted, untaken}
 use Rattle.judge_core.specs.Doubts.{is_open, only_openly, openly, sent_openly}
-use Rattle.judge_core.specs.Monitored.{addressed_by, has_length, is_unchanged, made_as, refused_as, rule_at, rule_made, said_of, IsSeen, IsSent, Seen, whole, malformed, damage}
-use Rattle.judge_core.specs.Stakes.{at_stake, can_break, exercise_by, exercise_of, fitting, is_card, is_nothing, owed_breaks, sender, stakes_of}
+use Rattle.judge_core.specs.Monitored.{addressed_by, has_length, is_unchanged, made_as, refused_as, rule_at, is_elsewhere, rule_made, said_here, said_in, said_of, sender, IsSeen, IsSent, Seen, whole, malformed, damage}
+use Rattle.judge_core.specs.Stakes.{at_stake, can_break, exercise_by, exercise_of, fitting, is_card, is_nothing, owed_breaks, stakes_of}
 use Rattle.judge_core.proofs.AtStake.{in-right, sends-known, IsKnown}
 
 -- ---- the rules that no end breaks by what it sends
@@ -163,6 +163,7 @@ by-either heard false judged opened hidden due k h = h
 
 abbrev IsSaidStaked : Said → Stakes → Type 0
 IsSaidStaked Damage s = Unit {0}
+IsSaidStaked Elsewhere s = Unit {0}
 IsSaidStaked (Block verdict) s = IsStaked verdict s
 
 module _ (w : Watched) (block : Parts) where
@@ -202,6 +203,7 @@ seen-staked nad w from octets damage is = tt
 broken-staked : (s : Stakes) (said : Said) (broken : Rule) (state : Option State) → IsSaidStaked said s
     → exercise_by s said ≡ Breaks broken state → at_stake s broken ≡ true
 broken-staked s Damage broken state h e = absurd (cc e)
+broken-staked s Elsewhere broken state h e = absurd (cc e)
 broken-staked s (Block Permitted) broken state h e = absurd (cc e)
 broken-staked s (Block Unseen) broken state h e = absurd (cc e)
 broken-staked s (Block (Deviates r owing)) broken state h e =
@@ -228,10 +230,16 @@ sent-staked nad w from octets arrival seen (was, is, e) =
     subst (λ (it : Seen). IsSaidStaked (said_of w (addressed_by from nad it) it) (stakes_of w it)) (sym e)
     (made-seen-staked nad w from octets was (is_unchanged octets arrival) is)
 
+-- a block of another connection breaks nothing
+or-elsewhere : (b : Bool) (said : Said) (s : Stakes) → IsSaidStaked said s
+    → IsSaidStaked (if b then Elsewhere else said) s
+or-elsewhere true said s h = tt
+or-elsewhere false said s h = h
+
 pub broken-at-stake : (m : Monitor) (from : Side) (octets : List ℕ) (arrival : Arrival) (seen : Seen) (broken : Rule)
     (state : Option State) → IsSent octets arrival seen → exercise_of m from seen ≡ Breaks broken state
     → at_stake (stakes_of (sender m from) seen) broken ≡ true
 broken-at-stake m from octets arrival seen broken state is e =
-    broken-staked (stakes_of (sender m from) seen)
-    (said_of (sender m from) (addressed_by from m.nad seen) seen) broken state
-    (sent-staked m.nad (sender m from) from octets arrival seen is) e
+    broken-staked (stakes_of (sender m from) seen) (said_in m from seen) broken state
+    (or-elsewhere (is_elsewhere m from seen) (said_here m from seen) (stakes_of (sender m from) seen)
+    (sent-staked m.nad (sender m from) from octets arrival seen is)) e

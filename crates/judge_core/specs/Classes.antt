@@ -1,8 +1,8 @@
 -- Classed octets in the code, as contracts see them.
 use Rattle.judge_core.specs.declared.class.Class.{Class}
 use Rattle.judge_core.specs.declared.class.Class.TheVariants.{Whole, Malformed, Damage}
-use Rattle.judge_core.specs.declared.monitor.Reached.{Reached}
-use Rattle.judge_core.specs.declared.monitor.Reached.TheVariants.{Unsaid, Lost, Came}
+use Rattle.judge_core.specs.declared.reach.Reached.{Reached}
+use Rattle.judge_core.specs.declared.reach.Reached.TheVariants.{Unsaid, Lost, Came}
 use Rattle.judge_core.specs.Monitored as seen
 use Rattle.judge_core.specs.Monitored.{Seen, Reaching}
 

@@ -1,6 +1,6 @@
 -- What an end may have heard, and what some course of it permits. A tap on the line doesn't see whether an end received
 -- a block whole.
-use Rattle.std.specs.Prelude.{◌≡◌, ◌⊎◌, ℕ, List, Bool, false, if◌then◌else◌, Option, Some, None, Ok, Err}
+use Rattle.std.specs.Prelude.{◌≡◌, ◌⊎◌, ℕ, List, Bool, true, false, if◌then◌else◌, Option, Some, None, Ok, Err}
 use Rattle.block_core.specs.declared.pcb.Pcb.{Pcb}
 use Rattle.block_core.specs.declared.pcb.Pcb.TheVariants.{Info, Ready, Request, Response}
 use Rattle.t1_core.specs.Came.{carried}
@@ -18,6 +18,14 @@ use Rattle.judge_core.specs.declared.end.Asked.{Asked}
 use Rattle.judge_core.specs.Sends.{Sent, sends, suggested}
 
 -- ---- the courses
+
+-- a block certainly came whole
+abbrev pub is_sure : Heard → Bool
+is_sure Beginning = false
+is_sure (Whole pcb octet) = true
+is_sure (Perhaps pcb octet) = false
+is_sure Broken = false
+is_sure Nothing = false
 
 -- What the end owes on the course on which it received the last block whole. A terminal begins (rule 1).
 abbrev pub got_whole : End → Heard → Option After

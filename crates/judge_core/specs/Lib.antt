@@ -5,6 +5,7 @@ pub mod Courses
 pub mod Followed
 pub mod Watched
 pub mod Doubts
+pub mod Connections
 pub mod Monitored
 pub mod Missed
 pub mod Rules

@@ -14,7 +14,8 @@ use Rattle.judge_core.specs.declared.monitor.Said.{Said}
 use Rattle.judge_core.specs.declared.monitor.Watched.{Watched}
 use Rattle.judge_core.specs.Sends.{is_foreign}
 use Rattle.judge_core.specs.Doubts.{is_open, is_turn, judged_of}
-use Rattle.judge_core.specs.Monitored.{addressed_by, lost, monitor_after, quiet_after, said_of, Reaching, Seen}
+use Rattle.judge_core.specs.Connections.{is_asked}
+use Rattle.judge_core.specs.Monitored.{lost, monitor_after, quiet_after, said_in, Reaching, Seen}
 
 -- the trace with the block, and without it
 abbrev pub with_block : Monitor → Side → Seen → Monitor
@@ -35,7 +36,7 @@ after_act m (puts seen reaching) = monitor_after m Terminal seen reaching
 -- what the judge says of it
 abbrev pub said_at : Monitor → Act → Option Said
 said_at m waits = None
-said_at m (puts seen reaching) = Some (said_of m.terminal (addressed_by Terminal m.nad seen) seen)
+said_at m (puts seen reaching) = Some (said_in m Terminal seen)
 
 abbrev pub after_acts : Monitor → List Act → Monitor
 after_acts m [] = m
@@ -58,9 +59,12 @@ pub record ForgivesTerminal (m : Monitor) (seen : Seen) : Type 0 where
   pub card : (with_block m Terminal seen).card ≡ (without_block m).card
   pub terminal : is_open (without_block m).terminal.doubt ≡ true
 
+-- The terminal waits for no answer of another logical connection: then the other end of this one has the turn.
 abbrev pub Forgives : Monitor → Side → Seen → Type 0
-Forgives m Card seen = m.terminal.heard ≡ Broken → is_turn m.card.heard ≡ true → ForgivesCard m seen
-Forgives m Terminal seen = m.card.heard ≡ Nothing → is_turn m.terminal.heard ≡ true → ForgivesTerminal m seen
+Forgives m Card seen =
+    is_asked m.last ≡ false → m.terminal.heard ≡ Broken → is_turn m.card.heard ≡ true → ForgivesCard m seen
+Forgives m Terminal seen =
+    is_asked m.last ≡ false → m.card.heard ≡ Nothing → is_turn m.terminal.heard ≡ true → ForgivesTerminal m seen
 
 -- the field isn't longer than what the other end takes (11.4.2)
 abbrev pub IsWithin : ℕ → Pcb → List ℕ → Type 0

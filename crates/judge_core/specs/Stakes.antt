@@ -26,14 +26,14 @@ use Rattle.judge_core.specs.declared.monitor.Watched.{Watched}
 use Rattle.judge_core.specs.declared.monitor.Monitor.{Monitor}
 use Rattle.judge_core.specs.declared.monitor.Arrival.{Arrival}
 use Rattle.judge_core.specs.declared.monitor.Said.{Said}
-use Rattle.judge_core.specs.declared.monitor.Said.TheVariants.{Damage, Block}
+use Rattle.judge_core.specs.declared.monitor.Said.TheVariants.{Damage, Elsewhere, Block}
 use Rattle.judge_core.specs.declared.stakes.Stakes.{Stakes}
 use Rattle.judge_core.specs.declared.exercise.Exercise.{Exercise}
 use Rattle.judge_core.specs.declared.exercise.Exercise.TheVariants as exercise
 use Rattle.judge_core.specs.Sends.{Sent, is_between, is_within, is_waiting, most_asked, sends}
-use Rattle.judge_core.specs.Courses.{attempted, got_none, got_whole, judges}
+use Rattle.judge_core.specs.Courses.{attempted, got_none, got_whole, is_sure, judges}
 use Rattle.judge_core.specs.Doubts.{is_open, only_openly, sent_openly, unknown_end}
-use Rattle.judge_core.specs.Monitored.{addressed_by, due, said_of, IsSent, Seen, whole, malformed, damage}
+use Rattle.judge_core.specs.Monitored.{due, said_in, sender, IsSent, Seen, whole, malformed, damage}
 use Rattle.judge_core.specs.Ends.{after}
 use Rattle.judge_core.specs.States.{state_of}
 
@@ -213,14 +213,6 @@ is_nothing (Perhaps pcb octet) = false
 is_nothing Broken = false
 is_nothing Nothing = true
 
--- a block certainly came whole
-abbrev pub is_whole : Heard → Bool
-is_whole Beginning = false
-is_whole (Whole pcb octet) = true
-is_whole (Perhaps pcb octet) = false
-is_whole Broken = false
-is_whole Nothing = false
-
 -- Whether an end that sends a block keeps or breaks the rule. A card can send out of turn, and it owes a block if it
 -- received one.
 abbrev pub at_stake : Stakes → Rule → Bool
@@ -230,7 +222,7 @@ at_stake s rule.Length = true
 at_stake s rule.CheckOctet = true
 at_stake s rule.ReservedSize = true
 at_stake s rule.Turn = is_card s.due.«end».side || is_nothing s.heard
-at_stake s rule.Silence = is_card s.due.«end».side && is_whole s.heard
+at_stake s rule.Silence = is_card s.due.«end».side && is_sure s.heard
 at_stake s r = not (is_nothing s.heard) && can_break s.due.«end» s.due.owed r
 
 -- ---- what a block did
@@ -260,21 +252,18 @@ stakes_of w seen = record { heard = w.heard; due = course_of w seen }
 abbrev pub came_in : Stakes → Option State
 came_in s = if is_nothing s.heard then None else Some (state_of s.due.owed)
 
--- A permitted block keeps each rule that was at stake. Another block breaks the rule that the judge names.
+-- A permitted block keeps each rule that was at stake. Another block breaks the rule that the judge names. Nothing is
+-- known about damage, and about a block of another logical connection.
 abbrev pub exercise_by : Stakes → Said → Exercise
 exercise_by s Damage = exercise.Unknown
+exercise_by s Elsewhere = exercise.Unknown
 exercise_by s (Block Permitted) = exercise.Keeps s
 exercise_by s (Block Unseen) = exercise.Keeps s
 exercise_by s (Block (Deviates broken owed)) = exercise.Breaks broken (came_in s)
 
-abbrev pub sender : Monitor → Side → Watched
-sender m Terminal = m.terminal
-sender m Card = m.card
-
 -- what octets of an end exercise, before the monitor takes them
 abbrev pub exercise_of : Monitor → Side → Seen → Exercise
-exercise_of m from seen = exercise_by (stakes_of (sender m from) seen)
-    (said_of (sender m from) (addressed_by from m.nad seen) seen)
+exercise_of m from seen = exercise_by (stakes_of (sender m from) seen) (said_in m from seen)
 
 abbrev pub Exercises : Monitor → Side → List ℕ → Arrival → Exercise → Type 0
 Exercises m from octets arrival x = (seen : Seen) × IsSent octets arrival seen × (x ≡ exercise_of m from seen)

@@ -1,7 +1,7 @@
 //! What an end may have heard, and what some course of it permits.
 
 ghost use Rattle.std.specs.Prelude.{◌≡◌};
-ghost use Rattle.judge_core.specs.Courses.{attempted, by_damage, chosen, first_course, got_none, got_whole, judgment, judges, perhaps_answers, uncounted, untaken};
+ghost use Rattle.judge_core.specs.Courses.{attempted, by_damage, chosen, first_course, got_none, got_whole, is_sure, judgment, judges, perhaps_answers, uncounted, untaken};
 
 use crate::end::{After, End, Owed};
 use crate::hearing::answers;
@@ -22,6 +22,18 @@ pub enum Heard {
     Broken,
     /// Nothing: it isn't this end's turn.
     Nothing,
+}
+
+impl Heard {
+    /// Whether a block certainly came whole.
+    pub(crate) fn is_sure(self) -> bool
+        ensures { result ≡ is_sure self }
+    {
+        match self {
+            Heard::Whole(..) => true,
+            Heard::Beginning | Heard::Perhaps(..) | Heard::Broken | Heard::Nothing => false,
+        }
+    }
 }
 
 /// The judge's verdict on a block.

@@ -2,7 +2,7 @@
 
 ghost use Rattle.std.specs.Prelude.{◌≡◌, ◌&&◌, true};
 ghost use Rattle.judge_core.specs.Courses.{judges};
-ghost use Rattle.judge_core.specs.Doubts.{corrected, doubt_after, doubted_by, is_open, is_turn, judged_of, only_openly, overlooked, passed_over, presumed, refused_doubt, sent_openly, sized, sized_by, still_open, unknown_end, waited, waited_doubt};
+ghost use Rattle.judge_core.specs.Doubts.{corrected, doubt_after, doubted_by, in_doubt, is_open, is_turn, judged_of, only_openly, overlooked, passed_over, presumed, refused_doubt, sent_openly, sized, sized_by, still_open, unknown_end, waited, waited_doubt};
 
 use crate::courses::{Heard, Judged, Verdict};
 use crate::end::{End, Owed};
@@ -133,7 +133,7 @@ fn sized_by(end: End, pcb: Pcb, octet: u8) -> End
 }
 
 /// Whether it is the turn of an end that heard this.
-fn is_turn(heard: Heard) -> bool
+pub(crate) fn is_turn(heard: Heard) -> bool
     ensures { result ≡ is_turn heard }
 {
     match heard {
@@ -147,7 +147,17 @@ pub(crate) fn doubted_by(doubt: Doubt, heard: Heard) -> Heard
     ensures { result ≡ doubted_by doubt heard }
 {
     match (doubt, heard) {
-        (Doubt::Refusable, Heard::Whole(pcb, octet)) => Heard::Perhaps(pcb, octet),
+        (Doubt::Refusable, heard) => in_doubt(heard),
+        (Doubt::Clear | Doubt::Open, heard) => heard,
+    }
+}
+
+/// Returns what an end heard, if that isn't certain.
+pub(crate) fn in_doubt(heard: Heard) -> Heard
+    ensures { result ≡ in_doubt heard }
+{
+    match heard {
+        Heard::Whole(pcb, octet) => Heard::Perhaps(pcb, octet),
         _ => heard,
     }
 }
@@ -192,7 +202,7 @@ fn waited_doubt(is_turn: bool, doubt: Doubt) -> Doubt
     }
 }
 
-fn is_open(doubt: Doubt) -> bool
+pub(crate) fn is_open(doubt: Doubt) -> bool
     ensures { result ≡ is_open doubt }
 {
     matches!(doubt, Doubt::Open)

@@ -2,7 +2,7 @@
 
 ghost use Rattle.std.specs.Prelude.{◌≡◌};
 ghost use Rattle.judge_core.specs.Classes.{seen_of};
-ghost use Rattle.judge_core.specs.Monitored.{said_of};
+ghost use Rattle.judge_core.specs.Monitored.{said_here, said_of, sender};
 ghost use Rattle.judge_core.specs.Stakes.{course_of, exercise_by, exercise_of, fitting, stakes_of, Exercises};
 
 use crate::address::addressed_by;
@@ -19,7 +19,7 @@ use block_core::Side;
 /// What a block of a trace exercises.
 #[derive(Clone, Copy, Debug)]
 pub enum Exercise {
-    /// Nothing is known about it: it is damage.
+    /// Nothing is known about it: it is damage, or a block of another logical connection.
     Unknown,
     /// The standard permits it, so it keeps each rule that was at stake.
     Keeps(Stakes),
@@ -39,6 +39,18 @@ impl Monitor {
     fn exercise_of(&self, from: Side, class: &Class<'_>) -> Exercise
         ensures { result ≡ exercise_of self.now from (seen_of class.now) }
     {
+        if self.is_elsewhere(from, class) {
+            Exercise::Unknown
+        } else {
+            self.exercise_here(from, class)
+        }
+    }
+
+    /// Returns what octets exercise that aren't a block of another logical connection.
+    fn exercise_here(&self, from: Side, class: &Class<'_>) -> Exercise
+        ensures { result ≡ exercise_by (stakes_of (sender self.now from) (seen_of class.now))
+            (said_here self.now from (seen_of class.now)) }
+    {
         let addressed = addressed_by(from, self.nad, class);
         match from {
             Side::Terminal => self.terminal.exercise(addressed, class),
@@ -57,7 +69,7 @@ impl Watched {
             due: self.course(class),
         };
         match self.said(addressed, class) {
-            Said::Damage => Exercise::Unknown,
+            Said::Damage | Said::Elsewhere => Exercise::Unknown,
             Said::Block(Verdict::Permitted | Verdict::Unseen) => Exercise::Keeps(stakes),
             Said::Block(Verdict::Deviates(broken, _)) => Exercise::Breaks(broken, stakes.state()),
         }

@@ -18,8 +18,8 @@ ghost use Rattle.judge_core.specs.declared.rule.Rule.{Rule};
 ghost use Rattle.judge_core.specs.declared.state.State.{State};
 ghost use Rattle.judge_core.specs.Doubts.{is_open};
 ghost use Rattle.judge_core.specs.Missed.{Forgives, MaySendAny};
-ghost use Rattle.judge_core.specs.Monitored.{IsSent, Seen};
-ghost use Rattle.judge_core.specs.Stakes.{at_stake, can_break, exercise_of, sender, stakes_of, CanBeSent, IsBreakable};
+ghost use Rattle.judge_core.specs.Monitored.{sender, IsSent, Seen};
+ghost use Rattle.judge_core.specs.Stakes.{at_stake, can_break, exercise_of, stakes_of, CanBeSent, IsBreakable};
 ghost use Rattle.judge_core.specs.declared.end.Owed.{Owed};
 
 /// The decision is exact: a block is no deviation if and only if some course permits it.

@@ -9,8 +9,10 @@
 #![tactic(auto)]
 
 mod address;
+mod aside;
 mod asking;
 mod class;
+pub mod connection;
 pub mod courses;
 pub mod doubt;
 pub mod end;
@@ -18,6 +20,7 @@ pub mod exercise;
 mod hearing;
 pub mod laws;
 pub mod monitor;
+mod reach;
 pub mod rule;
 mod sending;
 pub mod stakes;
@@ -25,6 +28,7 @@ pub mod state;
 mod step;
 
 pub use block_core::Side;
+pub use connection::{Last, Pairs};
 pub use courses::{Heard, Verdict};
 pub use doubt::Doubt;
 pub use end::{After, Asked, End, Owed, Pending, Row};

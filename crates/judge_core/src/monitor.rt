@@ -6,15 +6,20 @@ ghost use Rattle.judge_core.specs.Classes.{reaching_of, seen_of};
 ghost use Rattle.judge_core.specs.Followed.{last_after};
 ghost use Rattle.judge_core.specs.Monitored as seen;
 ghost use Rattle.judge_core.specs.Doubts.{corrected, doubt_after, doubted_by, judged_of, passed_over, presumed, unknown_end, waited};
-ghost use Rattle.judge_core.specs.Monitored.{addressed_by, after_silence, came_by, due, heard_in_time, heard_of, is_refusing, known_after, listens, met, midway_after, monitor_after, nad_after, new_monitor, new_watched, number_after, perhaps_heard, quiet_after, report_of, reset_after, said_of, sender_after, silence_of, surely_heard, unknown_after, IsReaching, Takes};
+ghost use Rattle.judge_core.specs.Monitored.{due, here_after, known_after, met, midway_after, monitor_after, new_monitor, new_watched, quiet_after, report_here, report_of, reset_after, said_of, sender_after, silence_of, unknown_after, Takes};
 
 use crate::address::{addressed_by, nad_after};
-use crate::class::{Class, class_of, class_sent};
+use crate::aside::last_sent;
+use crate::class::{Class, class_sent};
+use crate::connection::{Last, Pairs};
 use crate::courses::{Heard, Verdict, first_course};
 use crate::doubt::{Doubt, doubt_after, doubted_by, presumed, unknown_end};
 use crate::end::{After, End};
+use crate::reach::{
+    Reached, after_silence, came_by, heard_in_time, heard_of, is_refusing, opened_on_arrival,
+    reached_by, silence_of,
+};
 use crate::rule::Rule;
-use crate::sending::carried;
 use arrayvec::ArrayVec;
 use block_core::{BlockRef, LONGEST_INF, Pcb, Side};
 use std::fmt::{self, Debug, Formatter, Write};
@@ -40,6 +45,10 @@ pub struct Monitor {
     pub card: Watched,
     /// The node address of the terminal's blocks, after one was seen.
     pub nad: Option<u8>,
+    /// The pairs of node addresses that the terminal used.
+    pub pairs: Pairs,
+    /// Of which logical connection the last octets were.
+    pub last: Last,
     /// How many blocks were seen. The count stays at its greatest value.
     pub blocks: u64,
 }
@@ -90,6 +99,8 @@ pub enum Silence {
 pub enum Said {
     /// They aren't a block, by the check octet or the length. They are damage, and nobody's deviation.
     Damage,
+    /// They are a block of another logical connection than that of the first block. It isn't judged.
+    Elsewhere,
     /// They were sent as a block, with this verdict.
     Block(Verdict),
 }
@@ -101,14 +112,6 @@ pub struct Report {
     pub said: Said,
     /// The number of the other end's last block, or 0.
     pub before: u64,
-}
-
-/// How a block reached the other end.
-#[derive(Debug, Drop)]
-pub(crate) enum Reached<'a> {
-    Unsaid,
-    Lost,
-    Came(Class<'a>),
 }
 
 impl Watched {
@@ -212,6 +215,8 @@ impl Monitor {
             terminal: Watched::new(Side::Terminal, ifsc, Heard::Beginning),
             card: Watched::new(Side::Card, FIRST_IFSD, Heard::Nothing),
             nad: None,
+            pairs: Pairs::First,
+            last: Last::Here,
             blocks: 0,
         }
     }
@@ -230,6 +235,19 @@ impl Monitor {
             (reaching_of reached.now) }
         ensures report { result ≡ report_of self.old from (seen_of class.now) }
     {
+        if self.is_elsewhere(from, class) {
+            self.saw_elsewhere(from, class, reached)
+        } else {
+            self.saw_here(from, class, reached)
+        }
+    }
+
+    /// Takes octets that aren't a block of another logical connection.
+    fn saw_here(&mut self, from: Side, class: &Class<'_>, reached: &Reached<'_>) -> Report
+        ensures after { self.new ≡ here_after self.old from (seen_of class.now)
+            (reaching_of reached.now) }
+        ensures report { result ≡ report_here self.old from (seen_of class.now) }
+    {
         let addressed = addressed_by(from, self.nad, class);
         self.blocks = self.blocks.saturating_add(1);
         self.nad = nad_after(from, self.nad, class);
@@ -243,6 +261,8 @@ impl Monitor {
                 self.card.pass_over();
                 self.card.correct(is_refusing(class));
                 self.card.heard = doubted_by(self.terminal.doubt, heard);
+                self.pairs = opened_on_arrival(self.nad, self.pairs, reached);
+                self.last = last_sent(self.last, class, reached);
                 Report {
                     silence,
                     said,
@@ -254,7 +274,9 @@ impl Monitor {
                 let said = self.card.sent(addressed, class, self.blocks);
                 let heard = heard_of(Side::Terminal, addressed, came_addressed, class, reached);
                 self.terminal.correct(is_refusing(class));
-                self.terminal.heard = doubted_by(self.card.doubt, heard);
+                let heard = doubted_by(self.card.doubt, heard);
+                self.terminal.takes_answer(self.last, heard);
+                self.last = self.last.settled();
                 Report {
                     silence: Silence::No,
                     said,
@@ -270,7 +292,8 @@ impl Monitor {
         ensures silence { result ≡ silence_of self.old.card.heard self.old.terminal.number }
     {
         let silence = self.silence();
-        self.terminal.wait();
+        self.terminal.waits_here(self.last);
+        self.last = self.last.gone_quiet();
         self.card.pass_over();
         self.card.correct(true);
         self.card.heard = heard_in_time(self.card.heard);
@@ -296,6 +319,8 @@ impl Monitor {
             terminal: Watched::met(Side::Terminal),
             card: Watched::met(Side::Card),
             nad: None,
+            pairs: Pairs::Many,
+            last: Last::Here,
             blocks: self.blocks,
         };
     }
@@ -305,100 +330,5 @@ impl Monitor {
         ensures { result ≡ silence_of self.now.card.heard self.now.terminal.number }
     {
         silence_of(self.card.heard, self.terminal.number)
-    }
-}
-
-fn reached_by(arrival: Arrival<'_>) -> Reached<'_>
-    ensures { IsReaching arrival.entry (reaching_of result) }
-{
-    match arrival {
-        Arrival::Unsaid => Reached::Unsaid,
-        Arrival::Lost => Reached::Lost,
-        Arrival::Came(octets) => Reached::Came(class_of(octets)),
-    }
-}
-
-/// Returns what an end has heard after a block of the other end.
-fn heard_of(
-    side: Side,
-    addressed: bool,
-    came_addressed: bool,
-    class: &Class<'_>,
-    reached: &Reached<'_>,
-) -> Heard
-    ensures { result ≡ heard_of side addressed came_addressed (seen_of class.now)
-        (reaching_of reached.now) }
-{
-    match reached {
-        Reached::Unsaid => perhaps_heard(addressed, class),
-        Reached::Lost => after_silence(side),
-        Reached::Came(came) => surely_heard(came_addressed, came),
-    }
-}
-
-/// Whether what came has the node address that the first block set.
-fn came_by(from: Side, nad: Option<u8>, reached: &Reached<'_>) -> bool
-    ensures { result ≡ came_by from nad (reaching_of reached.now) }
-{
-    match reached {
-        Reached::Unsaid | Reached::Lost => true,
-        Reached::Came(came) => addressed_by(from, nad, came),
-    }
-}
-
-fn perhaps_heard(addressed: bool, class: &Class<'_>) -> Heard
-    ensures { result ≡ perhaps_heard addressed (seen_of class.now) }
-{
-    match class {
-        Class::Whole(block) if addressed => Heard::Perhaps(block.pcb(), carried(block.inf())),
-        Class::Whole(_) | Class::Malformed(_) | Class::Damage => Heard::Broken,
-    }
-}
-
-fn surely_heard(addressed: bool, class: &Class<'_>) -> Heard
-    ensures { result ≡ surely_heard addressed (seen_of class.now) }
-{
-    match class {
-        Class::Whole(block) if addressed => Heard::Whole(block.pcb(), carried(block.inf())),
-        Class::Whole(_) | Class::Malformed(_) | Class::Damage => Heard::Broken,
-    }
-}
-
-fn after_silence(side: Side) -> Heard
-    ensures { result ≡ after_silence side }
-{
-    match side {
-        Side::Terminal => Heard::Broken,
-        Side::Card => Heard::Nothing,
-    }
-}
-
-/// Returns what a card has heard if the terminal's waiting time ended. It may still send its block.
-fn heard_in_time(heard: Heard) -> Heard
-    ensures { result ≡ heard_in_time heard }
-{
-    match heard {
-        Heard::Beginning | Heard::Whole(..) | Heard::Perhaps(..) | Heard::Broken => Heard::Broken,
-        Heard::Nothing => Heard::Nothing,
-    }
-}
-
-/// Whether octets may say that their sender refused the block before.
-fn is_refusing(class: &Class<'_>) -> bool
-    ensures { result ≡ is_refusing (seen_of class.now) }
-{
-    match class {
-        Class::Whole(block) => matches!(block.pcb(), Pcb::Ready { .. }),
-        Class::Malformed(_) | Class::Damage => true,
-    }
-}
-
-fn silence_of(heard: Heard, number: u64) -> Silence
-    ensures { result ≡ silence_of heard number }
-{
-    match heard {
-        Heard::Whole(..) => Silence::Certain(number),
-        Heard::Perhaps(..) => Silence::Possible(number),
-        Heard::Beginning | Heard::Broken | Heard::Nothing => Silence::No,
     }
 }

@@ -1,7 +1,7 @@
 //! Which rules an end can keep or break with the block that it sends next (ISO/IEC 7816-3:2006, clause 11).
 
 ghost use Rattle.std.specs.Prelude.{◌≡◌};
-ghost use Rattle.judge_core.specs.Stakes.{acknowledgment_breaks, any_breaks, asked_so_often, at_stake, begun_or_corrected_breaks, came_in, can_break, carries, correction_breaks, either_breaks, is_asked_out, is_card, is_corrected_out, is_early, is_early_alone, is_nothing, is_repeated_out, is_terminal, is_unsettled, is_whole, message_breaks, or_refusal_breaks, owed_breaks, refusal_breaks, repeat_breaks, request_breaks, response_breaks, takes_less};
+ghost use Rattle.judge_core.specs.Stakes.{acknowledgment_breaks, any_breaks, asked_so_often, at_stake, begun_or_corrected_breaks, came_in, can_break, carries, correction_breaks, either_breaks, is_asked_out, is_card, is_corrected_out, is_early, is_early_alone, is_nothing, is_repeated_out, is_terminal, is_unsettled, message_breaks, or_refusal_breaks, owed_breaks, refusal_breaks, repeat_breaks, request_breaks, response_breaks, takes_less};
 
 use crate::asking::{is_between, is_within, most_asked};
 use crate::courses::Heard;
@@ -34,7 +34,7 @@ impl Stakes {
             | Rule::CheckOctet
             | Rule::ReservedSize => true,
             Rule::Turn => is_card(end.side) || is_nothing(self.heard),
-            Rule::Silence => is_card(end.side) && is_whole(self.heard),
+            Rule::Silence => is_card(end.side) && self.heard.is_sure(),
             _ => !is_nothing(self.heard) && end.can_break(self.due.owed, rule),
         }
     }
@@ -298,14 +298,5 @@ fn is_nothing(heard: Heard) -> bool
     match heard {
         Heard::Nothing => true,
         Heard::Beginning | Heard::Whole(..) | Heard::Perhaps(..) | Heard::Broken => false,
-    }
-}
-
-fn is_whole(heard: Heard) -> bool
-    ensures { result ≡ is_whole heard }
-{
-    match heard {
-        Heard::Whole(..) => true,
-        Heard::Beginning | Heard::Perhaps(..) | Heard::Broken | Heard::Nothing => false,
     }
 }

@@ -57,9 +57,9 @@ one-told s from b octets reach came t u h g =
     g.is_arrival
     h.exercise g.exercise h.exercises g.exercises in
     h.told
-    ∙ ap (λ (m : Monitor). told_block s m from (length b) h.exercise h.report) both.0
-    ∙ ap (λ (x : Exercise). told_block s g.monitor from (length b) x h.report) exercise
-    ∙ ap (λ (r : Report). told_block s g.monitor from (length b) g.exercise r) both.1
+    ∙ ap (λ (m : Monitor). told_block s m from b h.exercise h.report) both.0
+    ∙ ap (λ (x : Exercise). told_block s g.monitor from b x h.report) exercise
+    ∙ ap (λ (r : Report). told_block s g.monitor from b g.exercise r) both.1
     ∙ sym g.told
 
 one-block : (before : Bool) (s : Standing) (from : Side) (b : List ℕ) → AreOctets b → (reach : Reach)
@@ -88,7 +88,7 @@ some-block false s from b octets reach came =
     let after = monitor_after s.monitor from sent.0 arrival.2 in
     let says = report_of s.monitor from sent.0 in
     let exercise = some-exercise s.scope.rules s.monitor from b octets arrival.0 in (
-      told_block s after from (length b) exercise.0 says,
+      told_block s after from b exercise.0 says,
       record {
         arrival = arrival.0;
         is_arrival = arrival.1;

@@ -1,5 +1,6 @@
 -- What calls tell of a block, and at the end.
-use Rattle.std.proofs.Common.{◌≡◌, ◌∙◌, ℕ, List, Bool, true, Option, ap, sym, is_some}
+use Rattle.std.proofs.Common.{◌≡◌, ◌∙◌, ℕ, List, Bool, true, Option, ap, length, sym, is_some}
+use Rattle.trace_judge.specs.Objects.{Place}
 use Rattle.block_core.specs.declared.side.Side.{Side}
 use Rattle.judge_core.specs.declared.monitor.Monitor.{Monitor}
 use Rattle.judge_core.specs.declared.monitor.Report.{Report}
@@ -8,37 +9,53 @@ use Rattle.trace_judge.specs.declared.standing.Judgment.{Judgment}
 use Rattle.trace_judge.specs.declared.timing.Early.{Early}
 use Rattle.trace_judge.specs.declared.timing.Late.{Late}
 use Rattle.trace_judge.specs.declared.timing.Timing.{Timing}
-use Rattle.trace_judge.specs.Judging.{early_from, is_ok, judged_text, late_from, late_now, told_block, told_early, told_exercise, told_late, told_monitored, told_report, with_summary, IsConcluded, Standing}
+use Rattle.trace_judge.specs.Judging.{early_as, early_from, is_ok, judged_text, late_as, late_from, late_now, place_of, timed_as, told_block, told_early, told_exercise, told_late, told_monitored, told_report, with_summary, IsConcluded, Standing}
 use Rattle.trace_judge.specs.Coverage.{with_coverage}
-use Rattle.trace_judge.specs.Waiting.{timed}
 
 -- a block: the report on it
-pub told-report : (s old counted told : Standing) (monitor : Monitor) (from : Side) (octets : ℕ) (exercise : Exercise)
-    (over : Bool) (report : Report) (timing : Timing) → s ≡ old → timing ≡ timed s.timing from octets
+pub told-report : (s old counted told : Standing) (monitor : Monitor) (from : Side) (b : List ℕ) (exercise : Exercise)
+    (over : Bool) (report : Report) (timing : Timing) (place : Place) → s ≡ old → place ≡ place_of old b
+    → timing ≡ timed_as report.said s.timing from (length b)
     → counted ≡ told_exercise (record s { monitor = monitor; begun = true; timing = timing }) from exercise
-    → over ≡ is_some (late_now old) → told ≡ told_report counted from over report
-    → told ≡ told_monitored s monitor from octets exercise report
-told-report s old counted told monitor from octets exercise over report timing same moved covers ended tells =
-    tells ∙ ap (λ (m : Standing). told_report m from over report) covers
+    → over ≡ is_some (late_now old) → told ≡ told_report counted place from over report
+    → told ≡ told_monitored s monitor from b exercise report
+told-report s old counted told monitor from b exercise over report timing place same here moved covers ended tells =
+    tells ∙ ap (λ (p : Place). told_report counted p from over report)
+    (here ∙ ap (λ (m : Standing). place_of m b) (sym same))
+    ∙ ap (λ (m : Standing). told_report m (place_of s b) from over report) covers
     ∙ ap (λ (t : Timing). told_report (told_exercise
-    (record s { monitor = monitor; begun = true; timing = t }) from exercise) from over report) moved
-    ∙ ap (λ (b : Bool). told_report (told_exercise
-    (record s { monitor = monitor; begun = true; timing = timed s.timing from octets }) from exercise) from b report)
+    (record s { monitor = monitor; begun = true; timing = t }) from exercise) (place_of s b) from over report) moved
+    ∙ ap (λ (o : Bool). told_report (told_exercise
+    (record s { monitor = monitor; begun = true; timing = timed_as report.said s.timing from (length b) })
+    from exercise) (place_of s b) from o report)
     (ended ∙ ap (λ (m : Standing). is_some (late_now m)) (sym same))
 
 -- and then whether it was late or early
-pub told-by : (s old told later after : Standing) (monitor : Monitor) (from : Side) (octets : ℕ) (exercise : Exercise)
-    (report : Report) (late : Option Late) (early : Option Early) → s ≡ old
-    → told ≡ told_monitored s monitor from octets exercise report → late ≡ late_from old from
-    → later ≡ told_late told s.monitor.terminal.number late → early ≡ early_from old from
-    → after ≡ told_early later early → after ≡ told_block s monitor from octets exercise report
-told-by s old told later after monitor from octets exercise report late early same tells is then too last =
+pub told-by : (s old told later after : Standing) (monitor : Monitor) (from : Side) (b : List ℕ) (exercise : Exercise)
+    (report : Report) (late : Option Late) (early : Option Early) (named_late : Option Late)
+    (named_early : Option Early) (place : Place) → s ≡ old → place ≡ place_of old b
+    → told ≡ told_monitored s monitor from b exercise report
+    → late ≡ late_from old from → named_late ≡ late_as report.said late
+    → later ≡ told_late told place s.monitor.terminal.number named_late → early ≡ early_from old from
+    → named_early ≡ early_as report.said early → after ≡ told_early later place named_early
+    → after ≡ told_block s monitor from b exercise report
+told-by s old told later after monitor from b exercise report late early named_late named_early place same here tells is
+    names_late then too names_early last =
     let number = s.monitor.terminal.number in
-    last ∙ ap (λ (m : Standing). told_early m early)
-    (then ∙ ap (λ (m : Standing). told_late m number late) tells
-    ∙ ap (told_late (told_monitored s monitor from octets exercise report) number)
+    let at = here ∙ ap (λ (m : Standing). place_of m b) (sym same) in
+    last ∙ ap (told_early later place) names_early
+    ∙ ap (λ (p : Place). told_early later p (early_as report.said early)) at
+    ∙ ap (λ (m : Standing). told_early m (place_of s b) (early_as report.said early))
+    (then ∙ ap (told_late told place number) names_late
+    ∙ ap (λ (p : Place). told_late told p number (late_as report.said late)) at
+    ∙ ap (λ (m : Standing). told_late m (place_of s b) number (late_as report.said late)) tells
+    ∙ ap (λ (l : Option Late). told_late (told_monitored s monitor from b exercise report) (place_of s b) number
+    (late_as report.said l))
     (is ∙ ap (λ (m : Standing). late_from m from) (sym same)))
-    ∙ ap (told_early (told_late (told_monitored s monitor from octets exercise report) number (late_from s from)))
+    ∙ ap (λ (e : Option Early). told_early
+    (told_late (told_monitored s monitor from b exercise report) (place_of s b) number
+    (late_as report.said (late_from s from)))
+    (place_of s b) (early_as report.said e))
     (too ∙ ap (λ (m : Standing). early_from m from) (sym same))
 
 -- the end: what is said of rules and states, and then the counts

@@ -19,7 +19,7 @@ use Rattle.judge_core.specs.declared.courses.Verdict.TheVariants.{Permitted, Uns
 use Rattle.judge_core.specs.declared.monitor.Monitor.{Monitor}
 use Rattle.judge_core.specs.declared.monitor.Report.{Report}
 use Rattle.judge_core.specs.declared.monitor.Said.{Said}
-use Rattle.judge_core.specs.declared.monitor.Said.TheVariants.{Damage, Block as Judged}
+use Rattle.judge_core.specs.declared.monitor.Said.TheVariants.{Damage, Elsewhere, Block as Judged}
 use Rattle.judge_core.specs.declared.monitor.Silence.{Silence}
 use Rattle.judge_core.specs.declared.monitor.Silence.TheVariants.{No, Possible, Certain}
 use Rattle.judge_core.specs.declared.monitor.Arrival.{Arrival}
@@ -43,9 +43,9 @@ use Rattle.trace_judge.specs.declared.timing.Timing.{Timing}
 use Rattle.trace_judge.specs.declared.standing.Judgment.{Judgment}
 use Rattle.trace_judge.specs.declared.coverage.Coverage.{Coverage}
 use Rattle.trace_judge.specs.Coverage.{covered, nothing_covered, with_coverage}
-use Rattle.trace_judge.specs.Objects.{pps_object}
-use Rattle.trace_judge.specs.Telling.{with_certain, with_deviation, with_early, with_late, with_neither, with_possible, with_unseen, with_unwaited}
-use Rattle.trace_judge.specs.Waiting.{earliness, lateness, new_timing, past, timed, Offered, Rates}
+use Rattle.trace_judge.specs.Objects.{pps_object, Place}
+use Rattle.trace_judge.specs.Telling.{with_certain, with_deviation, with_early, with_elsewhere, with_late, with_neither, with_possible, with_unseen, with_unwaited}
+use Rattle.trace_judge.specs.Waiting.{earliness, lateness, new_timing, past, timed, untimed, Offered, Rates}
 
 -- The state of the judgment after the lines so far.
 pub record Standing : Type 0 where
@@ -73,6 +73,7 @@ nothing_told = record {
   unseen = 0;
   late = 0;
   early = 0;
+  elsewhere = 0;
   terminal_damaged = 0;
   card_damaged = 0;
 }
@@ -112,6 +113,9 @@ late_in tally = record tally { late = number_after tally.late }
 abbrev pub early_in : Tally → Tally
 early_in tally = record tally { early = number_after tally.early }
 
+abbrev pub elsewhere_in : Tally → Tally
+elsewhere_in tally = record tally { elsewhere = number_after tally.elsewhere }
+
 -- the tally with one more damaged block of an end
 abbrev pub damaged_of : Side → Tally → Tally
 damaged_of Terminal tally = record tally { terminal_damaged = number_after tally.terminal_damaged }
@@ -131,23 +135,32 @@ told_exercise s side exercise =
 abbrev pub told_silence : Standing → Silence → Standing
 told_silence s No = s
 told_silence s (Possible number) =
-    tells s Card (unseen_in s.tally) (with_possible s.scope.layout s.text number)
+    tells s Card (unseen_in s.tally) (with_possible s.scope.layout s.text s.number number)
 told_silence s (Certain number) =
-    told_exercise (tells s Card (deviation_of Card s.tally) (with_certain s.scope.layout s.text number)) Card
+    told_exercise (tells s Card (deviation_of Card s.tally) (with_certain s.scope.layout s.text s.number number)) Card
     (Breaks SilenceRule None)
 
 -- the standing after a block of an end
-abbrev pub told_verdict : Standing → Side → ℕ → Verdict → Standing
-told_verdict s from before Permitted = s
-told_verdict s from before Unseen =
-    tells s from (unseen_in s.tally) (with_unseen s.scope.layout s.text s.monitor.blocks from before)
-told_verdict s from before (Deviates broken due) =
+abbrev pub told_verdict : Standing → Place → Side → ℕ → Verdict → Standing
+told_verdict s place from before Permitted = s
+told_verdict s place from before Unseen =
+    tells s from (unseen_in s.tally) (with_unseen s.scope.layout s.text place s.monitor.blocks from before)
+told_verdict s place from before (Deviates broken due) =
     tells s from (deviation_of from s.tally)
-    (with_deviation s.scope.layout s.text s.monitor.blocks from broken due)
+    (with_deviation s.scope.layout s.text place s.monitor.blocks from broken due)
 
-abbrev pub told_said : Standing → Side → ℕ → Said → Standing
-told_said s from before Damage = tells s from (damaged_of from s.tally) s.text
-told_said s from before (Judged verdict) = told_verdict s from before verdict
+-- The standing after a block of another logical connection. The judgment names it whichever end is judged, since nobody
+-- judges what the other end owes there.
+abbrev pub told_elsewhere : Standing → Place → Side → Standing
+told_elsewhere s place from = record s {
+  tally = elsewhere_in s.tally;
+  text = with_elsewhere s.scope.layout s.text place s.monitor.blocks from;
+}
+
+abbrev pub told_said : Standing → Place → Side → ℕ → Said → Standing
+told_said s place from before Damage = tells s from (damaged_of from s.tally) s.text
+told_said s place from before Elsewhere = told_elsewhere s place from
+told_said s place from before (Judged verdict) = told_verdict s place from before verdict
 
 -- The standing after a card sent no block before the terminal's next one. If it got the terminal's block, it deviates
 -- only if its time was over; else the terminal may have sent too early.
@@ -156,10 +169,11 @@ told_missing s over No = s
 told_missing s over (Possible number) = told_silence s (Possible number)
 told_missing s true (Certain number) = told_silence s (Certain number)
 told_missing s false (Certain number) =
-    tells s Card (unseen_in s.tally) (with_unwaited s.scope.layout s.text number)
+    tells s Card (unseen_in s.tally) (with_unwaited s.scope.layout s.text s.number number)
 
-abbrev pub told_report : Standing → Side → Bool → Report → Standing
-told_report s from over report = told_said (told_missing s over report.silence) from report.before report.said
+abbrev pub told_report : Standing → Place → Side → Bool → Report → Standing
+told_report s place from over report =
+    told_said (told_missing s over report.silence) place from report.before report.said
 
 -- by how much a card's block would be late now
 abbrev pub late_now : Standing → Option Late
@@ -175,16 +189,16 @@ abbrev pub early_from : Standing → Side → Option Early
 early_from s Terminal = earliness s.offered.values s.scope.clock s.timing s.monitor.card.heard
 early_from s Card = None
 
-abbrev pub told_late : Standing → ℕ → Option Late → Standing
-told_late s before None = s
-told_late s before (Some late) =
-    tells s Card (late_in s.tally) (with_late s.scope.layout s.text s.monitor.blocks before late)
+abbrev pub told_late : Standing → Place → ℕ → Option Late → Standing
+told_late s place before None = s
+told_late s place before (Some late) =
+    tells s Card (late_in s.tally) (with_late s.scope.layout s.text place s.monitor.blocks before late)
 
 -- the block before a terminal's early one is the last of both ends
-abbrev pub told_early : Standing → Option Early → Standing
-told_early s None = s
-told_early s (Some early) = tells s Terminal (early_in s.tally)
-    (with_early s.scope.layout s.text s.monitor.blocks (s.monitor.blocks - 1) early)
+abbrev pub told_early : Standing → Place → Option Early → Standing
+told_early s place None = s
+told_early s place (Some early) = tells s Terminal (early_in s.tally)
+    (with_early s.scope.layout s.text place s.monitor.blocks (s.monitor.blocks - 1) early)
 
 -- ---- before the first block: PPS (ISO/IEC 7816-3:2006, clause 9)
 
@@ -249,18 +263,40 @@ abbrev pub ExercisesIf : Bool → Monitor → Side → List ℕ → Arrival → 
 ExercisesIf true monitor from octets arrival exercise = Exercises monitor from octets arrival exercise
 ExercisesIf false monitor from octets arrival exercise = exercise ≡ Unknown
 
+-- A block of another logical connection isn't judged in time, and no block directly after it is.
+abbrev pub is_timed : Said → Bool
+is_timed Damage = true
+is_timed Elsewhere = false
+is_timed (Judged verdict) = true
+
+abbrev pub timed_as : Said → Timing → Side → ℕ → Timing
+timed_as said timing from octets = if is_timed said then timed timing from octets else untimed timing
+
+abbrev pub late_as : Said → Option Late → Option Late
+late_as said late = if is_timed said then late else None
+
+abbrev pub early_as : Said → Option Early → Option Early
+early_as said early = if is_timed said then early else None
+
+-- where octets are that come now
+abbrev pub place_of : Standing → List ℕ → Place
+place_of s octets = record { line = s.number; moment = s.timing.now; octets = octets }
+
 -- the standing with what the monitor says of a block
-abbrev pub told_monitored : Standing → Monitor → Side → ℕ → Exercise → Report → Standing
-told_monitored s monitor from octets exercise report =
-    told_report (told_exercise (record s { monitor = monitor; begun = true; timing = timed s.timing from octets })
-    from exercise) from (is_some (late_now s)) report
+abbrev pub told_monitored : Standing → Monitor → Side → List ℕ → Exercise → Report → Standing
+told_monitored s monitor from octets exercise report = told_report (told_exercise (record s {
+  monitor = monitor;
+  begun = true;
+  timing = timed_as report.said s.timing from (length octets);
+}) from exercise) (place_of s octets) from (is_some (late_now s)) report
 
 -- The standing after a block: it counts what the block exercised, reports what the monitor says, and then whether the
 -- block was late or early.
-abbrev pub told_block : Standing → Monitor → Side → ℕ → Exercise → Report → Standing
+abbrev pub told_block : Standing → Monitor → Side → List ℕ → Exercise → Report → Standing
 told_block s monitor from octets exercise report = told_early (told_late
-    (told_monitored s monitor from octets exercise report) s.monitor.terminal.number (late_from s from))
-    (early_from s from)
+    (told_monitored s monitor from octets exercise report) (place_of s octets) s.monitor.terminal.number
+    (late_as report.said (late_from s from)))
+    (place_of s octets) (early_as report.said (early_from s from))
 
 -- The monitor takes octets of an end, and s' is the standing with its report.
 pub record IsTold (s : Standing) (from : Side) (octets : List ℕ) (reach : Reach) (s' : Standing) : Type 0 where
@@ -271,7 +307,7 @@ pub record IsTold (s : Standing) (from : Side) (octets : List ℕ) (reach : Reac
   pub takes : Takes s.monitor from octets arrival monitor report
   pub exercise : Exercise
   pub exercises : ExercisesIf s.scope.rules s.monitor from octets arrival exercise
-  pub told : s' ≡ told_block s monitor from (length octets) exercise report
+  pub told : s' ≡ told_block s monitor from octets exercise report
 
 abbrev pub IsBlockTold : Bool → Standing → Side → List ℕ → Reach → Standing → Type 0
 IsBlockTold true s from octets reach s' = s' ≡ told_before s from octets
@@ -293,7 +329,7 @@ abbrev pub midway : Standing → Standing
 midway s = record s {
   monitor = midway_after s.monitor;
   begun = true;
-  timing = record s.timing { now = None; until = None; sent = None; came = None };
+  timing = untimed s.timing;
 }
 
 abbrev pub at_moment : Standing → ℕ → Standing
@@ -345,7 +381,7 @@ deviations tally = min (tally.terminal + tally.card + tally.late + tally.early) 
 abbrev pub unseen_part : ℕ → List ℕ
 unseen_part unseen = codes ", unseen " ++ decimal unseen
 
--- how many deviations in time have this name, if any
+-- a number with its name, if there are any
 abbrev pub time_part : List ℕ → ℕ → List ℕ
 time_part name number = if number == 0 then [] else name ++ decimal number
 
@@ -365,21 +401,34 @@ is_undamaged tally = (tally.terminal_damaged == 0) && (tally.card_damaged == 0)
 abbrev pub damaged_part : Tally → List ℕ
 damaged_part tally = if is_undamaged tally then [] else damaged_text tally
 
--- each block is permitted, and none needs damage that nobody saw
+-- no block needs damage that nobody saw, and each was judged
+abbrev pub is_sure : Tally → Bool
+is_sure tally = (tally.unseen == 0) && (tally.elsewhere == 0)
+
+-- each block is permitted, and that is sure
 abbrev pub is_ok : Tally → Bool
-is_ok tally = (deviations tally == 0) && (tally.unseen == 0)
+is_ok tally = (deviations tally == 0) && is_sure tally
 
 -- a number with the name of what it counts
 abbrev pub counted : ℕ → List ℕ → List ℕ
 counted number name = decimal number ++ (name ++ (if number == 1 then [] else codes "s"))
 
--- A trace without a deviation is `ok`, or `unsure` if some block needs damage that nobody saw.
-abbrev pub verdict_name : ℕ → List ℕ
-verdict_name unseen = if unseen == 0 then codes "ok" else codes "unsure"
+-- A trace without a deviation is `ok`, or `unsure` if some block needs damage that nobody saw or wasn't judged.
+abbrev pub verdict_name : Tally → List ℕ
+verdict_name tally = if is_sure tally then codes "ok" else codes "unsure"
+
+-- how many blocks were of another logical connection, if any
+unfoldable pub elsewhere_part : Tally → List ℕ
+elsewhere_part tally = time_part (codes ", not judged ") tally.elsewhere
 
 abbrev pub ok_text : ℕ → Tally → List ℕ
-ok_text blocks tally = verdict_name tally.unseen ++ (codes " " ++ (counted blocks (codes " block")
-    ++ ((if tally.unseen == 0 then [] else unseen_part tally.unseen) ++ (damaged_part tally ++ codes "\n"))))
+ok_text blocks tally = verdict_name tally ++ (codes " " ++ (counted blocks (codes " block")
+    ++ ((if tally.unseen == 0 then [] else unseen_part tally.unseen)
+    ++ (elsewhere_part tally ++ (damaged_part tally ++ codes "\n")))))
+
+-- the parts for what nobody can say
+abbrev pub unsure_part : Tally → List ℕ
+unsure_part tally = unseen_part tally.unseen ++ elsewhere_part tally
 
 -- the parts for the deviations in time
 unfoldable pub times_part : Tally → List ℕ
@@ -387,7 +436,7 @@ times_part tally = time_part (codes ", late ") tally.late ++ time_part (codes ",
 
 abbrev pub ends_text : Tally → List ℕ
 ends_text tally = decimal tally.terminal ++ (codes ", card " ++ (decimal tally.card
-    ++ (unseen_part tally.unseen ++ (times_part tally ++ (damaged_part tally ++ codes "\n")))))
+    ++ (unsure_part tally ++ (times_part tally ++ (damaged_part tally ++ codes "\n")))))
 
 abbrev pub deviations_text : ℕ → Tally → List ℕ
 deviations_text blocks tally = counted blocks (codes " block") ++ (codes ", "
@@ -403,14 +452,15 @@ with_unless_zero members name n = if n == 0 then members else with_number member
 
 -- the members for the counts of the blocks, if no end deviates
 unfoldable pub ok_counts : ℕ → Tally → List ℕ
-ok_counts blocks tally = with_unless_zero (with_unless_zero (with_number [] (codes "blocks") blocks)
-    (codes "card_damaged") tally.card_damaged) (codes "terminal_damaged") tally.terminal_damaged
+ok_counts blocks tally = with_unless_zero (with_unless_zero (with_unless_zero (with_number [] (codes "blocks") blocks)
+    (codes "card_damaged") tally.card_damaged) (codes "not_judged") tally.elsewhere)
+    (codes "terminal_damaged") tally.terminal_damaged
 
 -- the members of an object if no end deviates, with an array of these items
 abbrev pub ok_members : ℕ → Tally → List ℕ → List ℕ
 ok_members blocks tally items = with_string
     (with_unless_zero (with_array (ok_counts blocks tally) (codes "told") items) (codes "unseen") tally.unseen)
-    (codes "verdict") (verdict_name tally.unseen)
+    (codes "verdict") (verdict_name tally)
 
 -- the members for the counts of the blocks and of what the card sent
 unfoldable pub card_counts : ℕ → Tally → List ℕ
@@ -420,8 +470,9 @@ card_counts blocks tally = with_unless_zero (with_number (with_number [] (codes 
 -- the members for the counts of the blocks and the deviations
 unfoldable pub deviation_counts : ℕ → Tally → List ℕ
 deviation_counts blocks tally = with_unless_zero (with_number
-    (with_unless_zero (with_unless_zero (with_number (card_counts blocks tally)
+    (with_unless_zero (with_unless_zero (with_unless_zero (with_number (card_counts blocks tally)
     (codes "deviations") (deviations tally)) (codes "early") tally.early) (codes "late") tally.late)
+    (codes "not_judged") tally.elsewhere)
     (codes "terminal") tally.terminal) (codes "terminal_damaged") tally.terminal_damaged
 
 -- the members of an object if an end deviates, with an array of these items

@@ -5,3 +5,4 @@ pub mod Telling
 pub mod Waiting
 pub mod Coverage
 pub mod Judging
+pub mod Places

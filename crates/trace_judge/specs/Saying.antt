@@ -14,7 +14,7 @@ use Rattle.judge_core.specs.declared.end.Owed.TheVariants.{NewMessage, NextBlock
 use Rattle.judge_core.specs.declared.end.End.{End}
 use Rattle.judge_core.specs.declared.end.After.{After}
 use Rattle.judge_core.specs.declared.rule.Rule.{Rule}
-use Rattle.judge_core.specs.declared.rule.Rule.TheVariants.{Silence}
+use Rattle.judge_core.specs.declared.rule.Rule.TheVariants.{NodeAddress, Silence}
 use Rattle.judge_core.specs.Rules.{rule_clause, rule_name}
 use Rattle.trace_judge.specs.declared.timing.Early.{Early}
 use Rattle.trace_judge.specs.declared.timing.Late.{Late}
@@ -83,6 +83,11 @@ condition_text before = codes ": permitted if block " ++ (decimal before ++ code
 
 abbrev pub unseen_text : ℕ → Side → ℕ → List ℕ
 unseen_text number side before = block_text number side ++ condition_text before
+
+-- a block of another logical connection
+abbrev pub elsewhere_text : ℕ → Side → List ℕ
+elsewhere_text number side =
+    block_text number side ++ (codes ": another logical connection, not judged" ++ clause_text NodeAddress)
 
 -- a card that sent nothing, and may not have received the block
 abbrev pub possible_text : ℕ → List ℕ

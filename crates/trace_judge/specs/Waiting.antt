@@ -51,6 +51,10 @@ rates_before a = rates_by (second_ta a.indicated) (rates_of a)
 abbrev pub past : Timing → Timing
 past timing = record timing { now = None; until = None }
 
+-- no moment is known
+abbrev pub untimed : Timing → Timing
+untimed timing = record timing { now = None; until = None; sent = None; came = None }
+
 abbrev pub new_timing : Rates → Timing
 new_timing rates = record { rates = rates; now = None; until = None; sent = None; came = None }
 

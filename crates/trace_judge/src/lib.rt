@@ -6,11 +6,14 @@
 //! count which rules and states of the protocol the trace exercises.
 #![tactic(auto)]
 
+mod apart;
 mod arriving;
+mod counting;
 mod coverage;
 mod early;
 pub mod laws;
 mod objects;
+mod place;
 mod pps;
 mod saying;
 pub mod standing;

@@ -2,7 +2,7 @@
 
 ghost use Rattle.std.specs.Prelude.{◌≡◌, ◌++◌, IfOk, OnOk, codes, decimal, string_bytes};
 ghost use Rattle.judge_core.specs.Rules.{rule_name};
-ghost use Rattle.trace_judge.specs.Saying.{after_text, asked_text, block_text, certain_text, clause_text, condition_text, deviation_text, digit_text, due_text, early_elapsed, early_text, elapsed_text, late_text, least_text, neither_text, permitted_text, possible_text, side_text, subject_text, unseen_text, unwaited_text};
+ghost use Rattle.trace_judge.specs.Saying.{after_text, asked_text, block_text, certain_text, clause_text, condition_text, deviation_text, digit_text, due_text, early_elapsed, early_text, elapsed_text, elsewhere_text, late_text, least_text, neither_text, permitted_text, possible_text, side_text, subject_text, unseen_text, unwaited_text};
 
 use crate::timing::{Early, Late};
 use block_core::{Number, S};
@@ -46,6 +46,21 @@ pub(crate) fn push_unseen(
 {
     push_block(alloc, text, number, side)?;
     push_condition(alloc, text, before)
+}
+
+/// Appends the line of a block of another logical connection.
+pub(crate) fn push_elsewhere(
+    alloc: Global,
+    text: &mut String,
+    number: u64,
+    side: Side,
+) -> Result<(), AllocError>
+    ensures { OnOk result (string_bytes text.new
+        ≡ string_bytes text.old ++ elsewhere_text number side) }
+{
+    push_block(alloc, text, number, side)?;
+    text.push_str(": another logical connection, not judged")?;
+    push_clause(text, Rule::NodeAddress)
 }
 
 /// Appends the condition on which a block is permitted.

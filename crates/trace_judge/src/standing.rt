@@ -3,9 +3,12 @@
 ghost use Rattle.std.specs.Prelude.{◌≡◌, ◌⊎◌, ◌++◌, ◌+◌, ◌<◌, ◌≤◌, ◌^◌, IfErr, MatchResult, OnOk, string_bytes, false};
 ghost use Rattle.exchange_text.specs.declared.fault.ExchangeFault.TheVariants.{Falls, Memory};
 ghost use Rattle.trace_judge.specs.Judging.{is_before, is_judged, pps_timed, quietened, renewed, start, told_before, told_exercise, told_report, told_said, told_verdict, midway, ExercisesIf, Fails, IsBlockTold, IsConcluded, IsEntered, IsFalling, IsTold, JudgesLine, Judges};
+ghost use Rattle.trace_judge.specs.Places.{placed};
 
+use crate::apart::{early_as, late_as, timed_as};
 use crate::arriving::arrival_of;
 use crate::coverage::Coverage;
+use crate::place::Place;
 use crate::pps::{is_pps, octet_at, pps_timed, push_answered_pps};
 use crate::tally::Tally;
 use crate::telling::{tell_deviation, tell_neither, tell_unseen};
@@ -182,9 +185,7 @@ impl Standing {
     {
         self.monitor.begins_midway();
         self.begun = true;
-        self.timing = self.timing.past();
-        self.timing.sent = None;
-        self.timing.came = None;
+        self.timing = self.timing.untimed();
     }
 
     /// Takes the end of the terminal's waiting time.
@@ -228,6 +229,7 @@ impl Standing {
         ensures number { OnOk result (self.new.number ≡ self.old.number) }
     {
         let arrival = arrival_of(reach);
+        let place = self.place(octets);
         let over = self.is_over();
         let late = self.late_from(from);
         let early = self.early_from(from);
@@ -235,11 +237,12 @@ impl Standing {
         let exercise = self.exercise(from, octets, arrival);
         let report = self.monitor.block(from, octets, arrival);
         self.begun = true;
-        self.timing = self.timing.timed(from, octets.len());
+        let said = report.said;
+        self.timing = timed_as(said, self.timing, from, octets.len());
         self.cover(from, &exercise);
-        self.report(alloc, from, over, report)?;
-        self.late(alloc, before, late)?;
-        self.early(alloc, early)?;
+        self.report(alloc, place, from, over, report)?;
+        self.late(alloc, place, before, late_as(said, late))?;
+        self.early(alloc, place, early_as(said, early))?;
         Ok(())
     }
 
@@ -283,26 +286,30 @@ impl Standing {
     fn report(
         &mut self,
         alloc: Global,
+        place: Place<'_>,
         from: Side,
         over: bool,
         report: Report,
     ) -> Result<(), AllocError>
-        ensures said { OnOk result (self.new ≡ told_report self.old from over report) }
+        ensures said { OnOk result (self.new
+            ≡ told_report self.old (placed place.entry) from over report) }
         ensures number { OnOk result (self.new.number ≡ self.old.number) }
     {
         self.missing(alloc, over, report.silence)?;
-        self.said(alloc, from, report.before, &report.said)
+        self.said(alloc, place, from, report.before, &report.said)
     }
 
     /// Reports octets of this end.
     fn said(
         &mut self,
         alloc: Global,
+        place: Place<'_>,
         from: Side,
         before: u64,
         said: &Said,
     ) -> Result<(), AllocError>
-        ensures said { OnOk result (self.new ≡ told_said self.old from before said.now) }
+        ensures said { OnOk result (self.new
+            ≡ told_said self.old (placed place.entry) from before said.now) }
         ensures number { OnOk result (self.new.number ≡ self.old.number) }
     {
         match said {
@@ -312,18 +319,21 @@ impl Standing {
                 }
                 Ok(())
             }
-            Said::Block(verdict) => self.verdict(alloc, from, before, verdict),
+            Said::Elsewhere => self.elsewhere(alloc, place, from),
+            Said::Block(verdict) => self.verdict(alloc, place, from, before, verdict),
         }
     }
 
     fn verdict(
         &mut self,
         alloc: Global,
+        place: Place<'_>,
         from: Side,
         before: u64,
         verdict: &Verdict,
     ) -> Result<(), AllocError>
-        ensures said { OnOk result (self.new ≡ told_verdict self.old from before verdict.now) }
+        ensures said { OnOk result (self.new
+            ≡ told_verdict self.old (placed place.entry) from before verdict.now) }
         ensures number { OnOk result (self.new.number ≡ self.old.number) }
     {
         let layout = self.scope.layout;
@@ -331,11 +341,20 @@ impl Standing {
         match verdict {
             Verdict::Unseen if self.is_judged(from) => {
                 self.tally.unseen_in();
-                tell_unseen(alloc, &mut self.text, layout, number, from, before)
+                tell_unseen(alloc, &mut self.text, layout, place, number, from, before)
             }
             Verdict::Deviates(broken, due) if self.is_judged(from) => {
                 self.tally.deviation_of(from);
-                tell_deviation(alloc, &mut self.text, layout, number, from, *broken, due)
+                tell_deviation(
+                    alloc,
+                    &mut self.text,
+                    layout,
+                    place,
+                    number,
+                    from,
+                    *broken,
+                    due,
+                )
             }
             Verdict::Permitted | Verdict::Unseen | Verdict::Deviates(..) => Ok(()),
         }

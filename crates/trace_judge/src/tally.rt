@@ -1,8 +1,11 @@
 //! How many deviations a trace has.
 
 ghost use Rattle.std.specs.Prelude.{◌≡◌, ◌++◌, [], IfOk, OnOk, codes, decimal, string_bytes};
-ghost use Rattle.trace_judge.specs.Judging.{card_counts, counted, damaged_card, damaged_of, damaged_part, damaged_terminal, damaged_text, deviation_counts, deviation_of, deviations, deviations_members, deviations_text, early_in, ends_text, is_ok, is_undamaged, late_in, nothing_told, ok_counts, ok_members, ok_text, summary, summary_members, time_part, times_part, unseen_in, unseen_part, verdict_name, with_summary, with_unless_zero};
+ghost use Rattle.trace_judge.specs.Judging.{card_counts, counted, damaged_card, damaged_of, damaged_part, damaged_terminal, damaged_text, deviation_counts, deviation_of, deviations, deviations_members, deviations_text, early_in, elsewhere_in, elsewhere_part, ends_text, is_ok, is_sure, is_undamaged, late_in, nothing_told, ok_counts, ok_members, ok_text, summary, summary_members, time_part, times_part, unseen_in, unseen_part, unsure_part, verdict_name, with_summary, with_unless_zero};
 
+use crate::counting::{
+    push_counted, push_damaged_card, push_damaged_terminal, push_time_part, push_unless_zero,
+};
 use crate::saying::push_number;
 use judge_core::Side;
 use layouts::{Layout, Members};
@@ -19,6 +22,8 @@ pub(crate) struct Tally {
     pub(crate) late: u64,
     /// How many blocks of the terminal came too early.
     pub(crate) early: u64,
+    /// How many blocks were of another logical connection.
+    pub(crate) elsewhere: u64,
     pub(crate) terminal_damaged: u64,
     pub(crate) card_damaged: u64,
 }
@@ -34,6 +39,7 @@ impl Tally {
             unseen: 0,
             late: 0,
             early: 0,
+            elsewhere: 0,
             terminal_damaged: 0,
             card_damaged: 0,
         }
@@ -70,6 +76,13 @@ impl Tally {
         self.unseen = self.unseen.saturating_add(1);
     }
 
+    /// Counts one more block of another logical connection.
+    pub(crate) fn elsewhere_in(&mut self)
+        ensures { self.new ≡ elsewhere_in self.old }
+    {
+        self.elsewhere = self.elsewhere.saturating_add(1);
+    }
+
     /// Counts one more damaged block of this end.
     pub(crate) fn damaged_of(&mut self, side: Side)
         ensures { self.new ≡ damaged_of side self.old }
@@ -80,18 +93,25 @@ impl Tally {
         }
     }
 
-    /// Returns whether each block is permitted, and none needs damage that nobody saw.
+    /// Returns whether each block is permitted, and that is sure.
     pub(crate) fn is_ok(&self) -> bool
         ensures { result ≡ is_ok self.now }
     {
-        self.deviations() == 0 && self.unseen == 0
+        self.deviations() == 0 && self.is_sure()
+    }
+
+    /// Whether no block needs damage that nobody saw, and each was judged.
+    fn is_sure(&self) -> bool
+        ensures { result ≡ is_sure self.now }
+    {
+        self.unseen == 0 && self.elsewhere == 0
     }
 
     /// Returns the word for a trace without a deviation.
     fn verdict_name(&self) -> &'static str
-        ensures { result.now ≡ verdict_name self.now.unseen }
+        ensures { result.now ≡ verdict_name self.now }
     {
-        if self.unseen == 0 { "ok" } else { "unsure" }
+        if self.is_sure() { "ok" } else { "unsure" }
     }
 
     /// Returns the number of deviations of both ends, with those in time.
@@ -164,6 +184,7 @@ impl Tally {
         let mut members = Members::new(alloc);
         members.number(alloc, "blocks", blocks)?;
         push_unless_zero(alloc, &mut members, "card_damaged", self.card_damaged)?;
+        push_unless_zero(alloc, &mut members, "not_judged", self.elsewhere)?;
         push_unless_zero(
             alloc,
             &mut members,
@@ -199,6 +220,7 @@ impl Tally {
         members.number(alloc, "deviations", self.deviations())?;
         push_unless_zero(alloc, &mut members, "early", self.early)?;
         push_unless_zero(alloc, &mut members, "late", self.late)?;
+        push_unless_zero(alloc, &mut members, "not_judged", self.elsewhere)?;
         members.number(alloc, "terminal", self.terminal)?;
         push_unless_zero(
             alloc,
@@ -243,6 +265,7 @@ impl Tally {
         if self.unseen > 0 {
             self.push_unseen_part(alloc, text)?;
         }
+        self.push_elsewhere_part(alloc, text)?;
         self.push_damaged_part(alloc, text)?;
         text.push_str("\n")
     }
@@ -270,7 +293,7 @@ impl Tally {
         push_number(alloc, text, self.terminal)?;
         text.push_str(", card ")?;
         push_number(alloc, text, self.card)?;
-        self.push_unseen_part(alloc, text)?;
+        self.push_unsure_part(alloc, text)?;
         self.push_times_part(alloc, text)?;
         self.push_damaged_part(alloc, text)?;
         text.push_str("\n")
@@ -309,6 +332,22 @@ impl Tally {
         push_time_part(alloc, text, ", early ", self.early)
     }
 
+    fn push_unsure_part(&self, alloc: Global, text: &mut String) -> Result<(), AllocError>
+        ensures { OnOk result (string_bytes text.new
+            ≡ string_bytes text.old ++ unsure_part self.now) }
+    {
+        self.push_unseen_part(alloc, text)?;
+        self.push_elsewhere_part(alloc, text)
+    }
+
+    #[tactic(auto, unfolding(crate::specs::Judging::elsewhere_part))]
+    fn push_elsewhere_part(&self, alloc: Global, text: &mut String) -> Result<(), AllocError>
+        ensures { OnOk result (string_bytes text.new
+            ≡ string_bytes text.old ++ elsewhere_part self.now) }
+    {
+        push_time_part(alloc, text, ", not judged ", self.elsewhere)
+    }
+
     fn push_unseen_part(&self, alloc: Global, text: &mut String) -> Result<(), AllocError>
         ensures { OnOk result (string_bytes text.new
             ≡ string_bytes text.old ++ unseen_part self.now.unseen) }
@@ -316,75 +355,4 @@ impl Tally {
         text.push_str(", unseen ")?;
         push_number(alloc, text, self.unseen)
     }
-}
-
-/// Appends how many deviations in time have this name, if any.
-fn push_time_part(
-    alloc: Global,
-    text: &mut String,
-    name: &str,
-    number: u64,
-) -> Result<(), AllocError>
-    ensures { OnOk result (string_bytes text.new
-        ≡ string_bytes text.old ++ time_part name.now number) }
-{
-    if number == 0 {
-        return Ok(());
-    }
-    push_named(alloc, text, name, number)
-}
-
-/// Appends a member with a number, unless that is 0.
-#[tactic(auto, unfolding(crate::specs::Judging::with_unless_zero))]
-fn push_unless_zero(
-    alloc: Global,
-    members: &mut Members,
-    name: &str,
-    number: u64,
-) -> Result<(), AllocError>
-    ensures { OnOk result (members.new ≡ with_unless_zero members.old name.now number) }
-{
-    if number == 0 {
-        return Ok(());
-    }
-    members.number(alloc, name, number)
-}
-
-/// Appends how many blocks of the terminal were damaged.
-#[tactic(auto, unfolding(crate::specs::Judging::damaged_terminal))]
-fn push_damaged_terminal(alloc: Global, text: &mut String, damaged: u64) -> Result<(), AllocError>
-    ensures { OnOk result (string_bytes text.new ≡ string_bytes text.old
-        ++ damaged_terminal damaged) }
-{
-    push_named(alloc, text, ", damaged terminal ", damaged)
-}
-
-/// Appends how many blocks of the card were damaged.
-#[tactic(auto, unfolding(crate::specs::Judging::damaged_card))]
-fn push_damaged_card(alloc: Global, text: &mut String, damaged: u64) -> Result<(), AllocError>
-    ensures { OnOk result (string_bytes text.new ≡ string_bytes text.old ++ damaged_card damaged) }
-{
-    push_named(alloc, text, " card ", damaged)
-}
-
-/// Appends a number after its name.
-fn push_named(alloc: Global, text: &mut String, name: &str, number: u64) -> Result<(), AllocError>
-    ensures { OnOk result (string_bytes text.new
-        ≡ string_bytes text.old ++ (name.now ++ decimal number)) }
-{
-    text.push_str(name)?;
-    push_number(alloc, text, number)
-}
-
-/// Appends a number with the name of what it counts.
-fn push_counted(alloc: Global, text: &mut String, number: u64, name: &str) -> Result<(), AllocError>
-    ensures { OnOk result (string_bytes text.new ≡ string_bytes text.old
-        ++ counted number name.now) }
-{
-    push_number(alloc, text, number)?;
-    text.push_str(name)?;
-    if number == 1 {
-        return Ok(());
-    }
-    text.push_str("s")
 }

@@ -1,8 +1,10 @@
 //! What the judgment says about a trace, as a line or as an object.
 
 ghost use Rattle.std.specs.Prelude.{◌≡◌, OnOk, string_bytes};
-ghost use Rattle.trace_judge.specs.Telling.{with_certain, with_deviation, with_early, with_late, with_neither, with_possible, with_unseen, with_unwaited};
+ghost use Rattle.trace_judge.specs.Telling.{with_certain, with_deviation, with_early, with_elsewhere, with_late, with_neither, with_possible, with_unseen, with_unwaited};
+ghost use Rattle.trace_judge.specs.Places.{placed};
 
+use crate::place::Place;
 use crate::timing::{Early, Late};
 use crate::{objects, saying};
 use judge_core::{After, Rule, Side};
@@ -14,17 +16,18 @@ pub(crate) fn tell_deviation(
     alloc: Global,
     text: &mut String,
     layout: Layout,
+    place: Place<'_>,
     number: u64,
     side: Side,
     broken: Rule,
     due: &After,
 ) -> Result<(), AllocError>
     ensures { OnOk result (string_bytes text.new
-        ≡ with_deviation layout (string_bytes text.old) number side broken due.now) }
+        ≡ with_deviation layout (string_bytes text.old) (placed place.entry) number side broken due.now) }
 {
     match layout {
         Layout::Lines => saying::push_deviation(alloc, text, number, side, broken, due),
-        Layout::Json => objects::push_deviation(alloc, text, number, side, broken, due),
+        Layout::Json => objects::push_deviation(alloc, text, place, number, side, broken, due),
     }
 }
 
@@ -33,16 +36,35 @@ pub(crate) fn tell_unseen(
     alloc: Global,
     text: &mut String,
     layout: Layout,
+    place: Place<'_>,
     number: u64,
     side: Side,
     before: u64,
 ) -> Result<(), AllocError>
     ensures { OnOk result (string_bytes text.new
-        ≡ with_unseen layout (string_bytes text.old) number side before) }
+        ≡ with_unseen layout (string_bytes text.old) (placed place.entry) number side before) }
 {
     match layout {
         Layout::Lines => saying::push_unseen(alloc, text, number, side, before),
-        Layout::Json => objects::push_unseen(alloc, text, number, side, before),
+        Layout::Json => objects::push_unseen(alloc, text, place, number, side, before),
+    }
+}
+
+/// Says that a block is of another logical connection, and isn't judged.
+pub(crate) fn tell_elsewhere(
+    alloc: Global,
+    text: &mut String,
+    layout: Layout,
+    place: Place<'_>,
+    number: u64,
+    side: Side,
+) -> Result<(), AllocError>
+    ensures { OnOk result (string_bytes text.new
+        ≡ with_elsewhere layout (string_bytes text.old) (placed place.entry) number side) }
+{
+    match layout {
+        Layout::Lines => saying::push_elsewhere(alloc, text, number, side),
+        Layout::Json => objects::push_elsewhere(alloc, text, place, number, side),
     }
 }
 
@@ -51,14 +73,15 @@ pub(crate) fn tell_possible(
     alloc: Global,
     text: &mut String,
     layout: Layout,
+    line: u64,
     number: u64,
 ) -> Result<(), AllocError>
     ensures { OnOk result (string_bytes text.new
-        ≡ with_possible layout (string_bytes text.old) number) }
+        ≡ with_possible layout (string_bytes text.old) line number) }
 {
     match layout {
         Layout::Lines => saying::push_possible(alloc, text, number),
-        Layout::Json => objects::push_possible(alloc, text, number),
+        Layout::Json => objects::push_possible(alloc, text, line, number),
     }
 }
 
@@ -67,14 +90,15 @@ pub(crate) fn tell_certain(
     alloc: Global,
     text: &mut String,
     layout: Layout,
+    line: u64,
     number: u64,
 ) -> Result<(), AllocError>
     ensures { OnOk result (string_bytes text.new
-        ≡ with_certain layout (string_bytes text.old) number) }
+        ≡ with_certain layout (string_bytes text.old) line number) }
 {
     match layout {
         Layout::Lines => saying::push_certain(alloc, text, number),
-        Layout::Json => objects::push_certain(alloc, text, number),
+        Layout::Json => objects::push_certain(alloc, text, line, number),
     }
 }
 
@@ -83,16 +107,17 @@ pub(crate) fn tell_late(
     alloc: Global,
     text: &mut String,
     layout: Layout,
+    place: Place<'_>,
     number: u64,
     before: u64,
     late: Late,
 ) -> Result<(), AllocError>
     ensures { OnOk result (string_bytes text.new
-        ≡ with_late layout (string_bytes text.old) number before late) }
+        ≡ with_late layout (string_bytes text.old) (placed place.entry) number before late) }
 {
     match layout {
         Layout::Lines => saying::push_late(alloc, text, number, before, late),
-        Layout::Json => objects::push_late(alloc, text, number, before, late),
+        Layout::Json => objects::push_late(alloc, text, place, number, before, late),
     }
 }
 
@@ -101,16 +126,17 @@ pub(crate) fn tell_early(
     alloc: Global,
     text: &mut String,
     layout: Layout,
+    place: Place<'_>,
     number: u64,
     before: u64,
     early: Early,
 ) -> Result<(), AllocError>
     ensures { OnOk result (string_bytes text.new
-        ≡ with_early layout (string_bytes text.old) number before early) }
+        ≡ with_early layout (string_bytes text.old) (placed place.entry) number before early) }
 {
     match layout {
         Layout::Lines => saying::push_early(alloc, text, number, before, early),
-        Layout::Json => objects::push_early(alloc, text, number, before, early),
+        Layout::Json => objects::push_early(alloc, text, place, number, before, early),
     }
 }
 
@@ -119,14 +145,15 @@ pub(crate) fn tell_unwaited(
     alloc: Global,
     text: &mut String,
     layout: Layout,
+    line: u64,
     number: u64,
 ) -> Result<(), AllocError>
     ensures { OnOk result (string_bytes text.new
-        ≡ with_unwaited layout (string_bytes text.old) number) }
+        ≡ with_unwaited layout (string_bytes text.old) line number) }
 {
     match layout {
         Layout::Lines => saying::push_unwaited(alloc, text, number),
-        Layout::Json => objects::push_unwaited(alloc, text, number),
+        Layout::Json => objects::push_unwaited(alloc, text, line, number),
     }
 }
 

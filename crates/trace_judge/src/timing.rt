@@ -1,7 +1,7 @@
 //! The times of a trace, and when a card's block comes too late (ISO/IEC 7816-3:2006, 11.4.3).
 
 ghost use Rattle.std.specs.Prelude.{◌≡◌, ◌<◌, ◌^◌};
-ghost use Rattle.trace_judge.specs.Waiting.{after_card, begun_at, etu_of, granted, late_after, late_by, lateness, multiple_of, new_timing, past, permitted_parts, permitted_time, rates_before, rates_by, sent_by, timed, waited, waited_by};
+ghost use Rattle.trace_judge.specs.Waiting.{after_card, begun_at, etu_of, granted, late_after, late_by, lateness, multiple_of, new_timing, past, permitted_parts, permitted_time, rates_before, rates_by, sent_by, timed, untimed, waited, waited_by};
 
 use atr_core::{Atr, T1Params, rates};
 use block_core::{Pcb, S};
@@ -110,11 +110,18 @@ impl Timing {
                 came,
                 ..self.past()
             },
-            None => Timing {
-                sent: None,
-                came: None,
-                ..self.past()
-            },
+            None => self.untimed(),
+        }
+    }
+
+    /// Returns the timing if no moment is known.
+    pub(crate) fn untimed(self) -> Timing
+        ensures { result ≡ untimed self }
+    {
+        Timing {
+            sent: None,
+            came: None,
+            ..self.past()
         }
     }
 

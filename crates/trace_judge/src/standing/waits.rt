@@ -1,15 +1,19 @@
-//! Moments, a card that sent no block or sent it too late, and a terminal that sent too early.
+//! Moments, a card that sent no block or sent it too late, a terminal that sent too early, and what isn't judged.
 
 ghost use Rattle.std.specs.Prelude.{◌≡◌, ◌<◌, ◌≤◌, IfErr, OnOk, false};
 ghost use Rattle.std.specs.Option.{is_some};
 ghost use Rattle.exchange_text.specs.declared.fault.ExchangeFault.TheVariants.{Falls};
 ghost use Rattle.trace_text.specs.declared.entry.Entry.TheVariants.{Moment, Until};
 ghost use Rattle.judge_core.specs.declared.monitor.Silence.TheVariants as SilenceOf;
-ghost use Rattle.trace_judge.specs.Judging.{early_from, late_from, late_now, told_early, told_late, told_missing, told_silence, IsEntered, IsFalling};
+ghost use Rattle.trace_judge.specs.Judging.{early_from, late_from, late_now, place_of, told_early, told_elsewhere, told_late, told_missing, told_silence, IsEntered, IsFalling};
+ghost use Rattle.trace_judge.specs.Places.{placed};
 
 use super::Standing;
 use crate::early::earliness;
-use crate::telling::{tell_certain, tell_early, tell_late, tell_possible, tell_unwaited};
+use crate::place::Place;
+use crate::telling::{
+    tell_certain, tell_early, tell_elsewhere, tell_late, tell_possible, tell_unwaited,
+};
 use crate::timing::{Early, Late, lateness};
 use exchange_text::ExchangeFault;
 use judge_core::{Exercise, Rule, Side, Silence};
@@ -81,7 +85,13 @@ impl Standing {
     {
         if self.is_judged(Side::Card) {
             self.tally.unseen_in();
-            tell_unwaited(alloc, &mut self.text, self.scope.layout, number)
+            tell_unwaited(
+                alloc,
+                &mut self.text,
+                self.scope.layout,
+                self.number as u64,
+                number,
+            )
         } else {
             Ok(())
         }
@@ -95,16 +105,62 @@ impl Standing {
         match silence {
             Silence::Possible(number) if self.is_judged(Side::Card) => {
                 self.tally.unseen_in();
-                tell_possible(alloc, &mut self.text, self.scope.layout, number)
+                tell_possible(
+                    alloc,
+                    &mut self.text,
+                    self.scope.layout,
+                    self.number as u64,
+                    number,
+                )
             }
             Silence::Certain(number) if self.is_judged(Side::Card) => {
                 self.tally.deviation_of(Side::Card);
                 let exercise = Exercise::Breaks(Rule::Silence, None);
                 self.coverage.cover(Side::Card, &exercise);
-                tell_certain(alloc, &mut self.text, self.scope.layout, number)
+                tell_certain(
+                    alloc,
+                    &mut self.text,
+                    self.scope.layout,
+                    self.number as u64,
+                    number,
+                )
             }
             Silence::No | Silence::Possible(_) | Silence::Certain(_) => Ok(()),
         }
+    }
+
+    /// Returns where octets are that come now.
+    pub(super) fn place<'a>(&self, octets: &'a [u8]) -> Place<'a>
+        ensures { placed result ≡ place_of self.now octets.now }
+    {
+        Place {
+            line: self.number as u64,
+            moment: self.timing.now,
+            octets,
+        }
+    }
+
+    /// Reports a block of another logical connection, whichever end is judged.
+    pub(super) fn elsewhere(
+        &mut self,
+        alloc: Global,
+        place: Place<'_>,
+        from: Side,
+    ) -> Result<(), AllocError>
+        ensures said { OnOk result (self.new
+            ≡ told_elsewhere self.old (placed place.entry) from) }
+        ensures number { OnOk result (self.new.number ≡ self.old.number) }
+    {
+        self.tally.elsewhere_in();
+        let number = self.monitor.blocks;
+        tell_elsewhere(
+            alloc,
+            &mut self.text,
+            self.scope.layout,
+            place,
+            number,
+            from,
+        )
     }
 
     /// Returns by how much a block of the card would be late now.
@@ -155,10 +211,12 @@ impl Standing {
     pub(super) fn late(
         &mut self,
         alloc: Global,
+        place: Place<'_>,
         before: u64,
         late: Option<Late>,
     ) -> Result<(), AllocError>
-        ensures said { OnOk result (self.new ≡ told_late self.old before late) }
+        ensures said { OnOk result
+            (self.new ≡ told_late self.old (placed place.entry) before late) }
         ensures number { OnOk result (self.new.number ≡ self.old.number) }
     {
         match late {
@@ -169,6 +227,7 @@ impl Standing {
                     alloc,
                     &mut self.text,
                     self.scope.layout,
+                    place,
                     number,
                     before,
                     late,
@@ -179,8 +238,13 @@ impl Standing {
     }
 
     /// Reports a terminal's block that came too early after the block before.
-    pub(super) fn early(&mut self, alloc: Global, early: Option<Early>) -> Result<(), AllocError>
-        ensures said { OnOk result (self.new ≡ told_early self.old early) }
+    pub(super) fn early(
+        &mut self,
+        alloc: Global,
+        place: Place<'_>,
+        early: Option<Early>,
+    ) -> Result<(), AllocError>
+        ensures said { OnOk result (self.new ≡ told_early self.old (placed place.entry) early) }
         ensures number { OnOk result (self.new.number ≡ self.old.number) }
     {
         match early {
@@ -192,6 +256,7 @@ impl Standing {
                     alloc,
                     &mut self.text,
                     self.scope.layout,
+                    place,
                     number,
                     before,
                     early,

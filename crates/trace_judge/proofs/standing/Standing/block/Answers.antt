@@ -15,10 +15,12 @@ returns-clause-said c =
       exercise = c.exercise-exercise.result;
       exercises = subst (λ (s : Standing). ExercisesIf s.scope.rules s.monitor c.args.from c.args.octets.now
           c.arrival_of-arrival.result c.exercise-exercise.result) (sym c.self.view_is) c.exercise-exercise.ensures;
-      told = told-by _ c.args.self.now _ _ _ c.block-report.new.self c.args.from _ c.exercise-exercise.result
-          c.block-report.result _ _ c.self.view_is
-          (told-report _ c.args.self.now _ _ c.block-report.new.self c.args.from _ c.exercise-exercise.result _
-          c.block-report.result _ c.self.view_is c.timed-self-inside.ensures c.cover.ensures.said
+      told = told-by _ c.args.self.now _ _ _ c.block-report.new.self c.args.from c.args.octets.now
+          c.exercise-exercise.result c.block-report.result _ _ _ _ _ c.self.view_is c.place-place.ensures
+          (told-report _ c.args.self.now _ _ c.block-report.new.self c.args.from c.args.octets.now
+          c.exercise-exercise.result _ c.block-report.result _ _ c.self.view_is c.place-place.ensures
+          c.timed_as-self-inside.ensures c.cover.ensures.said
           c.is_over-over.ensures c.in_ok-report.ensures.said)
-          c.late_from-late.ensures c.in_ok-late.ensures.said c.early_from-early.ensures c.in_ok-early.ensures.said;
+          c.late_from-late.ensures c.late_as.ensures c.in_ok-late.ensures.said c.early_from-early.ensures
+          c.early_as.ensures c.in_ok-early.ensures.said;
     })
