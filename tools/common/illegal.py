@@ -46,8 +46,8 @@ def in_message(end, block, line):
     yield "number of an I-block", (pcb ^ 0x40, field)
     yield "R-block for a message", receipt(end, end.rng.choice((0, 1)))
     yield "response to no request", (IFS | RESPONSE, b"\x20")
-    if end.room < 254:
-        yield "field too long", (pcb, end.rng.randbytes(end.room + 1))
+    if end.widest < 254:
+        yield "field too long", (pcb, end.rng.randbytes(end.widest + 1))
     if end.due == "message":
         yield "ABORT outside a chain", (ABORT, b"")
     elif end.side == TERMINAL:

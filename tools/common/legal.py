@@ -34,11 +34,12 @@ def swapped(nad):
 
 
 class End:
-    """An end of the line. `due` is the kind of the block that it sends next, for those who change one."""
+    """An end of the line. `due` is the kind of the block that it sends next, for those who change one. `widest` is the
+    size that the other end takes by either reading of what RESYNCH does to it."""
 
     def __init__(self, side, rng, wishes):
         self.side, self.rng, self.wishes = side, rng, wishes
-        self.room = self.first_room = USUAL_SIZE
+        self.room = self.first_room = self.widest = USUAL_SIZE
         self.most = rng.choice((2, 3))
         self.resynchs = 0
         self.due = None
@@ -49,6 +50,7 @@ class End:
         self.next = self.expects = self.fails = self.earlier = self.tries = 0
         self.pending = self.asked = self.before = self.refusable = None
         self.is_aborted = self.has_refused = False
+        self.widest = max(self.widest, self.first_room)
         self.room = self.rng.choice((self.room, self.first_room))
 
     # ---- what it sends
@@ -187,7 +189,7 @@ class End:
     def hears_request(self, subject, field):
         """A request, which it answers with the same octet (rules 3, 4 and 9)."""
         if subject == IFS:
-            self.room = field[0]
+            self.room = self.widest = field[0]
         if subject == ABORT:
             self.pending, self.is_aborted = None, True
         return self.sends("response", subject | RESPONSE, field)

@@ -25,7 +25,7 @@ use Rattle.judge_core.specs.declared.rule.Rule.{Rule}
 use Rattle.judge_core.specs.declared.rule.Rule.TheVariants.{CorrectionDue, RequestDue, SequenceNumber}
 use Rattle.judge_core.specs.declared.courses.Heard.{Heard}
 use Rattle.judge_core.specs.declared.courses.Heard.TheVariants.{Beginning, Whole, Perhaps, Broken, Nothing}
-use Rattle.judge_core.specs.Ends.{after, begun, no_row, answered, answers, hears, hears_info, hears_ready, hears_free, hears_asking, hears_request, hears_unknown, due_after, begins_again, missed}
+use Rattle.judge_core.specs.Ends.{after, begun, no_row, answered, answers, hears, hears_info, hears_ready, hears_free, hears_asking, hears_request, hears_unknown, due_after, begins_again, missed, stopped}
 use Rattle.judge_core.specs.Sends.{Sent, sends, sends_owed, is_foreign, asking, repeats_request, sends_ready, asked_again}
 use Rattle.judge_core.specs.Courses.{attempted, got_whole, got_none, perhaps_answers, uncounted, untaken}
 
@@ -338,6 +338,23 @@ stop_request e owed last (Request Abort) inf = tt
 stop_request e owed last (Request Wtx) inf = tt
 stop_request e owed last (Response s) inf = tt
 
+-- the same of an end about which nothing is known
+first_stop : (side : Side) (e : End) (octet : ℕ) → Same
+    (Ok (asking (record (answered_with e AnyBlock) { side = side }) AnyBlock Abort octet))
+    (asked_again side (record (asked_with e Stop AnyBlock) { side = side }) Abort octet)
+first_stop Terminal e octet = refl
+first_stop Card e octet = refl
+
+any_request : (e : End) → Alike (after (answered_with e AnyBlock) AnyBlock)
+    (after (asked_with e Stop AnyBlock) SameRequest)
+any_request e last (Info number more) inf = by_first _ _
+any_request e last (Ready number fault) inf = tt
+any_request e last (Request Resynch) inf = resynch_row e Stop AnyBlock last inf
+any_request e last (Request Ifs) inf = tt
+any_request e last (Request Abort) inf = first_stop e.side e (carried inf)
+any_request e last (Request Wtx) inf = tt
+any_request e last (Response s) inf = tt
+
 -- the larger of the sizes, taken twice
 begun_twice : (room first : ℕ) → max (max room first) first ≡ max room first
 begun_twice room first = omega arith
@@ -462,6 +479,13 @@ missed_free e (Response s) octet = both (after (free e) Correction)
 
 -- ---- an end that waits for a response
 
+missed_stop : (e : End) (owed : Owed) → Both (stopped (record (waiting e Stop) { before = owed }) owed)
+    (after (record (waiting e Stop) { before = owed; tries = 0 }) SameRequest)
+missed_stop e AnyBlock = together e.side (answered_with e AnyBlock) (asked_with e Stop AnyBlock) AnyBlock SameRequest
+    (any_request e)
+missed_stop e owed = together e.side (record (answered_with e owed) { pending = Settled }) (asked_with e Stop owed)
+    EitherBlock SameRequest (stop_request e owed)
+
 missed_answered : (b : Bool) (e : End) (asked : Asked)
     → Both (if b then answered (waiting e asked) asked else after (waiting e asked) SameRequest)
     (after (if b then record (waiting e asked) { tries = 0 } else waiting e asked) SameRequest)
@@ -471,8 +495,7 @@ missed_answered true e (Size n) =
 missed_answered true e (Time n) =
     together e.side (free e) (record (waiting e (Time n)) { tries = 0 }) e.before SameRequest
     (time_request e n e.before)
-missed_answered true e Stop = together e.side (having e Settled) (record (waiting e Stop) { tries = 0 })
-    EitherBlock SameRequest (stop_request e e.before)
+missed_answered true e Stop = missed_stop e e.before
 missed_answered true e Anew = together e.side (begun e) (record (waiting e Anew) { tries = 0 }) NewMessage SameRequest
     (anew_request e e.before)
 missed_answered false e asked = both (after (waiting e asked) SameRequest)

@@ -69,12 +69,17 @@ answers Stop (Response Abort) carried = true
 answers Anew (Response Resynch) carried = true
 answers asked pcb carried = false
 
--- The end's request was answered: it owes what it owed before. After ABORT the end's chain is over. It may begin a
--- message, or hand over the right to send by an R-block (rule 9). After RESYNCH it begins again (rule 6).
+-- The end's ABORT was answered, and it owed this before. Its chain is over. It may begin a message, or hand over the right
+-- to send by an R-block (rule 9). Of an end about which nothing is known, the response says nothing either.
+abbrev pub stopped : End → Owed → After
+stopped e AnyBlock = after (record e { asked = None }) AnyBlock
+stopped e owed = after (record e { asked = None; pending = Settled }) EitherBlock
+
+-- The end's request was answered: it owes what it owed before. After RESYNCH it begins again (rule 6).
 abbrev pub answered : End → Asked → After
 answered e (Size n) = after (record e { asked = None }) e.before
 answered e (Time n) = after (record e { asked = None }) e.before
-answered e Stop = after (record e { asked = None; pending = Settled }) EitherBlock
+answered e Stop = stopped e e.before
 answered e Anew = after (begun e) NewMessage
 
 -- After the other end's R-block, with the number of this end's next I-block or of its last one. After a chain's block

@@ -2,7 +2,7 @@
 
 ghost use Rattle.std.specs.Prelude.{◌≡◌};
 ghost use Rattle.t1_core.specs.Came.{same};
-ghost use Rattle.judge_core.specs.Ends.{answered, answers, begins_again, due_after, hears, hears_asking, hears_free, hears_info, hears_ready, hears_request, hears_unknown, is_chain, missed};
+ghost use Rattle.judge_core.specs.Ends.{answered, answers, begins_again, due_after, hears, hears_asking, hears_free, hears_info, hears_ready, hears_request, hears_unknown, is_chain, missed, stopped};
 
 use crate::end::{After, Asked, End, Owed, Pending};
 use block_core::{Number, Pcb, S, Side};
@@ -51,13 +51,26 @@ impl End {
                 ..self
             }
             .owes(self.before),
-            Asked::Stop => End {
-                asked: None,
+            Asked::Stop => self.stopped(),
+            Asked::Anew => self.begun().owes(Owed::NewMessage),
+        }
+    }
+
+    /// Takes the response to ABORT.
+    fn stopped(self) -> After
+        ensures { result ≡ stopped self self.before }
+    {
+        let free = End {
+            asked: None,
+            ..self
+        };
+        match self.before {
+            Owed::AnyBlock => free.owes(Owed::AnyBlock),
+            _ => End {
                 pending: Pending::Settled,
-                ..self
+                ..free
             }
             .owes(Owed::EitherBlock),
-            Asked::Anew => self.begun().owes(Owed::NewMessage),
         }
     }
 
