@@ -122,6 +122,7 @@ export const Judged = Object.freeze({
     DAMAGE: 1,
     UNSEEN: 2,
     DEVIATION: 3,
+    ELSEWHERE: 4,
 });
 /** Whether the card owed a block and sent none. */
 export const Silence = Object.freeze({

@@ -1101,6 +1101,12 @@ static void c_lent_block_put_block(struct call *m, u64 v0, u64 v1, u64 v2, u64 v
 static void c_lent_dol_put_entries(struct call *m, u64 v0, u64 v1, u64 v2, u64 v3, u64 v4);
 static u32 core_cmp_slices_groups_equal_i8_31_core_cmp_numbers_U8PartialEq(struct call *m, u64 v0, u64 v1, u64 v2);
 static void c_lent_filling_put_parts(struct call *m, u64 v0, u64 v1, u64 v2, u64 v3, u64 v4, u64 v5, u64 v6);
+static void tlv_core_lent_LentCheck_feed(struct call *m, u64 v0, u64 v1, u64 v2, u64 v3);
+static void tlv_core_checking_Checking_feed(struct call *m, u64 v0, u64 v1, u64 v2, u64 v3);
+static void tlv_core_progress_Progress_skip(struct call *m, u64 v0, u64 v1);
+static void tlv_core_progress_Progress_take(struct call *m, u64 v0, u64 v1, u32 v2);
+KEPT void tlv_core_short_header_of_few(struct call *m, u64 v0, u64 v1, u64 v2);
+static void tlv_core_progress_Progress_next(struct call *m, u64 v0, u64 v1, u32 v2);
 static void c_lent_lent_card_turn(struct call *m, u64 v0, u64 v1, u64 v2, u64 v3, u64 v4, u64 v5, u64 v6, u64 v7, u64
     v8);
 static void c_lent_kept_CCard_fitting(struct call *m, u64 v0, u64 v1, u64 v2, u64 v3);
@@ -1141,11 +1147,6 @@ static void session_core_progress_Progress_hear(struct call *m, u64 v0, u64 v1, 
     v6, u64 v7, u64 v8, u64 v9);
 KEPT u32 line_core_framing_sum_of(struct call *m, u64 v0, u64 v1);
 static void c_lent_kept_check_CCheck_fitting(struct call *m, u64 v0, u64 v1);
-static void tlv_core_progress_Progress_next(struct call *m, u64 v0, u64 v1, u32 v2);
-static void tlv_core_checking_Checking_feed(struct call *m, u64 v0, u64 v1, u64 v2, u64 v3);
-static void tlv_core_progress_Progress_skip(struct call *m, u64 v0, u64 v1);
-static void tlv_core_progress_Progress_take(struct call *m, u64 v0, u64 v1, u32 v2);
-KEPT void tlv_core_short_header_of_few(struct call *m, u64 v0, u64 v1, u64 v2);
 static void c_lent_kept_judge_CWatched_of(struct call *m, u64 v0, u64 v1);
 static void c_lent_kept_judge_CWatched_watched(struct call *m, u64 v0, u64 v1);
 static void judge_core_class_class_of(struct call *m, u64 v0, u64 v1, u64 v2);
@@ -1222,6 +1223,8 @@ static void module_scard_judge_clause_text(struct call *m, u32 v0, u64 v1);
 static void rattle_export_scard_judge_clause_text(struct call *m, u32 v0, u64 v1);
 static void module_scard_judge_rule_text(struct call *m, u32 v0, u64 v1);
 static void rattle_export_scard_judge_rule_text(struct call *m, u32 v0, u64 v1);
+static u64 module_scard_least(struct call *m, u32 v0, u64 v1, u64 v2);
+static u64 rattle_export_scard_least(struct call *m, u32 v0, u64 v1, u64 v2);
 static void module_scard_lent_atr_reader_begin(struct call *m, u64 v0);
 static void rattle_export_scard_lent_atr_reader_begin(struct call *m, u64 v0);
 static void module_scard_lent_atr_reader_feed(struct call *m, u64 v0, u64 v1, u64 v2, u64 v3);
@@ -4056,6 +4059,897 @@ after1:;
     store8(m, v0 + 24ull, 0, v11);
     store64(m, v0 + 16ull, 0, v8);
     store64(m, v0 + 8ull, 0, v1);
+}
+
+static void tlv_core_lent_LentCheck_feed(struct call *m, u64 v0, u64 v1, u64 v2, u64 v3)
+{
+    u64 v4 = 0;
+    u64 v5 = 0;
+    u64 v6 = 0;
+    u64 v7 = 0;
+    u64 v8 = 0;
+    u64 v9 = 0;
+    u64 v16 = 0;
+    u32 v10 = 0;
+    u32 v11 = 0;
+    u32 v12 = 0;
+    u32 v13 = 0;
+    u32 v14 = 0;
+    u32 v15 = 0;
+    u8 *f16 = NULL;
+    u8 *p53 = NULL;
+    u8 *p96 = NULL;
+    u8 *p302 = NULL;
+    u8 *p382 = NULL;
+    v16 = m->g0 - 368ull;
+    f16 = at(m, v16, 368);
+    v4 = v16;
+    m->g0 = v4;
+    put64(f16 + 72, 0ull);
+    put64(f16 + 224, 0ull);
+    put64(f16 + 80, 0ull);
+    put64(f16 + 88, 0ull);
+    put64(f16 + 96, 0ull);
+    put64(f16 + 8, 0ull);
+    put64(f16 + 16, 0ull);
+    put64(f16 + 24, 0ull);
+    put64(f16 + 32, 0ull);
+    put64(f16 + 40, 0ull);
+    put64(f16 + 48, 0ull);
+    put64(f16 + 56, 0ull);
+    put64(f16 + 64, 0ull);
+    p53 = held(m, v1, 73);
+    v5 = (u64)held32(p53, 4, m, v1);
+    v6 = (u64)held8(p53, 72, m, v1);
+    v7 = (u64)held32(p53, 0, m, v1);
+    memset(f16 + 232, (int)(0u & 255u), 68);
+    v8 = v1 + 8ull;
+    v9 = v6 << 2;
+    if (v9 == 0) { goto after2; }
+    copy(m, v16 + 232ull, v8, v9);
+after2:;
+    put64(f16 + 112, v5);
+    put64(f16 + 104, v7);
+    p96 = held(m, v1 + 76ull, 18);
+    v10 = held8(p96, 0, m, v1 + 76ull);
+    v11 = held32(p96, 1, m, v1 + 76ull);
+    v12 = held16(p96, 5, m, v1 + 76ull);
+    v13 = held32(p96, 8, m, v1 + 76ull);
+    v7 = (u64)held32(p96, 12, m, v1 + 76ull);
+    v14 = held16(p96, 16, m, v1 + 76ull);
+    v5 = v16 + 120ull;
+    copy(m, v5, v16 + 232ull, 68ull);
+    put16(f16 + 224, v14);
+    put64(f16 + 216, v7);
+    put32(f16 + 212, 0u);
+    put32(f16 + 208, v13);
+    put8(f16 + 207, 0u);
+    put16(f16 + 205, v12);
+    put32(f16 + 201, v11);
+    put8(f16 + 200, v10);
+    put64(f16 + 192, v6);
+    put32(f16 + 188, 0u);
+    tlv_core_checking_Checking_feed(m, v16 + 72ull, v16 + 104ull, v2, v3);
+    v10 = get8(f16 + 225);
+    v11 = get8(f16 + 224);
+    put64(f16 + 304, 0ull);
+    put64(f16 + 312, 0ull);
+    put64(f16 + 320, 0ull);
+    put64(f16 + 328, 0ull);
+    put64(f16 + 336, 0ull);
+    put64(f16 + 344, 0ull);
+    put64(f16 + 352, 0ull);
+    put64(f16 + 360, 0ull);
+    v6 = get64(f16 + 192);
+    v3 = v6 << 2;
+    if (((v16 + 304ull) - v5) >= v3) { goto after4; }
+    if (v6 == 0) { goto after3; }
+    if (v3 == 0) { goto after3; }
+    copy(m, v16 + 304ull, v5, v3);
+    goto after3;
+after4:;
+    if (v3 == 0) { goto after3; }
+    copy(m, v16 + 304ull, v5, v3);
+after3:;
+    put64(f16 + 8, get64(f16 + 304));
+    put64(f16 + 16, get64(f16 + 312));
+    put64(f16 + 24, get64(f16 + 320));
+    put64(f16 + 32, get64(f16 + 328));
+    put64(f16 + 40, get64(f16 + 336));
+    put64(f16 + 48, get64(f16 + 344));
+    put64(f16 + 56, get64(f16 + 352));
+    put64(f16 + 64, get64(f16 + 360));
+    v12 = get8(f16 + 200);
+    v13 = get32(f16 + 201);
+    v14 = get16(f16 + 205);
+    v15 = get32(f16 + 208);
+    v5 = get64(f16 + 216);
+    v3 = get64(f16 + 104);
+    put_held32(p53, 4, m, v1, (u32)get64(f16 + 112));
+    put_held32(p53, 0, m, v1, (u32)v3);
+    p302 = held(m, v8, 64);
+    put_held64(p302, 0, m, v8, get64(f16 + 8));
+    put_held64(p302, 8, m, v8, get64(f16 + 16));
+    put_held64(p302, 16, m, v8, get64(f16 + 24));
+    put_held64(p302, 24, m, v8, get64(f16 + 32));
+    put_held64(p302, 32, m, v8, get64(f16 + 40));
+    put_held64(p302, 40, m, v8, get64(f16 + 48));
+    put_held64(p302, 48, m, v8, get64(f16 + 56));
+    put_held64(p302, 56, m, v8, get64(f16 + 64));
+    store16(m, v1, 94, 0u);
+    put_held8(p96, 17, m, v1 + 76ull, v10);
+    put_held8(p96, 16, m, v1 + 76ull, v11);
+    put_held32(p96, 12, m, v1 + 76ull, (u32)v5);
+    put_held32(p96, 8, m, v1 + 76ull, v15);
+    put_held8(p96, 7, m, v1 + 76ull, 0u);
+    put_held16(p96, 5, m, v1 + 76ull, v14);
+    put_held32(p96, 1, m, v1 + 76ull, v13);
+    store32(m, v1, 73, v12 << 24);
+    put_held8(p53, 72, m, v1, (u32)v6);
+    p382 = held(m, v0, 25);
+    put_held8(p382, 24, m, v0, get8(f16 + 96));
+    put_held64(p382, 16, m, v0, get64(f16 + 88));
+    put_held64(p382, 8, m, v0, (u64)get8(f16 + 80));
+    put_held8(p382, 0, m, v0, get8(f16 + 72));
+    m->g0 = v16 + 368ull;
+    return;
+}
+
+static void tlv_core_checking_Checking_feed(struct call *m, u64 v0, u64 v1, u64 v2, u64 v3)
+{
+    u64 v4 = 0;
+    u64 v5 = 0;
+    u64 v6 = 0;
+    u64 v7 = 0;
+    u64 v8 = 0;
+    u64 v9 = 0;
+    u64 v10 = 0;
+    u64 v11 = 0;
+    u64 v14 = 0;
+    u64 v15 = 0;
+    u64 v16 = 0;
+    u64 v17 = 0;
+    u64 v18 = 0;
+    u64 v20 = 0;
+    u64 v21 = 0;
+    u64 v37 = 0;
+    u32 v12 = 0;
+    u32 v13 = 0;
+    u32 v19 = 0;
+    u32 v22 = 0;
+    u32 v23 = 0;
+    u32 v24 = 0;
+    u32 v25 = 0;
+    u32 v26 = 0;
+    u32 v27 = 0;
+    u32 v28 = 0;
+    u32 v29 = 0;
+    u32 v30 = 0;
+    u32 v31 = 0;
+    u32 v32 = 0;
+    u32 v33 = 0;
+    u32 v34 = 0;
+    u32 v35 = 0;
+    u32 v36 = 0;
+    u32 t2 = 0;
+    u64 w1 = 0;
+    u8 *f37 = NULL;
+    u8 *p200 = NULL;
+    u8 *p299 = NULL;
+    u8 *p345 = NULL;
+    u8 *p692 = NULL;
+    u8 *p714 = NULL;
+    u8 *p729 = NULL;
+    u8 *p750 = NULL;
+    u8 *p759 = NULL;
+    v37 = m->g0 - 112ull;
+    f37 = at(m, v37, 112);
+    v4 = v37;
+    m->g0 = v4;
+    if (load8(m, v1 + 120ull, 0) == 1u) { goto after2; }
+    if (v3 == 0) { goto after5; }
+    v5 = v37 + 16ull;
+    v6 = v37 + 12ull;
+    v7 = 0ull;
+again6:;
+    v8 = v3 - v7;
+    v9 = load64(m, v1 + 112ull, 0);
+    if (v9 == 0) { goto after8; }
+    v10 = (v8 < v9) ? v8 : v9;
+    tlv_core_progress_Progress_skip(m, v1, v10);
+    goto after7;
+after8:;
+    v11 = v2 + v7;
+    if (v8 < 2ull) { goto after11; }
+    if ((load8(m, v1 + 96ull, 0) & 255u) == 0) { goto after10; }
+after11:;
+    put64(f37 + 8, 0ull);
+    put64(f37, 0ull);
+    put32(f37 + 16, 0u);
+    t2 = load8(m, v11, 0);
+    tlv_core_progress_Progress_take(m, v37, v1, t2);
+    v12 = get8(f37);
+    v13 = v12 ? get8(f37 + 1) : 0u;
+    goto after9;
+after10:;
+    copy(m, v37, v1, 96ull);
+    v9 = get64(f37 + 88);
+    if (v9 > 15ull) { goto after12; }
+    v14 = get64(f37 + 8);
+    v15 = get64(f37);
+    v16 = v8;
+    v10 = 0ull;
+again14:;
+    v17 = v11 + v10;
+    if (v9 != 0ull) { goto after16; }
+    put32(f37 + 104, 0u);
+    put64(f37 + 96, 0ull);
+    if (v16 < 8ull) { goto after18; }
+    v12 = load8(m, v17, 0);
+    if ((v12 & 31u) == 31u) { goto after20; }
+    if (v12 == 0) { goto after13; }
+    v18 = 1ull;
+    goto after19;
+after20:;
+    v19 = spread32(load8(m, v17, 1), 8);
+    if ((v19 ^ 0x80000000u) > (0xFFFFFFFFu ^ 0x80000000u)) { goto after21; }
+    if (v19 == 0xFFFFFF80u) { goto after13; }
+    if ((spread32(load8(m, v17, 2), 8) ^ 0x80000000u) <= (0xFFFFFFFFu ^ 0x80000000u)) { goto after13; }
+    v18 = 3ull;
+    goto after19;
+after21:;
+    if (v19 == 0) { goto after13; }
+    v18 = 2ull;
+after19:;
+    v20 = 1ull;
+    v21 = v17 + v18;
+    p200 = held(m, v21, 2);
+    v17 = (u64)held8(p200, 1, m, v21);
+    v19 = held8(p200, 0, m, v21);
+    switch (v19 + 0xFFFFFF80u) {
+        case 0: goto after13;
+        case 1: goto after22;
+        case 2: goto after24;
+        default: goto after23;
+    }
+after24:;
+    v20 = 2ull;
+    v17 = (v17 << 8) | (u64)load8(m, v21 + 2ull, 0);
+    goto after22;
+after23:;
+    if (((spread32(v19, 8)) ^ 0x80000000u) < (0u ^ 0x80000000u)) { goto after13; }
+    v17 = (u64)v19;
+    v20 = 0ull;
+after22:;
+    v12 = (v12 & 32u) >> 5;
+    v18 = (v18 + v20) + 1ull;
+    if (v16 >= ((v12 ? 0ull : v17) + v18)) { goto after17; }
+    goto after13;
+after18:;
+    tlv_core_short_header_of_few(m, v37 + 96ull, v17, v16);
+    if (get8(f37 + 96) != 1u) { goto after13; }
+    v17 = (u64)get16(f37 + 106);
+    v18 = (u64)get8(f37 + 103);
+    v12 = get8(f37 + 104);
+after17:;
+    v17 = v18 + v17;
+    v16 = v15;
+    goto after15;
+after16:;
+    put32(f37 + 104, 0u);
+    put64(f37 + 96, 0ull);
+    if (v16 < 8ull) { goto after26; }
+    p299 = held(m, v17, 3);
+    v19 = held8(p299, 0, m, v17);
+    v12 = (u32)((v19 & 31u) == 31u);
+    v13 = held8(p299, 1, m, v17);
+    v22 = v12 & ((u32)(((spread32(v13, 8)) ^ 0x80000000u) < (0u ^ 0x80000000u)));
+    if (v22 & ((u32)((spread32(held8(p299, 2, m, v17), 8) ^ 0x80000000u) < (0u ^ 0x80000000u)))) { goto after13; }
+    if (v19 == 0) { goto after13; }
+    if (v12 & ((u32)((v13 & 127u) == 0))) { goto after13; }
+    v18 = 1ull;
+    v21 = (v12 ? 2ull : 1ull) + ((u64)v22);
+    v20 = v17 + v21;
+    p345 = held(m, v20, 2);
+    v17 = (u64)held8(p345, 1, m, v20);
+    v12 = held8(p345, 0, m, v20);
+    switch (v12 + 0xFFFFFF80u) {
+        case 0: goto after13;
+        case 1: goto after27;
+        case 2: goto after29;
+        default: goto after28;
+    }
+after29:;
+    v18 = 2ull;
+    v17 = (v17 << 8) | (u64)load8(m, v20 + 2ull, 0);
+    goto after27;
+after28:;
+    if (((spread32(v12, 8)) ^ 0x80000000u) < (0u ^ 0x80000000u)) { goto after13; }
+    v17 = (u64)v12;
+    v18 = 0ull;
+after27:;
+    v12 = (v19 & 32u) >> 5;
+    v18 = (v21 + v18) + 1ull;
+    if (v16 >= ((v12 ? 0ull : v17) + v18)) { goto after25; }
+    goto after13;
+after26:;
+    tlv_core_short_header_of_few(m, v37 + 96ull, v17, v16);
+    if (get8(f37 + 96) != 1u) { goto after13; }
+    v17 = (u64)get16(f37 + 106);
+    v18 = (u64)get8(f37 + 103);
+    v12 = get8(f37 + 104);
+after25:;
+    v17 = v18 + v17;
+    v16 = (u64)load32(m, v6 + (v9 << 2), 0);
+after15:;
+    if ((v16 - v14) < v17) { goto after13; }
+    v16 = (v12 & 1u) ? v18 : v17;
+    if (v9 != 0ull) { goto after31; }
+    if (v16 != v17) { goto after31; }
+    v14 = v17 + v14;
+    v9 = 0ull;
+    goto after30;
+after31:;
+    v19 = get32(f37 + 76);
+    v13 = get32(f37 + 72);
+    v22 = get32(f37 + 68);
+    v23 = get32(f37 + 64);
+    v24 = get32(f37 + 60);
+    v25 = get32(f37 + 56);
+    v26 = get32(f37 + 52);
+    v27 = get32(f37 + 48);
+    v28 = get32(f37 + 44);
+    v29 = get32(f37 + 40);
+    v30 = get32(f37 + 36);
+    v31 = get32(f37 + 32);
+    v32 = get32(f37 + 28);
+    v33 = get32(f37 + 24);
+    v34 = get32(f37 + 20);
+    v35 = get32(f37 + 16);
+    v36 = (u32)(v16 < v17);
+    store32(m, v5 + (v36 ? (v9 << 2) : 64ull), 0, (u32)(v17 + v14));
+    v14 = v16 + v14;
+    v12 = (u32)v14;
+    w1 = ((u64)((u32)((v34 ^ 0x80000000u) > (v12 ^ 0x80000000u)))) + ((u64)((u32)((v35 ^ 0x80000000u) > (v12 ^
+        0x80000000u))));
+    w1 = (w1 + ((u64)((u32)((v33 ^ 0x80000000u) > (v12 ^ 0x80000000u))))) + ((u64)((u32)((v32 ^ 0x80000000u) > (v12 ^
+        0x80000000u))));
+    w1 = (w1 + ((u64)((u32)((v31 ^ 0x80000000u) > (v12 ^ 0x80000000u))))) + ((u64)((u32)((v30 ^ 0x80000000u) > (v12 ^
+        0x80000000u))));
+    w1 = (w1 + ((u64)((u32)((v29 ^ 0x80000000u) > (v12 ^ 0x80000000u))))) + ((u64)((u32)((v28 ^ 0x80000000u) > (v12 ^
+        0x80000000u))));
+    w1 = (w1 + ((u64)((u32)((v27 ^ 0x80000000u) > (v12 ^ 0x80000000u))))) + ((u64)((u32)((v26 ^ 0x80000000u) > (v12 ^
+        0x80000000u))));
+    w1 = (w1 + ((u64)((u32)((v25 ^ 0x80000000u) > (v12 ^ 0x80000000u))))) + ((u64)((u32)((v24 ^ 0x80000000u) > (v12 ^
+        0x80000000u))));
+    w1 = (w1 + ((u64)((u32)((v23 ^ 0x80000000u) > (v12 ^ 0x80000000u))))) + ((u64)((u32)((v22 ^ 0x80000000u) > (v12 ^
+        0x80000000u))));
+    w1 = (w1 + ((u64)((u32)((v13 ^ 0x80000000u) > (v12 ^ 0x80000000u))))) + ((u64)((u32)((v19 ^ 0x80000000u) > (v12 ^
+        0x80000000u))));
+    v9 = v36 ? (get64(f37 + 88) + 1ull) : w1;
+after30:;
+    put64(f37 + 8, v14);
+    v10 = v16 + v10;
+    v16 = v8 - v10;
+    put64(f37 + 88, v9);
+    if (v9 < 16ull) { goto again14; }
+after13:;
+    if (v10 == 0) { goto after12; }
+    copy(m, v1, v37, 96ull);
+    goto after7;
+after12:;
+    put64(f37 + 8, 0ull);
+    put64(f37, 0ull);
+    put32(f37 + 16, 0u);
+    t2 = load8(m, v11, 0);
+    tlv_core_progress_Progress_take(m, v37, v1, t2);
+    v12 = get8(f37);
+    v13 = v12 ? get8(f37 + 1) : 0u;
+after9:;
+    v19 = (u32)(v12 == 0);
+    if (v12) { goto after4; }
+    v10 = (u64)v19;
+after7:;
+    v7 = v10 + v7;
+    if (v7 < v3) { goto again6; }
+after5:;
+    p692 = held(m, v0, 25);
+    put_held8(p692, 0, m, v0, 0u);
+    put_held64(p692, 8, m, v0, 0ull);
+    put_held64(p692, 16, m, v0, 0ull);
+    put_held8(p692, 24, m, v0, 0u);
+    goto after1;
+after4:;
+    p714 = held(m, v1 + 8ull, 114);
+    put_held8(p714, 113, m, v1 + 8ull, v13);
+    put_held8(p714, 112, m, v1 + 8ull, 1u);
+    v9 = held64(p714, 0, m, v1 + 8ull);
+    p729 = held(m, v0, 25);
+    put_held8(p729, 24, m, v0, v13);
+    put_held64(p729, 16, m, v0, v9);
+    put_held64(p729, 8, m, v0, 1ull);
+    put_held8(p729, 0, m, v0, 1u);
+    goto after1;
+after2:;
+    p750 = held(m, v1 + 8ull, 114);
+    v9 = held64(p750, 0, m, v1 + 8ull);
+    p759 = held(m, v0, 25);
+    put_held8(p759, 24, m, v0, held8(p750, 113, m, v1 + 8ull));
+    put_held64(p759, 16, m, v0, v9);
+    put_held64(p759, 8, m, v0, 1ull);
+    put_held8(p759, 0, m, v0, 1u);
+after1:;
+    m->g0 = v37 + 112ull;
+}
+
+static void tlv_core_progress_Progress_skip(struct call *m, u64 v0, u64 v1)
+{
+    u64 v2 = 0;
+    u64 v3 = 0;
+    u32 v4 = 0;
+    u64 w0 = 0;
+    u64 w1 = 0;
+    u8 *p10 = NULL;
+    u8 *p25 = NULL;
+    u8 *p70 = NULL;
+    v2 = v0 + 112ull;
+    p10 = held(m, v2, 8);
+    put_held64(p10, 0, m, v2, held64(p10, 0, m, v2) - v1);
+    v2 = load64(m, v0 + 88ull, 0);
+    if (v2 != 0ull) { goto after3; }
+    p25 = held(m, v0, 16);
+    v2 = held64(p25, 8, m, v0);
+    v3 = held64(p25, 0, m, v0) - v2;
+    goto after2;
+after3:;
+    w0 = (u64)load32(m, (v0 + (v2 << 2)) + 12ull, 0);
+    v2 = load64(m, v0 + 8ull, 0);
+    v3 = w0 - v2;
+after2:;
+    v2 = v2 + v1;
+    store64(m, v0 + 8ull, 0, v2);
+    if (v1 < v3) { goto after4; }
+    p70 = held(m, v0 + 16ull, 80);
+    v4 = (u32)v2;
+    w1 = ((u64)((u32)((held32(p70, 0, m, v0 + 16ull) ^ 0x80000000u) > (v4 ^ 0x80000000u)))) +
+        ((u64)((u32)((held32(p70, 4, m, v0 + 16ull) ^ 0x80000000u) > (v4 ^ 0x80000000u))));
+    w1 = (w1 + ((u64)((u32)((held32(p70, 8, m, v0 + 16ull) ^ 0x80000000u) > (v4 ^ 0x80000000u))))) +
+        ((u64)((u32)((held32(p70, 12, m, v0 + 16ull) ^ 0x80000000u) > (v4 ^ 0x80000000u))));
+    w1 = (w1 + ((u64)((u32)((held32(p70, 16, m, v0 + 16ull) ^ 0x80000000u) > (v4 ^ 0x80000000u))))) +
+        ((u64)((u32)((held32(p70, 20, m, v0 + 16ull) ^ 0x80000000u) > (v4 ^ 0x80000000u))));
+    w1 = (w1 + ((u64)((u32)((held32(p70, 24, m, v0 + 16ull) ^ 0x80000000u) > (v4 ^ 0x80000000u))))) +
+        ((u64)((u32)((held32(p70, 28, m, v0 + 16ull) ^ 0x80000000u) > (v4 ^ 0x80000000u))));
+    w1 = (w1 + ((u64)((u32)((held32(p70, 32, m, v0 + 16ull) ^ 0x80000000u) > (v4 ^ 0x80000000u))))) +
+        ((u64)((u32)((held32(p70, 36, m, v0 + 16ull) ^ 0x80000000u) > (v4 ^ 0x80000000u))));
+    w1 = (w1 + ((u64)((u32)((held32(p70, 40, m, v0 + 16ull) ^ 0x80000000u) > (v4 ^ 0x80000000u))))) +
+        ((u64)((u32)((held32(p70, 44, m, v0 + 16ull) ^ 0x80000000u) > (v4 ^ 0x80000000u))));
+    w1 = (w1 + ((u64)((u32)((held32(p70, 48, m, v0 + 16ull) ^ 0x80000000u) > (v4 ^ 0x80000000u))))) +
+        ((u64)((u32)((held32(p70, 52, m, v0 + 16ull) ^ 0x80000000u) > (v4 ^ 0x80000000u))));
+    w1 = (w1 + ((u64)((u32)((held32(p70, 56, m, v0 + 16ull) ^ 0x80000000u) > (v4 ^ 0x80000000u))))) +
+        ((u64)((u32)((held32(p70, 60, m, v0 + 16ull) ^ 0x80000000u) > (v4 ^ 0x80000000u))));
+    put_held64(p70, 72, m, v0 + 16ull, w1);
+after4:;
+    return;
+}
+
+static void tlv_core_progress_Progress_take(struct call *m, u64 v0, u64 v1, u32 v2)
+{
+    u64 v3 = 0;
+    u64 v4 = 0;
+    u64 v5 = 0;
+    u64 v6 = 0;
+    u64 v14 = 0;
+    u64 v15 = 0;
+    u32 v7 = 0;
+    u32 v8 = 0;
+    u32 v9 = 0;
+    u32 v10 = 0;
+    u32 v11 = 0;
+    u32 v12 = 0;
+    u32 v13 = 0;
+    u64 w1 = 0;
+    u8 *f15 = NULL;
+    u8 *p42 = NULL;
+    u8 *p108 = NULL;
+    u8 *p251 = NULL;
+    u8 *p274 = NULL;
+    u8 *p313 = NULL;
+    u8 *p328 = NULL;
+    u8 *p368 = NULL;
+    v15 = m->g0 - 32ull;
+    f15 = at(m, v15, 32);
+    v3 = v15;
+    m->g0 = v3;
+    put32(f15 + 24, 0u);
+    put64(f15 + 16, 0ull);
+    put64(f15 + 8, 0ull);
+    tlv_core_progress_Progress_next(m, v15 + 8ull, v1, v2);
+    if (get8(f15 + 8)) { goto after3; }
+    v4 = load64(m, v1 + 88ull, 0);
+    if (v4 != 0ull) { goto after5; }
+    p42 = held(m, v1, 16);
+    v5 = held64(p42, 8, m, v1);
+    v6 = held64(p42, 0, m, v1) - v5;
+    goto after4;
+after5:;
+    v5 = load64(m, v1 + 8ull, 0);
+    v6 = (u64)load32(m, (v1 + (v4 << 2)) + 12ull, 0) - v5;
+after4:;
+    v7 = get8(f15 + 12);
+    v8 = get32(f15 + 24);
+    v9 = get8(f15 + 23);
+    v10 = get8(f15 + 22);
+    v11 = get8(f15 + 21);
+    v12 = get32(f15 + 17);
+    v13 = get8(f15 + 16);
+    v14 = v5 + 1ull;
+    store64(m, v1 + 8ull, 0, v14);
+    if (v6 > 1ull) { goto after6; }
+    p108 = held(m, v1 + 16ull, 80);
+    v2 = (u32)v14;
+    w1 = ((u64)((u32)((held32(p108, 4, m, v1 + 16ull) ^ 0x80000000u) > (v2 ^ 0x80000000u)))) +
+        ((u64)((u32)((held32(p108, 0, m, v1 + 16ull) ^ 0x80000000u) > (v2 ^ 0x80000000u))));
+    w1 = (w1 + ((u64)((u32)((held32(p108, 8, m, v1 + 16ull) ^ 0x80000000u) > (v2 ^ 0x80000000u))))) +
+        ((u64)((u32)((held32(p108, 12, m, v1 + 16ull) ^ 0x80000000u) > (v2 ^ 0x80000000u))));
+    w1 = (w1 + ((u64)((u32)((held32(p108, 16, m, v1 + 16ull) ^ 0x80000000u) > (v2 ^ 0x80000000u))))) +
+        ((u64)((u32)((held32(p108, 20, m, v1 + 16ull) ^ 0x80000000u) > (v2 ^ 0x80000000u))));
+    w1 = (w1 + ((u64)((u32)((held32(p108, 24, m, v1 + 16ull) ^ 0x80000000u) > (v2 ^ 0x80000000u))))) +
+        ((u64)((u32)((held32(p108, 28, m, v1 + 16ull) ^ 0x80000000u) > (v2 ^ 0x80000000u))));
+    w1 = (w1 + ((u64)((u32)((held32(p108, 32, m, v1 + 16ull) ^ 0x80000000u) > (v2 ^ 0x80000000u))))) +
+        ((u64)((u32)((held32(p108, 36, m, v1 + 16ull) ^ 0x80000000u) > (v2 ^ 0x80000000u))));
+    w1 = (w1 + ((u64)((u32)((held32(p108, 40, m, v1 + 16ull) ^ 0x80000000u) > (v2 ^ 0x80000000u))))) +
+        ((u64)((u32)((held32(p108, 44, m, v1 + 16ull) ^ 0x80000000u) > (v2 ^ 0x80000000u))));
+    w1 = (w1 + ((u64)((u32)((held32(p108, 48, m, v1 + 16ull) ^ 0x80000000u) > (v2 ^ 0x80000000u))))) +
+        ((u64)((u32)((held32(p108, 52, m, v1 + 16ull) ^ 0x80000000u) > (v2 ^ 0x80000000u))));
+    w1 = (w1 + ((u64)((u32)((held32(p108, 56, m, v1 + 16ull) ^ 0x80000000u) > (v2 ^ 0x80000000u))))) +
+        ((u64)((u32)((held32(p108, 60, m, v1 + 16ull) ^ 0x80000000u) > (v2 ^ 0x80000000u))));
+    v4 = w1;
+    put_held64(p108, 72, m, v1 + 16ull, v4);
+after6:;
+    v5 = v1 + 96ull;
+    if (v7 != 1u) { goto after8; }
+    p251 = held(m, v1 + 97ull, 11);
+    put_held32(p251, 7, m, v1 + 97ull, v8);
+    put_held8(p251, 5, m, v1 + 97ull, v10);
+    put_held8(p251, 4, m, v1 + 97ull, v11);
+    put_held32(p251, 0, m, v1 + 97ull, v12);
+    store8(m, v5, 0, v13);
+    goto after7;
+after8:;
+    p274 = held(m, v5, 7);
+    put_held32(p274, 0, m, v5, 0u);
+    put_held32(p274, 3, m, v5, 0u);
+    store32(m, v1 + 104ull, 0, 0u);
+    if (v7 != 2u) { goto after7; }
+    if (v8 == 0) { goto after7; }
+    if ((v13 & 32u) == 0) { goto after9; }
+    store32(m, (v1 + (v4 << 2)) + 16ull, 0, v8 + ((u32)v14));
+    v1 = v1 + 88ull;
+    p313 = held(m, v1, 8);
+    put_held64(p313, 0, m, v1, held64(p313, 0, m, v1) + 1ull);
+    goto after7;
+after9:;
+    store64(m, v1 + 112ull, 0, (u64)v8);
+after7:;
+    p328 = held(m, v0, 20);
+    put_held16(p328, 0, m, v0, 0u);
+    put_held32(p328, 16, m, v0, v8);
+    put_held8(p328, 15, m, v0, v9);
+    put_held8(p328, 14, m, v0, v10);
+    put_held8(p328, 13, m, v0, v11);
+    put_held32(p328, 9, m, v0, v12);
+    put_held8(p328, 8, m, v0, v13);
+    put_held32(p328, 4, m, v0, v7);
+    goto after1;
+after3:;
+    p368 = held(m, v0, 20);
+    put_held8(p368, 0, m, v0, 1u);
+    put_held64(p368, 4, m, v0, 0ull);
+    put_held8(p368, 1, m, v0, get8(f15 + 9));
+    put_held64(p368, 12, m, v0, 0ull);
+    goto after1;
+after1:;
+    m->g0 = v15 + 32ull;
+}
+
+KEPT void tlv_core_short_header_of_few(struct call *m, u64 v0, u64 v1, u64 v2)
+{
+    u64 v3 = 0;
+    u64 v15 = 0;
+    u32 v4 = 0;
+    u32 v5 = 0;
+    u32 v6 = 0;
+    u32 v7 = 0;
+    u32 v8 = 0;
+    u32 v9 = 0;
+    u32 v10 = 0;
+    u32 v11 = 0;
+    u32 v12 = 0;
+    u32 v13 = 0;
+    u32 v14 = 0;
+    u32 t0 = 0;
+    u8 *f15 = NULL;
+    u8 *p87 = NULL;
+    u8 *p214 = NULL;
+    v15 = m->g0 - 16ull;
+    f15 = at(m, v15, 16);
+    v3 = v15;
+    if ((v3 ^ 0x8000000000000000ull) < (16ull ^ 0x8000000000000000ull)) { goto after1; }
+    put64(f15 + 8, 0ull);
+    if (v2 == 0) { goto after2; }
+    copy(m, v15 + 8ull, v1, v2);
+after2:;
+    v4 = get8(f15 + 8);
+    v5 = (u32)((v4 & 31u) == 31u);
+    v6 = get8(f15 + 9);
+    v7 = v5 & ((u32)(((spread32(v6, 8)) ^ 0x80000000u) < (0u ^ 0x80000000u)));
+    v8 = spread32(get8(f15 + 10), 8);
+    if (v7 & ((u32)((v8 ^ 0x80000000u) < (0u ^ 0x80000000u)))) { goto after6; }
+    if (v4 == 0) { goto after6; }
+    v9 = 0u;
+    v10 = 0u;
+    v11 = 0u;
+    v12 = 0u;
+    v13 = 0u;
+    v14 = 0u;
+    if (v5 & ((u32)((v6 & 127u) == 0))) { goto after3; }
+    v1 = (v5 ? 2ull : 1ull) + ((u64)v7);
+    v3 = (v15 + 8ull) | v1;
+    p87 = held(m, v3, 2);
+    v5 = held8(p87, 1, m, v3);
+    v9 = 0u;
+    v10 = 0u;
+    v11 = 0u;
+    v12 = 0u;
+    v13 = 0u;
+    v14 = 0u;
+    v7 = held8(p87, 0, m, v3);
+    switch (v7 + 0xFFFFFF80u) {
+        case 0: goto after3;
+        case 1: goto after8;
+        case 2: goto after10;
+        default: goto after9;
+    }
+after10:;
+    v13 = (v5 << 8) | load8(m, v3 + 2ull, 0);
+    v10 = 2u;
+    goto after7;
+after9:;
+    v9 = 0u;
+    v13 = spread32(v7, 8);
+    if ((v13 ^ 0x80000000u) < (0u ^ 0x80000000u)) { goto after5; }
+    v10 = 0u;
+    goto after7;
+after8:;
+    v13 = v5 & 255u;
+    v10 = 1u;
+after7:;
+    v14 = 1u;
+    v12 = (v4 >> 5) & 1u;
+    v9 = (u32)v1;
+    v11 = (v9 + v10) + 1u;
+    if (v2 >= ((v12 ? 0ull : (((u64)v13) & 65535ull)) + ((u64)v11))) { goto after4; }
+after6:;
+    v9 = 0u;
+after5:;
+    v10 = 0u;
+    v11 = 0u;
+    v12 = 0u;
+    v13 = 0u;
+    v14 = 0u;
+    goto after3;
+after4:;
+    t0 = (((v6 << 8) | v4) | ((v8 & 255u) << 16)) & ((0xFFFFFFFFu << ((v9 << 3) & 31)) ^ 0xFFFFFFFFu);
+    v9 = t0 | (v9 << 24);
+after3:;
+    p214 = held(m, v0, 12);
+    put_held16(p214, 0, m, v0, v14);
+    put_held16(p214, 10, m, v0, v13);
+    put_held8(p214, 9, m, v0, 0u);
+    put_held8(p214, 8, m, v0, v12);
+    put_held8(p214, 7, m, v0, v11);
+    put_held8(p214, 6, m, v0, v10);
+    put_held32(p214, 2, m, v0, v9);
+    return;
+after1:;
+    UNREACHABLE;
+}
+
+static void tlv_core_progress_Progress_next(struct call *m, u64 v0, u64 v1, u32 v2)
+{
+    u64 v5 = 0;
+    u64 v6 = 0;
+    u64 v10 = 0;
+    u64 v11 = 0;
+    u64 v12 = 0;
+    u32 v3 = 0;
+    u32 v4 = 0;
+    u32 v7 = 0;
+    u32 v8 = 0;
+    u32 v9 = 0;
+    u32 v13 = 0;
+    u32 v14 = 0;
+    u8 *p35 = NULL;
+    u8 *p215 = NULL;
+    u8 *p317 = NULL;
+    u8 *p459 = NULL;
+    u8 *p462 = NULL;
+    u8 *p479 = NULL;
+    u8 *p499 = NULL;
+    v3 = load8(m, v1 + 96ull, 0);
+    if (v3) { goto after10; }
+    v4 = v2 & 255u;
+    if (v4 == 0) { goto after9; }
+    if (load64(m, v1 + 88ull, 0) != 16ull) { goto after9; }
+    p35 = held(m, v0, 20);
+    put_held16(p35, 0, m, v0, 1u);
+    put_held64(p35, 4, m, v0, 0ull);
+    put_held64(p35, 12, m, v0, 0ull);
+    return;
+after10:;
+    v4 = load32(m, v1 + 97ull, 0);
+    v5 = (u64)v4;
+    switch (v3 + 0xFFFFFFFFu) {
+        case 1: goto after7;
+        case 2: goto after6;
+        case 3: goto after5;
+        default: goto after8;
+    }
+after9:;
+    v6 = 0ull;
+    if (v4) { goto after11; }
+    v7 = 0u;
+    v4 = 0u;
+    v5 = 0ull;
+    v3 = 0u;
+    goto after4;
+after11:;
+    v7 = 0u;
+    v3 = (u32)((v2 & 31u) == 31u);
+    v4 = (v3 ? 0u : 0x1000000u) | (v2 & 255u);
+    v5 = v3 ? 1ull : 3ull;
+    v3 = 1u;
+    goto after4;
+after8:;
+    if ((v2 & 127u) == 0) { goto after3; }
+    v7 = 0u;
+    v3 = (u32)(((spread32(v2, 8)) ^ 0x80000000u) > (0xFFFFFFFFu ^ 0x80000000u));
+    v4 = (v4 & 255u) | ((v3 ? 0x2000000u : 0u) | ((v2 & 255u) << 8));
+    v5 = v3 ? 3ull : 2ull;
+    v3 = 1u;
+    v6 = 0ull;
+    goto after4;
+after7:;
+    v7 = 0u;
+    if (((spread32(v2, 8)) ^ 0x80000000u) < (0u ^ 0x80000000u)) { goto after3; }
+    v4 = ((v4 & 65535u) | ((v2 & 255u) << 16)) | 0x3000000u;
+    v3 = 1u;
+    v5 = 3ull;
+    v6 = 0ull;
+    goto after4;
+after6:;
+    if (((spread32(v2, 8)) ^ 0x80000000u) < (0u ^ 0x80000000u)) { goto after12; }
+    v4 = v4 >> 8;
+    v7 = v2 & 255u;
+    v3 = 2u;
+    v6 = 0ull;
+    goto after4;
+after12:;
+    if (((v2 + 127u) & 255u) > 3u) { goto after3; }
+    v6 = (((u64)v2) & 7ull) << 40;
+    v5 = ((v5 << 8) | v6) | 4ull;
+    v3 = 1u;
+    v7 = 0u;
+    goto after4;
+after5:;
+    p215 = held(m, v1 + 101ull, 7);
+    v7 = held8(p215, 0, m, v1 + 101ull);
+    v6 = ((u64)v7) & 255ull;
+    v8 = held32(p215, 3, m, v1 + 101ull);
+    v3 = 1u;
+    v9 = held8(p215, 1, m, v1 + 101ull) + 1u;
+    if ((v9 & 255u) != (v7 & 255u)) { goto after14; }
+    v7 = v4 & 255u;
+    v4 = (u32)(((v6 << 32) | v5) >> 8);
+    v3 = 2u;
+    v5 = (u64)v7;
+    goto after13;
+after14:;
+    v5 = (((((u64)v9) & 255ull) << 48) | (v6 << 40)) | 4ull;
+after13:;
+    v7 = (v8 << 8) | (v2 & 255u);
+    v6 = v5 & 0xFFFF0000000000ull;
+    v4 = v4 | ((u32)(v5 >> 8));
+after4:;
+    v10 = v6 >> 48;
+    v11 = v6 >> 40;
+    v6 = load64(m, v1 + 88ull, 0);
+    if (v6 != 0ull) { goto after16; }
+    p317 = held(m, v1, 16);
+    v12 = held64(p317, 0, m, v1) - held64(p317, 8, m, v1);
+    goto after15;
+after16:;
+    v12 = (u64)load32(m, (v1 + (v6 << 2)) + 12ull, 0) - load64(m, v1 + 8ull, 0);
+after15:;
+    v9 = (u32)v10;
+    v13 = (u32)v11;
+    v8 = (u32)v5;
+    v1 = 0ull;
+    switch (v3) {
+        case 1: goto after19;
+        case 2: goto after18;
+        default: goto after17;
+    }
+after19:;
+    switch ((u32)(((u64)v8) & 255ull)) {
+        case 1: goto after22;
+        case 2: goto after22;
+        case 3: goto after21;
+        case 4: goto after20;
+        default: goto after17;
+    }
+after22:;
+    v1 = 2ull;
+    goto after17;
+after21:;
+    v1 = 1ull;
+    goto after17;
+after20:;
+    v1 = 1ull;
+    v2 = v13 - v9;
+    v10 = (u64)v2;
+    switch ((u32)(v10 & 255ull)) {
+        case 0: goto after23;
+        case 1: goto after25;
+        default: goto after24;
+    }
+after25:;
+    v1 = 256ull;
+    goto after23;
+after24:;
+    v2 = v2 & 255u;
+    v1 = 256ull;
+    v5 = 1ull;
+again26:;
+    v5 = ((v2 & 1u) ? v1 : 1ull) * v5;
+    v14 = (u32)(v2 > 3u);
+    v1 = v1 * v1;
+    v2 = v2 >> 1;
+    if (v14) { goto again26; }
+    v1 = v5 * v1;
+after23:;
+    v1 = (v1 * ((u64)v7)) + (v10 & 255ull);
+    goto after17;
+after18:;
+    v1 = (u64)v7;
+after17:;
+    v5 = v0 + 4ull;
+    if (v12 > v1) { goto after2; }
+    p459 = held(m, v0, 2);
+    put_held8(p459, 0, m, v0, 1u);
+    p462 = held(m, v5, 16);
+    put_held64(p462, 0, m, v5, 0ull);
+    put_held64(p462, 8, m, v5, 0ull);
+    put_held8(p459, 1, m, v0, (v6 == 0) ? 5u : 4u);
+    return;
+after3:;
+    p479 = held(m, v0, 20);
+    put_held8(p479, 0, m, v0, 1u);
+    put_held64(p479, 4, m, v0, 0ull);
+    put_held8(p479, 1, m, v0, v3);
+    put_held64(p479, 12, m, v0, 0ull);
+    return;
+after2:;
+    p499 = held(m, v0, 20);
+    put_held16(p499, 0, m, v0, 0u);
+    put_held32(p499, 16, m, v0, v7);
+    put_held8(p499, 15, m, v0, 0u);
+    put_held8(p499, 14, m, v0, v9);
+    put_held8(p499, 13, m, v0, v13);
+    put_held32(p499, 9, m, v0, v4);
+    put_held8(p499, 8, m, v0, v8);
+    store32(m, v5, 0, v3);
+    return;
 }
 
 static void c_lent_lent_card_turn(struct call *m, u64 v0, u64 v1, u64 v2, u64 v3, u64 v4, u64 v5, u64 v6, u64 v7, u64
@@ -7401,763 +8295,6 @@ after1:;
     m->g0 = v26 + 464ull;
 }
 
-static void tlv_core_progress_Progress_next(struct call *m, u64 v0, u64 v1, u32 v2)
-{
-    u64 v5 = 0;
-    u64 v6 = 0;
-    u64 v10 = 0;
-    u64 v11 = 0;
-    u64 v12 = 0;
-    u32 v3 = 0;
-    u32 v4 = 0;
-    u32 v7 = 0;
-    u32 v8 = 0;
-    u32 v9 = 0;
-    u32 v13 = 0;
-    u32 v14 = 0;
-    u8 *p35 = NULL;
-    u8 *p215 = NULL;
-    u8 *p317 = NULL;
-    u8 *p459 = NULL;
-    u8 *p462 = NULL;
-    u8 *p479 = NULL;
-    u8 *p499 = NULL;
-    v3 = load8(m, v1 + 96ull, 0);
-    if (v3) { goto after10; }
-    v4 = v2 & 255u;
-    if (v4 == 0) { goto after9; }
-    if (load64(m, v1 + 88ull, 0) != 16ull) { goto after9; }
-    p35 = held(m, v0, 20);
-    put_held16(p35, 0, m, v0, 1u);
-    put_held64(p35, 4, m, v0, 0ull);
-    put_held64(p35, 12, m, v0, 0ull);
-    return;
-after10:;
-    v4 = load32(m, v1 + 97ull, 0);
-    v5 = (u64)v4;
-    switch (v3 + 0xFFFFFFFFu) {
-        case 1: goto after7;
-        case 2: goto after6;
-        case 3: goto after5;
-        default: goto after8;
-    }
-after9:;
-    v6 = 0ull;
-    if (v4) { goto after11; }
-    v7 = 0u;
-    v4 = 0u;
-    v5 = 0ull;
-    v3 = 0u;
-    goto after4;
-after11:;
-    v7 = 0u;
-    v3 = (u32)((v2 & 31u) == 31u);
-    v4 = (v3 ? 0u : 0x1000000u) | (v2 & 255u);
-    v5 = v3 ? 1ull : 3ull;
-    v3 = 1u;
-    goto after4;
-after8:;
-    if ((v2 & 127u) == 0) { goto after3; }
-    v7 = 0u;
-    v3 = (u32)(((spread32(v2, 8)) ^ 0x80000000u) > (0xFFFFFFFFu ^ 0x80000000u));
-    v4 = (v4 & 255u) | ((v3 ? 0x2000000u : 0u) | ((v2 & 255u) << 8));
-    v5 = v3 ? 3ull : 2ull;
-    v3 = 1u;
-    v6 = 0ull;
-    goto after4;
-after7:;
-    v7 = 0u;
-    if (((spread32(v2, 8)) ^ 0x80000000u) < (0u ^ 0x80000000u)) { goto after3; }
-    v4 = ((v4 & 65535u) | ((v2 & 255u) << 16)) | 0x3000000u;
-    v3 = 1u;
-    v5 = 3ull;
-    v6 = 0ull;
-    goto after4;
-after6:;
-    if (((spread32(v2, 8)) ^ 0x80000000u) < (0u ^ 0x80000000u)) { goto after12; }
-    v4 = v4 >> 8;
-    v7 = v2 & 255u;
-    v3 = 2u;
-    v6 = 0ull;
-    goto after4;
-after12:;
-    if (((v2 + 127u) & 255u) > 3u) { goto after3; }
-    v6 = (((u64)v2) & 7ull) << 40;
-    v5 = ((v5 << 8) | v6) | 4ull;
-    v3 = 1u;
-    v7 = 0u;
-    goto after4;
-after5:;
-    p215 = held(m, v1 + 101ull, 7);
-    v7 = held8(p215, 0, m, v1 + 101ull);
-    v6 = ((u64)v7) & 255ull;
-    v8 = held32(p215, 3, m, v1 + 101ull);
-    v3 = 1u;
-    v9 = held8(p215, 1, m, v1 + 101ull) + 1u;
-    if ((v9 & 255u) != (v7 & 255u)) { goto after14; }
-    v7 = v4 & 255u;
-    v4 = (u32)(((v6 << 32) | v5) >> 8);
-    v3 = 2u;
-    v5 = (u64)v7;
-    goto after13;
-after14:;
-    v5 = (((((u64)v9) & 255ull) << 48) | (v6 << 40)) | 4ull;
-after13:;
-    v7 = (v8 << 8) | (v2 & 255u);
-    v6 = v5 & 0xFFFF0000000000ull;
-    v4 = v4 | ((u32)(v5 >> 8));
-after4:;
-    v10 = v6 >> 48;
-    v11 = v6 >> 40;
-    v6 = load64(m, v1 + 88ull, 0);
-    if (v6 != 0ull) { goto after16; }
-    p317 = held(m, v1, 16);
-    v12 = held64(p317, 0, m, v1) - held64(p317, 8, m, v1);
-    goto after15;
-after16:;
-    v12 = (u64)load32(m, (v1 + (v6 << 2)) + 12ull, 0) - load64(m, v1 + 8ull, 0);
-after15:;
-    v9 = (u32)v10;
-    v13 = (u32)v11;
-    v8 = (u32)v5;
-    v1 = 0ull;
-    switch (v3) {
-        case 1: goto after19;
-        case 2: goto after18;
-        default: goto after17;
-    }
-after19:;
-    switch ((u32)(((u64)v8) & 255ull)) {
-        case 1: goto after22;
-        case 2: goto after22;
-        case 3: goto after21;
-        case 4: goto after20;
-        default: goto after17;
-    }
-after22:;
-    v1 = 2ull;
-    goto after17;
-after21:;
-    v1 = 1ull;
-    goto after17;
-after20:;
-    v1 = 1ull;
-    v2 = v13 - v9;
-    v10 = (u64)v2;
-    switch ((u32)(v10 & 255ull)) {
-        case 0: goto after23;
-        case 1: goto after25;
-        default: goto after24;
-    }
-after25:;
-    v1 = 256ull;
-    goto after23;
-after24:;
-    v2 = v2 & 255u;
-    v1 = 256ull;
-    v5 = 1ull;
-again26:;
-    v5 = ((v2 & 1u) ? v1 : 1ull) * v5;
-    v14 = (u32)(v2 > 3u);
-    v1 = v1 * v1;
-    v2 = v2 >> 1;
-    if (v14) { goto again26; }
-    v1 = v5 * v1;
-after23:;
-    v1 = (v1 * ((u64)v7)) + (v10 & 255ull);
-    goto after17;
-after18:;
-    v1 = (u64)v7;
-after17:;
-    v5 = v0 + 4ull;
-    if (v12 > v1) { goto after2; }
-    p459 = held(m, v0, 2);
-    put_held8(p459, 0, m, v0, 1u);
-    p462 = held(m, v5, 16);
-    put_held64(p462, 0, m, v5, 0ull);
-    put_held64(p462, 8, m, v5, 0ull);
-    put_held8(p459, 1, m, v0, (v6 == 0) ? 5u : 4u);
-    return;
-after3:;
-    p479 = held(m, v0, 20);
-    put_held8(p479, 0, m, v0, 1u);
-    put_held64(p479, 4, m, v0, 0ull);
-    put_held8(p479, 1, m, v0, v3);
-    put_held64(p479, 12, m, v0, 0ull);
-    return;
-after2:;
-    p499 = held(m, v0, 20);
-    put_held16(p499, 0, m, v0, 0u);
-    put_held32(p499, 16, m, v0, v7);
-    put_held8(p499, 15, m, v0, 0u);
-    put_held8(p499, 14, m, v0, v9);
-    put_held8(p499, 13, m, v0, v13);
-    put_held32(p499, 9, m, v0, v4);
-    put_held8(p499, 8, m, v0, v8);
-    store32(m, v5, 0, v3);
-    return;
-}
-
-static void tlv_core_checking_Checking_feed(struct call *m, u64 v0, u64 v1, u64 v2, u64 v3)
-{
-    u64 v4 = 0;
-    u64 v5 = 0;
-    u64 v6 = 0;
-    u64 v7 = 0;
-    u64 v8 = 0;
-    u64 v9 = 0;
-    u64 v10 = 0;
-    u64 v11 = 0;
-    u64 v14 = 0;
-    u64 v15 = 0;
-    u64 v16 = 0;
-    u64 v17 = 0;
-    u64 v18 = 0;
-    u64 v20 = 0;
-    u64 v21 = 0;
-    u64 v37 = 0;
-    u32 v12 = 0;
-    u32 v13 = 0;
-    u32 v19 = 0;
-    u32 v22 = 0;
-    u32 v23 = 0;
-    u32 v24 = 0;
-    u32 v25 = 0;
-    u32 v26 = 0;
-    u32 v27 = 0;
-    u32 v28 = 0;
-    u32 v29 = 0;
-    u32 v30 = 0;
-    u32 v31 = 0;
-    u32 v32 = 0;
-    u32 v33 = 0;
-    u32 v34 = 0;
-    u32 v35 = 0;
-    u32 v36 = 0;
-    u32 t2 = 0;
-    u64 w1 = 0;
-    u8 *f37 = NULL;
-    u8 *p200 = NULL;
-    u8 *p299 = NULL;
-    u8 *p345 = NULL;
-    u8 *p692 = NULL;
-    u8 *p714 = NULL;
-    u8 *p729 = NULL;
-    u8 *p750 = NULL;
-    u8 *p759 = NULL;
-    v37 = m->g0 - 112ull;
-    f37 = at(m, v37, 112);
-    v4 = v37;
-    m->g0 = v4;
-    if (load8(m, v1 + 120ull, 0) == 1u) { goto after2; }
-    if (v3 == 0) { goto after5; }
-    v5 = v37 + 16ull;
-    v6 = v37 + 12ull;
-    v7 = 0ull;
-again6:;
-    v8 = v3 - v7;
-    v9 = load64(m, v1 + 112ull, 0);
-    if (v9 == 0) { goto after8; }
-    v10 = (v8 < v9) ? v8 : v9;
-    tlv_core_progress_Progress_skip(m, v1, v10);
-    goto after7;
-after8:;
-    v11 = v2 + v7;
-    if (v8 < 2ull) { goto after11; }
-    if ((load8(m, v1 + 96ull, 0) & 255u) == 0) { goto after10; }
-after11:;
-    put64(f37 + 8, 0ull);
-    put64(f37, 0ull);
-    put32(f37 + 16, 0u);
-    t2 = load8(m, v11, 0);
-    tlv_core_progress_Progress_take(m, v37, v1, t2);
-    v12 = get8(f37);
-    v13 = v12 ? get8(f37 + 1) : 0u;
-    goto after9;
-after10:;
-    copy(m, v37, v1, 96ull);
-    v9 = get64(f37 + 88);
-    if (v9 > 15ull) { goto after12; }
-    v14 = get64(f37 + 8);
-    v15 = get64(f37);
-    v16 = v8;
-    v10 = 0ull;
-again14:;
-    v17 = v11 + v10;
-    if (v9 != 0ull) { goto after16; }
-    put32(f37 + 104, 0u);
-    put64(f37 + 96, 0ull);
-    if (v16 < 8ull) { goto after18; }
-    v12 = load8(m, v17, 0);
-    if ((v12 & 31u) == 31u) { goto after20; }
-    if (v12 == 0) { goto after13; }
-    v18 = 1ull;
-    goto after19;
-after20:;
-    v19 = spread32(load8(m, v17, 1), 8);
-    if ((v19 ^ 0x80000000u) > (0xFFFFFFFFu ^ 0x80000000u)) { goto after21; }
-    if (v19 == 0xFFFFFF80u) { goto after13; }
-    if ((spread32(load8(m, v17, 2), 8) ^ 0x80000000u) <= (0xFFFFFFFFu ^ 0x80000000u)) { goto after13; }
-    v18 = 3ull;
-    goto after19;
-after21:;
-    if (v19 == 0) { goto after13; }
-    v18 = 2ull;
-after19:;
-    v20 = 1ull;
-    v21 = v17 + v18;
-    p200 = held(m, v21, 2);
-    v17 = (u64)held8(p200, 1, m, v21);
-    v19 = held8(p200, 0, m, v21);
-    switch (v19 + 0xFFFFFF80u) {
-        case 0: goto after13;
-        case 1: goto after22;
-        case 2: goto after24;
-        default: goto after23;
-    }
-after24:;
-    v20 = 2ull;
-    v17 = (v17 << 8) | (u64)load8(m, v21 + 2ull, 0);
-    goto after22;
-after23:;
-    if (((spread32(v19, 8)) ^ 0x80000000u) < (0u ^ 0x80000000u)) { goto after13; }
-    v17 = (u64)v19;
-    v20 = 0ull;
-after22:;
-    v12 = (v12 & 32u) >> 5;
-    v18 = (v18 + v20) + 1ull;
-    if (v16 >= ((v12 ? 0ull : v17) + v18)) { goto after17; }
-    goto after13;
-after18:;
-    tlv_core_short_header_of_few(m, v37 + 96ull, v17, v16);
-    if (get8(f37 + 96) != 1u) { goto after13; }
-    v17 = (u64)get16(f37 + 106);
-    v18 = (u64)get8(f37 + 103);
-    v12 = get8(f37 + 104);
-after17:;
-    v17 = v18 + v17;
-    v16 = v15;
-    goto after15;
-after16:;
-    put32(f37 + 104, 0u);
-    put64(f37 + 96, 0ull);
-    if (v16 < 8ull) { goto after26; }
-    p299 = held(m, v17, 3);
-    v19 = held8(p299, 0, m, v17);
-    v12 = (u32)((v19 & 31u) == 31u);
-    v13 = held8(p299, 1, m, v17);
-    v22 = v12 & ((u32)(((spread32(v13, 8)) ^ 0x80000000u) < (0u ^ 0x80000000u)));
-    if (v22 & ((u32)((spread32(held8(p299, 2, m, v17), 8) ^ 0x80000000u) < (0u ^ 0x80000000u)))) { goto after13; }
-    if (v19 == 0) { goto after13; }
-    if (v12 & ((u32)((v13 & 127u) == 0))) { goto after13; }
-    v18 = 1ull;
-    v21 = (v12 ? 2ull : 1ull) + ((u64)v22);
-    v20 = v17 + v21;
-    p345 = held(m, v20, 2);
-    v17 = (u64)held8(p345, 1, m, v20);
-    v12 = held8(p345, 0, m, v20);
-    switch (v12 + 0xFFFFFF80u) {
-        case 0: goto after13;
-        case 1: goto after27;
-        case 2: goto after29;
-        default: goto after28;
-    }
-after29:;
-    v18 = 2ull;
-    v17 = (v17 << 8) | (u64)load8(m, v20 + 2ull, 0);
-    goto after27;
-after28:;
-    if (((spread32(v12, 8)) ^ 0x80000000u) < (0u ^ 0x80000000u)) { goto after13; }
-    v17 = (u64)v12;
-    v18 = 0ull;
-after27:;
-    v12 = (v19 & 32u) >> 5;
-    v18 = (v21 + v18) + 1ull;
-    if (v16 >= ((v12 ? 0ull : v17) + v18)) { goto after25; }
-    goto after13;
-after26:;
-    tlv_core_short_header_of_few(m, v37 + 96ull, v17, v16);
-    if (get8(f37 + 96) != 1u) { goto after13; }
-    v17 = (u64)get16(f37 + 106);
-    v18 = (u64)get8(f37 + 103);
-    v12 = get8(f37 + 104);
-after25:;
-    v17 = v18 + v17;
-    v16 = (u64)load32(m, v6 + (v9 << 2), 0);
-after15:;
-    if ((v16 - v14) < v17) { goto after13; }
-    v16 = (v12 & 1u) ? v18 : v17;
-    if (v9 != 0ull) { goto after31; }
-    if (v16 != v17) { goto after31; }
-    v14 = v17 + v14;
-    v9 = 0ull;
-    goto after30;
-after31:;
-    v19 = get32(f37 + 76);
-    v13 = get32(f37 + 72);
-    v22 = get32(f37 + 68);
-    v23 = get32(f37 + 64);
-    v24 = get32(f37 + 60);
-    v25 = get32(f37 + 56);
-    v26 = get32(f37 + 52);
-    v27 = get32(f37 + 48);
-    v28 = get32(f37 + 44);
-    v29 = get32(f37 + 40);
-    v30 = get32(f37 + 36);
-    v31 = get32(f37 + 32);
-    v32 = get32(f37 + 28);
-    v33 = get32(f37 + 24);
-    v34 = get32(f37 + 20);
-    v35 = get32(f37 + 16);
-    v36 = (u32)(v16 < v17);
-    store32(m, v5 + (v36 ? (v9 << 2) : 64ull), 0, (u32)(v17 + v14));
-    v14 = v16 + v14;
-    v12 = (u32)v14;
-    w1 = ((u64)((u32)((v34 ^ 0x80000000u) > (v12 ^ 0x80000000u)))) + ((u64)((u32)((v35 ^ 0x80000000u) > (v12 ^
-        0x80000000u))));
-    w1 = (w1 + ((u64)((u32)((v33 ^ 0x80000000u) > (v12 ^ 0x80000000u))))) + ((u64)((u32)((v32 ^ 0x80000000u) > (v12 ^
-        0x80000000u))));
-    w1 = (w1 + ((u64)((u32)((v31 ^ 0x80000000u) > (v12 ^ 0x80000000u))))) + ((u64)((u32)((v30 ^ 0x80000000u) > (v12 ^
-        0x80000000u))));
-    w1 = (w1 + ((u64)((u32)((v29 ^ 0x80000000u) > (v12 ^ 0x80000000u))))) + ((u64)((u32)((v28 ^ 0x80000000u) > (v12 ^
-        0x80000000u))));
-    w1 = (w1 + ((u64)((u32)((v27 ^ 0x80000000u) > (v12 ^ 0x80000000u))))) + ((u64)((u32)((v26 ^ 0x80000000u) > (v12 ^
-        0x80000000u))));
-    w1 = (w1 + ((u64)((u32)((v25 ^ 0x80000000u) > (v12 ^ 0x80000000u))))) + ((u64)((u32)((v24 ^ 0x80000000u) > (v12 ^
-        0x80000000u))));
-    w1 = (w1 + ((u64)((u32)((v23 ^ 0x80000000u) > (v12 ^ 0x80000000u))))) + ((u64)((u32)((v22 ^ 0x80000000u) > (v12 ^
-        0x80000000u))));
-    w1 = (w1 + ((u64)((u32)((v13 ^ 0x80000000u) > (v12 ^ 0x80000000u))))) + ((u64)((u32)((v19 ^ 0x80000000u) > (v12 ^
-        0x80000000u))));
-    v9 = v36 ? (get64(f37 + 88) + 1ull) : w1;
-after30:;
-    put64(f37 + 8, v14);
-    v10 = v16 + v10;
-    v16 = v8 - v10;
-    put64(f37 + 88, v9);
-    if (v9 < 16ull) { goto again14; }
-after13:;
-    if (v10 == 0) { goto after12; }
-    copy(m, v1, v37, 96ull);
-    goto after7;
-after12:;
-    put64(f37 + 8, 0ull);
-    put64(f37, 0ull);
-    put32(f37 + 16, 0u);
-    t2 = load8(m, v11, 0);
-    tlv_core_progress_Progress_take(m, v37, v1, t2);
-    v12 = get8(f37);
-    v13 = v12 ? get8(f37 + 1) : 0u;
-after9:;
-    v19 = (u32)(v12 == 0);
-    if (v12) { goto after4; }
-    v10 = (u64)v19;
-after7:;
-    v7 = v10 + v7;
-    if (v7 < v3) { goto again6; }
-after5:;
-    p692 = held(m, v0, 25);
-    put_held8(p692, 0, m, v0, 0u);
-    put_held64(p692, 8, m, v0, 0ull);
-    put_held64(p692, 16, m, v0, 0ull);
-    put_held8(p692, 24, m, v0, 0u);
-    goto after1;
-after4:;
-    p714 = held(m, v1 + 8ull, 114);
-    put_held8(p714, 113, m, v1 + 8ull, v13);
-    put_held8(p714, 112, m, v1 + 8ull, 1u);
-    v9 = held64(p714, 0, m, v1 + 8ull);
-    p729 = held(m, v0, 25);
-    put_held8(p729, 24, m, v0, v13);
-    put_held64(p729, 16, m, v0, v9);
-    put_held64(p729, 8, m, v0, 1ull);
-    put_held8(p729, 0, m, v0, 1u);
-    goto after1;
-after2:;
-    p750 = held(m, v1 + 8ull, 114);
-    v9 = held64(p750, 0, m, v1 + 8ull);
-    p759 = held(m, v0, 25);
-    put_held8(p759, 24, m, v0, held8(p750, 113, m, v1 + 8ull));
-    put_held64(p759, 16, m, v0, v9);
-    put_held64(p759, 8, m, v0, 1ull);
-    put_held8(p759, 0, m, v0, 1u);
-after1:;
-    m->g0 = v37 + 112ull;
-}
-
-static void tlv_core_progress_Progress_skip(struct call *m, u64 v0, u64 v1)
-{
-    u64 v2 = 0;
-    u64 v3 = 0;
-    u32 v4 = 0;
-    u64 w0 = 0;
-    u64 w1 = 0;
-    u8 *p10 = NULL;
-    u8 *p25 = NULL;
-    u8 *p70 = NULL;
-    v2 = v0 + 112ull;
-    p10 = held(m, v2, 8);
-    put_held64(p10, 0, m, v2, held64(p10, 0, m, v2) - v1);
-    v2 = load64(m, v0 + 88ull, 0);
-    if (v2 != 0ull) { goto after3; }
-    p25 = held(m, v0, 16);
-    v2 = held64(p25, 8, m, v0);
-    v3 = held64(p25, 0, m, v0) - v2;
-    goto after2;
-after3:;
-    w0 = (u64)load32(m, (v0 + (v2 << 2)) + 12ull, 0);
-    v2 = load64(m, v0 + 8ull, 0);
-    v3 = w0 - v2;
-after2:;
-    v2 = v2 + v1;
-    store64(m, v0 + 8ull, 0, v2);
-    if (v1 < v3) { goto after4; }
-    p70 = held(m, v0 + 16ull, 80);
-    v4 = (u32)v2;
-    w1 = ((u64)((u32)((held32(p70, 0, m, v0 + 16ull) ^ 0x80000000u) > (v4 ^ 0x80000000u)))) +
-        ((u64)((u32)((held32(p70, 4, m, v0 + 16ull) ^ 0x80000000u) > (v4 ^ 0x80000000u))));
-    w1 = (w1 + ((u64)((u32)((held32(p70, 8, m, v0 + 16ull) ^ 0x80000000u) > (v4 ^ 0x80000000u))))) +
-        ((u64)((u32)((held32(p70, 12, m, v0 + 16ull) ^ 0x80000000u) > (v4 ^ 0x80000000u))));
-    w1 = (w1 + ((u64)((u32)((held32(p70, 16, m, v0 + 16ull) ^ 0x80000000u) > (v4 ^ 0x80000000u))))) +
-        ((u64)((u32)((held32(p70, 20, m, v0 + 16ull) ^ 0x80000000u) > (v4 ^ 0x80000000u))));
-    w1 = (w1 + ((u64)((u32)((held32(p70, 24, m, v0 + 16ull) ^ 0x80000000u) > (v4 ^ 0x80000000u))))) +
-        ((u64)((u32)((held32(p70, 28, m, v0 + 16ull) ^ 0x80000000u) > (v4 ^ 0x80000000u))));
-    w1 = (w1 + ((u64)((u32)((held32(p70, 32, m, v0 + 16ull) ^ 0x80000000u) > (v4 ^ 0x80000000u))))) +
-        ((u64)((u32)((held32(p70, 36, m, v0 + 16ull) ^ 0x80000000u) > (v4 ^ 0x80000000u))));
-    w1 = (w1 + ((u64)((u32)((held32(p70, 40, m, v0 + 16ull) ^ 0x80000000u) > (v4 ^ 0x80000000u))))) +
-        ((u64)((u32)((held32(p70, 44, m, v0 + 16ull) ^ 0x80000000u) > (v4 ^ 0x80000000u))));
-    w1 = (w1 + ((u64)((u32)((held32(p70, 48, m, v0 + 16ull) ^ 0x80000000u) > (v4 ^ 0x80000000u))))) +
-        ((u64)((u32)((held32(p70, 52, m, v0 + 16ull) ^ 0x80000000u) > (v4 ^ 0x80000000u))));
-    w1 = (w1 + ((u64)((u32)((held32(p70, 56, m, v0 + 16ull) ^ 0x80000000u) > (v4 ^ 0x80000000u))))) +
-        ((u64)((u32)((held32(p70, 60, m, v0 + 16ull) ^ 0x80000000u) > (v4 ^ 0x80000000u))));
-    put_held64(p70, 72, m, v0 + 16ull, w1);
-after4:;
-    return;
-}
-
-static void tlv_core_progress_Progress_take(struct call *m, u64 v0, u64 v1, u32 v2)
-{
-    u64 v3 = 0;
-    u64 v4 = 0;
-    u64 v5 = 0;
-    u64 v6 = 0;
-    u64 v14 = 0;
-    u64 v15 = 0;
-    u32 v7 = 0;
-    u32 v8 = 0;
-    u32 v9 = 0;
-    u32 v10 = 0;
-    u32 v11 = 0;
-    u32 v12 = 0;
-    u32 v13 = 0;
-    u64 w1 = 0;
-    u8 *f15 = NULL;
-    u8 *p42 = NULL;
-    u8 *p108 = NULL;
-    u8 *p251 = NULL;
-    u8 *p274 = NULL;
-    u8 *p313 = NULL;
-    u8 *p328 = NULL;
-    u8 *p368 = NULL;
-    v15 = m->g0 - 32ull;
-    f15 = at(m, v15, 32);
-    v3 = v15;
-    m->g0 = v3;
-    put32(f15 + 24, 0u);
-    put64(f15 + 16, 0ull);
-    put64(f15 + 8, 0ull);
-    tlv_core_progress_Progress_next(m, v15 + 8ull, v1, v2);
-    if (get8(f15 + 8)) { goto after3; }
-    v4 = load64(m, v1 + 88ull, 0);
-    if (v4 != 0ull) { goto after5; }
-    p42 = held(m, v1, 16);
-    v5 = held64(p42, 8, m, v1);
-    v6 = held64(p42, 0, m, v1) - v5;
-    goto after4;
-after5:;
-    v5 = load64(m, v1 + 8ull, 0);
-    v6 = (u64)load32(m, (v1 + (v4 << 2)) + 12ull, 0) - v5;
-after4:;
-    v7 = get8(f15 + 12);
-    v8 = get32(f15 + 24);
-    v9 = get8(f15 + 23);
-    v10 = get8(f15 + 22);
-    v11 = get8(f15 + 21);
-    v12 = get32(f15 + 17);
-    v13 = get8(f15 + 16);
-    v14 = v5 + 1ull;
-    store64(m, v1 + 8ull, 0, v14);
-    if (v6 > 1ull) { goto after6; }
-    p108 = held(m, v1 + 16ull, 80);
-    v2 = (u32)v14;
-    w1 = ((u64)((u32)((held32(p108, 4, m, v1 + 16ull) ^ 0x80000000u) > (v2 ^ 0x80000000u)))) +
-        ((u64)((u32)((held32(p108, 0, m, v1 + 16ull) ^ 0x80000000u) > (v2 ^ 0x80000000u))));
-    w1 = (w1 + ((u64)((u32)((held32(p108, 8, m, v1 + 16ull) ^ 0x80000000u) > (v2 ^ 0x80000000u))))) +
-        ((u64)((u32)((held32(p108, 12, m, v1 + 16ull) ^ 0x80000000u) > (v2 ^ 0x80000000u))));
-    w1 = (w1 + ((u64)((u32)((held32(p108, 16, m, v1 + 16ull) ^ 0x80000000u) > (v2 ^ 0x80000000u))))) +
-        ((u64)((u32)((held32(p108, 20, m, v1 + 16ull) ^ 0x80000000u) > (v2 ^ 0x80000000u))));
-    w1 = (w1 + ((u64)((u32)((held32(p108, 24, m, v1 + 16ull) ^ 0x80000000u) > (v2 ^ 0x80000000u))))) +
-        ((u64)((u32)((held32(p108, 28, m, v1 + 16ull) ^ 0x80000000u) > (v2 ^ 0x80000000u))));
-    w1 = (w1 + ((u64)((u32)((held32(p108, 32, m, v1 + 16ull) ^ 0x80000000u) > (v2 ^ 0x80000000u))))) +
-        ((u64)((u32)((held32(p108, 36, m, v1 + 16ull) ^ 0x80000000u) > (v2 ^ 0x80000000u))));
-    w1 = (w1 + ((u64)((u32)((held32(p108, 40, m, v1 + 16ull) ^ 0x80000000u) > (v2 ^ 0x80000000u))))) +
-        ((u64)((u32)((held32(p108, 44, m, v1 + 16ull) ^ 0x80000000u) > (v2 ^ 0x80000000u))));
-    w1 = (w1 + ((u64)((u32)((held32(p108, 48, m, v1 + 16ull) ^ 0x80000000u) > (v2 ^ 0x80000000u))))) +
-        ((u64)((u32)((held32(p108, 52, m, v1 + 16ull) ^ 0x80000000u) > (v2 ^ 0x80000000u))));
-    w1 = (w1 + ((u64)((u32)((held32(p108, 56, m, v1 + 16ull) ^ 0x80000000u) > (v2 ^ 0x80000000u))))) +
-        ((u64)((u32)((held32(p108, 60, m, v1 + 16ull) ^ 0x80000000u) > (v2 ^ 0x80000000u))));
-    v4 = w1;
-    put_held64(p108, 72, m, v1 + 16ull, v4);
-after6:;
-    v5 = v1 + 96ull;
-    if (v7 != 1u) { goto after8; }
-    p251 = held(m, v1 + 97ull, 11);
-    put_held32(p251, 7, m, v1 + 97ull, v8);
-    put_held8(p251, 5, m, v1 + 97ull, v10);
-    put_held8(p251, 4, m, v1 + 97ull, v11);
-    put_held32(p251, 0, m, v1 + 97ull, v12);
-    store8(m, v5, 0, v13);
-    goto after7;
-after8:;
-    p274 = held(m, v5, 7);
-    put_held32(p274, 0, m, v5, 0u);
-    put_held32(p274, 3, m, v5, 0u);
-    store32(m, v1 + 104ull, 0, 0u);
-    if (v7 != 2u) { goto after7; }
-    if (v8 == 0) { goto after7; }
-    if ((v13 & 32u) == 0) { goto after9; }
-    store32(m, (v1 + (v4 << 2)) + 16ull, 0, v8 + ((u32)v14));
-    v1 = v1 + 88ull;
-    p313 = held(m, v1, 8);
-    put_held64(p313, 0, m, v1, held64(p313, 0, m, v1) + 1ull);
-    goto after7;
-after9:;
-    store64(m, v1 + 112ull, 0, (u64)v8);
-after7:;
-    p328 = held(m, v0, 20);
-    put_held16(p328, 0, m, v0, 0u);
-    put_held32(p328, 16, m, v0, v8);
-    put_held8(p328, 15, m, v0, v9);
-    put_held8(p328, 14, m, v0, v10);
-    put_held8(p328, 13, m, v0, v11);
-    put_held32(p328, 9, m, v0, v12);
-    put_held8(p328, 8, m, v0, v13);
-    put_held32(p328, 4, m, v0, v7);
-    goto after1;
-after3:;
-    p368 = held(m, v0, 20);
-    put_held8(p368, 0, m, v0, 1u);
-    put_held64(p368, 4, m, v0, 0ull);
-    put_held8(p368, 1, m, v0, get8(f15 + 9));
-    put_held64(p368, 12, m, v0, 0ull);
-    goto after1;
-after1:;
-    m->g0 = v15 + 32ull;
-}
-
-KEPT void tlv_core_short_header_of_few(struct call *m, u64 v0, u64 v1, u64 v2)
-{
-    u64 v3 = 0;
-    u64 v15 = 0;
-    u32 v4 = 0;
-    u32 v5 = 0;
-    u32 v6 = 0;
-    u32 v7 = 0;
-    u32 v8 = 0;
-    u32 v9 = 0;
-    u32 v10 = 0;
-    u32 v11 = 0;
-    u32 v12 = 0;
-    u32 v13 = 0;
-    u32 v14 = 0;
-    u32 t0 = 0;
-    u8 *f15 = NULL;
-    u8 *p87 = NULL;
-    u8 *p214 = NULL;
-    v15 = m->g0 - 16ull;
-    f15 = at(m, v15, 16);
-    v3 = v15;
-    if ((v3 ^ 0x8000000000000000ull) < (16ull ^ 0x8000000000000000ull)) { goto after1; }
-    put64(f15 + 8, 0ull);
-    if (v2 == 0) { goto after2; }
-    copy(m, v15 + 8ull, v1, v2);
-after2:;
-    v4 = get8(f15 + 8);
-    v5 = (u32)((v4 & 31u) == 31u);
-    v6 = get8(f15 + 9);
-    v7 = v5 & ((u32)(((spread32(v6, 8)) ^ 0x80000000u) < (0u ^ 0x80000000u)));
-    v8 = spread32(get8(f15 + 10), 8);
-    if (v7 & ((u32)((v8 ^ 0x80000000u) < (0u ^ 0x80000000u)))) { goto after6; }
-    if (v4 == 0) { goto after6; }
-    v9 = 0u;
-    v10 = 0u;
-    v11 = 0u;
-    v12 = 0u;
-    v13 = 0u;
-    v14 = 0u;
-    if (v5 & ((u32)((v6 & 127u) == 0))) { goto after3; }
-    v1 = (v5 ? 2ull : 1ull) + ((u64)v7);
-    v3 = (v15 + 8ull) | v1;
-    p87 = held(m, v3, 2);
-    v5 = held8(p87, 1, m, v3);
-    v9 = 0u;
-    v10 = 0u;
-    v11 = 0u;
-    v12 = 0u;
-    v13 = 0u;
-    v14 = 0u;
-    v7 = held8(p87, 0, m, v3);
-    switch (v7 + 0xFFFFFF80u) {
-        case 0: goto after3;
-        case 1: goto after8;
-        case 2: goto after10;
-        default: goto after9;
-    }
-after10:;
-    v13 = (v5 << 8) | load8(m, v3 + 2ull, 0);
-    v10 = 2u;
-    goto after7;
-after9:;
-    v9 = 0u;
-    v13 = spread32(v7, 8);
-    if ((v13 ^ 0x80000000u) < (0u ^ 0x80000000u)) { goto after5; }
-    v10 = 0u;
-    goto after7;
-after8:;
-    v13 = v5 & 255u;
-    v10 = 1u;
-after7:;
-    v14 = 1u;
-    v12 = (v4 >> 5) & 1u;
-    v9 = (u32)v1;
-    v11 = (v9 + v10) + 1u;
-    if (v2 >= ((v12 ? 0ull : (((u64)v13) & 65535ull)) + ((u64)v11))) { goto after4; }
-after6:;
-    v9 = 0u;
-after5:;
-    v10 = 0u;
-    v11 = 0u;
-    v12 = 0u;
-    v13 = 0u;
-    v14 = 0u;
-    goto after3;
-after4:;
-    t0 = (((v6 << 8) | v4) | ((v8 & 255u) << 16)) & ((0xFFFFFFFFu << ((v9 << 3) & 31)) ^ 0xFFFFFFFFu);
-    v9 = t0 | (v9 << 24);
-after3:;
-    p214 = held(m, v0, 12);
-    put_held16(p214, 0, m, v0, v14);
-    put_held16(p214, 10, m, v0, v13);
-    put_held8(p214, 9, m, v0, 0u);
-    put_held8(p214, 8, m, v0, v12);
-    put_held8(p214, 7, m, v0, v11);
-    put_held8(p214, 6, m, v0, v10);
-    put_held32(p214, 2, m, v0, v9);
-    return;
-after1:;
-    UNREACHABLE;
-}
-
 static void c_lent_kept_judge_CWatched_of(struct call *m, u64 v0, u64 v1)
 {
     u64 v2 = 0;
@@ -9937,7 +10074,7 @@ after55:;
     put8(f122 + 11, v2);
     put8(f122 + 10, v32);
     put8(f122 + 9, v12);
-    put8(f122 + 8, 1u);
+    put8(f122 + 8, 2u);
 after2:;
     p2444 = held(m, v0, 23);
     put_held16(p2444, 0, m, v0, get16(f122 + 8));
@@ -9995,26 +10132,26 @@ static void judge_core_end_End_got_whole(struct call *m, u64 v0, u64 v1, u64 v2)
     u32 v40 = 0;
     u32 v41 = 0;
     u32 v42 = 0;
-    u8 *p13 = NULL;
-    u8 *p147 = NULL;
-    u8 *p963 = NULL;
-    p13 = held(m, v1, 17);
-    v3 = held8(p13, 16, m, v1);
-    v4 = held8(p13, 15, m, v1);
-    v5 = held8(p13, 14, m, v1);
-    v6 = held8(p13, 13, m, v1);
-    v7 = held16(p13, 11, m, v1);
-    v8 = held8(p13, 10, m, v1);
-    v9 = held8(p13, 9, m, v1);
-    v10 = held8(p13, 8, m, v1);
-    v11 = held8(p13, 7, m, v1);
-    v12 = held8(p13, 6, m, v1);
-    v13 = held8(p13, 5, m, v1);
-    v14 = held8(p13, 4, m, v1);
-    v15 = held8(p13, 3, m, v1);
-    v16 = held8(p13, 2, m, v1);
-    v17 = held8(p13, 1, m, v1);
-    v18 = held8(p13, 0, m, v1);
+    u8 *p16 = NULL;
+    u8 *p150 = NULL;
+    u8 *p997 = NULL;
+    p16 = held(m, v1, 17);
+    v3 = held8(p16, 16, m, v1);
+    v4 = held8(p16, 15, m, v1);
+    v5 = held8(p16, 14, m, v1);
+    v6 = held8(p16, 13, m, v1);
+    v7 = held16(p16, 11, m, v1);
+    v8 = held8(p16, 10, m, v1);
+    v9 = held8(p16, 9, m, v1);
+    v10 = held8(p16, 8, m, v1);
+    v11 = held8(p16, 7, m, v1);
+    v12 = held8(p16, 6, m, v1);
+    v13 = held8(p16, 5, m, v1);
+    v14 = held8(p16, 4, m, v1);
+    v15 = held8(p16, 3, m, v1);
+    v16 = held8(p16, 2, m, v1);
+    v17 = held8(p16, 1, m, v1);
+    v18 = held8(p16, 0, m, v1);
     v19 = 0u;
     v20 = 0u;
     v21 = 0u;
@@ -10036,13 +10173,13 @@ static void judge_core_end_End_got_whole(struct call *m, u64 v0, u64 v1, u64 v2)
     v37 = 0u;
     v38 = 0u;
     switch ((u32)(u64)load8(m, v2, 0)) {
-        case 1: goto after10;
-        case 2: goto after10;
+        case 1: goto after13;
+        case 2: goto after13;
         case 3: goto after1;
         case 4: goto after1;
-        default: goto after11;
+        default: goto after14;
     }
-after11:;
+after14:;
     v36 = 0u;
     v35 = 1u;
     v19 = v18;
@@ -10060,18 +10197,18 @@ after11:;
     v31 = v6;
     v32 = v5;
     v33 = v4;
-    goto after9;
-after10:;
-    p147 = held(m, v2 + 1ull, 4);
-    v39 = held8(p147, 3, m, v2 + 1ull);
-    v40 = held8(p147, 2, m, v2 + 1ull);
-    v41 = held8(p147, 1, m, v2 + 1ull);
-    v42 = held8(p147, 0, m, v2 + 1ull);
+    goto after12;
+after13:;
+    p150 = held(m, v2 + 1ull, 4);
+    v39 = held8(p150, 3, m, v2 + 1ull);
+    v40 = held8(p150, 2, m, v2 + 1ull);
+    v41 = held8(p150, 1, m, v2 + 1ull);
+    v42 = held8(p150, 0, m, v2 + 1ull);
     v19 = 1u;
     v37 = 0u;
-    if ((v18 & 255u) != 1u) { goto after12; }
-    if (v42 != 2u) { goto after12; }
-    if (v41) { goto after12; }
+    if ((v18 & 255u) != 1u) { goto after15; }
+    if (v42 != 2u) { goto after15; }
+    if (v41) { goto after15; }
     v20 = v17;
     v21 = v16;
     v22 = v15;
@@ -10090,10 +10227,10 @@ after10:;
     v35 = 1u;
     v36 = 7u;
     goto after2;
-after12:;
+after15:;
     v35 = 1u;
-    if ((v4 & 1u) == 0) { goto after13; }
-    if (v14 & 255u) { goto after14; }
+    if ((v4 & 1u) == 0) { goto after16; }
+    if (v14 & 255u) { goto after17; }
     v33 = 1u;
     v23 = 0u;
     v19 = v18;
@@ -10115,20 +10252,20 @@ after12:;
     v37 = 0u;
     v38 = 0u;
     switch (v42) {
-        case 1: goto after16;
-        case 2: goto after15;
+        case 1: goto after19;
+        case 2: goto after18;
         case 3: goto after1;
-        default: goto after17;
+        default: goto after20;
     }
-after17:;
+after20:;
     v33 = 1u;
-    if (v15 != 1u) { goto after18; }
+    if (v15 != 1u) { goto after21; }
     v19 = v18;
     v20 = v17;
     v21 = v16;
     v22 = 1u;
     goto after4;
-after18:;
+after21:;
     v19 = v16 & 255u;
     if (v41 != v19) { goto after5; }
     v33 = 1u;
@@ -10150,14 +10287,14 @@ after18:;
     v34 = 0u;
     v35 = 1u;
     goto after3;
-after16:;
+after19:;
     switch (v15) {
-        case 1: goto after22;
-        case 2: goto after20;
-        default: goto after21;
+        case 1: goto after25;
+        case 2: goto after23;
+        default: goto after24;
     }
-after22:;
-    if (v41 != (v17 & 255u)) { goto after19; }
+after25:;
+    if (v41 != (v17 & 255u)) { goto after22; }
     v33 = 1u;
     v22 = 0u;
     v19 = v18;
@@ -10177,7 +10314,7 @@ after22:;
     v35 = 1u;
     v36 = 1u;
     goto after3;
-after21:;
+after24:;
     if (v41 != (v17 & 255u)) { goto after5; }
     if ((v3 & 1u) == 0) { goto after5; }
     v36 = 9u;
@@ -10199,17 +10336,17 @@ after21:;
     v34 = 1u;
     v35 = 1u;
     goto after3;
-after20:;
+after23:;
     if (v41 == (v17 & 255u)) { goto after5; }
-after19:;
+after22:;
     v36 = 3u;
     v19 = v18;
     v20 = v17;
     v21 = v16;
     v22 = v15;
     v24 = v13;
-    goto after7;
-after15:;
+    goto after6;
+after18:;
     v19 = v18;
     v20 = v17;
     v21 = v16;
@@ -10229,12 +10366,12 @@ after15:;
     v37 = v41;
     v38 = 0u;
     switch (v41) {
-        case 1: goto after23;
+        case 1: goto after26;
         case 2: goto after1;
-        case 3: goto after24;
-        default: goto after25;
+        case 3: goto after27;
+        default: goto after28;
     }
-after25:;
+after28:;
     v19 = 1u;
     if ((v18 & 255u) != 1u) { goto after5; }
     v20 = v17;
@@ -10254,9 +10391,9 @@ after25:;
     v35 = 1u;
     v36 = 7u;
     goto after3;
-after24:;
+after27:;
     if (v18 & 255u) { goto after5; }
-after23:;
+after26:;
     v19 = v18;
     v20 = v17;
     v21 = v16;
@@ -10276,85 +10413,28 @@ after23:;
     v37 = v41;
     v38 = v39;
     goto after1;
-after14:;
+after17:;
     switch (v13) {
         case 1: goto after32;
-        case 2: goto after31;
-        case 3: goto after30;
+        case 2: goto after30;
+        case 3: goto after29;
         default: goto after33;
     }
 after33:;
-    if (v42 != 3u) { goto after29; }
-    v33 = 1u;
-    if (v41 != 1u) { goto after29; }
-    if ((v39 & 255u) == (v12 & 255u)) { goto after27; }
     v36 = 6u;
+    v33 = 1u;
     v24 = 0u;
-    v19 = v18;
-    v20 = v17;
-    v21 = v16;
-    v22 = v15;
-    v23 = v14;
-    goto after7;
+    if (v42 != 3u) { goto after7; }
+    if (v41 != 1u) { goto after7; }
+    if ((v39 & 255u) != (v12 & 255u)) { goto after7; }
+    goto after31;
 after32:;
-    if (v42 != 3u) { goto after29; }
-    if (v41 != 3u) { goto after29; }
-    if ((v39 & 255u) == (v12 & 255u)) { goto after27; }
     v36 = 6u;
     v24 = 1u;
-    v19 = v18;
-    v20 = v17;
-    v21 = v16;
-    v22 = v15;
-    v23 = v14;
-    v25 = v12;
-    v26 = v11;
-    v27 = v10;
-    v28 = v9;
-    v29 = v8;
-    v30 = v7;
-    v31 = v6;
-    v32 = v5;
-    v33 = 1u;
-    goto after28;
+    if (v42 != 3u) { goto after9; }
+    if (v41 != 3u) { goto after9; }
+    if ((v39 & 255u) != (v12 & 255u)) { goto after9; }
 after31:;
-    if (v42 != 3u) { goto after29; }
-    if (v41 != 2u) { goto after29; }
-    v36 = 8u;
-    v33 = 1u;
-    v22 = 0u;
-    v19 = v18;
-    v20 = v17;
-    v21 = v16;
-    v23 = 0u;
-    v24 = 0u;
-    v25 = 0u;
-    goto after6;
-after30:;
-    if (v42 != 3u) { goto after29; }
-    if (v41 == 0) { goto after26; }
-after29:;
-    v36 = 6u;
-    v33 = 1u;
-    v19 = v18;
-    v20 = v17;
-    v21 = v16;
-    v22 = v15;
-    v23 = v14;
-    v24 = v13;
-    v25 = v12;
-    v26 = v11;
-    v27 = v10;
-    v28 = v9;
-    v29 = v8;
-    v30 = v7;
-    v31 = v6;
-    v32 = v5;
-after28:;
-    v34 = v3;
-    v35 = 1u;
-    goto after2;
-after27:;
     v33 = 1u;
     v23 = 0u;
     v19 = v18;
@@ -10376,11 +10456,41 @@ after27:;
     v37 = v10;
     v38 = v9;
     goto after1;
-after26:;
+after30:;
+    v36 = 6u;
+    v33 = 1u;
+    v24 = 2u;
+    if (v42 != 3u) { goto after10; }
+    if (v41 != 2u) { goto after10; }
+    v19 = (u32)((v11 & 255u) == 12u);
+    v36 = v19 ? 12u : 8u;
+    v23 = 0u;
+    v22 = v19 ? v15 : 0u;
+    v33 = 1u;
+    v34 = v3 & 1u;
+    v19 = v18;
+    v20 = v17;
+    v21 = v16;
+    v24 = 0u;
+    v25 = 0u;
+    v26 = v11;
+    v27 = v10;
+    v28 = v9;
+    v29 = v8;
+    v30 = v7;
+    v31 = v6;
+    v32 = v5;
+    v35 = 1u;
+    goto after3;
+after29:;
+    v24 = 3u;
+    v36 = 6u;
+    v33 = 1u;
+    if (v42 != 3u) { goto after10; }
+    if (v41) { goto after10; }
     v19 = v5 & 255u;
     v37 = v6 & 255u;
     v31 = (v19 > v37) ? v19 : v37;
-    v33 = 1u;
     v20 = 0u;
     v19 = v18;
     v21 = 0u;
@@ -10398,7 +10508,7 @@ after26:;
     v35 = 1u;
     v36 = 0u;
     goto after3;
-after13:;
+after16:;
     v33 = 0u;
     v22 = v42 ? v15 : 0u;
     v21 = v42 ? v16 : ((u32)(v41 == 0));
@@ -10415,12 +10525,51 @@ after13:;
     v30 = v7;
     v31 = v6;
     v32 = v5;
-after9:;
+after12:;
     v34 = v3;
     goto after3;
-after7:;
+after10:;
+    v19 = v18;
+    v20 = v17;
+    v21 = v16;
+    v22 = v15;
+    v23 = v14;
     v25 = v12;
+    v26 = v11;
+    v27 = v10;
+    v28 = v9;
+    v29 = v8;
+    v30 = v7;
+    v31 = v6;
+    v32 = v5;
+    goto after8;
+after9:;
+    v19 = v18;
+    v20 = v17;
+    v21 = v16;
+    v22 = v15;
+    v23 = v14;
+    v25 = v12;
+    v26 = v11;
+    v27 = v10;
+    v28 = v9;
+    v29 = v8;
+    v30 = v7;
+    v31 = v6;
+    v32 = v5;
+    v33 = 1u;
+after8:;
+    v34 = v3;
+    v35 = 1u;
+    goto after2;
+after7:;
+    v19 = v18;
+    v20 = v17;
+    v21 = v16;
+    v22 = v15;
+    v23 = v14;
 after6:;
+    v25 = v12;
     v26 = v11;
     v27 = v10;
     v28 = v9;
@@ -10454,27 +10603,27 @@ after3:;
 after2:;
     v38 = 0u;
 after1:;
-    p963 = held(m, v0, 21);
-    put_held8(p963, 0, m, v0, v35);
-    put_held8(p963, 20, m, v0, v38);
-    put_held8(p963, 19, m, v0, v37);
-    put_held8(p963, 18, m, v0, v36);
-    put_held8(p963, 17, m, v0, v34);
-    put_held8(p963, 16, m, v0, v33);
-    put_held8(p963, 15, m, v0, v32);
-    put_held8(p963, 14, m, v0, v31);
-    put_held16(p963, 12, m, v0, v30);
-    put_held8(p963, 11, m, v0, v29);
-    put_held8(p963, 10, m, v0, v28);
-    put_held8(p963, 9, m, v0, v27);
-    put_held8(p963, 8, m, v0, v26);
-    put_held8(p963, 7, m, v0, v25);
-    put_held8(p963, 6, m, v0, v24);
-    put_held8(p963, 5, m, v0, v23);
-    put_held8(p963, 4, m, v0, v22);
-    put_held8(p963, 3, m, v0, v21);
-    put_held8(p963, 2, m, v0, v20);
-    put_held8(p963, 1, m, v0, v19);
+    p997 = held(m, v0, 21);
+    put_held8(p997, 0, m, v0, v35);
+    put_held8(p997, 20, m, v0, v38);
+    put_held8(p997, 19, m, v0, v37);
+    put_held8(p997, 18, m, v0, v36);
+    put_held8(p997, 17, m, v0, v34);
+    put_held8(p997, 16, m, v0, v33);
+    put_held8(p997, 15, m, v0, v32);
+    put_held8(p997, 14, m, v0, v31);
+    put_held16(p997, 12, m, v0, v30);
+    put_held8(p997, 11, m, v0, v29);
+    put_held8(p997, 10, m, v0, v28);
+    put_held8(p997, 9, m, v0, v27);
+    put_held8(p997, 8, m, v0, v26);
+    put_held8(p997, 7, m, v0, v25);
+    put_held8(p997, 6, m, v0, v24);
+    put_held8(p997, 5, m, v0, v23);
+    put_held8(p997, 4, m, v0, v22);
+    put_held8(p997, 3, m, v0, v21);
+    put_held8(p997, 2, m, v0, v20);
+    put_held8(p997, 1, m, v0, v19);
 }
 
 static void judge_core_end_End_sends(struct call *m, u64 v0, u64 v1, u64 v2, u64 v3, u64 v4, u64 v5, u64 v6, u64 v7)
@@ -12467,7 +12616,7 @@ after19:;
     put_held8(p722, 4, m, v0, v26);
     put_held8(p722, 3, m, v0, v25);
     put_held8(p722, 2, m, v0, v2);
-    put_held16(p722, 0, m, v0, 513u);
+    put_held16(p722, 0, m, v0, 514u);
     m->g0 = v45 + 32ull;
     return;
 }
@@ -18600,6 +18749,293 @@ after1:;
     put_held64(p39, 0, m, v1, v2);
 }
 
+static u64 module_scard_least(struct call *m, u32 v0, u64 v1, u64 v2)
+{
+    u32 t0 = 0;
+    u64 w0 = 0;
+    t0 = rattle_enter(m);
+    if (t0 == 0) { goto after1; }
+    rattle_trap(m);
+    UNREACHABLE;
+after1:;
+    w0 = rattle_export_scard_least(m, v0, v1, v2);
+    v2 = w0;
+    rattle_leave(m);
+    return v2;
+}
+
+static u64 rattle_export_scard_least(struct call *m, u32 v0, u64 v1, u64 v2)
+{
+    u64 v3 = 0;
+    u64 v4 = 0;
+    u64 v7 = 0;
+    u64 v8 = 0;
+    u64 v9 = 0;
+    u64 v10 = 0;
+    u32 v5 = 0;
+    u32 v6 = 0;
+    u8 *f4 = NULL;
+    u8 *p254 = NULL;
+    u8 *p363 = NULL;
+    v10 = m->g0 - 128ull;
+    v3 = v10;
+    m->g0 = v3;
+    v4 = v10;
+    f4 = at(m, v4, 128);
+    v3 = 0ull;
+    v1 = v1 + ((v1 == 0) ? 4096ull : 0ull);
+    switch ((v0 & 255u) + 0xFFFFFFFFu) {
+        case 0: goto after12;
+        case 1: goto after11;
+        case 2: goto after10;
+        case 3: goto after9;
+        case 4: goto after8;
+        case 5: goto after7;
+        case 6: goto after6;
+        default: goto after1;
+    }
+after12:;
+    if (v2 > 1ull) { goto after13; }
+    v3 = 2ull - v2;
+    goto after1;
+after13:;
+    v3 = v2 + 0xFFFFFFFFFFFFFFFEull;
+    v0 = load8(m, v1 + 1ull, 0);
+    v5 = v0 & 15u;
+    v0 = spread32(v0, 8);
+    if ((v0 ^ 0x80000000u) <= (0xFFFFFFFFu ^ 0x80000000u)) { goto after15; }
+    v2 = 0ull;
+    goto after14;
+after15:;
+    v1 = v1 + 2ull;
+    v6 = 0u;
+again16:;
+    v2 = (u64)((((v0 >> 4) & 1u) + ((v0 >> 5) & 1u)) + ((v0 >> 6) & 1u));
+    if (v3 <= v2) { goto after3; }
+    v3 = v3 + (v2 ^ 0xFFFFFFFFFFFFFFFFull);
+    v2 = v1 + v2;
+    v1 = v2 + 1ull;
+    v0 = load8(m, v2, 0);
+    v6 = v6 | ((u32)((v0 & 15u) != 0u));
+    v0 = spread32(v0, 8);
+    if ((v0 ^ 0x80000000u) < (0u ^ 0x80000000u)) { goto again16; }
+    v2 = ((u64)v6) & 1ull;
+after14:;
+    v2 = v2 + ((u64)(((((v0 & 192u) >> 6) + v5) + ((v0 >> 5) & 1u)) + ((v0 >> 4) & 1u)));
+    v3 = v2 - v3;
+    v3 = (v3 > v2) ? 0ull : v3;
+    goto after1;
+after11:;
+    v3 = 4ull;
+    if (v2 < 2ull) { goto after17; }
+    if (v2 != 2ull) { goto after18; }
+    v3 = ((load8(m, v1 + 1ull, 0) + 63u) & 221u) ? 4ull : 5ull;
+    goto after17;
+after18:;
+    v3 = (u64)load8(m, v1 + 2ull, 0) + 4ull;
+after17:;
+    v2 = v3 - v2;
+    v3 = (v2 > v3) ? 0ull : v2;
+    goto after1;
+after10:;
+again19:;
+    if (v2 > 1ull) { goto after20; }
+    v3 = 4ull;
+    switch ((u32)v2) {
+        case 1: goto after4;
+        default: goto after1;
+    }
+after20:;
+    if (v2 > 2ull) { goto after21; }
+    v3 = (u64)(((load8(m, v1 + 1ull, 0) >> 3) & 4u) | 2u);
+    goto after1;
+after21:;
+    p254 = held(m, v1 + 1ull, 2);
+    v0 = held8(p254, 0, m, v1 + 1ull);
+    v7 = v2 + 0xFFFFFFFFFFFFFFFDull;
+    v8 = (u64)held8(p254, 1, m, v1 + 1ull);
+    if (v7 > v8) { goto after22; }
+    v3 = ((v8 - v2) + ((u64)((v0 >> 3) & 4u))) + 4ull;
+    goto after1;
+after22:;
+    if ((v0 & 32u) == 0) { goto after1; }
+    v8 = v8 + 1ull;
+    v2 = v7 - v8;
+    v1 = (v1 + v8) + 3ull;
+    goto again19;
+after9:;
+    if (v2 > 3ull) { goto after23; }
+    v3 = 4ull - v2;
+    goto after1;
+after23:;
+    v8 = v2 + 0xFFFFFFFFFFFFFFFCull;
+    if (v8 < 2ull) { goto after1; }
+    if (v8 != 2ull) { goto after24; }
+    v0 = load8(m, v1 + 4ull, 0);
+    if (v0) { goto after2; }
+    v3 = 1ull;
+    goto after1;
+after24:;
+    v0 = load8(m, v1 + 4ull, 0);
+    if (v8 > 3ull) { goto after25; }
+    if ((v0 & 255u) == 0) { goto after1; }
+    goto after2;
+after25:;
+    if (v0 & 255u) { goto after2; }
+    p363 = held(m, v1 + 5ull, 2);
+    v3 = ((u64)held8(p363, 0, m, v1 + 5ull) << 8) | (u64)held8(p363, 1, m, v1 + 5ull);
+    v1 = (v3 - v2) + 7ull;
+    v3 = (v2 == (v3 + 8ull)) ? 1ull : ((v1 > v3) ? 0ull : v1);
+    goto after1;
+after8:;
+    v3 = 2ull - v2;
+    v3 = (v3 > 2ull) ? 0ull : v3;
+    goto after1;
+after7:;
+    v3 = 0ull;
+    put64(f4 + 40, 0ull);
+    put64(f4 + 48, 0ull);
+    put64(f4 + 56, 0ull);
+    put64(f4 + 64, 0ull);
+    put64(f4 + 72, 0ull);
+    put64(f4 + 80, 0ull);
+    put64(f4 + 88, 0ull);
+    put64(f4 + 96, 0ull);
+    put64(f4 + 104, 0ull);
+    put64(f4 + 32, 0x100000ull);
+    put64(f4 + 112, 0ull);
+    put64(f4 + 120, 0ull);
+    put64(f4 + 24, 0ull);
+    put64(f4 + 16, 0ull);
+    put64(f4 + 8, 0ull);
+    put64(f4, 0ull);
+    tlv_core_lent_LentCheck_feed(m, v4, v4 + 32ull, v1, v2);
+    if (get8(f4)) { goto after1; }
+    if (get8(f4 + 104)) { goto after26; }
+    v3 = 0ull;
+    switch ((u32)(u64)get8(f4 + 108)) {
+        case 1: goto after30;
+        case 2: goto after30;
+        case 3: goto after29;
+        case 4: goto after28;
+        default: goto after27;
+    }
+after30:;
+    v3 = 2ull;
+    goto after27;
+after29:;
+    v3 = 1ull;
+    goto after27;
+after28:;
+    v8 = (u64)get32(f4 + 116);
+    v3 = 1ull;
+    v1 = (u64)get8(f4 + 113) - (u64)get8(f4 + 114);
+    switch ((u32)(v1 & 0xFFFFFFFFull)) {
+        case 0: goto after31;
+        case 1: goto after33;
+        default: goto after32;
+    }
+after33:;
+    v3 = 256ull;
+    goto after31;
+after32:;
+    v0 = (u32)v1;
+    v3 = 256ull;
+    v2 = 1ull;
+again34:;
+    v2 = ((v0 & 1u) ? v3 : 1ull) * v2;
+    v6 = (u32)(v0 > 3u);
+    v3 = v3 * v3;
+    v0 = v0 >> 1;
+    if (v6) { goto again34; }
+    v3 = v2 * v3;
+after31:;
+    v3 = (v3 * v8) + v1;
+after27:;
+    v3 = v3 + (u64)get32(f4 + 120);
+    goto after1;
+after26:;
+    v3 = (u64)(get32(f4 + 40) - get32(f4 + 36));
+    goto after1;
+after6:;
+    if (v2) { goto after36; }
+    v8 = 0ull;
+    goto after35;
+after36:;
+    v3 = 0ull;
+    v8 = 0ull;
+again37:;
+    v9 = v1 + v8;
+    v7 = v3 - v8;
+    if (v7 > 1ull) { goto after40; }
+    switch ((u32)v7) {
+        case 1: goto after41;
+        default: goto after38;
+    }
+after41:;
+    v0 = load8(m, v9, 0);
+    if (v0 == 0) { goto after38; }
+    if ((v0 & 31u) != 31u) { goto after39; }
+    goto after38;
+after40:;
+    if (v7 > 2ull) { goto after42; }
+    if ((load8(m, v9, 0) & 31u) != 31u) { goto after38; }
+    if ((spread32(load8(m, v9 + 1ull, 0), 8) ^ 0x80000000u) >= (1u ^ 0x80000000u)) { goto after39; }
+    goto after38;
+after42:;
+    if ((v7 + 0xFFFFFFFFFFFFFFFDull) != 0ull) { goto after38; }
+    if ((load8(m, v9, 0) & 31u) != 31u) { goto after38; }
+    if (load8(m, v9 + 1ull, 0) < 129u) { goto after38; }
+    if ((spread32(load8(m, v9 + 2ull, 0), 8) ^ 0x80000000u) <= (0xFFFFFFFFu ^ 0x80000000u)) { goto after38; }
+after39:;
+    v8 = v3 + 1ull;
+after38:;
+    v3 = v3 + 1ull;
+    if (v3 < v2) { goto again37; }
+after35:;
+    v1 = v1 + v8;
+    v3 = v2 - v8;
+    if (v3 > 1ull) { goto after44; }
+    switch ((u32)v3) {
+        case 1: goto after45;
+        default: goto after1;
+    }
+after45:;
+    v0 = load8(m, v1, 0);
+    if (v0 == 0) { goto after43; }
+    if ((v0 & 31u) == 31u) { goto after43; }
+    v3 = 1ull;
+    goto after1;
+after44:;
+    if (v3 > 2ull) { goto after46; }
+    if ((load8(m, v1, 0) & 31u) != 31u) { goto after43; }
+    v3 = 1ull;
+    if ((spread32(load8(m, v1 + 1ull, 0), 8) ^ 0x80000000u) <= (0u ^ 0x80000000u)) { goto after43; }
+    goto after1;
+after46:;
+    if (v3 != 3ull) { goto after43; }
+    if ((load8(m, v1, 0) & 31u) != 31u) { goto after43; }
+    v3 = 1ull;
+    if (load8(m, v1 + 1ull, 0) < 129u) { goto after43; }
+    if ((spread32(load8(m, v1 + 2ull, 0), 8) ^ 0x80000000u) > (0xFFFFFFFFu ^ 0x80000000u)) { goto after1; }
+after43:;
+    v3 = 2ull;
+    goto after1;
+after4:;
+    v3 = 3ull;
+    goto after1;
+after3:;
+    v3 = (((((u64)v6) & 1ull) + ((u64)(v5 + 1u))) - v3) + v2;
+    goto after1;
+after2:;
+    v3 = ((u64)v0) & 255ull;
+    v2 = (v3 - v2) + 5ull;
+    v3 = (v2 > v3) ? 0ull : v2;
+after1:;
+    m->g0 = v4 + 128ull;
+    return v3;
+}
+
 static void module_scard_lent_atr_reader_begin(struct call *m, u64 v0)
 {
     u32 t0 = 0;
@@ -20159,12 +20595,12 @@ after1:;
 static void rattle_export_scard_lent_check_feed(struct call *m, u64 v0, u64 v1, u64 v2, u64 v3)
 {
     u64 v4 = 0;
-    u64 v6 = 0;
-    u64 v7 = 0;
-    u64 v8 = 0;
-    u64 v9 = 0;
-    u64 v31 = 0;
+    u64 v18 = 0;
     u32 v5 = 0;
+    u32 v6 = 0;
+    u32 v7 = 0;
+    u32 v8 = 0;
+    u32 v9 = 0;
     u32 v10 = 0;
     u32 v11 = 0;
     u32 v12 = 0;
@@ -20173,238 +20609,146 @@ static void rattle_export_scard_lent_check_feed(struct call *m, u64 v0, u64 v1, 
     u32 v15 = 0;
     u32 v16 = 0;
     u32 v17 = 0;
-    u32 v18 = 0;
-    u32 v19 = 0;
-    u32 v20 = 0;
-    u32 v21 = 0;
-    u32 v22 = 0;
-    u32 v23 = 0;
-    u32 v24 = 0;
-    u32 v25 = 0;
-    u32 v26 = 0;
-    u32 v27 = 0;
-    u32 v28 = 0;
-    u32 v29 = 0;
-    u32 v30 = 0;
-    u8 *f31 = NULL;
-    u8 *p521 = NULL;
-    u8 *p646 = NULL;
-    v31 = m->g0 - 560ull;
-    f31 = at(m, v31, 560);
-    v4 = v31;
+    u8 *f18 = NULL;
+    u8 *p244 = NULL;
+    u8 *p376 = NULL;
+    v18 = m->g0 - 256ull;
+    f18 = at(m, v18, 256);
+    v4 = v18;
     m->g0 = v4;
+    put64(f18 + 112, 0ull);
+    put64(f18 + 120, 0ull);
+    put64(f18 + 128, 0ull);
+    put64(f18 + 136, 0ull);
     v5 = 0u;
-    memset(f31 + 4, (int)(0u & 255u), 100);
-    c_lent_kept_check_CCheck_fitting(m, v31 + 4ull, v1);
-    if (get8(f31 + 4) != 1u) { goto after6; }
-    v6 = v2 + ((v2 == 0) ? 4096ull : 0ull);
-    v7 = (u64)get32(f31 + 8);
-    v8 = (u64)get32(f31 + 12);
-    copy(m, v31 + 104ull, v31 + 16ull, 88ull);
-    put64(f31 + 408, 0ull);
-    put64(f31 + 256, 0ull);
-    put64(f31 + 264, 0ull);
-    put64(f31 + 272, 0ull);
-    put64(f31 + 280, 0ull);
-    put64(f31 + 192, 0ull);
-    put64(f31 + 200, 0ull);
-    put64(f31 + 208, 0ull);
-    put64(f31 + 216, 0ull);
-    put64(f31 + 224, 0ull);
-    put64(f31 + 232, 0ull);
-    put64(f31 + 240, 0ull);
-    put64(f31 + 248, 0ull);
-    v2 = (u64)get8(f31 + 168);
-    memset(f31 + 416, (int)(0u & 255u), 68);
-    v9 = v2 << 2;
-    if (v9 == 0) { goto after7; }
-    copy(m, v31 + 416ull, v31 + 104ull, v9);
-after7:;
-    put64(f31 + 296, v8);
-    put64(f31 + 288, v7);
-    v10 = get8(f31 + 172);
-    v5 = get32(f31 + 173);
-    v11 = get16(f31 + 177);
-    v12 = get32(f31 + 180);
-    v8 = (u64)get32(f31 + 184);
-    v13 = get16(f31 + 188);
-    v7 = v31 + 304ull;
-    copy(m, v7, v31 + 416ull, 68ull);
-    put16(f31 + 408, v13);
-    put64(f31 + 400, v8);
-    put32(f31 + 396, 0u);
-    put32(f31 + 392, v12);
-    put8(f31 + 391, 0u);
-    put16(f31 + 389, v11);
-    put32(f31 + 385, v5);
-    put8(f31 + 384, v10);
-    put64(f31 + 376, v2);
-    put32(f31 + 372, 0u);
-    tlv_core_checking_Checking_feed(m, v31 + 256ull, v31 + 288ull, v6, v3);
-    v14 = get8(f31 + 409);
-    v15 = get8(f31 + 408);
-    put64(f31 + 488, 0ull);
-    put64(f31 + 496, 0ull);
-    put64(f31 + 504, 0ull);
-    put64(f31 + 512, 0ull);
-    put64(f31 + 520, 0ull);
-    put64(f31 + 528, 0ull);
-    put64(f31 + 536, 0ull);
-    put64(f31 + 544, 0ull);
-    v2 = get64(f31 + 376);
-    v6 = v2 << 2;
-    if (((v31 + 488ull) - v7) >= v6) { goto after9; }
-    if (v2 == 0) { goto after8; }
-    if (v6 == 0) { goto after8; }
-    copy(m, v31 + 488ull, v7, v6);
-    goto after8;
-after9:;
-    if (v6 == 0) { goto after8; }
-    copy(m, v31 + 488ull, v7, v6);
-after8:;
-    put64(f31 + 192, get64(f31 + 488));
-    put64(f31 + 200, get64(f31 + 496));
-    put64(f31 + 208, get64(f31 + 504));
-    put64(f31 + 216, get64(f31 + 512));
-    put64(f31 + 224, get64(f31 + 520));
-    put64(f31 + 232, get64(f31 + 528));
-    put64(f31 + 240, get64(f31 + 536));
-    put64(f31 + 248, get64(f31 + 544));
-    v16 = get32(f31 + 400);
-    v17 = get32(f31 + 392);
-    v18 = get8(f31 + 390);
-    v19 = get8(f31 + 389);
-    v20 = get32(f31 + 296);
-    v21 = get32(f31 + 288);
-    v10 = get8(f31 + 384);
-    v5 = get32(f31 + 385);
-    put64(f31 + 104, get64(f31 + 192));
-    put64(f31 + 112, get64(f31 + 200));
-    put64(f31 + 120, get64(f31 + 208));
-    put64(f31 + 128, get64(f31 + 216));
-    put64(f31 + 136, get64(f31 + 224));
-    put64(f31 + 144, get64(f31 + 232));
-    put64(f31 + 152, get64(f31 + 240));
-    put64(f31 + 160, get64(f31 + 248));
-    v22 = v5 >> 16;
-    v7 = get64(f31 + 272);
-    v23 = get8(f31 + 280);
-    v24 = get8(f31 + 264);
-    v25 = get8(f31 + 256);
-    v26 = (u32)v2;
-    v11 = v10;
-    v12 = v10;
-    v13 = v10;
-    v27 = v10;
-    v28 = v10;
-    v29 = v10;
-    v30 = v10;
-    switch (v10) {
-        case 1: goto after13;
-        case 2: goto after12;
-        case 3: goto after11;
-        case 4: goto after10;
+    memset(f18 + 12, (int)(0u & 255u), 100);
+    c_lent_kept_check_CCheck_fitting(m, v18 + 12ull, v1);
+    if (get8(f18 + 12) != 1u) { goto after6; }
+    copy(m, v18 + 144ull, v18 + 16ull, 96ull);
+    tlv_core_lent_LentCheck_feed(m, v18 + 112ull, v18 + 144ull, v2 + ((v2 == 0) ? 4096ull : 0ull), v3);
+    v6 = get32(f18 + 221);
+    v7 = v6 >> 16;
+    v8 = get32(f18 + 232);
+    v9 = get32(f18 + 148);
+    v10 = get32(f18 + 144);
+    v11 = get8(f18 + 220);
+    v12 = v11;
+    v13 = v11;
+    v14 = v11;
+    v15 = v11;
+    v16 = v11;
+    v17 = v11;
+    v5 = v11;
+    switch (v11) {
+        case 1: goto after10;
+        case 2: goto after9;
+        case 3: goto after8;
+        case 4: goto after7;
         default: goto after2;
     }
-after13:;
-    v11 = 0u;
-    v12 = 0u;
-    v13 = v5;
-    v27 = v10;
-    goto after4;
-after12:;
-    v11 = v5 >> 8;
-    v12 = 0u;
-    v27 = 2u;
-    v13 = v5;
-    goto after4;
-after11:;
-    put32(f31 + 288, v5);
-    v28 = 0u;
-    put8(f31 + 418, 0u);
-    put16(f31 + 416, 0u);
-    v27 = v22 >> 8;
-    v2 = (u64)v27;
-    if (v2 == 0) { goto after14; }
-    copy(m, v31 + 416ull, v31 + 288ull, v2);
-after14:;
-    v12 = get8(f31 + 418);
-    v11 = get8(f31 + 417);
-    v13 = get8(f31 + 416);
-    goto after3;
 after10:;
-    put32(f31 + 288, v5);
-    put8(f31 + 418, 0u);
-    put16(f31 + 416, 0u);
-    v27 = v22 >> 8;
-    v2 = (u64)v27;
-    if (v2 == 0) { goto after15; }
-    copy(m, v31 + 416ull, v31 + 288ull, v2);
-after15:;
-    v28 = v19 + 1u;
-    v12 = get8(f31 + 418);
-    v11 = get8(f31 + 417);
-    v13 = get8(f31 + 416);
-    v29 = v18;
-    v30 = v17;
+    v12 = 0u;
+    v13 = 0u;
+    v14 = v6;
+    v15 = v11;
+    goto after4;
+after9:;
+    v12 = v6 >> 8;
+    v13 = 0u;
+    v15 = 2u;
+    v14 = v6;
+    goto after4;
+after8:;
+    put32(f18 + 240, v6);
+    v16 = 0u;
+    put8(f18 + 246, 0u);
+    put16(f18 + 244, 0u);
+    v15 = v7 >> 8;
+    v2 = (u64)v15;
+    if (v2 == 0) { goto after11; }
+    copy(m, v18 + 244ull, v18 + 240ull, v2);
+after11:;
+    v13 = get8(f18 + 246);
+    v12 = get8(f18 + 245);
+    v14 = get8(f18 + 244);
+    goto after3;
+after7:;
+    v5 = get32(f18 + 228);
+    v17 = get8(f18 + 226);
+    v12 = get8(f18 + 225);
+    put32(f18 + 240, v6);
+    put8(f18 + 246, 0u);
+    put16(f18 + 244, 0u);
+    v15 = v7 >> 8;
+    v2 = (u64)v15;
+    if (v2 == 0) { goto after12; }
+    copy(m, v18 + 244ull, v18 + 240ull, v2);
+after12:;
+    v16 = v12 + 1u;
+    v13 = get8(f18 + 246);
+    v12 = get8(f18 + 245);
+    v14 = get8(f18 + 244);
     goto after2;
 after6:;
-    put16(f31 + 556, 0u);
-    put32(f31 + 552, 0u);
+    put16(f18 + 252, 0u);
+    put32(f18 + 248, 0u);
     v3 = 0ull;
-    v10 = 4u;
+    v11 = 4u;
     goto after1;
 after4:;
-    v28 = 0u;
+    v16 = 0u;
 after3:;
-    v29 = 0u;
-    v30 = 0u;
-after2:;
-    p521 = held(m, v1, 92);
-    put_held32(p521, 20, m, v1, v30);
+    v17 = 0u;
     v5 = 0u;
-    put_held8(p521, 19, m, v1, 0u);
-    put_held8(p521, 18, m, v1, v29);
-    put_held8(p521, 17, m, v1, v28);
-    put_held8(p521, 16, m, v1, v27);
-    put_held8(p521, 15, m, v1, v12);
-    put_held8(p521, 14, m, v1, v11);
-    put_held8(p521, 13, m, v1, v13);
-    put_held8(p521, 12, m, v1, v10);
-    put_held32(p521, 8, m, v1, v16);
-    put_held32(p521, 4, m, v1, v20);
-    put_held32(p521, 0, m, v1, v21);
-    put_held64(p521, 24, m, v1, get64(f31 + 104));
-    put_held64(p521, 32, m, v1, get64(f31 + 112));
-    put_held64(p521, 40, m, v1, get64(f31 + 120));
-    put_held64(p521, 48, m, v1, get64(f31 + 128));
-    put_held64(p521, 56, m, v1, get64(f31 + 136));
-    put_held64(p521, 64, m, v1, get64(f31 + 144));
-    put_held64(p521, 72, m, v1, get64(f31 + 152));
-    put_held64(p521, 80, m, v1, get64(f31 + 160));
-    put_held16(p521, 90, m, v1, 0u);
-    put_held8(p521, 89, m, v1, (v15 & 255u) ? (v14 + 1u) : 0u);
-    put_held8(p521, 88, m, v1, v26);
-    if (v25 & 255u) { goto after16; }
-    put16(f31 + 556, 0u);
-    put32(f31 + 552, 0u);
-    v10 = 6u;
+after2:;
+    p244 = held(m, v1, 92);
+    put_held32(p244, 20, m, v1, v5);
+    v5 = 0u;
+    put_held8(p244, 19, m, v1, 0u);
+    put_held8(p244, 18, m, v1, v17);
+    put_held8(p244, 17, m, v1, v16);
+    put_held8(p244, 16, m, v1, v15);
+    put_held8(p244, 15, m, v1, v13);
+    put_held8(p244, 14, m, v1, v12);
+    put_held8(p244, 13, m, v1, v14);
+    put_held8(p244, 12, m, v1, v11);
+    put_held32(p244, 8, m, v1, v8);
+    put_held32(p244, 4, m, v1, v9);
+    put_held32(p244, 0, m, v1, v10);
+    put_held64(p244, 24, m, v1, get64(f18 + 152));
+    put_held64(p244, 32, m, v1, get64(f18 + 160));
+    put_held64(p244, 40, m, v1, get64(f18 + 168));
+    put_held64(p244, 48, m, v1, get64(f18 + 176));
+    put_held64(p244, 56, m, v1, get64(f18 + 184));
+    put_held64(p244, 64, m, v1, get64(f18 + 192));
+    put_held64(p244, 72, m, v1, get64(f18 + 200));
+    put_held64(p244, 80, m, v1, get64(f18 + 208));
+    v11 = get8(f18 + 216);
+    v12 = get8(f18 + 236);
+    v13 = get8(f18 + 237);
+    put_held16(p244, 90, m, v1, 0u);
+    put_held8(p244, 89, m, v1, v12 ? (v13 + 1u) : 0u);
+    put_held8(p244, 88, m, v1, v11);
+    if (get8(f18 + 112)) { goto after13; }
+    put16(f18 + 252, 0u);
+    put32(f18 + 248, 0u);
+    v11 = 6u;
     goto after1;
-after16:;
-    put16(f31 + 556, 0u);
-    put32(f31 + 552, 0u);
-    v10 = v24 & 255u;
-    v5 = v10 ? (v23 + 1u) : 0u;
-    v10 = v10 ? 2u : 1u;
-    v3 = v7;
+after13:;
+    put32(f18 + 248, 0u);
+    put16(f18 + 252, 0u);
+    v5 = get8(f18 + 120);
+    v11 = v5 ? 2u : 1u;
+    v5 = v5 ? (get8(f18 + 136) + 1u) : 0u;
+    v3 = get64(f18 + 128);
 after1:;
-    p646 = held(m, v0, 16);
-    put_held8(p646, 1, m, v0, v5);
-    put_held8(p646, 0, m, v0, v10);
-    put_held32(p646, 2, m, v0, get32(f31 + 552));
-    put_held16(p646, 6, m, v0, get16(f31 + 556));
-    put_held64(p646, 8, m, v0, v3);
-    m->g0 = v31 + 560ull;
+    p376 = held(m, v0, 16);
+    put_held8(p376, 1, m, v0, v5);
+    put_held8(p376, 0, m, v0, v11);
+    put_held32(p376, 2, m, v0, get32(f18 + 248));
+    put_held16(p376, 6, m, v0, get16(f18 + 252));
+    put_held64(p376, 8, m, v0, v3);
+    m->g0 = v18 + 256ull;
 }
 
 static void module_scard_lent_check_finish(struct call *m, u64 v0, u64 v1)
@@ -20732,7 +21076,7 @@ static void rattle_export_scard_lent_judge_block(struct call *m, u64 v0, u64 v1,
     u64 v12 = 0;
     u64 v13 = 0;
     u64 v14 = 0;
-    u64 v28 = 0;
+    u64 v34 = 0;
     u32 v10 = 0;
     u32 v15 = 0;
     u32 v16 = 0;
@@ -20747,565 +21091,1131 @@ static void rattle_export_scard_lent_judge_block(struct call *m, u64 v0, u64 v1,
     u32 v25 = 0;
     u32 v26 = 0;
     u32 v27 = 0;
+    u32 v28 = 0;
+    u32 v29 = 0;
+    u32 v30 = 0;
+    u32 v31 = 0;
+    u32 v32 = 0;
+    u32 v33 = 0;
     u32 t0 = 0;
-    u8 *f28 = NULL;
-    u8 *p96 = NULL;
-    u8 *p1447 = NULL;
-    u8 *p1674 = NULL;
-    u8 *p1713 = NULL;
-    v28 = m->g0 - 2480ull;
-    f28 = at(m, v28, 2480);
-    v9 = v28;
+    u8 *f34 = NULL;
+    u8 *p99 = NULL;
+    u8 *p139 = NULL;
+    u8 *p3152 = NULL;
+    u8 *p3415 = NULL;
+    u8 *p3454 = NULL;
+    v34 = m->g0 - 2480ull;
+    f34 = at(m, v34, 2480);
+    v9 = v34;
     m->g0 = v9;
     v10 = 0u;
-    memset(f28, (int)(0u & 255u), 576);
+    memset(f34, (int)(0u & 255u), 576);
     v11 = 4ull;
     switch ((u32)(((u64)v2) & 255ull)) {
-        case 0: goto after5;
-        case 1: goto after6;
+        case 0: goto after10;
+        case 1: goto after11;
         default: goto after1;
     }
-after6:;
+after11:;
     v10 = 1u;
-after5:;
+after10:;
     v12 = 0ull;
     v13 = 0ull;
     v14 = (u64)v5;
     switch ((u32)(v14 & 255ull)) {
-        case 0: goto after7;
-        case 1: goto after7;
-        case 2: goto after8;
+        case 0: goto after12;
+        case 1: goto after12;
+        case 2: goto after13;
         default: goto after1;
     }
-after8:;
+after13:;
     v12 = v6 + ((v6 == 0) ? 4096ull : 0ull);
     v13 = v7;
-after7:;
-    v11 = v3 + ((v3 == 0) ? 4096ull : 0ull);
+after12:;
+    v11 = (v3 == 0) ? 4096ull : 0ull;
     v2 = 0u;
-    memset(f28 + 1504, (int)(0u & 255u), 304);
-    memset(f28 + 1200, (int)(0u & 255u), 304);
-    c_lent_kept_judge_CWatched_watched(m, v28 + 1504ull, v1);
-    c_lent_kept_judge_CWatched_watched(m, v28 + 1200ull, v1 + 288ull);
-    p96 = held(m, v1 + 576ull, 10);
-    v3 = held64(p96, 0, m, v1 + 576ull);
-    v15 = held8(p96, 9, m, v1 + 576ull);
-    v16 = held8(p96, 8, m, v1 + 576ull);
-    copy(m, v28 + 1808ull, v28 + 1504ull, 304ull);
-    copy(m, (v28 + 1808ull) + 304ull, v28 + 1200ull, 304ull);
-    copy(m, v28 + 576ull, v28 + 1808ull, 608ull);
-    put32(f28 + 1186, 0u);
-    v17 = v16 ? v15 : 0u;
-    put8(f28 + 1185, v17);
-    v18 = (u32)(v16 != 0u);
-    put8(f28 + 1184, v18);
-    put16(f28 + 1190, 0u);
-    put64(f28 + 1192, v3);
-    put64(f28 + 1504, 0ull);
-    put64(f28 + 1832, 0ull);
-    put64(f28 + 1824, 0ull);
-    put64(f28 + 1816, 0ull);
-    put64(f28 + 1808, 0ull);
-    v19 = 2u;
-    if ((v5 & 255u) != 2u) { goto after11; }
-    if (v13 != v4) { goto after11; }
-    if (v4 < 4ull) { goto after12; }
+    memset(f34 + 1504, (int)(0u & 255u), 304);
+    memset(f34 + 1200, (int)(0u & 255u), 304);
+    c_lent_kept_judge_CWatched_watched(m, v34 + 1504ull, v1);
+    c_lent_kept_judge_CWatched_watched(m, v34 + 1200ull, v1 + 288ull);
+    p99 = held(m, v1 + 584ull, 3);
+    v15 = held8(p99, 1, m, v1 + 584ull);
+    v16 = held8(p99, 0, m, v1 + 584ull);
+    v17 = held8(p99, 2, m, v1 + 584ull);
+    v18 = v17;
+    switch (v17) {
+        case 0: goto after14;
+        case 1: goto after16;
+        default: goto after15;
+    }
+after16:;
+    v18 = load8(m, v1 + 587ull, 0);
+    v17 = 1u;
+    goto after14;
+after15:;
+    v18 = 0u;
+    v17 = 2u;
+after14:;
+    v11 = v3 + v11;
+    p139 = held(m, v1 + 576ull, 13);
+    v3 = held64(p139, 0, m, v1 + 576ull);
+    v19 = held8(p139, 12, m, v1 + 576ull);
+    copy(m, v34 + 1808ull, v34 + 1504ull, 304ull);
+    copy(m, (v34 + 1808ull) + 304ull, v34 + 1200ull, 304ull);
+    copy(m, v34 + 576ull, v34 + 1808ull, 608ull);
+    put16(f34 + 1189, 0u);
+    v20 = (v19 < 4u) ? v19 : 4u;
+    put8(f34 + 1188, v20);
+    put8(f34 + 1187, v18);
+    put8(f34 + 1186, v17);
+    v21 = v16 & 255u;
+    v22 = v21 ? v15 : 0u;
+    put8(f34 + 1185, v22);
+    v21 = (u32)(v21 != 0u);
+    put8(f34 + 1184, v21);
+    put8(f34 + 1191, 0u);
+    put64(f34 + 1192, v3);
+    put64(f34 + 1504, 0ull);
+    put32(f34 + 2420, 0u);
+    put16(f34 + 2424, 0u);
+    put64(f34 + 1832, 0ull);
+    put64(f34 + 1824, 0ull);
+    put64(f34 + 1816, 0ull);
+    put64(f34 + 1808, 0ull);
+    v23 = 2u;
+    if ((v5 & 255u) != 2u) { goto after19; }
+    if (v13 != v4) { goto after19; }
+    if (v4 < 4ull) { goto after20; }
     v2 = 0u;
-    if (load8(m, v12, 0) != load8(m, v11, 0)) { goto after13; }
-    if ((load8(m, v12 + 1ull, 0) & 255u) != (load8(m, v11 + 1ull, 0) & 255u)) { goto after13; }
-    if ((load8(m, v12 + 2ull, 0) & 255u) != (load8(m, v11 + 2ull, 0) & 255u)) { goto after13; }
-    if ((load8(m, v12 + 3ull, 0) & 255u) != (load8(m, v11 + 3ull, 0) & 255u)) { goto after13; }
+    if (load8(m, v12, 0) != load8(m, v11, 0)) { goto after21; }
+    if ((load8(m, v12 + 1ull, 0) & 255u) != (load8(m, v11 + 1ull, 0) & 255u)) { goto after21; }
+    if ((load8(m, v12 + 2ull, 0) & 255u) != (load8(m, v11 + 2ull, 0) & 255u)) { goto after21; }
+    if ((load8(m, v12 + 3ull, 0) & 255u) != (load8(m, v11 + 3ull, 0) & 255u)) { goto after21; }
     t0 = core_cmp_slices_groups_equal_i8_31_core_cmp_numbers_U8PartialEq(m, v12, v4, v11);
     v2 = t0;
-after13:;
-    judge_core_class_class_of(m, v28 + 1808ull, v11, v4);
-    goto after10;
-after12:;
-    v6 = 0ull;
-    if (v4 != 0ull) { goto after14; }
-    put64(f28 + 1816, 0ull);
-    v19 = 2u;
-    put8(f28 + 1808, 2u);
-    put64(f28 + 1824, 0ull);
-    put64(f28 + 1832, 0ull);
-    v2 = 1u;
-    goto after9;
-after14:;
-    if (load8(m, v12, 0) != load8(m, v11, 0)) { goto after15; }
-    v6 = v4;
-    if (v4 == 1ull) { goto after15; }
-    v6 = 1ull;
-    if (load8(m, v12 + 1ull, 0) != load8(m, v11 + 1ull, 0)) { goto after15; }
-    v6 = v4;
-    if (v4 == 2ull) { goto after15; }
-    v6 = (load8(m, v12 + 2ull, 0) == load8(m, v11 + 2ull, 0)) ? v4 : 2ull;
-after15:;
-    v2 = (u32)(v6 >= v4);
-after11:;
-    judge_core_class_class_of(m, v28 + 1808ull, v11, v4);
-    if (v4 < 3ull) { goto after9; }
-after10:;
-    v19 = (v4 == ((u64)load8(m, v11 + 2ull, 0) + 4ull)) ? 3u : 2u;
-after9:;
-    put64(f28 + 1200, 0ull);
-    put64(f28 + 1208, 0ull);
-    put64(f28 + 1216, 0ull);
-    put64(f28 + 1222, 0ull);
-    v20 = get8(f28 + 1809);
-    v21 = get8(f28 + 1808);
-    if (v2 == 0) { goto after17; }
-    v2 = 1u;
-    if ((v21 & 255u) == 2u) { goto after16; }
-after17:;
-    put64(f28 + 1222, get64(f28 + 1832));
-    put64(f28 + 1214, get64(f28 + 1824));
-    put64(f28 + 1206, get64(f28 + 1816));
-    v2 = v21;
-    v19 = v20;
-after16:;
-    v4 = get64(f28 + 1206);
-    put64(f28 + 2426, v4);
-    v11 = get64(f28 + 1214);
-    put64(f28 + 2434, v11);
-    v6 = get64(f28 + 1222);
-    put64(f28 + 2442, v6);
-    put8(f28 + 1505, v19);
-    put8(f28 + 1504, v2);
-    put64(f28 + 1528, v6);
-    put64(f28 + 1512, v4);
-    put64(f28 + 1520, v11);
-    put64(f28 + 1832, 0ull);
-    put64(f28 + 1824, 0ull);
-    put64(f28 + 1816, 0ull);
-    put64(f28 + 1808, 0ull);
-    v19 = 1u;
-    v20 = 0u;
-    v21 = 0u;
-    v22 = 0u;
-    v23 = 0u;
-    v24 = 0u;
-    v6 = 0ull;
-    v25 = 1u;
-    v26 = 1u;
-    if ((v5 & 255u) != 2u) { goto after18; }
-    judge_core_class_class_of(m, v28 + 1808ull, v12, v13);
-    v25 = (u32)(get64(f28 + 1832) == 0);
-    v6 = get64(f28 + 1824);
-    v24 = get8(f28 + 1819);
-    v23 = get8(f28 + 1818);
-    v22 = get8(f28 + 1817);
-    v21 = get8(f28 + 1816);
-    v20 = (u32)(get8(f28 + 1808) == 0);
-    v26 = v20;
-after18:;
-    put64(f28 + 1808, 0ull);
-    put64(f28 + 1816, 0ull);
-    put64(f28 + 1823, 0ull);
-    put64(f28 + 1200, 0ull);
-    put64(f28 + 1208, 0ull);
-    put64(f28 + 1215, 0ull);
-    if (v2 & 255u) { goto after19; }
-    v5 = get8(f28 + 1512);
-    v27 = v5 & 0xFFFFFF88u;
-    if (v16 == 0) { goto after20; }
-    v19 = 0u;
-    if (v27 & 255u) { goto after19; }
-    v16 = v5 & 255u;
-    if (v16 == 0) { goto after21; }
-    if ((v16 >> 4) == (v5 & 7u)) { goto after19; }
 after21:;
-    v19 = (u32)(((v10 ? ((v5 << 4) | ((v5 & 240u) >> 4)) : v5) & 255u) == (v15 & 255u));
-    goto after19;
+    judge_core_class_class_of(m, v34 + 1808ull, v11, v4);
+    goto after18;
 after20:;
-    v19 = 0u;
-    if (v27 & 255u) { goto after19; }
-    v16 = v5 & 255u;
-    v19 = ((u32)(v16 == 0)) | ((u32)((v16 >> 4) != (v5 & 7u)));
+    v6 = 0ull;
+    if (v4 != 0ull) { goto after22; }
+    put64(f34 + 1816, 0ull);
+    v23 = 2u;
+    put8(f34 + 1808, 2u);
+    put64(f34 + 1824, 0ull);
+    put64(f34 + 1832, 0ull);
+    v2 = 1u;
+    goto after17;
+after22:;
+    if (load8(m, v12, 0) != load8(m, v11, 0)) { goto after23; }
+    v6 = v4;
+    if (v4 == 1ull) { goto after23; }
+    v6 = 1ull;
+    if (load8(m, v12 + 1ull, 0) != load8(m, v11 + 1ull, 0)) { goto after23; }
+    v6 = v4;
+    if (v4 == 2ull) { goto after23; }
+    v6 = (load8(m, v12 + 2ull, 0) == load8(m, v11 + 2ull, 0)) ? v4 : 2ull;
+after23:;
+    v2 = (u32)(v6 >= v4);
 after19:;
+    judge_core_class_class_of(m, v34 + 1808ull, v11, v4);
+    if (v4 < 3ull) { goto after17; }
+after18:;
+    v23 = (v4 == ((u64)load8(m, v11 + 2ull, 0) + 4ull)) ? 3u : 2u;
+after17:;
+    put64(f34 + 1200, 0ull);
+    put64(f34 + 1208, 0ull);
+    put64(f34 + 1216, 0ull);
+    put64(f34 + 1222, 0ull);
+    v24 = get8(f34 + 1809);
+    v25 = get8(f34 + 1808);
+    if (v2 == 0) { goto after25; }
+    v2 = 1u;
+    if ((v25 & 255u) == 2u) { goto after24; }
+after25:;
+    put64(f34 + 1222, get64(f34 + 1832));
+    put64(f34 + 1214, get64(f34 + 1824));
+    put64(f34 + 1206, get64(f34 + 1816));
+    v2 = v25;
+    v23 = v24;
+after24:;
+    v4 = get64(f34 + 1206);
+    put64(f34 + 2426, v4);
+    v11 = get64(f34 + 1214);
+    put64(f34 + 2434, v11);
+    v6 = get64(f34 + 1222);
+    put64(f34 + 2442, v6);
+    put8(f34 + 1505, v23);
+    put8(f34 + 1504, v2);
+    put64(f34 + 1528, v6);
+    put64(f34 + 1512, v4);
+    put64(f34 + 1520, v11);
+    v6 = 0ull;
+    put64(f34 + 1832, 0ull);
+    put64(f34 + 1824, 0ull);
+    put64(f34 + 1816, 0ull);
+    put64(f34 + 1808, 0ull);
+    if ((v5 & 255u) == 2u) { goto after27; }
+    v26 = 1u;
+    v24 = 0u;
+    v23 = 0u;
+    v27 = 0u;
+    v28 = 0u;
+    v29 = 0u;
+    v30 = 1u;
+    goto after26;
+after27:;
+    judge_core_class_class_of(m, v34 + 1808ull, v12, v13);
+    v26 = (u32)(get64(f34 + 1832) == 0);
+    v6 = get64(f34 + 1824);
+    v29 = get8(f34 + 1819);
+    v28 = get8(f34 + 1818);
+    v27 = get8(f34 + 1817);
+    v23 = get8(f34 + 1816);
+    v24 = (u32)(get8(f34 + 1808) == 0);
+    v30 = v24;
+after26:;
+    v25 = ((u32)((v16 & 255u) != 0u)) & ((u32)((v2 & 255u) == 0));
+    if (v10) { goto after32; }
+    if (v25 == 0) { goto after30; }
+    v25 = get8(f34 + 1512);
+    if (v25 & 136u) { goto after29; }
+    if (v25 == (v15 & 255u)) { goto after6; }
+    v31 = v25 >> 4;
+    v32 = v25 & 7u;
+    if (((u32)(v25 == 0)) | ((u32)(v31 != v32))) { goto after31; }
+    goto after6;
+after32:;
+    if (v25 == 0) { goto after30; }
+    v25 = get8(f34 + 1512);
+    if (v25 & 136u) { goto after29; }
+    v31 = v25 >> 4;
+    v33 = (v25 << 4) | v31;
+    if ((v33 & 255u) == (v15 & 255u)) { goto after29; }
+    v32 = v25 & 7u;
+    if ((((u32)(v25 == 0)) | ((u32)(v31 != v32))) == 0) { goto after29; }
+    if (v19 == 1u) { goto after31; }
+    v19 = get8(f34 + 897);
+    switch (v17) {
+        case 1: goto after35;
+        case 2: goto after34;
+        default: goto after29;
+    }
+after35:;
+    v33 = (u32)((v18 & 255u) != (v33 & 255u));
+    if (v33) { goto after33; }
+    if ((v19 & 255u) != 1u) { goto after33; }
+    if ((v20 & 6u) != 2u) { goto after6; }
+    goto after31;
+after34:;
+    if ((v20 & 6u) == 2u) { goto after31; }
+    if ((v19 & 255u) == 1u) { goto after6; }
+    goto after31;
+after33:;
+    if (v33) { goto after6; }
+after31:;
     v4 = v3 + 1ull;
     v4 = (v4 == 0) ? 0xFFFFFFFFFFFFFFFFull : v4;
-    put64(f28 + 1192, v4);
-    if ((v2 | v18) & 255u) { goto after27; }
-    v18 = 0u;
-    v5 = get8(f28 + 1512);
-    if (v5 & 136u) { goto after27; }
-    v15 = v5 >> 4;
-    if (v5 == 0) { goto after26; }
-    if (v15 != (v5 & 7u)) { goto after26; }
-after27:;
-    put8(f28 + 1185, v17);
-    put8(f28 + 1184, v18);
-    if (v20) { goto after25; }
-    v16 = 1u;
-    goto after22;
-after26:;
-    v16 = 1u;
-    put8(f28 + 1184, 1u);
-    v17 = v10 ? ((v5 << 4) | v15) : v5;
-    put8(f28 + 1185, v17);
-    if (v20 == 0) { goto after22; }
-    if ((v21 & 136u) == 0) { goto after24; }
-    v16 = 0u;
-    goto after22;
-after25:;
-    v5 = v21 & 136u;
-    if (v18 == 0) { goto after23; }
-    if (v5 == 0) { goto after24; }
-    v16 = 0u;
-    goto after22;
-after24:;
-    v5 = v21 & 255u;
-    if (v5 == 0) { goto after28; }
-    if ((v5 >> 4) != (v21 & 7u)) { goto after28; }
-    v16 = 0u;
-    goto after22;
-after28:;
-    v16 = (u32)(((v10 ? ((v21 << 4) | ((v21 & 240u) >> 4)) : v21) & 255u) == (v17 & 255u));
-    goto after22;
-after23:;
-    if (v5 == 0) { goto after29; }
-    v16 = 0u;
-    goto after22;
-after29:;
-    v5 = v21 & 255u;
-    v16 = ((u32)(v5 == 0)) | ((u32)((v5 >> 4) != (v21 & 7u)));
-after22:;
-    if (v10) { goto after31; }
-    v5 = 2u;
-    v3 = get64(f28 + 864);
-    switch ((u32)(u64)get8(f28 + 897)) {
-        case 1: goto after32;
-        case 2: goto after34;
-        default: goto after33;
-    }
-after34:;
-    v5 = 1u;
-    goto after32;
-after33:;
-    v3 = 0ull;
-    v5 = 0u;
-after32:;
-    v11 = get64(f28 + 1168);
-    judge_core_monitor_Watched_sent(m, v28 + 1808ull, v28 + 576ull, v19, v28 + 1504ull, v4);
-    v10 = 0u;
-    v18 = 4u;
-    switch ((u32)(v14 & 255ull)) {
-        case 1: goto after35;
-        case 2: goto after36;
-        default: goto after37;
-    }
-after37:;
-    v10 = 0u;
-    if ((((u32)((v2 & 255u) != 0u)) | (v19 ^ 1u)) == 0) { goto after39; }
-    v18 = 3u;
-    v16 = 0u;
-    v19 = 0u;
-    v21 = 0u;
-    goto after38;
-after39:;
-    v18 = 2u;
-    v21 = get8(f28 + 1515);
-    v19 = get8(f28 + 1514);
-    v16 = get8(f28 + 1513);
-    if (get64(f28 + 1528) == 0) { goto after38; }
-    v10 = load8(m, get64(f28 + 1520), 0) << 24;
-after38:;
-    v10 = ((((v19 & 255u) << 8) | (v16 & 255u)) | ((v21 & 255u) << 16)) | v10;
-    goto after35;
+    put64(f34 + 1192, v4);
+    if (v31 != v32) { goto after36; }
+    if (v25) { goto after8; }
 after36:;
-    v18 = 1u;
-    v10 = 0u;
-    if ((v26 & v16) == 1u) { goto after41; }
-    v18 = 3u;
-    v22 = 0u;
-    v23 = 0u;
-    v24 = 0u;
-    goto after40;
-after41:;
-    if (v25) { goto after40; }
-    v10 = load8(m, v6, 0) << 24;
-after40:;
-    v10 = ((((v23 & 255u) << 8) | (v22 & 255u)) | ((v24 & 255u) << 16)) | v10;
-after35:;
-    v21 = get8(f28 + 897);
-    if (v21 > 2u) { goto after42; }
-    v20 = 1u;
-    v22 = get8(f28 + 901);
-    v23 = get8(f28 + 899);
-    v24 = get8(f28 + 898);
-    v16 = get8(f28 + 896);
-    v19 = get8(f28 + 893);
-    v17 = get8(f28 + 883);
-    v15 = get8(f28 + 882);
-    if ((get8(f28 + 895) & 1u) == 0) { goto after44; }
-    if (v21 == 0) { goto after43; }
-    v20 = 1u;
-    v21 = v22 & 255u;
-    v22 = v19 & 255u;
-    t0 = (v21 > v22) ? v21 : v22;
-    v21 = ((u32)((v24 & 255u) == 2u)) & ((u32)((v23 & 255u) == 1u));
-    v19 = v21 ? t0 : v19;
-    v16 = v21 ? (v16 & 1u) : v16;
-    goto after43;
-after44:;
-    if (v21) { goto after45; }
-    v20 = 0u;
-    goto after43;
-after45:;
-    v21 = v22 & 255u;
-    v20 = v19 & 255u;
-    t0 = (v21 > v20) ? v21 : v20;
-    v21 = v24 & 255u;
-    v20 = v23 & 255u;
-    v22 = ((u32)(v21 == 2u)) & ((u32)(v20 == 1u));
-    v19 = v22 ? t0 : v19;
-    v15 = v21 ? v15 : ((u32)(v20 == 0));
-    v16 = v22 ? (v16 & 1u) : v16;
-    v20 = 0u;
-    v17 = v21 ? v17 : 0u;
-after43:;
-    put8(f28 + 1176, 2u);
-    put8(f28 + 896, v16);
-    put8(f28 + 895, v20);
-    put8(f28 + 893, v19);
-    put8(f28 + 883, v17);
-    put8(f28 + 882, v15);
-after42:;
-    if (v2 & 255u) { goto after47; }
-    if ((get8(f28 + 1513) & 255u) != 1u) { goto after46; }
-after47:;
-    put8(f28 + 1176, (get8(f28 + 1176)) ? 2u : 0u);
-after46:;
-    put32(f28 + 898, v10);
-    put8(f28 + 897, (v18 == 1u) ? ((get8(f28 + 872) == 1u) ? 2u : v18) : v18);
-    v4 = v28 + 1808ull;
-    v25 = get8(f28 + 1830);
-    v27 = get8(f28 + 1829);
-    v17 = get8(f28 + 1828);
-    v15 = get8(f28 + 1816);
-    v22 = get16(f28 + 1814);
-    v23 = get8(f28 + 1813);
-    v24 = get8(f28 + 1812);
-    v26 = get8(f28 + 1810);
-    v2 = get8(f28 + 1809);
-    goto after30;
-after31:;
-    v11 = get64(f28 + 864);
-    judge_core_monitor_Watched_sent(m, v28 + 1200ull, v28 + 880ull, v19, v28 + 1504ull, v4);
-    v18 = 0u;
-    v5 = 3u;
-    switch ((u32)(v14 & 255ull)) {
-        case 1: goto after48;
-        case 2: goto after49;
-        default: goto after50;
+    v2 = v10 ? ((v25 << 4) | (v25 >> 4)) : v25;
+    if ((v2 & 255u) == (v15 & 255u)) { goto after8; }
+    v19 = 1u;
+    switch (v17) {
+        case 1: goto after38;
+        case 2: goto after37;
+        default: goto after7;
     }
+after38:;
+    v17 = v2 & 255u;
+    v2 = v18;
+    if (v17 == (v18 & 255u)) { goto after7; }
+after37:;
+    v2 = 0u;
+    v19 = 2u;
+    goto after7;
+after30:;
+    put64(f34 + 1808, 0ull);
+    put64(f34 + 1816, 0ull);
+    put64(f34 + 1823, 0ull);
+    put64(f34 + 1200, 0ull);
+    put64(f34 + 1208, 0ull);
+    put64(f34 + 1215, 0ull);
+    if ((v2 & 255u) == 0) { goto after28; }
+    v16 = 1u;
+    goto after3;
+after29:;
+    put64(f34 + 1808, 0ull);
+    put64(f34 + 1816, 0ull);
+    put64(f34 + 1823, 0ull);
+    put64(f34 + 1200, 0ull);
+    put64(f34 + 1208, 0ull);
+    put64(f34 + 1215, 0ull);
+    goto after5;
+after28:;
+    v25 = get8(f34 + 1512);
+    v17 = v25 & 0xFFFFFF88u;
+    if ((v16 & 255u) == 0) { goto after39; }
+    if ((v17 & 255u) == 0) { goto after4; }
+    v16 = 0u;
+    goto after3;
+after39:;
+    if ((v17 & 255u) == 0) { goto after40; }
+    v16 = 0u;
+    goto after3;
+after40:;
+    v17 = v25 & 255u;
+    v16 = ((u32)(v17 == 0)) | ((u32)((v17 >> 4) != (v25 & 7u)));
+    goto after3;
+after8:;
+    v19 = v17;
+    v2 = v18;
+after7:;
+    put8(f34 + 1187, v2);
+    put8(f34 + 1186, v19);
+    if (v10) { goto after46; }
+    v17 = 2u;
+    v3 = get64(f34 + 864);
+    v10 = get8(f34 + 897);
+    switch ((u32)(((u64)v10) & 255ull)) {
+        case 1: goto after47;
+        case 2: goto after49;
+        default: goto after48;
+    }
+after49:;
+    v17 = 1u;
+    goto after47;
+after48:;
+    v3 = 0ull;
+    v17 = 0u;
+after47:;
+    v25 = v5 & 255u;
+    v18 = 3u;
+    switch ((u32)(v14 & 255ull)) {
+        case 1: goto after51;
+        case 2: goto after50;
+        default: goto after42;
+    }
+after51:;
+    v18 = ((v10 & 255u) == 4u) ? 4u : 3u;
+    v25 = 0u;
+    goto after42;
 after50:;
-    v18 = 0u;
-    if ((((u32)((v2 & 255u) != 0u)) | (v19 ^ 1u)) == 0) { goto after52; }
-    v5 = 3u;
+    v18 = v23 & 136u;
+    if (((u32)((v16 & 255u) == 0)) | (v30 ^ 1u)) { goto after53; }
+    if (v18) { goto after45; }
+    v24 = v23 & 7u;
+    v18 = v23 & 255u;
+    v20 = v18 >> 4;
+    if (v18 == (v15 & 255u)) { goto after52; }
+    if ((((u32)(v18 == 0)) | ((u32)(v20 != v24))) == 0) { goto after52; }
+    v18 = ((v10 & 255u) == 4u) ? 4u : 3u;
+    v25 = 0u;
+    goto after42;
+after53:;
+    if ((v30 & ((u32)((v18 & 255u) == 0))) != 1u) { goto after45; }
+    v24 = v23 & 7u;
+    v20 = (v23 & 240u) >> 4;
+after52:;
+    v25 = 0u;
+    v18 = 3u;
+    v32 = v23 & 255u;
+    if (((u32)(v32 != 0u)) & ((u32)(v20 == v24))) { goto after44; }
+    v24 = 0u;
+    v20 = 0u;
+    v31 = 0u;
+    if ((((u32)(v32 == (v15 & 255u))) & v30) == 0) { goto after43; }
+    v18 = 2u;
+    v25 = 0u;
+    if (v26) { goto after54; }
+    v25 = load8(m, v6, 0) << 24;
+after54:;
+    v24 = v29;
+    v20 = v28;
+    v31 = v27;
+    goto after43;
+after46:;
+    v11 = get64(f34 + 864);
+    switch ((u32)(v14 & 255ull)) {
+        case 1: goto after55;
+        case 2: goto after56;
+        default: goto after57;
+    }
+after57:;
+    v5 = get8(f34 + 593);
+    put8(f34 + 593, (v5 == 1u) ? 2u : v5);
+    goto after55;
+after56:;
+    v5 = v23 & 136u;
+    if (((u32)((v16 & 255u) == 0)) | (v30 ^ 1u)) { goto after60; }
+    if (v5) { goto after58; }
+    v5 = v23 & 7u;
+    v17 = v23 & 255u;
+    v10 = v17 >> 4;
+    if ((((v23 << 4) | v10) & 255u) == (v15 & 255u)) { goto after59; }
+    if ((((u32)(v17 == 0)) | ((u32)(v10 != v5))) == 0) { goto after59; }
+    goto after55;
+after60:;
+    if ((v30 & ((u32)((v5 & 255u) == 0))) != 1u) { goto after58; }
+    v5 = v23 & 7u;
+    v10 = (v23 & 240u) >> 4;
+after59:;
+    if ((v23 & 255u) == 0) { goto after61; }
+    if (v10 == v5) { goto after58; }
+after61:;
+    if (((u32)((((v23 << 4) | ((v23 & 240u) >> 4)) & 255u) != (v15 & 255u))) | (v30 ^ 1u)) { goto after58; }
+    v5 = 0u;
+    if (v26) { goto after62; }
+    v5 = load8(m, v6, 0);
+after62:;
+    v17 = get8(f34 + 593);
+    if (v17 > 2u) { goto after63; }
+    v16 = 1u;
+    v15 = get8(f34 + 597);
+    v24 = get8(f34 + 595);
+    v30 = get8(f34 + 594);
+    v23 = get8(f34 + 592);
+    v10 = get8(f34 + 589);
+    v18 = get8(f34 + 579);
+    v25 = get8(f34 + 578);
+    if ((get8(f34 + 591) & 1u) == 0) { goto after65; }
+    if (v17 == 0) { goto after64; }
+    v16 = 1u;
+    v17 = v15 & 255u;
+    v15 = v10 & 255u;
+    t0 = (v17 > v15) ? v17 : v15;
+    v17 = ((u32)((v30 & 255u) == 2u)) & ((u32)((v24 & 255u) == 1u));
+    v10 = v17 ? t0 : v10;
+    v23 = v17 ? (v23 & 1u) : v23;
+    goto after64;
+after65:;
+    if (v17) { goto after66; }
+    v16 = 0u;
+    goto after64;
+after66:;
+    v17 = v15 & 255u;
+    v16 = v10 & 255u;
+    t0 = (v17 > v16) ? v17 : v16;
+    v17 = v30 & 255u;
+    v16 = v24 & 255u;
+    v15 = ((u32)(v17 == 2u)) & ((u32)(v16 == 1u));
+    v10 = v15 ? t0 : v10;
+    v25 = v17 ? v25 : ((u32)(v16 == 0));
+    v23 = v15 ? (v23 & 1u) : v23;
+    v16 = 0u;
+    v18 = v17 ? v18 : 0u;
+after64:;
+    put8(f34 + 872, 2u);
+    put8(f34 + 592, v23);
+    put8(f34 + 591, v16);
+    put8(f34 + 589, v10);
+    put8(f34 + 579, v18);
+    put8(f34 + 578, v25);
+after63:;
+    put8(f34 + 597, v5);
+    put8(f34 + 596, v29);
+    put8(f34 + 595, v28);
+    put8(f34 + 594, v27);
+    put8(f34 + 593, 1u);
+    goto after55;
+after58:;
+    v5 = get8(f34 + 593);
+    put8(f34 + 593, (v5 == 1u) ? 2u : v5);
+after55:;
+    v5 = get8(f34 + 897);
+    if (get8(f34 + 1176) != 2u) { goto after68; }
+    v5 = (v5 == 1u) ? 2u : v5;
+    v23 = get8(f34 + 901);
+    v10 = get8(f34 + 900);
+    v17 = get8(f34 + 899);
+    v16 = get8(f34 + 898);
+    goto after67;
+after68:;
+    v16 = v5;
+    v17 = v5;
+    v10 = v5;
+    v23 = v5;
+    switch (v5) {
+        case 1: goto after69;
+        case 2: goto after69;
+        case 3: goto after70;
+        case 4: goto after70;
+        default: goto after67;
+    }
+after70:;
+    v16 = 0u;
+    v5 = 4u;
+    v17 = 0u;
     v10 = 0u;
+    v23 = 0u;
+    goto after67;
+after69:;
+    v5 = 2u;
+    v16 = get8(f34 + 898);
+    v17 = get8(f34 + 899);
+    v10 = get8(f34 + 900);
+    v23 = get8(f34 + 901);
+after67:;
+    put8(f34 + 901, v23);
+    put8(f34 + 900, v10);
+    put8(f34 + 899, v17);
+    put8(f34 + 898, v16);
+    put8(f34 + 897, v5);
+    v3 = 0ull;
+    v17 = 0u;
+    v16 = 4u;
+    v23 = v2;
+    v10 = v19;
+    goto after41;
+after45:;
+    v18 = 3u;
+    v25 = 0u;
+after44:;
+    v24 = 0u;
+    v20 = 0u;
+    v31 = 0u;
+after43:;
+    v25 = ((((v20 & 255u) << 8) | (v31 & 255u)) | ((v24 & 255u) << 16)) | v25;
+after42:;
+    v24 = ((u32)(get8(f34 + 1513) == 2u)) & ((u32)((get8(f34 + 1514) & 255u) == 0));
+    if (v24 != 1u) { goto after71; }
+    put8(f34 + 591, 0u);
+    put8(f34 + 585, 0u);
+    put16(f34 + 583, 12u);
+    put8(f34 + 592, get8(f34 + 592) & 1u);
+    v27 = get8(f34 + 590);
+    v28 = get8(f34 + 589);
+    put8(f34 + 589, (v27 > v28) ? v27 : v28);
+after71:;
+    if ((v10 & 255u) > 2u) { goto after72; }
+    v29 = 1u;
+    v31 = get8(f34 + 901);
+    v32 = get8(f34 + 899);
+    v33 = get8(f34 + 898);
+    v27 = get8(f34 + 896);
+    v28 = get8(f34 + 893);
+    v26 = get8(f34 + 883);
+    v20 = get8(f34 + 882);
+    if ((get8(f34 + 895) & 1u) == 0) { goto after74; }
+    if ((v10 & 255u) == 0) { goto after73; }
+    v29 = 1u;
+    v10 = v31 & 255u;
+    v31 = v28 & 255u;
+    t0 = (v10 > v31) ? v10 : v31;
+    v10 = ((u32)((v33 & 255u) == 2u)) & ((u32)((v32 & 255u) == 1u));
+    v28 = v10 ? t0 : v28;
+    v27 = v10 ? (v27 & 1u) : v27;
+    goto after73;
+after74:;
+    if (v10 & 255u) { goto after75; }
+    v29 = 0u;
+    goto after73;
+after75:;
+    v10 = v31 & 255u;
+    v29 = v28 & 255u;
+    t0 = (v10 > v29) ? v10 : v29;
+    v10 = v33 & 255u;
+    v29 = v32 & 255u;
+    v31 = ((u32)(v10 == 2u)) & ((u32)(v29 == 1u));
+    v28 = v31 ? t0 : v28;
+    v20 = v10 ? v20 : ((u32)(v29 == 0));
+    v27 = v31 ? (v27 & 1u) : v27;
+    v29 = 0u;
+    v26 = v10 ? v26 : 0u;
+after73:;
+    put8(f34 + 1176, 2u);
+    put8(f34 + 896, v27);
+    put8(f34 + 895, v29);
+    put8(f34 + 893, v28);
+    put8(f34 + 883, v26);
+    put8(f34 + 882, v20);
+after72:;
+    if (v24 == 0) { goto after78; }
+    if ((v5 & 255u) != 1u) { goto after79; }
+    put32(f34 + 898, v25);
+    put8(f34 + 897, v18);
+    goto after77;
+after79:;
+    put8(f34 + 895, 0u);
+    put8(f34 + 889, 0u);
+    put16(f34 + 887, 12u);
+    put8(f34 + 896, get8(f34 + 896) & 1u);
+    v10 = get8(f34 + 894);
+    v24 = get8(f34 + 893);
+    put8(f34 + 893, (v10 > v24) ? v10 : v24);
+after78:;
+    put32(f34 + 898, v25);
+    put8(f34 + 897, v18);
+    if ((v5 & 255u) != 2u) { goto after77; }
+    if ((((u32)((v16 & 255u) != 0u)) & v30) == 0) { goto after77; }
+    if (v23 & 136u) { goto after77; }
+    v5 = v23 & 255u;
+    if (v5 == (v15 & 255u)) { goto after77; }
+    if (((u32)(v5 != 0u)) & ((u32)((v5 >> 4) == (v23 & 7u)))) { goto after77; }
+    v10 = 1u;
+    switch (v19) {
+        case 1: goto after81;
+        case 2: goto after80;
+        default: goto after76;
+    }
+after81:;
+    if ((v2 & 255u) == (v23 & 255u)) { goto after76; }
+after80:;
+    v23 = 0u;
+    v10 = 2u;
+    goto after76;
+after77:;
+    v10 = v19;
+    v23 = v2;
+after76:;
+    v11 = get64(f34 + 1168);
+    put8(f34 + 1187, v23);
+    put8(f34 + 1186, v10);
+    v16 = 2u;
+after41:;
+    put8(f34 + 1188, v16);
+    v24 = 0u;
+    v12 = 0ull;
+    v2 = 1u;
+    v30 = 0u;
+    v25 = 0u;
+    v5 = 0u;
+    v18 = 0u;
+    goto after2;
+after6:;
+    put64(f34 + 1808, 0ull);
+    put64(f34 + 1816, 0ull);
+    put64(f34 + 1823, 0ull);
+    put64(f34 + 1200, 0ull);
+    put64(f34 + 1208, 0ull);
+    put64(f34 + 1215, 0ull);
+after5:;
+    if ((v25 & 136u) == 0) { goto after4; }
+    v16 = 0u;
+    goto after3;
+after4:;
+    v17 = v25 & 255u;
+    if (v17 == 0) { goto after82; }
+    if ((v17 >> 4) != (v25 & 7u)) { goto after82; }
+    v16 = 0u;
+    goto after3;
+after82:;
+    v16 = (u32)(((v10 ? ((v25 << 4) | ((v25 & 240u) >> 4)) : v25) & 255u) == (v15 & 255u));
+after3:;
+    v4 = v3 + 1ull;
+    v4 = (v4 == 0) ? 0xFFFFFFFFFFFFFFFFull : v4;
+    put64(f34 + 1192, v4);
+    if ((v2 | v21) & 255u) { goto after88; }
+    v21 = 0u;
+    v17 = get8(f34 + 1512);
+    if (v17 & 136u) { goto after88; }
+    v18 = v17 >> 4;
+    if (v17 == 0) { goto after87; }
+    if (v18 != (v17 & 7u)) { goto after87; }
+after88:;
+    put8(f34 + 1185, v22);
+    put8(f34 + 1184, v21);
+    if (v24) { goto after86; }
+    v19 = 1u;
+    goto after83;
+after87:;
+    v19 = 1u;
+    put8(f34 + 1184, 1u);
+    v22 = v10 ? ((v17 << 4) | v18) : v17;
+    put8(f34 + 1185, v22);
+    if (v24 == 0) { goto after83; }
+    if ((v23 & 136u) == 0) { goto after85; }
+    v19 = 0u;
+    goto after83;
+after86:;
+    v17 = v23 & 136u;
+    if (v21 == 0) { goto after84; }
+    if (v17 == 0) { goto after85; }
+    v19 = 0u;
+    goto after83;
+after85:;
+    v21 = v23 & 255u;
+    if (v21 == 0) { goto after89; }
+    if ((v21 >> 4) != (v23 & 7u)) { goto after89; }
+    v19 = 0u;
+    goto after83;
+after89:;
+    v19 = (u32)(((v10 ? ((v23 << 4) | ((v23 & 240u) >> 4)) : v23) & 255u) == (v22 & 255u));
+    goto after83;
+after84:;
+    if (v17 == 0) { goto after90; }
+    v19 = 0u;
+    goto after83;
+after90:;
+    v21 = v23 & 255u;
+    v19 = ((u32)(v21 == 0)) | ((u32)((v21 >> 4) != (v23 & 7u)));
+after83:;
+    if (v10) { goto after96; }
+    v17 = 2u;
+    v3 = get64(f34 + 864);
+    switch ((u32)(u64)get8(f34 + 897)) {
+        case 1: goto after97;
+        case 2: goto after99;
+        default: goto after98;
+    }
+after99:;
+    v17 = 1u;
+    goto after97;
+after98:;
+    v3 = 0ull;
+    v17 = 0u;
+after97:;
+    v11 = get64(f34 + 1168);
+    judge_core_monitor_Watched_sent(m, v34 + 1808ull, v34 + 576ull, v16, v34 + 1504ull, v4);
+    v10 = 0u;
+    v21 = 4u;
+    switch ((u32)(v14 & 255ull)) {
+        case 1: goto after100;
+        case 2: goto after101;
+        default: goto after102;
+    }
+after102:;
+    v10 = 0u;
+    if ((((u32)((v2 & 255u) != 0u)) | (v16 ^ 1u)) == 0) { goto after104; }
+    v21 = 3u;
+    v22 = 0u;
     v16 = 0u;
     v19 = 0u;
-    goto after51;
-after52:;
-    v5 = 2u;
-    v19 = get8(f28 + 1515);
-    v16 = get8(f28 + 1514);
-    v10 = get8(f28 + 1513);
-    if (get64(f28 + 1528) == 0) { goto after51; }
-    v18 = load8(m, get64(f28 + 1520), 0) << 24;
-after51:;
-    v18 = ((((v16 & 255u) << 8) | (v10 & 255u)) | ((v19 & 255u) << 16)) | v18;
-    goto after48;
-after49:;
-    v5 = 1u;
-    v18 = 0u;
-    if ((v26 & v16) == 1u) { goto after54; }
-    v5 = 3u;
-    v22 = 0u;
-    v23 = 0u;
-    v24 = 0u;
-    goto after53;
-after54:;
-    if (v25) { goto after53; }
-    v18 = load8(m, v6, 0) << 24;
-after53:;
-    v18 = ((((v23 & 255u) << 8) | (v22 & 255u)) | ((v24 & 255u) << 16)) | v18;
-after48:;
-    if (v2 & 255u) { goto after56; }
-    if ((get8(f28 + 1513) & 255u) != 1u) { goto after55; }
-after56:;
-    put8(f28 + 872, (get8(f28 + 872)) ? 2u : 0u);
-after55:;
-    put32(f28 + 594, v18);
-    put8(f28 + 593, (v5 == 1u) ? ((get8(f28 + 1176) == 1u) ? 2u : v5) : v5);
-    v4 = v28 + 1200ull;
-    v3 = 0ull;
-    v5 = 0u;
-    v25 = get8(f28 + 1222);
-    v27 = get8(f28 + 1221);
-    v17 = get8(f28 + 1220);
-    v15 = get8(f28 + 1208);
-    v22 = get16(f28 + 1206);
-    v23 = get8(f28 + 1205);
-    v24 = get8(f28 + 1204);
-    v26 = get8(f28 + 1202);
-    v2 = get8(f28 + 1201);
-after30:;
-    v19 = load8(m, v4, 0);
+    goto after103;
+after104:;
+    v21 = 2u;
+    v19 = get8(f34 + 1515);
+    v16 = get8(f34 + 1514);
+    v22 = get8(f34 + 1513);
+    if (get64(f34 + 1528) == 0) { goto after103; }
+    v10 = load8(m, get64(f34 + 1520), 0) << 24;
+after103:;
+    v10 = ((((v16 & 255u) << 8) | (v22 & 255u)) | ((v19 & 255u) << 16)) | v10;
+    goto after100;
+after101:;
+    v21 = 1u;
     v10 = 0u;
-    memset(f28 + 1504, (int)(0u & 255u), 288);
-    memset(f28 + 1200, (int)(0u & 255u), 288);
-    v21 = get8(f28 + 1185);
-    v18 = get8(f28 + 1184);
-    c_lent_kept_judge_CWatched_of(m, v28 + 1504ull, v28 + 576ull);
-    c_lent_kept_judge_CWatched_of(m, v28 + 1200ull, v28 + 880ull);
-    v4 = get64(f28 + 1192);
-    copy(m, v28 + 1808ull, v28 + 1504ull, 288ull);
-    copy(m, (v28 + 1808ull) + 288ull, v28 + 1200ull, 288ull);
-    copy(m, v28, v28 + 1808ull, 576ull);
-    copy(m, v1, v28, 576ull);
-    p1447 = held(m, v1 + 576ull, 16);
-    put_held32(p1447, 10, m, v1 + 576ull, 0u);
+    if ((v30 & v19) == 1u) { goto after106; }
+    v21 = 3u;
+    v27 = 0u;
+    v28 = 0u;
+    v29 = 0u;
+    goto after105;
+after106:;
+    if (v26) { goto after105; }
+    v10 = load8(m, v6, 0) << 24;
+after105:;
+    v10 = ((((v28 & 255u) << 8) | (v27 & 255u)) | ((v29 & 255u) << 16)) | v10;
+after100:;
+    v19 = get8(f34 + 897);
+    if (v19 > 2u) { goto after107; }
+    v18 = 1u;
+    v24 = get8(f34 + 901);
+    v27 = get8(f34 + 899);
+    v28 = get8(f34 + 898);
+    v22 = get8(f34 + 896);
+    v16 = get8(f34 + 893);
+    v25 = get8(f34 + 883);
+    v15 = get8(f34 + 882);
+    if ((get8(f34 + 895) & 1u) == 0) { goto after109; }
+    if (v19 == 0) { goto after108; }
+    v18 = 1u;
+    v19 = v24 & 255u;
+    v24 = v16 & 255u;
+    t0 = (v19 > v24) ? v19 : v24;
+    v19 = ((u32)((v28 & 255u) == 2u)) & ((u32)((v27 & 255u) == 1u));
+    v16 = v19 ? t0 : v16;
+    v22 = v19 ? (v22 & 1u) : v22;
+    goto after108;
+after109:;
+    if (v19) { goto after110; }
+    v18 = 0u;
+    goto after108;
+after110:;
+    v19 = v24 & 255u;
+    v18 = v16 & 255u;
+    t0 = (v19 > v18) ? v19 : v18;
+    v19 = v28 & 255u;
+    v18 = v27 & 255u;
+    v24 = ((u32)(v19 == 2u)) & ((u32)(v18 == 1u));
+    v16 = v24 ? t0 : v16;
+    v15 = v19 ? v15 : ((u32)(v18 == 0));
+    v22 = v24 ? (v22 & 1u) : v22;
+    v18 = 0u;
+    v25 = v19 ? v25 : 0u;
+after108:;
+    put8(f34 + 1176, 2u);
+    put8(f34 + 896, v22);
+    put8(f34 + 895, v18);
+    put8(f34 + 893, v16);
+    put8(f34 + 883, v25);
+    put8(f34 + 882, v15);
+after107:;
+    if (v2 & 255u) { goto after112; }
+    if ((get8(f34 + 1513) & 255u) != 1u) { goto after111; }
+after112:;
+    put8(f34 + 1176, (get8(f34 + 1176)) ? 2u : 0u);
+after111:;
+    put32(f34 + 898, v10);
     v16 = 1u;
-    put_held8(p1447, 9, m, v1 + 576ull, (v18 == 1u) ? v21 : 0u);
-    put_held8(p1447, 8, m, v1 + 576ull, v18 & 1u);
-    put_held64(p1447, 0, m, v1 + 576ull, v4);
-    put_held16(p1447, 14, m, v1 + 576ull, 0u);
-    if (v19 == 1u) { goto after57; }
-    v2 = 0u;
-    goto after3;
-after57:;
-    v16 = v2;
-    v10 = v2;
-    v18 = v2;
-    v19 = v2;
-    v21 = v2;
-    v20 = v2;
-    switch ((u32)(((u64)v2) & 255ull)) {
-        case 1: goto after59;
-        case 2: goto after58;
-        default: goto after2;
-    }
-after59:;
-    v16 = 2u;
-    v2 = 0u;
-    v10 = 0u;
-    goto after3;
-after58:;
-    v1 = ((u64)v26) & 255ull;
+    put8(f34 + 897, (v21 == 1u) ? ((get8(f34 + 872) == 1u) ? 2u : v21) : v21);
+    v19 = get8(f34 + 1187);
+    v21 = get8(f34 + 1186);
+    v22 = get8(f34 + 1185);
+    if ((v5 & 255u) != 2u) { goto after113; }
+    v16 = 1u;
+    if ((v30 ^ 1u) | ((u32)(get8(f34 + 1184) != 1u))) { goto after95; }
+    if (v23 & 136u) { goto after95; }
+    v5 = v23 & 255u;
+    if (((u32)(v5 != 0u)) & ((u32)((v5 >> 4) == (v23 & 7u)))) { goto after95; }
+    if (v5 == (v22 & 255u)) { goto after95; }
     v10 = 1u;
-    v18 = v17;
-    switch ((u32)(((u64)v17) & 255ull)) {
-        case 1: goto after72;
-        case 2: goto after71;
-        case 3: goto after70;
-        case 4: goto after69;
-        case 5: goto after68;
-        case 6: goto after67;
-        case 7: goto after66;
-        case 8: goto after65;
-        case 9: goto after63;
-        case 10: goto after62;
-        case 11: goto after61;
-        case 12: goto after64;
-        default: goto after60;
+    switch (v21) {
+        case 1: goto after115;
+        case 2: goto after114;
+        default: goto after94;
     }
-after72:;
-    v18 = 0u;
+after115:;
+    if ((v19 & 255u) == (v23 & 255u)) { goto after94; }
+after114:;
+    v23 = 0u;
     v10 = 2u;
-    goto after60;
-after71:;
-    v18 = 0u;
-    v10 = 3u;
-    goto after60;
-after70:;
-    v18 = 0u;
-    v10 = 4u;
-    goto after60;
-after69:;
-    v18 = 0u;
-    v10 = 5u;
-    goto after60;
-after68:;
-    v18 = 0u;
-    v10 = 6u;
-    goto after60;
-after67:;
-    v18 = 0u;
-    v10 = 7u;
-    goto after60;
-after66:;
-    v10 = 8u;
-    v18 = v25;
-    switch ((u32)(((u64)v27) & 255ull)) {
-        case 1: goto after75;
-        case 2: goto after74;
-        case 3: goto after73;
-        default: goto after60;
+    goto after94;
+after113:;
+    v23 = v19;
+    v10 = v21;
+    if ((v2 & 255u) == 0) { goto after93; }
+    v23 = v19;
+    v10 = v21;
+    goto after92;
+after96:;
+    v11 = get64(f34 + 864);
+    judge_core_monitor_Watched_sent(m, v34 + 1200ull, v34 + 880ull, v16, v34 + 1504ull, v4);
+    v5 = 0u;
+    v21 = 3u;
+    switch ((u32)(v14 & 255ull)) {
+        case 1: goto after116;
+        case 2: goto after117;
+        default: goto after118;
     }
-after75:;
-    v10 = 9u;
-    v18 = v25;
-    goto after60;
-after74:;
-    v10 = 10u;
-    v18 = v25;
-    goto after60;
-after73:;
-    v10 = 11u;
-    v18 = v25;
-    goto after60;
-after65:;
-    v18 = 0u;
-    v10 = 12u;
-    goto after60;
-after64:;
-    v18 = 0u;
-    v10 = 13u;
-    goto after60;
-after63:;
-    v18 = 0u;
-    v10 = 14u;
-    goto after60;
-after62:;
-    v18 = 0u;
-    v10 = 15u;
-    goto after60;
-after61:;
-    v18 = 0u;
-    v10 = 16u;
-after60:;
-    v2 = load8(m, v1, 73816);
-    v20 = ((v22 & 65535u) < 256u) ? 0u : (v15 + 1u);
+after118:;
+    v5 = 0u;
+    if ((((u32)((v2 & 255u) != 0u)) | (v16 ^ 1u)) == 0) { goto after120; }
+    v21 = 3u;
+    v23 = 0u;
+    v10 = 0u;
+    v22 = 0u;
+    goto after119;
+after120:;
+    v21 = 2u;
+    v22 = get8(f34 + 1515);
+    v10 = get8(f34 + 1514);
+    v23 = get8(f34 + 1513);
+    if (get64(f34 + 1528) == 0) { goto after119; }
+    v5 = load8(m, get64(f34 + 1520), 0) << 24;
+after119:;
+    v5 = ((((v10 & 255u) << 8) | (v23 & 255u)) | ((v22 & 255u) << 16)) | v5;
+    goto after116;
+after117:;
+    v21 = 1u;
+    v5 = 0u;
+    if ((v30 & v19) == 1u) { goto after122; }
+    v21 = 3u;
+    v27 = 0u;
+    v28 = 0u;
+    v29 = 0u;
+    goto after121;
+after122:;
+    if (v26) { goto after121; }
+    v5 = load8(m, v6, 0) << 24;
+after121:;
+    v5 = ((((v28 & 255u) << 8) | (v27 & 255u)) | ((v29 & 255u) << 16)) | v5;
+after116:;
+    if (v2 & 255u) { goto after124; }
+    if ((get8(f34 + 1513) & 255u) != 1u) { goto after123; }
+after124:;
+    put8(f34 + 872, (get8(f34 + 872)) ? 2u : 0u);
+after123:;
+    v2 = (v21 == 1u) ? ((get8(f34 + 1176) == 1u) ? 2u : v21) : v21;
+    v21 = get8(f34 + 1188);
+    if (((v21 + 0xFFFFFFFEu) & 255u) > 2u) { goto after126; }
+    v23 = get8(f34 + 593);
+    if (v2 != 3u) { goto after127; }
+    put8(f34 + 593, ((v23 & 255u) == 1u) ? 2u : v23);
+    goto after125;
+after127:;
+    if ((v23 & 255u) > 2u) { goto after126; }
+    v17 = 1u;
+    v18 = get8(f34 + 597);
+    v25 = get8(f34 + 595);
+    v15 = get8(f34 + 594);
+    v10 = get8(f34 + 592);
+    v22 = get8(f34 + 589);
+    v16 = get8(f34 + 579);
+    v19 = get8(f34 + 578);
+    if ((get8(f34 + 591) & 1u) == 0) { goto after129; }
+    if ((v23 & 255u) == 0) { goto after128; }
+    v17 = 1u;
+    v23 = v18 & 255u;
+    v18 = v22 & 255u;
+    t0 = (v23 > v18) ? v23 : v18;
+    v23 = ((u32)((v15 & 255u) == 2u)) & ((u32)((v25 & 255u) == 1u));
+    v22 = v23 ? t0 : v22;
+    v10 = v23 ? (v10 & 1u) : v10;
+    goto after128;
+after129:;
+    if (v23 & 255u) { goto after130; }
+    v17 = 0u;
+    goto after128;
+after130:;
+    v23 = v18 & 255u;
+    v17 = v22 & 255u;
+    t0 = (v23 > v17) ? v23 : v17;
+    v23 = v15 & 255u;
+    v17 = v25 & 255u;
+    v18 = ((u32)(v23 == 2u)) & ((u32)(v17 == 1u));
+    v22 = v18 ? t0 : v22;
+    v19 = v23 ? v19 : ((u32)(v17 == 0));
+    v10 = v18 ? (v10 & 1u) : v10;
+    v17 = 0u;
+    v16 = v23 ? v16 : 0u;
+after128:;
+    put8(f34 + 872, 2u);
+    put8(f34 + 592, v10);
+    put8(f34 + 591, v17);
+    put8(f34 + 589, v22);
+    put8(f34 + 579, v16);
+    put8(f34 + 578, v19);
+after126:;
+    put32(f34 + 594, v5);
+    put8(f34 + 593, v2);
+after125:;
+    v17 = 0u;
+    v16 = ((v21 & 254u) == 2u) ? 3u : 0u;
+    put8(f34 + 1188, v16);
+    v4 = v34 + 1200ull;
+    v3 = 0ull;
+    v23 = get8(f34 + 1187);
+    v10 = get8(f34 + 1186);
+    v22 = get8(f34 + 1185);
+    v2 = get8(f34 + 1222);
+    v21 = get8(f34 + 1221);
+    v19 = get8(f34 + 1220);
+    v18 = get8(f34 + 1208);
+    v25 = get16(f34 + 1206);
+    v30 = get8(f34 + 1205);
+    v24 = get8(f34 + 1204);
+    v15 = get8(f34 + 1202);
+    v5 = get8(f34 + 1201);
+    goto after91;
+after95:;
+    v10 = v21;
+    v23 = v19;
+after94:;
+    put8(f34 + 1187, v23);
+    put8(f34 + 1186, v10);
+    if (((((u32)((v2 & 255u) == 0)) | v30) & 1u) == 0) { goto after92; }
+after93:;
+    v16 = 0u;
+    switch ((u32)(u64)get8(f34 + 1188)) {
+        case 1: goto after132;
+        case 2: goto after131;
+        case 3: goto after131;
+        default: goto after92;
+    }
+after132:;
+    v16 = 1u;
+    goto after92;
+after131:;
     v16 = 3u;
-    v19 = v24;
-    v21 = v23;
-    goto after2;
-after3:;
-    v18 = 0u;
-    v19 = 0u;
-    v21 = 0u;
-    v20 = 0u;
+after92:;
+    put8(f34 + 1188, v16);
+    v4 = v34 + 1808ull;
+    v2 = get8(f34 + 1830);
+    v21 = get8(f34 + 1829);
+    v19 = get8(f34 + 1828);
+    v18 = get8(f34 + 1816);
+    v25 = get16(f34 + 1814);
+    v30 = get8(f34 + 1813);
+    v24 = get8(f34 + 1812);
+    v15 = get8(f34 + 1810);
+    v5 = get8(f34 + 1809);
+after91:;
+    v25 = ((v25 & 65535u) < 256u) ? 0u : (v18 + 1u);
+    v18 = (((v2 & 255u) << 16) | ((v21 & 255u) << 8)) | (v19 & 255u);
+    v12 = ((u64)v15) & 255ull;
+    v2 = load8(m, v4, 0);
+    v4 = get64(f34 + 1192);
+    v21 = get8(f34 + 1184);
 after2:;
-    p1674 = held(m, v8, 32);
-    put_held8(p1674, 31, m, v8, v20);
-    put_held8(p1674, 30, m, v8, v21);
-    put_held8(p1674, 29, m, v8, v19);
-    put_held8(p1674, 28, m, v8, v18);
-    put_held8(p1674, 27, m, v8, v10);
-    put_held8(p1674, 26, m, v8, v5);
-    put_held8(p1674, 25, m, v8, v2);
-    put_held8(p1674, 24, m, v8, v16);
-    put_held64(p1674, 8, m, v8, v11);
-    put_held64(p1674, 0, m, v8, v4);
+    memset(f34 + 1504, (int)(0u & 255u), 288);
+    memset(f34 + 1200, (int)(0u & 255u), 288);
+    c_lent_kept_judge_CWatched_of(m, v34 + 1504ull, v34 + 576ull);
+    c_lent_kept_judge_CWatched_of(m, v34 + 1200ull, v34 + 880ull);
+    copy(m, v34 + 1808ull, v34 + 1504ull, 288ull);
+    copy(m, (v34 + 1808ull) + 288ull, v34 + 1200ull, 288ull);
+    copy(m, v34, v34 + 1808ull, 576ull);
+    copy(m, v1, v34, 576ull);
+    p3152 = held(m, v1 + 576ull, 16);
+    put_held16(p3152, 13, m, v1 + 576ull, 0u);
+    put_held8(p139, 12, m, v1 + 576ull, v16);
+    v19 = 1u;
+    put_held8(p139, 11, m, v1 + 576ull, ((v10 & 255u) == 1u) ? v23 : 0u);
+    put_held8(p139, 10, m, v1 + 576ull, v10);
+    put_held8(p139, 9, m, v1 + 576ull, ((v21 & 255u) == 1u) ? v22 : 0u);
+    put_held8(p139, 8, m, v1 + 576ull, v21 & 1u);
+    put_held64(p139, 0, m, v1 + 576ull, v4);
+    put_held8(p3152, 15, m, v1 + 576ull, 0u);
+    v22 = v2;
+    v16 = v2;
+    v21 = v2;
+    v23 = v2;
+    v10 = v2;
+    switch ((u32)(((u64)v2) & 255ull)) {
+        case 1: goto after136;
+        case 2: goto after137;
+        default: goto after133;
+    }
+after137:;
+    v2 = v5;
+    v19 = v5;
+    v22 = v5;
+    v16 = v5;
+    v21 = v5;
+    v23 = v5;
+    v10 = v5;
+    switch ((u32)(((u64)v5) & 255ull)) {
+        case 1: goto after138;
+        case 2: goto after135;
+        default: goto after133;
+    }
+after138:;
+    v19 = 2u;
+    goto after134;
+after136:;
+    v19 = 4u;
+    goto after134;
+after135:;
+    v2 = load8(m, v12, 73816);
+    v22 = 1u;
+    v19 = 3u;
+    v16 = v18;
+    v21 = v24;
+    v23 = v30;
+    v10 = v25;
+    switch ((u32)(((u64)v18) & 255ull)) {
+        case 1: goto after151;
+        case 2: goto after150;
+        case 3: goto after149;
+        case 4: goto after148;
+        case 5: goto after147;
+        case 6: goto after146;
+        case 7: goto after145;
+        case 8: goto after144;
+        case 9: goto after142;
+        case 10: goto after141;
+        case 11: goto after140;
+        case 12: goto after143;
+        default: goto after133;
+    }
+after151:;
+    v16 = 0u;
+    v22 = 2u;
+    goto after139;
+after150:;
+    v16 = 0u;
+    v19 = 3u;
+    v22 = 3u;
+    goto after139;
+after149:;
+    v16 = 0u;
+    v22 = 4u;
+    goto after139;
+after148:;
+    v16 = 0u;
+    v22 = 5u;
+    goto after139;
+after147:;
+    v16 = 0u;
+    v22 = 6u;
+    goto after139;
+after146:;
+    v16 = 0u;
+    v22 = 7u;
+    goto after139;
+after145:;
+    v16 = v18 >> 16;
+    v22 = 8u;
+    v21 = v24;
+    v23 = v30;
+    v10 = v25;
+    switch ((u32)(((u64)(v18 >> 8)) & 255ull)) {
+        case 1: goto after154;
+        case 2: goto after153;
+        case 3: goto after152;
+        default: goto after133;
+    }
+after154:;
+    v22 = 9u;
+    goto after139;
+after153:;
+    v22 = 10u;
+    goto after139;
+after152:;
+    v22 = 11u;
+    goto after139;
+after144:;
+    v16 = 0u;
+    v22 = 12u;
+    goto after139;
+after143:;
+    v16 = 0u;
+    v22 = 13u;
+    goto after139;
+after142:;
+    v16 = 0u;
+    v22 = 14u;
+    goto after139;
+after141:;
+    v16 = 0u;
+    v22 = 15u;
+    goto after139;
+after140:;
+    v16 = 0u;
+    v22 = 16u;
+after139:;
+    v21 = v24;
+    v23 = v30;
+    v10 = v25;
+    goto after133;
+after134:;
+    v2 = 0u;
+    v22 = 0u;
+    v16 = 0u;
+    v21 = 0u;
+    v23 = 0u;
+    v10 = 0u;
+after133:;
+    p3415 = held(m, v8, 32);
+    put_held8(p3415, 31, m, v8, v10);
+    put_held8(p3415, 30, m, v8, v23);
+    put_held8(p3415, 29, m, v8, v21);
+    put_held8(p3415, 28, m, v8, v16);
+    put_held8(p3415, 27, m, v8, v22);
+    put_held8(p3415, 26, m, v8, v17);
+    put_held8(p3415, 25, m, v8, v2);
+    put_held8(p3415, 24, m, v8, v19);
+    put_held64(p3415, 8, m, v8, v11);
+    put_held64(p3415, 0, m, v8, v4);
     v11 = 0ull;
-    put_held64(p1674, 16, m, v8, v5 ? v3 : 0ull);
+    put_held64(p3415, 16, m, v8, v17 ? v3 : 0ull);
 after1:;
-    p1713 = held(m, v0, 16);
-    put_held64(p1713, 8, m, v0, 0ull);
-    put_held64(p1713, 0, m, v0, v11);
-    m->g0 = v28 + 2480ull;
+    p3454 = held(m, v0, 16);
+    put_held64(p3454, 8, m, v0, 0ull);
+    put_held64(p3454, 0, m, v0, v11);
+    m->g0 = v34 + 2480ull;
 }
 
 static void module_scard_lent_judge_finish(struct call *m, u64 v0, u64 v1)
@@ -21375,16 +22285,16 @@ after1:;
 static void rattle_export_scard_lent_judge_quiet(struct call *m, u64 v0, u64 v1)
 {
     u64 v2 = 0;
-    u64 v3 = 0;
-    u64 v9 = 0;
-    u64 v19 = 0;
+    u64 v8 = 0;
+    u64 v11 = 0;
+    u64 v22 = 0;
+    u32 v3 = 0;
     u32 v4 = 0;
     u32 v5 = 0;
     u32 v6 = 0;
     u32 v7 = 0;
-    u32 v8 = 0;
+    u32 v9 = 0;
     u32 v10 = 0;
-    u32 v11 = 0;
     u32 v12 = 0;
     u32 v13 = 0;
     u32 v14 = 0;
@@ -21392,167 +22302,246 @@ static void rattle_export_scard_lent_judge_quiet(struct call *m, u64 v0, u64 v1)
     u32 v16 = 0;
     u32 v17 = 0;
     u32 v18 = 0;
+    u32 v19 = 0;
+    u32 v20 = 0;
+    u32 v21 = 0;
     u32 t0 = 0;
-    u8 *f19 = NULL;
-    u8 *p42 = NULL;
-    u8 *p474 = NULL;
-    u8 *p565 = NULL;
-    v19 = m->g0 - 2960ull;
-    f19 = at(m, v19, 2960);
-    v2 = v19;
+    u8 *f22 = NULL;
+    u8 *p45 = NULL;
+    u8 *p81 = NULL;
+    u8 *p713 = NULL;
+    u8 *p804 = NULL;
+    v22 = m->g0 - 2976ull;
+    f22 = at(m, v22, 2976);
+    v2 = v22;
     m->g0 = v2;
-    memset(f19, (int)(0u & 255u), 576);
-    memset(f19 + 576, (int)(0u & 255u), 304);
-    memset(f19 + 2384, (int)(0u & 255u), 304);
-    c_lent_kept_judge_CWatched_watched(m, v19 + 576ull, v0);
-    c_lent_kept_judge_CWatched_watched(m, v19 + 2384ull, v0 + 288ull);
-    p42 = held(m, v0 + 576ull, 10);
-    v3 = held64(p42, 0, m, v0 + 576ull);
-    v4 = held8(p42, 9, m, v0 + 576ull);
-    v5 = held8(p42, 8, m, v0 + 576ull);
-    copy(m, v19 + 1200ull, v19 + 576ull, 304ull);
-    copy(m, (v19 + 1200ull) + 304ull, v19 + 2384ull, 304ull);
-    copy(m, v19 + 576ull, v19 + 1200ull, 608ull);
-    put32(f19 + 1186, 0u);
-    v6 = v5 ? v4 : 0u;
-    put8(f19 + 1185, v6);
-    v7 = (u32)(v5 != 0u);
-    put8(f19 + 1184, v7);
-    put16(f19 + 1190, 0u);
-    put64(f19 + 1192, v3);
-    v8 = 2u;
-    v9 = get64(f19 + 864);
-    v5 = get8(f19 + 897);
-    switch ((u32)(((u64)v5) & 255ull)) {
-        case 1: goto after2;
-        case 2: goto after4;
+    put64(f22 + 1184, 0ull);
+    memset(f22, (int)(0u & 255u), 576);
+    memset(f22 + 2400, (int)(0u & 255u), 304);
+    memset(f22 + 1200, (int)(0u & 255u), 304);
+    c_lent_kept_judge_CWatched_watched(m, v22 + 2400ull, v0);
+    c_lent_kept_judge_CWatched_watched(m, v22 + 1200ull, v0 + 288ull);
+    p45 = held(m, v0 + 584ull, 3);
+    v3 = held8(p45, 1, m, v0 + 584ull);
+    v4 = held8(p45, 0, m, v0 + 584ull);
+    v5 = held8(p45, 2, m, v0 + 584ull);
+    v6 = v5;
+    switch (v5) {
+        case 0: goto after2;
+        case 1: goto after4;
         default: goto after3;
     }
 after4:;
-    v8 = 1u;
+    v6 = load8(m, v0 + 587ull, 0);
+    v5 = 1u;
     goto after2;
 after3:;
-    v9 = 0ull;
-    v8 = 0u;
+    v5 = 2u;
+    v6 = 0u;
 after2:;
-    v10 = get8(f19 + 593);
-    v11 = v10 + 0xFFFFFFFFu;
+    p81 = held(m, v0 + 576ull, 13);
+    v7 = held8(p81, 12, m, v0 + 576ull);
+    v8 = held64(p81, 0, m, v0 + 576ull);
+    copy(m, v22 + 1504ull, v22 + 2400ull, 304ull);
+    copy(m, (v22 + 1504ull) + 304ull, v22 + 1200ull, 304ull);
+    copy(m, v22 + 576ull, v22 + 1504ull, 608ull);
+    put16(f22 + 1189, 0u);
+    put8(f22 + 1187, v6);
+    put8(f22 + 1186, v5);
+    v4 = v4 & 255u;
+    v9 = v4 ? v3 : 0u;
+    put8(f22 + 1185, v9);
+    v10 = (u32)(v4 != 0u);
+    put8(f22 + 1184, v10);
+    put8(f22 + 1191, 0u);
+    put64(f22 + 1192, v8);
+    v11 = get64(f22 + 864);
+    v12 = 2u;
+    v4 = get8(f22 + 897);
+    switch ((u32)(((u64)v4) & 255ull)) {
+        case 1: goto after5;
+        case 2: goto after7;
+        default: goto after6;
+    }
+after7:;
     v12 = 1u;
-    v13 = get8(f19 + 597);
-    v14 = get8(f19 + 595);
-    v15 = get8(f19 + 594);
-    v4 = get8(f19 + 592);
-    v16 = get8(f19 + 589);
-    v17 = get8(f19 + 579);
-    v18 = get8(f19 + 578);
-    if ((get8(f19 + 591) & 1u) == 0) { goto after6; }
-    if ((v11 & 255u) > 1u) { goto after5; }
-    v12 = 1u;
-    v11 = v13 & 255u;
-    v13 = v16 & 255u;
-    t0 = (v11 > v13) ? v11 : v13;
-    v11 = ((u32)((v15 & 255u) == 2u)) & ((u32)((v14 & 255u) == 1u));
-    v16 = v11 ? t0 : v16;
-    v4 = v11 ? (v4 & 1u) : v4;
     goto after5;
 after6:;
-    v11 = (u32)((v11 & 255u) > 1u);
     v12 = 0u;
-    if (v11) { goto after5; }
-    v12 = v13 & 255u;
-    v11 = v16 & 255u;
-    t0 = (v12 > v11) ? v12 : v11;
-    v11 = v15 & 255u;
-    v12 = v14 & 255u;
-    v13 = ((u32)(v11 == 2u)) & ((u32)(v12 == 1u));
-    v16 = v13 ? t0 : v16;
-    v18 = v11 ? v18 : ((u32)(v12 == 0));
-    v4 = v13 ? (v4 & 1u) : v4;
-    v12 = 0u;
-    v17 = v11 ? v17 : 0u;
+    v11 = 0ull;
 after5:;
-    put8(f19 + 592, v4);
-    put8(f19 + 591, v12);
-    put8(f19 + 589, v16);
-    put8(f19 + 579, v17);
-    put8(f19 + 578, v18);
-    v4 = get8(f19 + 872);
-    put8(f19 + 593, 3u);
-    put8(f19 + 872, ((v10 & 255u) < 3u) ? 2u : (v4 ? 2u : 1u));
-    if ((v5 & 255u) < 3u) { goto after8; }
-    v4 = (get8(f19 + 1176)) ? 2u : 0u;
-    goto after7;
-after8:;
-    v10 = get8(f19 + 901);
-    v11 = get8(f19 + 899);
-    v13 = get8(f19 + 898);
-    v4 = get8(f19 + 896);
-    v16 = get8(f19 + 893);
-    v12 = get8(f19 + 883);
-    v17 = get8(f19 + 882);
-    if ((get8(f19 + 895) & 1u) == 0) { goto after10; }
-    if (v5 & 255u) { goto after11; }
-    v18 = 1u;
-    goto after9;
+    v3 = 3u;
+    if ((v7 & 255u) == 2u) { goto after8; }
+    v3 = get8(f22 + 593);
+    if ((v7 & 255u) < 2u) { goto after10; }
+    if ((v3 & 255u) > 2u) { goto after10; }
+    v13 = 1u;
+    v14 = get8(f22 + 597);
+    v15 = get8(f22 + 595);
+    v16 = get8(f22 + 594);
+    v17 = get8(f22 + 592);
+    v18 = get8(f22 + 589);
+    v19 = get8(f22 + 579);
+    v20 = get8(f22 + 578);
+    if ((get8(f22 + 591) & 1u) == 0) { goto after12; }
+    if ((v3 & 255u) == 0) { goto after11; }
+    v13 = 1u;
+    v3 = v14 & 255u;
+    v14 = v18 & 255u;
+    t0 = (v3 > v14) ? v3 : v14;
+    v3 = ((u32)((v16 & 255u) == 2u)) & ((u32)((v15 & 255u) == 1u));
+    v18 = v3 ? t0 : v18;
+    v17 = v3 ? (v17 & 1u) : v17;
+    goto after11;
+after12:;
+    if (v3 & 255u) { goto after13; }
+    v13 = 0u;
+    goto after11;
+after13:;
+    v3 = v14 & 255u;
+    v13 = v18 & 255u;
+    t0 = (v3 > v13) ? v3 : v13;
+    v3 = v16 & 255u;
+    v13 = v15 & 255u;
+    v14 = ((u32)(v3 == 2u)) & ((u32)(v13 == 1u));
+    v18 = v14 ? t0 : v18;
+    v20 = v3 ? v20 : ((u32)(v13 == 0));
+    v17 = v14 ? (v17 & 1u) : v17;
+    v13 = 0u;
+    v19 = v3 ? v19 : 0u;
 after11:;
-    v18 = 1u;
-    v10 = v10 & 255u;
-    v14 = v16 & 255u;
-    t0 = (v10 > v14) ? v10 : v14;
-    v10 = ((u32)((v13 & 255u) == 2u)) & ((u32)((v11 & 255u) == 1u));
-    v16 = v10 ? t0 : v16;
-    v4 = v10 ? (v4 & 1u) : v4;
+    put8(f22 + 872, 2u);
+    put8(f22 + 592, v17);
+    put8(f22 + 591, v13);
+    put8(f22 + 589, v18);
+    put8(f22 + 579, v19);
+    put8(f22 + 578, v20);
     goto after9;
 after10:;
-    if (v5 & 255u) { goto after12; }
-    v18 = 0u;
-    goto after9;
-after12:;
-    v18 = v10 & 255u;
-    v10 = v16 & 255u;
-    t0 = (v18 > v10) ? v18 : v10;
-    v10 = v13 & 255u;
-    v18 = v11 & 255u;
-    v11 = ((u32)(v10 == 2u)) & ((u32)(v18 == 1u));
-    v16 = v11 ? t0 : v16;
-    v17 = v10 ? v17 : ((u32)(v18 == 0));
-    v4 = v11 ? (v4 & 1u) : v4;
-    v18 = 0u;
-    v12 = v10 ? v12 : 0u;
+    v14 = v3 + 0xFFFFFFFFu;
+    v13 = 1u;
+    v15 = get8(f22 + 597);
+    v16 = get8(f22 + 595);
+    v21 = get8(f22 + 594);
+    v17 = get8(f22 + 592);
+    v18 = get8(f22 + 589);
+    v19 = get8(f22 + 579);
+    v20 = get8(f22 + 578);
+    if ((get8(f22 + 591) & 1u) == 0) { goto after15; }
+    if ((v14 & 255u) > 1u) { goto after14; }
+    v13 = 1u;
+    v14 = v15 & 255u;
+    v15 = v18 & 255u;
+    t0 = (v14 > v15) ? v14 : v15;
+    v14 = ((u32)((v21 & 255u) == 2u)) & ((u32)((v16 & 255u) == 1u));
+    v18 = v14 ? t0 : v18;
+    v17 = v14 ? (v17 & 1u) : v17;
+    goto after14;
+after15:;
+    v14 = (u32)((v14 & 255u) > 1u);
+    v13 = 0u;
+    if (v14) { goto after14; }
+    v13 = v15 & 255u;
+    v14 = v18 & 255u;
+    t0 = (v13 > v14) ? v13 : v14;
+    v14 = v21 & 255u;
+    v13 = v16 & 255u;
+    v15 = ((u32)(v14 == 2u)) & ((u32)(v13 == 1u));
+    v18 = v15 ? t0 : v18;
+    v20 = v14 ? v20 : ((u32)(v13 == 0));
+    v17 = v15 ? (v17 & 1u) : v17;
+    v13 = 0u;
+    v19 = v14 ? v19 : 0u;
+after14:;
+    put8(f22 + 592, v17);
+    put8(f22 + 591, v13);
+    put8(f22 + 589, v18);
+    put8(f22 + 579, v19);
+    put8(f22 + 578, v20);
+    v17 = get8(f22 + 872);
+    put8(f22 + 593, 3u);
+    put8(f22 + 872, ((v3 & 255u) < 3u) ? 2u : (v17 ? 2u : 1u));
 after9:;
-    put8(f19 + 896, v4);
-    put8(f19 + 895, v18);
-    put8(f19 + 893, v16);
-    put8(f19 + 883, v12);
-    put8(f19 + 882, v17);
-    v4 = 2u;
-after7:;
-    p474 = held(m, v1, 32);
-    put_held64(p474, 0, m, v1, 0ull);
-    put_held64(p474, 8, m, v1, 0ull);
-    put_held32(p474, 27, m, v1, 0u);
-    put_held8(p474, 26, m, v1, v8);
-    put_held16(p474, 24, m, v1, 0u);
-    put_held64(p474, 16, m, v1, v9);
-    put_held8(p474, 31, m, v1, 0u);
-    put32(f19 + 898, 0u);
-    put8(f19 + 1176, v4);
-    put8(f19 + 897, ((v5 & 255u) == 4u) ? 4u : 3u);
-    memset(f19 + 2096, (int)(0u & 255u), 288);
-    memset(f19 + 1808, (int)(0u & 255u), 288);
-    c_lent_kept_judge_CWatched_of(m, v19 + 2096ull, v19 + 576ull);
-    c_lent_kept_judge_CWatched_of(m, v19 + 1808ull, v19 + 880ull);
-    copy(m, v19 + 2384ull, v19 + 2096ull, 288ull);
-    copy(m, (v19 + 2384ull) + 288ull, v19 + 1808ull, 288ull);
-    copy(m, v19, v19 + 2384ull, 576ull);
-    copy(m, v0, v19, 576ull);
-    p565 = held(m, v0 + 576ull, 16);
-    put_held32(p565, 10, m, v0 + 576ull, 0u);
-    put_held8(p42, 9, m, v0 + 576ull, v6);
-    put_held8(p42, 8, m, v0 + 576ull, v7);
-    put_held64(p42, 0, m, v0 + 576ull, v3);
-    put_held16(p565, 14, m, v0 + 576ull, 0u);
-    m->g0 = v19 + 2960ull;
+    v3 = 4u;
+    if ((v7 & 255u) > 3u) { goto after8; }
+    v3 = 0x3040100u >> (((v7 << 3) & 248u) & 31);
+after8:;
+    put8(f22 + 1188, v3);
+    if ((v4 & 255u) < 3u) { goto after17; }
+    v7 = (get8(f22 + 1176)) ? 2u : 0u;
+    goto after16;
+after17:;
+    v18 = 1u;
+    v20 = get8(f22 + 901);
+    v14 = get8(f22 + 899);
+    v15 = get8(f22 + 898);
+    v7 = get8(f22 + 896);
+    v17 = get8(f22 + 893);
+    v13 = get8(f22 + 883);
+    v19 = get8(f22 + 882);
+    if ((get8(f22 + 895) & 1u) == 0) { goto after19; }
+    if ((v4 & 255u) == 0) { goto after18; }
+    v18 = 1u;
+    v20 = v20 & 255u;
+    v16 = v17 & 255u;
+    t0 = (v20 > v16) ? v20 : v16;
+    v20 = ((u32)((v15 & 255u) == 2u)) & ((u32)((v14 & 255u) == 1u));
+    v17 = v20 ? t0 : v17;
+    v7 = v20 ? (v7 & 1u) : v7;
+    goto after18;
+after19:;
+    if (v4 & 255u) { goto after20; }
+    v18 = 0u;
+    goto after18;
+after20:;
+    v18 = v20 & 255u;
+    v20 = v17 & 255u;
+    t0 = (v18 > v20) ? v18 : v20;
+    v20 = v15 & 255u;
+    v18 = v14 & 255u;
+    v14 = ((u32)(v20 == 2u)) & ((u32)(v18 == 1u));
+    v17 = v14 ? t0 : v17;
+    v19 = v20 ? v19 : ((u32)(v18 == 0));
+    v7 = v14 ? (v7 & 1u) : v7;
+    v18 = 0u;
+    v13 = v20 ? v13 : 0u;
+after18:;
+    put8(f22 + 896, v7);
+    put8(f22 + 895, v18);
+    put8(f22 + 893, v17);
+    put8(f22 + 883, v13);
+    put8(f22 + 882, v19);
+    v7 = 2u;
+after16:;
+    p713 = held(m, v1, 32);
+    put_held64(p713, 0, m, v1, 0ull);
+    put_held64(p713, 8, m, v1, 0ull);
+    put_held32(p713, 27, m, v1, 0u);
+    put_held8(p713, 26, m, v1, v12);
+    put_held16(p713, 24, m, v1, 0u);
+    put_held64(p713, 16, m, v1, v11);
+    put_held8(p713, 31, m, v1, 0u);
+    put32(f22 + 898, 0u);
+    put8(f22 + 1176, v7);
+    put8(f22 + 897, ((v4 & 255u) == 4u) ? 4u : 3u);
+    memset(f22 + 1200, (int)(0u & 255u), 288);
+    memset(f22 + 2112, (int)(0u & 255u), 288);
+    c_lent_kept_judge_CWatched_of(m, v22 + 1200ull, v22 + 576ull);
+    c_lent_kept_judge_CWatched_of(m, v22 + 2112ull, v22 + 880ull);
+    copy(m, v22 + 2400ull, v22 + 1200ull, 288ull);
+    copy(m, (v22 + 2400ull) + 288ull, v22 + 2112ull, 288ull);
+    copy(m, v22, v22 + 2400ull, 576ull);
+    copy(m, v0, v22, 576ull);
+    p804 = held(m, v0 + 576ull, 16);
+    put_held16(p804, 13, m, v0 + 576ull, 0u);
+    put_held8(p804, 12, m, v0 + 576ull, v3);
+    put_held8(p804, 11, m, v0 + 576ull, v6);
+    put_held8(p45, 2, m, v0 + 584ull, v5);
+    put_held8(p45, 1, m, v0 + 584ull, v9);
+    put_held8(p45, 0, m, v0 + 584ull, v10);
+    put_held64(p804, 0, m, v0 + 576ull, v8);
+    put_held8(p804, 15, m, v0 + 576ull, 0u);
+    m->g0 = v22 + 2976ull;
     return;
 }
 
@@ -26011,7 +27000,8 @@ typedef char lent_judge_lies_as_in_the_module[
     offsetof(struct scard_lent_judge, card.heard.octet) == 315 && offsetof(struct scard_lent_judge,
     card.doubt) == 316 && offsetof(struct scard_lent_judge, card.last_len) == 317 && offsetof(struct
     scard_lent_judge, blocks) == 576 && offsetof(struct scard_lent_judge, has_nad) == 584 && offsetof(struct
-    scard_lent_judge, nad) == 585
+    scard_lent_judge, nad) == 585 && offsetof(struct scard_lent_judge, pairs) == 586 && offsetof(struct
+    scard_lent_judge, other) == 587 && offsetof(struct scard_lent_judge, last) == 588
     ? 1 : -1];
 
 
@@ -26761,6 +27751,17 @@ void scard_reason_sentence_text(uint8_t codec, uint8_t reason, struct scard_text
     module_scard_reason_sentence_text(&m, (u32)codec, (u32)reason, ADDRESS(2));
     out->text = (const char *)constant_at(get64(image));
     out->size = (scard_size)get64(image + 8);
+}
+
+size_t scard_least(uint8_t codec, const uint8_t *octets, size_t count)
+{
+    struct call m;
+    u8 stack[640];
+    struct shaped *shaped = NULL;
+    begin(&m, stack, sizeof stack, shaped);
+    lend(&m, 0, first_constants, sizeof first_constants);
+    lend(&m, 2, octets, count);
+    return (size_t)module_scard_least(&m, (u32)codec, ADDRESS(2), (u64)count);
 }
 
 void scard_note_of(uint8_t about, uint8_t first, uint8_t second, struct scard_note *out)
@@ -27597,7 +28598,7 @@ struct scard_verdict scard_lent_check_begin(struct scard_lent_check *state, size
 struct scard_verdict scard_lent_check_feed(struct scard_lent_check *state, const uint8_t *octets, size_t count)
 {
     struct call m;
-    u8 stack[1040];
+    u8 stack[784];
     SHAPED_HERE
     struct scard_verdict result;
     begin(&m, stack, sizeof stack, shaped);
@@ -27606,9 +28607,9 @@ struct scard_verdict scard_lent_check_feed(struct scard_lent_check *state, const
     lend(&m, 3, octets, count);
     m.g0 -= 16;
     module_scard_lent_check_feed(&m, m.g0, ADDRESS(2), ADDRESS(3), (u64)count);
-    result.status = (uint8_t)get8(stack + 1024);
-    result.reason = (uint8_t)get8(stack + 1024 + 1);
-    result.place = (scard_size)get64(stack + 1024 + 8);
+    result.status = (uint8_t)get8(stack + 768);
+    result.reason = (uint8_t)get8(stack + 768 + 1);
+    result.place = (scard_size)get64(stack + 768 + 8);
     return result;
 }
 
@@ -28280,7 +29281,7 @@ struct scard_verdict scard_lent_judge_block(struct scard_lent_judge *state, uint
 void scard_lent_judge_quiet(struct scard_lent_judge *state, struct scard_judgment *out)
 {
     struct call m;
-    u8 stack[3760];
+    u8 stack[3776];
     SHAPED_HERE
     begin(&m, stack, sizeof stack, shaped);
     LEND(&m, 2, state, 1, shape_of_lent_judge(0));

@@ -193,6 +193,17 @@ void scard_s_block_text(uint8_t about, struct scard_text *out);
  */
 void scard_reason_sentence_text(uint8_t codec, uint8_t reason, struct scard_text *out);
 
+/* Returns how many more octets must come at least, if octets end early: a value of the codec begins with them, no such
+ * value ends before so many more have come, and some value ends then. `codec` is an enum scard_codec. Call it after a
+ * verdict SHORT on the octets, or after MORE with all octets that a reader took. A terminal that reads a serial port can
+ * then request so many octets and never requests one that doesn't belong to the value.
+ *
+ * - It is 0 if the octets are a whole value, and if `codec` is SCARD_CODEC_HEX or no codec.
+ * - It doesn't check the octets. If a verdict on them is AT, the number has no meaning. For SCARD_CODEC_TLV it is 0 then.
+ * - The sizes of a call, such as `ifs`, don't change it.
+ */
+size_t scard_least(uint8_t codec, const uint8_t *octets, size_t count);
+
 /* Return the same texts as C strings, for C and C++. The library owns the strings, so don't free them. For an unknown
  * number the text is "".
  */
@@ -1514,7 +1525,8 @@ struct scard_session_next scard_lent_card_session_step(struct scard_lent_card_se
 
 /* A judge checks each block on a line against the rules of T=1. For a deviation it says which end broke which rule, and
  * which block was due. The line doesn't show whether the other end received a block intact. So the judge permits a
- * block if it is right for something that its sender may have received. docs/JUDGE.md has the rules.
+ * block if it is right for something that its sender may have received. It follows the logical connection of the first
+ * block, and judges no block of another one. docs/JUDGE.md has the rules.
  */
 
 /* An end of the line. */
@@ -1532,9 +1544,10 @@ enum scard_arrival {
 
 enum scard_judged {
     SCARD_JUDGED_PERMITTED = 0,
-    SCARD_JUDGED_DAMAGE = 1,   /* not a block: its check octet or length is wrong; no end broke a rule */
-    SCARD_JUDGED_UNSEEN = 2,   /* permitted only if the block `before` was damaged or lost unseen */
-    SCARD_JUDGED_DEVIATION = 3 /* the block breaks `rule`; `due` says which block was due */
+    SCARD_JUDGED_DAMAGE = 1,    /* not a block: its check octet or length is wrong; no end broke a rule */
+    SCARD_JUDGED_UNSEEN = 2,    /* permitted only if the block `before` was damaged or lost unseen */
+    SCARD_JUDGED_DEVIATION = 3, /* the block breaks `rule`; `due` says which block was due */
+    SCARD_JUDGED_ELSEWHERE = 4  /* a block of another logical connection (11.3.2.1), which isn't judged */
 };
 
 /* Whether the card owed a block in answer to the block `unanswered`, and sent none. */
@@ -1546,8 +1559,8 @@ enum scard_silence {
 
 /* The rules, by number. Their clauses are those of ISO/IEC 7816-3:2006. */
 enum scard_rule {
-    SCARD_RULE_NODE_ADDRESS = 1,        /* the node address differs from that of the first block, or isn't swapped in
-                                           an answer */
+    SCARD_RULE_NODE_ADDRESS = 1,        /* no node address, one that isn't swapped in an answer, or one in which the
+                                           terminal sent nothing */
     SCARD_RULE_CONTROL_OCTET = 2,       /* no block has this control octet */
     SCARD_RULE_LENGTH = 3,              /* no block of this kind has a field of this length, or LEN doesn't say how
                                            many octets its sender sent */
@@ -1672,6 +1685,9 @@ struct scard_lent_judge {
     scard_size blocks;
     uint8_t has_nad;
     uint8_t nad;
+    uint8_t pairs;
+    uint8_t other;
+    uint8_t last;
 };
 
 /* Begins a judge at a reset of the card. The state may hold anything before. `ifsc` is the largest field that the card

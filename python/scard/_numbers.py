@@ -154,6 +154,7 @@ class Judged(enum.IntEnum):
     DAMAGE = 1
     UNSEEN = 2
     DEVIATION = 3
+    ELSEWHERE = 4
 
 
 class Silence(enum.IntEnum):

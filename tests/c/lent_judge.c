@@ -288,7 +288,7 @@ static void names(void)
 static int is_told(const struct scard_judgment *it)
 {
     int deviates = it->verdict == SCARD_JUDGED_DEVIATION;
-    return it->verdict <= SCARD_JUDGED_DEVIATION && it->silence <= SCARD_SILENCE_CERTAIN
+    return it->verdict <= SCARD_JUDGED_ELSEWHERE && it->silence <= SCARD_SILENCE_CERTAIN
         && (deviates ? it->rule >= 1 && it->rule <= SCARD_RULE_CHECK_OCTET : it->rule == 0)
         && (deviates ? it->due.owed >= 1 && it->due.owed <= SCARD_OWED_ANY_BLOCK : it->due.owed == 0)
         && it->due.next <= 1 && it->due.expects <= 1 && it->due.asked <= SCARD_ASKED_RESYNCH;

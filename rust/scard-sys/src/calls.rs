@@ -136,6 +136,7 @@ pub const SCARD_JUDGED_PERMITTED: u8 = 0;
 pub const SCARD_JUDGED_DAMAGE: u8 = 1;
 pub const SCARD_JUDGED_UNSEEN: u8 = 2;
 pub const SCARD_JUDGED_DEVIATION: u8 = 3;
+pub const SCARD_JUDGED_ELSEWHERE: u8 = 4;
 pub const SCARD_SILENCE_NO: u8 = 0;
 pub const SCARD_SILENCE_POSSIBLE: u8 = 1;
 pub const SCARD_SILENCE_CERTAIN: u8 = 2;
@@ -691,6 +692,9 @@ pub struct scard_lent_judge {
     pub blocks: u64,
     pub has_nad: u8,
     pub nad: u8,
+    pub pairs: u8,
+    pub other: u8,
+    pub last: u8,
 }
 const _: () = assert!(size_of::<scard_lent_judge>() == 592);
 const _: () = assert!(align_of::<scard_lent_judge>() == 8);
@@ -704,6 +708,7 @@ extern "C" {
     pub fn scard_shape_text(shape: u8, out: *mut scard_text);
     pub fn scard_s_block_text(about: u8, out: *mut scard_text);
     pub fn scard_reason_sentence_text(codec: u8, reason: u8, out: *mut scard_text);
+    pub fn scard_least(codec: u8, octets: *const u8, count: usize) -> usize;
     pub fn scard_note_of(about: u8, first: u8, second: u8, out: *mut scard_note);
     pub fn scard_is_text(octets: *const u8, count: usize) -> bool;
     pub fn scard_lrc(octets: *const u8, count: usize) -> u8;
