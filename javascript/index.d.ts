@@ -44,7 +44,7 @@ export declare const Event: {
 export declare const End: { readonly TERMINAL: 0; readonly CARD: 1 };
 export declare const Arrival: { readonly UNSAID: 0; readonly LOST: 1; readonly CAME: 2 };
 export declare const Judged: {
-    readonly PERMITTED: 0; readonly DAMAGE: 1; readonly UNSEEN: 2; readonly DEVIATION: 3;
+    readonly PERMITTED: 0; readonly DAMAGE: 1; readonly UNSEEN: 2; readonly DEVIATION: 3; readonly ELSEWHERE: 4;
 };
 export declare const Silence: { readonly NO: 0; readonly POSSIBLE: 1; readonly CERTAIN: 2 };
 export declare const Rule: {

@@ -186,9 +186,12 @@ function judged(trace) {
         } else {
             number += 1;
             const arrival = how === 'lost' ? scard.Arrival.LOST : scard.Arrival.CAME;
-            const { rule } = judge.block(SIDES[word], digits(octets), arrival, digits(how === 'lost' ? '' : came));
+            const { rule, verdict } =
+                judge.block(SIDES[word], digits(octets), arrival, digits(how === 'lost' ? '' : came));
             if (rule) lines.push([`block ${number} ${NAMES[word]}: ${scard.ruleText(rule)}, due `,
                 `  (${scard.clauseText(rule)})`]);
+            if (verdict === scard.Judged.ELSEWHERE) lines.push([
+                `block ${number} ${NAMES[word]}: another logical connection, not judged`, '  (11.3.2.1)']);
         }
     }
     judge.close();

@@ -134,7 +134,7 @@ def due_of(due):
 
 
 def judged(trace):
-    """The lines of the program about the blocks of a trace that deviate, and how many blocks it has."""
+    """The lines of the program about blocks that deviate or aren't judged, and how many blocks the trace has."""
     judge, number, lines = scard.Judge(32), 0, []
     for line in trace.splitlines():
         word, *rest = line.split()
@@ -150,6 +150,9 @@ def judged(trace):
             if found.verdict is scard.Judged.DEVIATION:
                 lines.append((f"block {number} {SIDES[word].name.lower()}: {found.rule.text}, due ", due_of(found.due),
                               f"  ({found.rule.clause})"))
+            elif found.verdict is scard.Judged.ELSEWHERE:
+                lines.append((f"block {number} {SIDES[word].name.lower()}: another logical connection, not judged", "",
+                              "  (11.3.2.1)"))
     return lines, number
 
 
