@@ -395,11 +395,11 @@ class Line:
             self.ends[side].hears(None)
 
     def takes_elsewhere(self, side, octets, came):
-        """A block of another connection. If it came damaged, the card may answer it in the first one."""
+        """A block of another connection. The card may refuse it in the first one, or answer there if it is damaged."""
         self.blocks += 1
         self.owes = False
         if side == "terminal":
             self.opened.add(octets[0])
-            self.ends["card"].hears(None if came is None or came == octets else came)
+            self.ends["card"].hears(b"" if came == octets else came)
         else:
             self.ends["card"].hears(None)

@@ -330,13 +330,14 @@ no_block_came (came seen) = is_no_block seen
 abbrev pub last_sent : Last → Seen → Reaching → Last
 last_sent last seen reaching = if is_no_block seen && no_block_came reaching then Unclear else gone_on last
 
--- What the card of the first connection heard since its last block, after the terminal sent a block of another one. If
--- that was damaged on its way, the card doesn't know its connection, and may answer in the first.
+-- What the card of the first connection heard since its last block, after the terminal sent a block of another one. A
+-- card that doesn't take another pair may refuse the block in the first connection, as one that it can't use. If the
+-- block was damaged on its way, the card doesn't know its connection, and may answer in the first.
 abbrev pub heard_aside : Option ℕ → Heard → Reaching → Heard
 heard_aside nad heard unsaid = Broken
 heard_aside nad heard lost = heard_in_time heard
 heard_aside nad heard (came seen) =
-    if is_other Terminal nad seen then heard_in_time heard
+    if is_other Terminal nad seen then Broken
     else in_doubt (surely_heard (addressed_by Terminal nad seen) seen)
 
 -- The card of the first connection after it sent a block of another one: it answered, and owes no more, unless it may

@@ -215,7 +215,7 @@ fn heard_aside(nad: Option<u8>, heard: Heard, reached: &Reached<'_>) -> Heard
     match reached {
         Reached::Unsaid => Heard::Broken,
         Reached::Lost => heard_in_time(heard),
-        Reached::Came(came) if is_other(Side::Terminal, nad, came) => heard_in_time(heard),
+        Reached::Came(came) if is_other(Side::Terminal, nad, came) => Heard::Broken,
         Reached::Came(came) => in_doubt(surely_heard(
             addressed_by(Side::Terminal, nad, came),
             came,
