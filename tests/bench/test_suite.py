@@ -13,7 +13,7 @@ import xml.dom.minidom
 
 from samples import PROGRAM, TOP
 from scard_bench.report import as_json, junit, page
-from scard_bench.suite import scenario
+from scard_bench.suite import scenario, verdict
 from suites import in_c, plain, run, tried, verdicts
 
 FAILED_BY = json.loads((TOP / "tests/bench/wrong/failed_by.json").read_text())
@@ -111,6 +111,19 @@ class Broken(unittest.TestCase):
                              stdout=subprocess.PIPE, stderr=subprocess.PIPE, text=True)
         self.assertEqual((ran.returncode, ran.stdout, ran.stderr),
                          (2, "", "scard-bench: /no/such: No such file or directory\n"))
+
+
+class LeftOpen(unittest.TestCase):
+    def test_the_scenario_says_what_answers_the_tester_in_another_connection(self):
+        of = "block {} {}: another logical connection, not judged  (11.3.2.1)".format
+        tester, device = of(3, "terminal"), of(4, "card")
+        for lines, last in (((tester,), "unsure 4 blocks, not judged 1"), ((), "ok 4 blocks"),
+                            ((tester,), "unsure 4 blocks, not judged 1, damaged terminal 1 card 0")):
+            self.assertEqual(verdict.left_open("card", verdict.Judged(lines, last, (), ())), [])
+        last = "unsure 4 blocks, not judged 2"
+        self.assertEqual(verdict.left_open("card", verdict.Judged((tester, device), last, (), ())), [device, last])
+        last = "unsure 4 blocks, unseen 1, not judged 1"
+        self.assertEqual(verdict.left_open("card", verdict.Judged((tester,), last, (), ())), [last])
 
 
 class Reports(unittest.TestCase):

@@ -12,6 +12,8 @@ PASS, FAIL, INCONCLUSIVE, NOT_APPLICABLE = "pass", "fail", "inconclusive", "not 
 SIDES = {"card": "c", "terminal": "t"}
 MOST_REASONS = 6
 LATE = re.compile(r"block \d+ card: late, (\d+) microseconds after block \d+, permitted (\d+) ")
+ELSEWHERE = re.compile(r"block \d+ (card|terminal): another logical connection, not judged ")
+LEFT_OPEN = re.compile(r"unsure \d+ blocks, not judged (\d+)(?:, damaged .*)?$")
 COUNTED = re.compile(r"(rule|state) ([^:]+): (?:never|(?:terminal|card) .*)$")
 
 
@@ -73,10 +75,27 @@ def not_whole(program: Program, blocks: List[bytes]) -> List[str]:
             if line != f"ok {len(it)} octets"]
 
 
+def is_elsewhere(line: str, sides: Tuple[str, ...]) -> bool:
+    """Whether a line of the judge names a block of one of these ends in another logical connection."""
+    found = ELSEWHERE.match(line)
+    return found is not None and found[1] in sides
+
+
+def left_open(role: str, found: Judged) -> List[str]:
+    """Why the judge isn't sure. The tester's blocks in another logical connection don't count: the scenario says what
+    answers them."""
+    tester = tuple(side for side in SIDES if side != role)
+    rest = [it for it in found.lines if not is_elsewhere(it, tester)]
+    only = LEFT_OPEN.match(found.last)
+    if found.last.startswith("ok ") or only is not None and int(only[1]) == len(found.lines) - len(rest):
+        return []
+    return [*rest, found.last]
+
+
 def unsure(play: Play, found: Judged) -> List[str]:
     """Why nothing can be said: the judge isn't sure, or a fault of the scenario never came."""
     late = [at for at in play.scenario.faults.at if at > play.line.count]
-    lines = [] if found.last.startswith("ok ") else [*found.lines, found.last]
+    lines = left_open(play.scenario.role, found)
     return lines + ([f"fault at block {min(late)} of {play.line.count}: it never came"] if late else [])
 
 
@@ -99,7 +118,7 @@ def result(program: Program, play: Play) -> Result:
     atr = play.atr.hex().upper()
     found = judged(program, scenario.role, atr, play.device.timing.clock, line.lines)
     named = found.lines if not found.last.startswith(("ok ", "unsure ")) else ()
-    reasons = [it for it in named if not is_within(it, play.device.tolerance)]
+    reasons = [it for it in named if not is_within(it, play.device.tolerance) and not is_elsewhere(it, tuple(SIDES))]
     reasons += [found.last] if found.last.startswith(("refused", "fault")) else []
     reasons += play.problems + not_whole(program, line.sent_by(SIDES[scenario.role]))
     if scenario.most is not None and line.count > scenario.most:
