@@ -418,54 +418,61 @@ static void texts(void)
     CHECK(strcmp(scard_reason_name(9, 1), "") == 0 && strcmp(scard_reason_name(1, 10), "") == 0);
 }
 
-/* Checks how many more octets must come at least. */
-static void needs(int codec, const char *text, size_t least)
-{
-    struct octets octets = of_hex(text);
-    CHECK(scard_least((uint8_t)codec, octets.at, octets.count) == least);
-    free(octets.at);
-}
+/* How many more octets must come at least. */
+static const struct need {
+    uint8_t codec;
+    const char *text;
+    size_t least;
+} needs[] = {
+    { SCARD_CODEC_ATR, "", 2 },
+    { SCARD_CODEC_ATR, "3B", 1 },
+    { SCARD_CODEC_ATR, "3BF5", 9 }, /* TA1, TB1, TC1, TD1, five historical bytes */
+    { SCARD_CODEC_ATR, "3B80", 1 }, /* TD1 */
+    { SCARD_CODEC_ATR, "3B8001", 1 }, /* TCK */
+    { SCARD_CODEC_ATR, "3B808131", 3 }, /* TA3, TB3 and TCK */
+    { SCARD_CODEC_ATR, "3B00", 0 },
+    { SCARD_CODEC_BLOCK, "", 4 },
+    { SCARD_CODEC_BLOCK, "00C1", 3 }, /* LEN, a size, LRC */
+    { SCARD_CODEC_BLOCK, "00C0", 2 },
+    { SCARD_CODEC_BLOCK, "000005", 6 },
+    { SCARD_CODEC_BLOCK, "00820082", 0 },
+    { SCARD_CODEC_CHAIN, "0000", 2 },
+    { SCARD_CODEC_CHAIN, "0020", 6 }, /* and a block without a field */
+    { SCARD_CODEC_CHAIN, "00200200A486", 4 },
+    { SCARD_CODEC_CHAIN, "00200200A4860040", 2 },
+    { SCARD_CODEC_COMMAND, "00A4", 2 },
+    { SCARD_CODEC_COMMAND, "00A40400", 0 },
+    { SCARD_CODEC_COMMAND, "00A4040007A0", 6 },
+    { SCARD_CODEC_COMMAND, "00B000000000", 1 },
+    { SCARD_CODEC_COMMAND, "00D6000000000201", 1 },
+    { SCARD_CODEC_COMMAND, "00D6000000000201020000", 0 },
+    { SCARD_CODEC_COMMAND, "00D60000000002010200", 1 }, /* the second octet of Le */
+    { SCARD_CODEC_RESPONSE, "", 2 },
+    { SCARD_CODEC_RESPONSE, "90", 1 },
+    { SCARD_CODEC_TLV, "5A", 1 },
+    { SCARD_CODEC_TLV, "9F", 2 },
+    { SCARD_CODEC_TLV, "9F81", 2 },
+    { SCARD_CODEC_TLV, "5A82", 2 },
+    { SCARD_CODEC_TLV, "5A8201", 257 }, /* one octet of the length, and 256 of the value */
+    { SCARD_CODEC_TLV, "6F108407A000", 12 }, /* the rest of 6F, not of 84 */
+    { SCARD_CODEC_TLV, "9F00", 0 }, /* refused */
+    { SCARD_CODEC_DOL, "9F", 2 },
+    { SCARD_CODEC_DOL, "9F02", 1 },
+    { SCARD_CODEC_DOL, "9F0206", 0 },
+    { SCARD_CODEC_HEX, "30", 0 },
+    { 0, "", 0 },
+    { 255, "", 0 },
+};
 
 static void leasts(void)
 {
-    needs(SCARD_CODEC_ATR, "", 2);
-    needs(SCARD_CODEC_ATR, "3B", 1);
-    needs(SCARD_CODEC_ATR, "3BF5", 9);         /* TA1, TB1, TC1, TD1, five historical bytes */
-    needs(SCARD_CODEC_ATR, "3B80", 1);         /* TD1 */
-    needs(SCARD_CODEC_ATR, "3B8001", 1);       /* TCK */
-    needs(SCARD_CODEC_ATR, "3B808131", 3);     /* TA3, TB3 and TCK */
-    needs(SCARD_CODEC_ATR, "3B00", 0);
-    needs(SCARD_CODEC_BLOCK, "", 4);
-    needs(SCARD_CODEC_BLOCK, "00C1", 3);       /* LEN, a size, LRC */
-    needs(SCARD_CODEC_BLOCK, "00C0", 2);
-    needs(SCARD_CODEC_BLOCK, "000005", 6);
-    needs(SCARD_CODEC_BLOCK, "00820082", 0);
-    needs(SCARD_CODEC_CHAIN, "0000", 2);
-    needs(SCARD_CODEC_CHAIN, "0020", 6);       /* and a block without a field */
-    needs(SCARD_CODEC_CHAIN, "00200200A486", 4);
-    needs(SCARD_CODEC_CHAIN, "00200200A4860040", 2);
-    needs(SCARD_CODEC_COMMAND, "00A4", 2);
-    needs(SCARD_CODEC_COMMAND, "00A40400", 0);
-    needs(SCARD_CODEC_COMMAND, "00A4040007A0", 6);
-    needs(SCARD_CODEC_COMMAND, "00B000000000", 1);
-    needs(SCARD_CODEC_COMMAND, "00D6000000000201", 1);
-    needs(SCARD_CODEC_COMMAND, "00D6000000000201020000", 0);
-    needs(SCARD_CODEC_COMMAND, "00D60000000002010200", 1); /* the second octet of Le */
-    needs(SCARD_CODEC_RESPONSE, "", 2);
-    needs(SCARD_CODEC_RESPONSE, "90", 1);
-    needs(SCARD_CODEC_TLV, "5A", 1);
-    needs(SCARD_CODEC_TLV, "9F", 2);
-    needs(SCARD_CODEC_TLV, "9F81", 2);
-    needs(SCARD_CODEC_TLV, "5A82", 2);
-    needs(SCARD_CODEC_TLV, "5A8201", 257);     /* one octet of the length, and 256 of the value */
-    needs(SCARD_CODEC_TLV, "6F108407A000", 12); /* the rest of 6F, not of 84 */
-    needs(SCARD_CODEC_TLV, "9F00", 0);         /* refused */
-    needs(SCARD_CODEC_DOL, "9F", 2);
-    needs(SCARD_CODEC_DOL, "9F02", 1);
-    needs(SCARD_CODEC_DOL, "9F0206", 0);
-    needs(SCARD_CODEC_HEX, "30", 0);
-    needs(0, "", 0);
-    needs(255, "", 0);
+    size_t i;
+
+    for (i = 0; i < sizeof needs / sizeof *needs; i++) {
+        struct octets octets = of_hex(needs[i].text);
+        CHECK(scard_least(needs[i].codec, octets.at, octets.count) == needs[i].least);
+        free(octets.at);
+    }
 }
 
 int main(void)

@@ -9,6 +9,7 @@ import shutil
 import sys
 import tempfile
 import unittest
+import unittest.mock
 
 sys.dont_write_bytecode = True
 TOP = pathlib.Path(__file__).resolve().parents[2]
@@ -54,6 +55,22 @@ class OverCopies(unittest.TestCase):
         """Replaces the first occurrence of a text in a file."""
         self.assertIn(old, self.text(file), file)
         (self.top / file).write_text(self.text(file).replace(old, new, 1))
+
+
+class OfTool(OverCopies):
+    """Tests of a script whose folder TOP is that of the copies."""
+
+    TOOL = None
+
+    def setUp(self):
+        super().setUp()
+        patch = unittest.mock.patch.object(self.TOOL, "TOP", self.top)
+        patch.start()
+        self.addCleanup(patch.stop)
+
+    def said(self, *words):
+        """The status and the output of a call."""
+        return printed(self.TOOL.main, [*words])
 
 
 def printed(call, *words):

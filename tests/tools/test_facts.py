@@ -3,10 +3,9 @@
 
 import sys
 import unittest
-import unittest.mock
 
 sys.dont_write_bytecode = True
-from copies import OverCopies, printed, script
+from copies import OfTool, script
 
 tool = script("gate/facts")
 # a name of each fact, and the file of each list that repeats it
@@ -24,18 +23,8 @@ FILES = sorted({tool.RULE, tool.STATE, tool.PCB, tool.KIND, tool.FORM, tool.SAYI
                 tool.ANSWERS, tool.SCHEMA, tool.HEADER, tool.BASH, tool.SECOND, *(it[0] for it in REPEATED)})
 
 
-class Facts(OverCopies):
-    FILES = FILES
-
-    def setUp(self):
-        super().setUp()
-        patch = unittest.mock.patch.object(tool, "TOP", self.top)
-        patch.start()
-        self.addCleanup(patch.stop)
-
-    def said(self, *words):
-        """The status and the output of a call."""
-        return printed(tool.main, [*words])
+class Facts(OfTool):
+    FILES, TOOL = FILES, tool
 
     def test_the_lists_of_the_repository_are_as_their_sources(self):
         self.assertEqual(self.said()[0], 0)

@@ -4,10 +4,9 @@
 import re
 import sys
 import unittest
-import unittest.mock
 
 sys.dont_write_bytecode = True
-from copies import TOP, OverCopies, printed, script
+from copies import TOP, OfTool, script
 
 tool = script("gate/reasons")
 FILES = sorted({it.file for codec in tool.CODECS for it in tool.lists_of(codec)} | {it.source for it in tool.CODECS})
@@ -16,18 +15,8 @@ RELAID = "crates/c_lent/specs/Names.antt"
 NEW = "    /// An octet that nobody sends: this is a test.\n    Unheard,\n"
 
 
-class Reasons(OverCopies):
-    FILES = FILES
-
-    def setUp(self):
-        super().setUp()
-        patch = unittest.mock.patch.object(tool, "TOP", self.top)
-        patch.start()
-        self.addCleanup(patch.stop)
-
-    def said(self, *words):
-        """The status and the output of a call."""
-        return printed(tool.main, [*words])
+class Reasons(OfTool):
+    FILES, TOOL = FILES, tool
 
     def add(self, codec, before):
         """Adds a case to an enum, before another one."""
