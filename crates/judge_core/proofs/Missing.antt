@@ -24,10 +24,10 @@ use Rattle.judge_core.specs.declared.monitor.Watched.{Watched}
 use Rattle.judge_core.specs.Sends.{Sent, is_foreign, sends}
 use Rattle.judge_core.specs.Courses.{judges}
 use Rattle.judge_core.specs.Doubts.{corrected, doubted_by, is_open, is_turn, or_openly, passed_over, refused_doubt, sent_openly, unknown_end, waited, waited_doubt}
-use Rattle.judge_core.specs.Monitored.{addressed_by, after_silence, answers_terminal, asks_resynch, card_after, damage, elsewhere_after, heard_in_time, here_after, is_address, is_elsewhere, is_lost, is_other, is_refusing, last_sent, listens, lost, malformed, nad_after, nad_of, nad_set, number_after, overhears, quiet_after, said_in, said_of, sender_after, shaken, terminal_after, waited_aside, waited_here, whole, Reaching, Seen}
+use Rattle.judge_core.specs.Monitored.{addressed_by, after_silence, asks_resynch, card_after, damage, elsewhere_after, heard_in_time, here_after, is_address, is_elsewhere, is_lost, is_other, is_refusing, listens, lost, malformed, nad_after, nad_of, nad_set, number_after, overhears, quiet_after, said_in, said_of, sender_after, shaken, terminal_after, waited_aside, waited_here, whole, Reaching, Seen}
 use Rattle.judge_core.proofs.Passes.{is_else, is_then}
 use Rattle.std.proofs.lemmas.Bool.Decides.{nat_tests}
-use Rattle.judge_core.specs.Missed.{Act, Forgives, IsNoDeviation, IsWithin, MaySendAny, after_act, after_acts, puts, said_at, said_of_acts, waits, with_block, without_block}
+use Rattle.judge_core.specs.Missed.{Act, Forgives, IsNoDeviation, IsWithin, MaySendAny, WaitsElsewhere, after_act, after_acts, puts, said_at, said_of_acts, waits, with_block, without_block}
 
 -- ---- the other end
 
@@ -455,3 +455,28 @@ any-block w free = λ block own fits.
     subst (λ (b : Bool). IsNoDeviation (or_openly b judged (sent_openly w block)).verdict) (sym free)
     (then-permitted judged (sent_openly w block)
     (sent-within w.«end» w.last.items block.pcb block.inf own fits))
+
+-- ---- when the terminal waits for an answer of another connection
+
+asked-by-neither : (b : Bool) (x y : Monitor) → is_asked x.last ≡ false → is_asked y.last ≡ false
+    → is_asked (if b then x else y).last ≡ false
+asked-by-neither true x y h k = h
+asked-by-neither false x y h k = k
+
+asked-by-one : (b : Bool) (x y : Monitor) → b ≡ false → is_asked y.last ≡ false
+    → is_asked (if b then x else y).last ≡ false
+asked-by-one true x y h k = absurd (true≢false h)
+asked-by-one false x y h k = k
+
+pub waits-elsewhere : WaitsElsewhere
+waits-elsewhere = record {
+  begun = λ ifsc. refl;
+  reset = λ m ifsc. refl;
+  midway = λ m. refl;
+  quiet = λ m. never-asked m.last;
+  card = λ m seen reaching. asked-by-neither (is_elsewhere m Card seen) (elsewhere_after m Card seen reaching)
+      (here_after m Card seen reaching) refl (settled-never-asked m.last);
+  terminal = λ m seen reaching h. asked-by-one (is_other Terminal m.nad seen)
+      (elsewhere_after m Terminal seen reaching) (here_after m Terminal seen reaching) h
+      (sent-never-asked _ m.last);
+}

@@ -15,7 +15,7 @@ use Rattle.judge_core.specs.declared.monitor.Watched.{Watched}
 use Rattle.judge_core.specs.Sends.{is_foreign}
 use Rattle.judge_core.specs.Doubts.{is_open, is_turn, judged_of}
 use Rattle.judge_core.specs.Connections.{is_asked}
-use Rattle.judge_core.specs.Monitored.{lost, monitor_after, quiet_after, said_in, Reaching, Seen}
+use Rattle.judge_core.specs.Monitored.{is_other, lost, midway_after, monitor_after, new_monitor, quiet_after, reset_after, said_in, Reaching, Seen}
 
 -- the trace with the block, and without it
 abbrev pub with_block : Monitor → Side → Seen → Monitor
@@ -65,6 +65,18 @@ Forgives m Card seen =
     is_asked m.last ≡ false → m.terminal.heard ≡ Broken → is_turn m.card.heard ≡ true → ForgivesCard m seen
 Forgives m Terminal seen =
     is_asked m.last ≡ false → m.card.heard ≡ Nothing → is_turn m.terminal.heard ≡ true → ForgivesTerminal m seen
+
+-- The terminal waits for an answer of another connection only directly after its own block of that one: not at the
+-- beginning of a trace, and not after any other event. So with one connection it never does.
+pub record WaitsElsewhere : Type 0 where
+  pub begun : (ifsc : ℕ) → is_asked (new_monitor ifsc).last ≡ false
+  pub reset : (m : Monitor) (ifsc : ℕ) → is_asked (reset_after m ifsc).last ≡ false
+  pub midway : (m : Monitor) → is_asked (midway_after m).last ≡ false
+  pub quiet : (m : Monitor) → is_asked (quiet_after m).last ≡ false
+  pub card : (m : Monitor) (seen : Seen) (reaching : Reaching)
+      → is_asked (monitor_after m Card seen reaching).last ≡ false
+  pub terminal : (m : Monitor) (seen : Seen) (reaching : Reaching) → is_other Terminal m.nad seen ≡ false
+      → is_asked (monitor_after m Terminal seen reaching).last ≡ false
 
 -- the field isn't longer than what the other end takes (11.4.2)
 abbrev pub IsWithin : ℕ → Pcb → List ℕ → Type 0

@@ -17,7 +17,7 @@ ghost use Rattle.judge_core.specs.declared.monitor.Watched.{Watched};
 ghost use Rattle.judge_core.specs.declared.rule.Rule.{Rule};
 ghost use Rattle.judge_core.specs.declared.state.State.{State};
 ghost use Rattle.judge_core.specs.Doubts.{is_open};
-ghost use Rattle.judge_core.specs.Missed.{Forgives, MaySendAny};
+ghost use Rattle.judge_core.specs.Missed.{Forgives, MaySendAny, WaitsElsewhere};
 ghost use Rattle.judge_core.specs.Monitored.{sender, IsSent, Seen};
 ghost use Rattle.judge_core.specs.Stakes.{at_stake, can_break, exercise_of, stakes_of, CanBeSent, IsBreakable};
 ghost use Rattle.judge_core.specs.declared.end.Owed.{Owed};
@@ -63,8 +63,12 @@ pub fn broken_was_at_stake()
 
 /// A tap that misses a lost block accuses nobody for that. With the block and without it, the judge knows the same of the
 /// other end. The end that sent the block may then send any block.
+///
+/// This holds unless the terminal waits for an answer of another logical connection. It does so only directly after its
+/// own block of that connection, and so never if there is one connection.
 pub fn missed_blocks_are_forgiven()
     ensures forgiven { (m : Monitor) (from : Side) (seen : Seen) → Forgives m from seen }
+    ensures elsewhere { WaitsElsewhere }
     ensures any { (w : Watched) → is_open w.doubt ≡ true → MaySendAny w }
 {}
 
