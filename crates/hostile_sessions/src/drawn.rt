@@ -68,7 +68,7 @@ fn answers_of(alloc: Global, exchange: &Exchange, number: u32) -> Result<u64, Fa
 }
 
 /// Draws a number below a bound.
-fn below(generator: &mut Pcg32, bound: u32) -> u32
+pub(crate) fn below(generator: &mut Pcg32, bound: u32) -> u32
     requires { 0 < bound }
     ensures { result < bound }
 {

@@ -15,6 +15,7 @@ mod ends;
 mod files;
 mod outcomes;
 mod pairs;
+mod queue;
 mod records;
 mod refusals;
 mod sessions;

@@ -3,13 +3,13 @@
 //!
 //! No answer may be wrong. The card may act only on commands that were sent, and on each of them at most once.
 
-ghost use Rattle.std.specs.Prelude.{◌≡◌, ◌<◌, ◌≤◌, length, false, IfSome};
+ghost use Rattle.std.specs.Prelude.{◌≡◌, false, IfSome};
 ghost use Rattle.session_core.specs.Wire.{is_set};
 ghost use Rattle.session_laws.specs.Ending.{HasBurst};
 
+use crate::queue::{Queue, ROOM, arriving, harmed};
 use atr_core::T1Params;
 use line_core::{Framer, Host, TimedDevice};
-use rand_core::utils::NextWord;
 use rand_pcg::Pcg32;
 use session_core::{Action, FOREVER, Limits, Line, Progress, Rules};
 use session_laws::{ask_ifs_ends, exchange_ends, resynch_ends, serve_events};
@@ -43,59 +43,6 @@ const COMMAND: usize = 5;
 
 /// How many octets a reply has, more than one block takes: zeros, and at the end a number and the status bytes.
 const REPLY: usize = 60;
-
-/// More octets than a burst has, with everything that follows it.
-const ROOM: usize = 300;
-
-/// Octets on the line. Those from `begin` are still to come.
-#[derive(Clone, Copy)]
-struct Queue {
-    octets: [u8; ROOM],
-    begin: usize,
-    end: usize,
-}
-
-impl Queue {
-    fn new() -> Queue {
-        Queue {
-            octets: [0; ROOM],
-            begin: 0,
-            end: 0,
-        }
-    }
-
-    /// Appends an octet, if there is room for it.
-    fn push(&mut self, octet: u8) {
-        if let Some(place) = self.octets.get_mut(self.end) {
-            *place = octet;
-            self.end = self.end.saturating_add(1);
-        }
-    }
-
-    /// Takes the next octet.
-    fn pop(&mut self) -> Option<u8> {
-        if self.begin >= self.end {
-            return None;
-        }
-        let octet = self.octets.get(self.begin).copied();
-        self.begin = self.begin.saturating_add(1);
-        octet
-    }
-
-    /// Takes the next octet to the front of a buffer, and returns how many there are.
-    fn give(&mut self, room: &mut [u8]) -> usize
-        requires { 1 ≤ length room.old }
-        ensures { result ≤ length room.new }
-    {
-        match self.pop() {
-            Some(octet) => {
-                room[0] = octet;
-                1
-            }
-            None => 0,
-        }
-    }
-}
 
 /// Returns the command with this number. It has a sum, so that other octets are hardly ever a command.
 fn command_of(number: u8) -> [u8; COMMAND] {
@@ -146,61 +93,6 @@ impl Host for Application {
     fn reply(&self) -> &[u8] {
         &self.reply
     }
-}
-
-/// Draws a number below a bound.
-fn below(generator: &mut Pcg32, bound: u32) -> u32
-    requires { 0 < bound }
-    ensures { result < bound }
-{
-    generator.next_word() % bound
-}
-
-/// Draws what happens to a block on its way. Three quarters of them arrive as they were sent.
-fn harmed(generator: &mut Pcg32, octets: &[u8]) -> Queue {
-    let place = below(generator, LONGEST) as usize % octets.len().max(1);
-    match below(generator, 16) {
-        0 => Queue::new(),
-        1 => changed(octets, place, 1 + below(generator, 255) as u8),
-        2 => arriving(octets.get(..place).unwrap_or(&[])),
-        3 => extended(generator, octets, place),
-        _ => arriving(octets),
-    }
-}
-
-/// More than any place in a block.
-const LONGEST: u32 = 100_000;
-
-fn arriving(octets: &[u8]) -> Queue {
-    let mut queue = Queue::new();
-    for octet in octets {
-        queue.push(*octet);
-    }
-    queue
-}
-
-/// Returns octets with one octet changed.
-fn changed(octets: &[u8], place: usize, by: u8) -> Queue {
-    let mut queue = arriving(octets);
-    if let Some(octet) = queue.octets.get_mut(place) {
-        *octet ^= by;
-    }
-    queue
-}
-
-/// Returns octets with some more after them, which may be those of a block.
-fn extended(generator: &mut Pcg32, octets: &[u8], more: usize) -> Queue {
-    let mut queue = arriving(octets);
-    if below(generator, 2) == 0 {
-        for octet in octets {
-            queue.push(*octet);
-        }
-    } else {
-        for place in 0..=more {
-            queue.push((place % 4) as u8);
-        }
-    }
-    queue
 }
 
 /// The card's side of the line.
@@ -312,8 +204,7 @@ impl TimedDevice for Wire {
 
     fn send(&mut self, octets: &[u8]) -> io::Result<()> {
         let said = self.chip.serve(harmed(&mut self.generator, octets));
-        let sent = said.octets.get(..said.end).unwrap_or(&[]);
-        self.back = harmed(&mut self.generator, sent);
+        self.back = harmed(&mut self.generator, said.octets());
         Ok(())
     }
 

@@ -8,4 +8,5 @@ pub mod Phases
 pub mod Services
 pub mod Served
 pub mod Refusals
+pub mod Anew
 pub mod Together

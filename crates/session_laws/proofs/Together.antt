@@ -1,14 +1,18 @@
 -- Both loops over one line are calls of `exchange` and of `serve` (line_core).
-use Rattle.std.proofs.Common.{ℕ, List, [], ◌∷◌, refl, sym, subst}
+use Rattle.std.proofs.Common.{ℕ, List, [], ◌∷◌, ◌++◌, refl, sym, subst}
 use Rattle.std.proofs.lemmas.List.{append-nil}
-use Rattle.t1_core.specs.Terminal.{TerminalState, TerminalInput, transmit, terminal_turn, turn_of, state_after, terminal_with}
+use Rattle.t1_core.specs.Terminal.{TerminalState, TerminalInput, Limits, takes, terminal_turn, turn_of, state_after, terminal_with}
 use Rattle.t1_core.specs.Card.{CardState, card_with}
 use Rattle.line_core.specs.Line.{Talk}
 use Rattle.line_core.specs.Exchange.{Runs, next_of}
 use Rattle.line_core.specs.Service.{Event, Doing, hears, used_up, Serves}
 use Rattle.line_core.specs.Joined as joined
 use Rattle.line_core.specs.Joined.{Call, IsCall, HaveRun, HaveServed, talks_of, events_of, events_in, TwoEnds, IsOnce, services_of}
-use Rattle.session_laws.specs.Together.{IsExchanged, HaveExchanged, IsListening, AlwaysTwoEnds, AlwaysMatched, AlwaysInOrder, AlwaysPatient, AlwaysOnce}
+use Rattle.t1_core.specs.Came.{quiet}
+use Rattle.line_core.specs.Exchange.{Ending}
+use Rattle.session_core.specs.Terminals.{asking_resynch}
+use Rattle.session_laws.proofs.Anew.{Begun, all-anew}
+use Rattle.session_laws.specs.Together.{IsExchanged, HaveExchanged, IsListening, LoopsAnew, new_ends, after_resynch, AlwaysTwoEnds, AlwaysMatched, AlwaysInOrder, AlwaysPatient, AlwaysOnce}
 
 -- a call's run, with what the call says of it
 pub run-of : (t : TerminalState) (call : Call) → IsExchanged t call
@@ -40,8 +44,32 @@ has-served first events last is =
           all.1),
     )
 
+-- after RESYNCH both ends are new, and the card serves the calls that follow
+begun-anew : (of_terminal of_card : Limits) (ifsc : ℕ) (before : CardState) (opening : Call) (calls : List Call)
+    (t : TerminalState) (c : CardState) → LoopsAnew of_terminal of_card ifsc before opening calls t c
+    → Begun of_terminal of_card ifsc opening.left (events_in calls) c
+begun-anew of_terminal of_card ifsc before opening calls t c loops =
+    let is = loops.resynched in
+    let first : TerminalState = asking_resynch (terminal_with of_terminal ifsc) in
+    let run = run-of first opening is.exchanged in
+    let served = has-served before (events_of opening.trips ++ events_in calls) c loops.served in
+    all-anew of_terminal of_card ifsc 1 opening.most opening.trips (events_in calls) c opening.left served.0 before
+    (subst (λ (ending : Ending). Runs opening.most (next_of (turn_of (terminal_turn first (takes quiet))))
+    (state_after first (terminal_turn first (takes quiet))) (talks_of opening.trips) ending opening.left) is.answered
+    (subst (λ (input : TerminalInput). Runs opening.most (next_of (turn_of (terminal_turn first input)))
+    (state_after first (terminal_turn first input)) (talks_of opening.trips) opening.ending opening.left) is.asked run))
+    served.1 loops.limits loops.first
+
 pub always-two-ends : AlwaysTwoEnds
-always-two-ends of_terminal of_card ifsc calls t c loops =
+always-two-ends of_terminal of_card ifsc calls t c (after_resynch before opening loops) =
+    let begun = begun-anew of_terminal of_card ifsc before opening calls t c loops in record {
+      size = loops.size;
+      run = have-run (terminal_with of_terminal ifsc) calls t
+          (subst (λ (first : TerminalState). HaveExchanged first calls t) begun.terminal loops.exchanged);
+      served = (begun.least, used_up, c, begun.serves, refl);
+      events = sym (append-nil (events_in calls));
+    }
+always-two-ends of_terminal of_card ifsc calls t c (new_ends loops) =
     let served = has-served (card_with of_card ifsc) (events_in calls) c loops.served in record {
       size = loops.size;
       run = have-run (terminal_with of_terminal ifsc) calls t loops.exchanged;
