@@ -1,174 +1,114 @@
-"""Sessions of T=1 with one block that the standard doesn't permit, the last one, for tools/gate/try-legal."""
+"""Sessions of T=1 whose last step the standard doesn't permit, for tools/gate/try-legal. kinds.py has the kinds."""
 
-from legal import ABORT, CARD, IFS, RESPONSE, RESYNCH, TERMINAL, WTX, GivesUp, encoded, swapped
-from tapped import QUIET, Line, Row
+import dataclasses
 
-I_BLOCKS = ("message", "next", "repeat")
-# how often a terminal repeats and corrects at most before RESYNCH
-MOST_REPEATS = 3
-# the kinds of blocks of which an end owes exactly one; after ABORT, two are possible, and a refusal is free
-OWED = ("message", "next", "acknowledgment", "correction", "repeat", "request again", "response")
-# Kinds that damage permits which nobody saw, if the trace doesn't say how blocks arrived: an end that got no block whole
-# sends an R-block with the number that it expects, and a card that got none at all is silent.
-HIDDEN = {
-    "R-block for a message": "an R-block after an error has the same octets",
-    "number of an acknowledgment": "an R-block after an error has the number of the block that came damaged",
-    "R-block for a response": "an R-block after an error has the same octets",
-    "silence": "the card may not have got the block",
-    "RESYNCH too early": "RESYNCH may come after an error",
-}
-# kinds that no trace shows
-NEVER_SEEN = {"silence after damage": "a card may take damaged octets for noise, and send nothing"}
+from kinds import MESSAGE, MOST_REPEATS, Turn
+from legal import CARD, RESYNCH, TERMINAL, GivesUp, swapped
+from tapped import QUIET, Doubled, Line
 
-
-def is_hidden(kind, is_told):
-    """Whether the judge can't tell this kind from what is permitted."""
-    return kind in NEVER_SEEN or not is_told and kind in HIDDEN
+# how many blocks a session has at most before the wrong step, and how many sessions are tried
+LONGEST, TRIES = 120, 20
 
 
 class Ended(Exception):
-    """The wrong block has come."""
-
-
-def information(end, number=None):
-    """An I-block of this end."""
-    return (end.next if number is None else number) << 6, end.rng.randbytes(3)
-
-
-def receipt(end, code=0):
-    """An R-block with the number that this end expects."""
-    return 0x80 | end.expects << 4 | code, b""
-
-
-def in_message(end, block, line):
-    """Another block where a message begins or goes on."""
-    pcb, field = block
-    yield "number of an I-block", (pcb ^ 0x40, field)
-    yield "R-block for a message", receipt(end, end.rng.choice((0, 1)))
-    yield "response to no request", (IFS | RESPONSE, b"\x20")
-    if end.widest < 254:
-        yield "field too long", (pcb, end.rng.randbytes(end.widest + 1))
-    if end.due == "message":
-        yield "ABORT outside a chain", (ABORT, b"")
-    elif end.side == TERMINAL:
-        yield "RESYNCH too early", (RESYNCH, b"")
-
-
-def in_acknowledgment(end, block, line):
-    """Another block than an acknowledgment."""
-    yield "number of an acknowledgment", (block[0] ^ 0x10, b"")
-    yield "error code", (block[0] | end.rng.choice((1, 2)), b"")
-    yield "I-block for an acknowledgment", information(end)
-    if end.side == TERMINAL and end.earlier < MOST_REPEATS:
-        yield "RESYNCH too early", (RESYNCH, b"")
-    yield "response to no request", (WTX | RESPONSE, b"\x01")
-
-
-def in_correction(end, block, line):
-    """Another block than an R-block after an error."""
-    if end.is_aborted:
-        return
-    yield "number of a correction", (block[0] ^ 0x10, b"")
-    yield "I-block for a correction", information(end)
-    yield "response to no request", (IFS | RESPONSE, b"\x20")
-
-
-def in_repeat(end, block, line):
-    """Another block than the last I-block."""
-    pcb, field = block
-    yield "number of a repeat", (pcb ^ 0x40, field)
-    yield "repeat with another octet", (pcb, field[:-1] + bytes([field[-1] ^ 1]) if field else b"\x00")
-    yield "repeat of another length", (pcb, field[:-1] if field else b"\x00")
-    yield "repeat that goes on otherwise", (pcb ^ 0x20, field)
-    yield "R-block for a repeat", receipt(end)
-
-
-def in_request(end, block, line):
-    """Another block than the request again."""
-    pcb, field = block
-    if field:
-        yield "request with another octet", (pcb, bytes([field[0] % 254 + 1]))
-    yield "I-block for a request", information(end)
-    yield "R-block for a request", receipt(end)
-
-
-def in_response(end, block, line):
-    """Another block than the response."""
-    pcb, field = block
-    if field:
-        yield "response with another octet", (pcb, bytes([field[0] % 254 + 1]))
-    yield "another response", (ABORT | RESPONSE, b"") if field else (IFS | RESPONSE, b"\x20")
-    yield "I-block for a response", information(end)
-    yield "R-block for a response", receipt(end)
-
-
-def of_any(end, block, line):
-    """A block that is wrong wherever it comes."""
-    yield "request of the other end", (RESYNCH, b"") if end.side == CARD else (WTX, b"\x02")
-    yield "control octet", (0xA0 | block[0] & 0x0F | 0x0F, block[1])
-    yield "length", (IFS, b"\x20\x20")
-    yield "reserved size", (IFS, end.rng.choice((b"\x00", b"\xff")))
-
-
-BY_DUE = {"message": in_message, "next": in_message, "acknowledgment": in_acknowledgment, "correction": in_correction,
-          "repeat": in_repeat, "request again": in_request, "response": in_response}
+    """The wrong step has come."""
 
 
 class Changed(Line):
-    """A line whose last block is one that isn't permitted. `kind` names it, and is None if none came."""
+    """A line whose last step is one of a kind that isn't permitted, after some blocks. `came` says whether it came."""
 
-    def __init__(self, rng, wishes, after):
-        super().__init__(rng, wishes)
-        self.after, self.kind = after, None
+    def __init__(self, rng, kind, needs):
+        self.after, self.kind, self.came, self.storm = 0 if kind.begins else rng.randrange(30), kind, False, False
+        super().__init__(rng, needs)
+
+    def two_ends(self):
+        """Ends of which the terminal uses all its repeats, where they all fail."""
+        ends = super().two_ends()
+        if self.kind.storm:
+            ends[TERMINAL].most = MOST_REPEATS
+        return ends
 
     def carries(self, side, block):
         """Carries a block, or the wrong one at last."""
         self.after -= 1
-        if self.after < 0 and self.ends[side].due in OWED:
-            self.changes(side, block)
-            raise Ended
+        turn = Turn(self, side, block)
+        if self.after < 0 and (not self.kind.side or side == self.kind.side):
+            self.ends_by(turn, turn.end.due)
+        self.storms(side, block)
         return super().carries(side, block)
 
-    def changes(self, side, block):
-        """Sends another block than this one, or none."""
-        end, nad = self.ends[side], self.nad if side == TERMINAL else swapped(self.nad)
-        ways = [(kind, nad, it) for way in (BY_DUE[end.due], of_any) for kind, it in way(end, block, self)]
-        ways += [(f"node address {what}", other, block) for what, other in self.others(nad)]
-        silence = "silence" if self.rows and self.rows[-1].came == self.rows[-1].octets else "silence after damage"
-        ways += [(silence, None, None)] if side == CARD else [("out of turn", None, block)]
-        self.kind, nad, block = self.rng.choice(ways)
-        if self.kind == "out of turn":
-            self.speaks_again()
-        elif block is None:
-            self.rows.append(Row(QUIET))
-        else:
-            octets = encoded(nad, *block)
-            self.rows.append(Row(side, octets, octets, self.kind))
+    def ends_by(self, turn, due):
+        """Ends the session by the wrong step, if it can come now."""
+        if due in self.kind.dues and (rows := self.kind.rows(turn)):
+            if self.kind.is_timed and self.rows[-1].word == QUIET and self.rng.random() < 0.5:
+                self.rows.pop()
+            self.rows += rows
+            self.came = True
+            raise Ended
 
-    def others(self, nad):
-        """Node addresses that this end may not use (11.3.2.1)."""
-        if self.rows and self.rows[-1].word == TERMINAL:
-            yield "of another pair", 0x21 if nad != 0x21 else 0x31
-            if nad != swapped(nad):
-                yield "that isn't swapped", swapped(nad)
-        yield "of one end twice", 0x11
-        yield "with bit 8", nad | 0x80
-        yield "with bit 4", nad | 0x08
-
-    def speaks_again(self):
-        """The card sends its last block once more, before the terminal sends one."""
-        last = self.rows[-1] if self.rows else None
-        if last is None or last.word != CARD:
-            self.kind = None
+    def storms(self, side, block):
+        """From this block on, one end's blocks are damaged."""
+        due, end = self.ends[side].due, self.ends[side]
+        if self.after >= 0 or side == CARD or self.storm:
             return
-        self.rows.append(Row(CARD, last.octets, last.octets, self.kind))
+        begins = {"blocks of the terminal": due in MESSAGE, "blocks of the card": due in MESSAGE,
+                  "answers to a request": due == "request" and block[0] != RESYNCH,
+                  "answers to RESYNCH": due in ("request", "RESYNCH") and block[0] == RESYNCH}
+        self.storm = end.fails == 0 and begins.get(self.kind.storm, False)
+
+    def fate(self, octets):
+        """What reaches the other end: in a storm one end's blocks are damaged, and the other's come whole."""
+        if not self.storm:
+            return super().fate(octets)
+        harmed_side = TERMINAL if self.kind.storm == "blocks of the terminal" else CARD
+        return octets[:-1] + bytes([octets[-1] ^ 1]) if self.sending == harmed_side else octets
 
     def runs(self, count):
-        """Carries blocks until the wrong one came."""
+        """Carries blocks until the wrong step came, with a reset where a terminal gives up."""
         step = None
-        try:
-            for _ in range(count):
-                step = self.carries(*(step or (TERMINAL, self.ends[TERMINAL].acts("message"))))
-        except (GivesUp, Ended):
-            pass
+        for _ in range(count):
+            try:
+                step = self.turned(step)
+                self.sending, block = step or (TERMINAL, self.ends[TERMINAL].acts("message"))
+                step = self.carries(self.sending, block)
+            except Ended:
+                break
+            except GivesUp:
+                if self.gives_up():
+                    break
+                step = None
         return self.rows
+
+    def gives_up(self):
+        """Resets the card, unless the terminal goes on wrongly."""
+        try:
+            self.ends_by(Turn(self, TERMINAL, (RESYNCH, b"")), "gives up")
+        except Ended:
+            return True
+        self.storm = False
+        self.begins_anew("reset")
+        return False
+
+
+class ChangedOfTwo(Changed, Doubled):
+    """The same with two connections."""
+
+    def is_first(self):
+        """Whether the first connection goes on."""
+        return not self.turns
+
+    def has_other(self):
+        """Whether a block of the other connection came since the reset."""
+        nads = self.connections[1][0], swapped(self.connections[1][0])
+        return any(row.is_block() and row.octets[0] == nads[row.word == CARD] for row in self.rows[self.begun():])
+
+
+def changed(rng, kind, is_told):
+    """A line on which the wrong step of a kind came, or None. If the trace doesn't say how blocks arrived, all do."""
+    needs = kind.needs if is_told else dataclasses.replace(kind.needs, damage=0.0, loss=0.0)
+    for _ in range(TRIES):
+        line = (ChangedOfTwo if kind.line == "two" else Changed)(rng, kind, needs)
+        line.runs(LONGEST)
+        if line.came:
+            return line
+    return None

@@ -390,6 +390,8 @@ class Line:
             self.nads = self.pair(side, octets[0])
         self.owes = side == "terminal" and came == octets
         self.ends[side].sends(block_of(octets))
+        if side == "card":
+            self.ends["card"].owed = "nothing"
         self.other(side).hears(came)
         if came is None:
             self.ends[side].hears(None)

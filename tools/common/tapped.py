@@ -1,35 +1,49 @@
 """A line between two ends of legal.py, and what a tap on it sees, for tools/gate/try-legal."""
 
+import collections
+import contextlib
 import dataclasses
 import functools
 import operator
 
-from legal import BROKEN, CARD, SILENCE, TERMINAL, End, GivesUp, encoded, swapped
+from legal import BROKEN, CARD, NAMES, SILENCE, TERMINAL, End, GivesUp, encoded, swapped
 
 QUIET, RESET = "quiet", "reset"
 # microseconds within which a card answers: BWT of drawn.ATR at 3.5712 MHz is 1,600,000 or a little more
 CLOCK, SOON, WAITED = "3571200", 1_500_000, 4_000_000
+# all pairs of node addresses: both are 0 or they differ (11.3.2.1)
+PAIRS = [dad << 4 | sad for dad in range(8) for sad in range(8) if dad != sad or dad == 0]
+# the requests of PPS for T=1 and the default of F and D, which the card repeats (9.3)
+PPS = ("ff01fe", "ff1111ff")
 
 
-@dataclasses.dataclass
+@dataclasses.dataclass(frozen=True)
 class Wishes:
-    """How often a message goes on, an end asks for something or refuses a block, and a block is damaged or lost."""
+    """How often a message goes on, an end asks for something or refuses a block, and a block is damaged or lost. How
+    often a terminal asks for RESYNCH at once after an error, resets the card at any time, or begins by PPS; and how
+    often a card takes damaged octets for noise."""
 
     chain: float = 0.3
     request: float = 0.1
     refusal: float = 0.03
     damage: float = 0.0
     loss: float = 0.0
+    anew: float = 0.03
+    reset: float = 0.01
+    pps: float = 0.2
+    noise: float = 0.1
 
 
 @dataclasses.dataclass
 class Row:
-    """A line of a trace: a block with what came of it, None if nothing, or the word of another line."""
+    """A line of a trace: a block with what came of it, None if nothing, or the words of another line. `gap` says how
+    many microseconds after the block before it begins, if that is settled."""
 
     word: str
     octets: bytes = b""
     came: bytes | None = None
     due: str = ""
+    gap: int | None = None
 
     def is_block(self):
         """Whether it is a block."""
@@ -59,16 +73,31 @@ def changed(rng, octets):
 
 
 class Line:
-    """A line with two ends. `rows` has what was on it."""
+    """A line with two ends. `rows` has what was on it, and `made` counts what of the clauses it had."""
 
     def __init__(self, rng, wishes):
-        self.rng, self.wishes, self.rows = rng, wishes, []
+        self.rng, self.wishes, self.rows, self.made = rng, wishes, [], collections.Counter()
         self.resets()
 
     def resets(self):
-        """The card is reset."""
-        self.nad = self.rng.choice((0x00, 0x00, 0x21, 0x10, 0x02, 0x65))
-        self.ends = {side: End(side, self.rng, self.wishes) for side in (TERMINAL, CARD)}
+        """The card is reset. PPS may come before the first block."""
+        self.nad = self.rng.choice((0x00, self.rng.choice(PAIRS)))
+        self.made["pair of node addresses other than 00"] += self.nad != 0
+        self.ends = self.two_ends()
+        if self.rng.random() < self.wishes.pps:
+            octets = self.rng.choice(PPS)
+            self.rows += [Row(f"{TERMINAL} {octets}"), Row(f"{CARD} {octets}")]
+            self.made["PPS"] += 1
+
+    def two_ends(self):
+        """The ends of a new connection."""
+        return {side: End(side, self.rng, self.wishes, self.made) for side in (TERMINAL, CARD)}
+
+    def begins_anew(self, why):
+        """The terminal resets the card."""
+        self.made[why] += 1
+        self.rows.append(Row(RESET))
+        self.resets()
 
     def fate(self, octets):
         """What reaches the other end."""
@@ -83,22 +112,49 @@ class Line:
         came = self.fate(octets)
         self.rows.append(Row(side, octets, came, self.ends[side].due))
         if came is None:
-            self.rows.append(Row(QUIET))
-            return TERMINAL, self.ends[TERMINAL].hears(SILENCE)
+            self.made[f"lost block of the {NAMES[side]}"] += 1
+            return self.is_silent()
+        if came == octets:
+            other = CARD if side == TERMINAL else TERMINAL
+            return other, self.ends[other].hears(block)
+        self.made[f"damaged block of the {NAMES[side]}"] += 1
+        if side == TERMINAL and self.rng.random() < self.wishes.noise:
+            self.made["card that takes damaged octets for noise"] += 1
+            return self.is_silent()
         other = CARD if side == TERMINAL else TERMINAL
-        return other, self.ends[other].hears(block if came == octets else BROKEN)
+        return other, self.ends[other].hears(BROKEN)
+
+    def is_silent(self):
+        """The terminal's waiting time ends."""
+        self.rows.append(Row(QUIET))
+        return TERMINAL, self.ends[TERMINAL].hears(SILENCE)
+
+    def turned(self, step):
+        """The step that comes next, if another connection than the last one goes on."""
+        return step
 
     def runs(self, count):
-        """Carries so many blocks. A terminal that gives up resets the card."""
+        """Carries so many blocks. A terminal that gives up resets the card, and may do so at any time."""
         step = None
         for _ in range(count):
+            step = self.turned(step)
             try:
                 step = self.carries(*(step or (TERMINAL, self.ends[TERMINAL].acts("message"))))
             except GivesUp:
-                self.rows.append(Row(RESET))
-                self.resets()
+                self.begins_anew("reset of a terminal that gives up")
+                step = None
+            if step is not None and self.rng.random() < self.wishes.reset:
+                self.begins_anew("reset in the midst")
                 step = None
         return self.rows
+
+    def begun(self):
+        """The place in the rows after the last reset."""
+        return max((place for place, row in enumerate(self.rows) if row.word == RESET), default=-1) + 1
+
+    def has_begun(self):
+        """Whether a block came since the last reset."""
+        return any(row.is_block() for row in self.rows[self.begun():])
 
 
 class Doubled(Line):
@@ -108,35 +164,62 @@ class Doubled(Line):
     def resets(self):
         """The card is reset. Both connections are gone, and begin with pairs of their own."""
         super().resets()
-        nads = self.rng.sample([nad for nad in (0x00, 0x21, 0x12, 0x65, 0x56) if nad != self.nad], 1)
-        self.connections = [[self.nad, self.ends, None]]
-        self.connections += [[nad, {side: End(side, self.rng, self.wishes) for side in self.ends}, None] for nad in nads]
+        other = self.rng.choice([nad for nad in PAIRS if nad != self.nad])
+        self.connections = [[self.nad, self.ends, None], [other, self.two_ends(), None]]
         self.turns = False
 
     def turned(self, step):
         """The step of the connection that goes on. The first block sets the addresses of the first one."""
         self.connections[self.turns][2] = step
-        if (step is None or step[0] == TERMINAL) and any(row.is_block() for row in self.rows[self.begun():]):
-            self.turns = self.rng.random() < 0.4
+        if (step is None or step[0] == TERMINAL) and self.has_begun():
+            turns = self.rng.random() < 0.4
+            self.made["turn to another connection"] += turns != self.turns
+            self.turns = turns
         self.nad, self.ends, step = self.connections[self.turns]
         return step
 
-    def begun(self):
-        """The place in the rows after the last reset."""
-        return max((place for place, row in enumerate(self.rows) if row.word == RESET), default=-1) + 1
 
-    def runs(self, count):
-        """Carries so many blocks, each in the connection to which the terminal turned."""
-        step = None
-        for _ in range(count):
-            step = self.turned(step)
-            try:
-                step = self.carries(*(step or (TERMINAL, self.ends[TERMINAL].acts("message"))))
-            except GivesUp:
-                self.rows.append(Row(RESET))
-                self.resets()
-                step = None
-        return self.rows
+class Refusing(Line):
+    """A line with a card that has one connection. The terminal tries others whenever it is to send. The card takes such
+    a block for one that it can't use, and refuses it in its own connection, or is silent (11.3.2.1)."""
+
+    def resets(self):
+        """The card is reset. The terminal has an end for each other pair, and what that sends next."""
+        super().resets()
+        nads = self.rng.sample([nad for nad in PAIRS if nad != self.nad], self.rng.randint(1, 3))
+        ends = {nad: End(TERMINAL, self.rng, self.wishes, collections.Counter()) for nad in nads}
+        self.others = {nad: (end, end.acts("message")) for nad, end in ends.items()}
+
+    def turned(self, step):
+        """The same step, after some blocks of other pairs."""
+        while step is not None and self.others and self.may_try(step[0]) and self.rng.random() < 0.2:
+            self.tries(self.rng.choice(list(self.others)))
+        return step
+
+    def may_try(self, side):
+        """Whether the terminal may turn away, and go on later with the same block: it got the card's last block whole,
+        so that it doesn't learn what is due from the card's next one."""
+        is_heard = self.ends[TERMINAL].due in ("message", "next", "acknowledgment", "response", "either", "repeat")
+        return side == TERMINAL and self.has_begun() and is_heard
+
+    def tries(self, nad):
+        """The terminal sends a block of another pair, and goes on there until it gives up."""
+        end, block = self.others.pop(nad)
+        octets = encoded(nad, *block)
+        with contextlib.suppress(GivesUp):
+            self.others[nad] = end, end.hears(SILENCE)
+        came = self.fate(octets)
+        self.rows.append(Row(TERMINAL, octets, came, "another connection"))
+        if came is None or self.rng.random() < 0.4:
+            self.made["block of another pair that the card doesn't answer"] += 1
+            self.rows.append(Row(QUIET))
+            return
+        self.made["block of another pair that the card refuses in its own connection"] += 1
+        octets = encoded(swapped(self.nad), *self.ends[CARD].hears(BROKEN))
+        came = self.fate(octets)
+        self.rows.append(Row(CARD, octets, came, self.ends[CARD].due))
+        if came is None:
+            self.rows.append(Row(QUIET))
 
 
 # ---- what a tap writes down
@@ -186,8 +269,8 @@ def late(rows):
 
 
 def spent(rng, row):
-    """Microseconds from the beginning of a row to that of the next one. Octets come 12 etu apart, and 22 etu are between
-    the last one and the next block. An etu has 104.17 microseconds."""
+    """Microseconds from the beginning of a row to that of the next one. Octets come 12 etu apart, and 22 etu are
+    between the last one and the next block. An etu has 104.17 microseconds."""
     return 1_250 * len(row.octets) + rng.randrange(1_100, SOON) if row.is_block() else WAITED
 
 
@@ -197,11 +280,14 @@ def moments(row, moment, lasts):
     return [f"at {moment}", *until] if row.is_block() else []
 
 
-def timed(rng, rows):
+def timed(rng, rows, way=None):
     """Lines with the moment of each block, and of the last octets of some."""
-    lines, moment = [], rng.randrange(1_000_000)
-    for row in rows:
-        lines += [*moments(row, moment, rng.random() < 0.3), *(told(row) if row.is_block() else [row.word])]
+    lines, moment, before = [], rng.randrange(1_000_000), 0
+    for row, following in zip(rows, [*rows[1:], Row(QUIET)]):
+        moment = moment if row.gap is None else before + row.gap
+        lasts = following.gap is None and rng.random() < 0.3
+        lines += [*moments(row, moment, lasts), *(way or told)(row)]
+        before = moment if row.is_block() else before
         moment += spent(rng, row)
     return lines
 
@@ -255,13 +341,24 @@ CLASSES = {
     "late": (HARMED, lambda rng, rows: late(rows)),
     "begun late": (HARMED, begun_late),
 }
-# the classes in which the terminal has two logical connections
-TWO = "two connections, "
+# the classes in which the terminal has two logical connections, and those in which the card has one of several
+TWO, ONE = "two connections, ", "one of several, "
 DOUBLED = {TWO + name: CLASSES[name] for name in CLASSES if name != "rough, unseen"}
+REFUSING = {ONE + name: CLASSES[name] for name in ("clean, informed", "busy, informed", "busy, as sent", "as arrived",
+                                                   "timed", "begun late")}
+LINES = {**dict.fromkeys(CLASSES, Line), **dict.fromkeys(DOUBLED, Doubled), **dict.fromkeys(REFUSING, Refusing)}
+WAYS = {**CLASSES, **DOUBLED, **REFUSING}
 
 
-def trace(rng, name):
-    """A trace of a class."""
-    wishes, tap = {**CLASSES, **DOUBLED}[name]
-    line = (Doubled if name in DOUBLED else Line)(rng, wishes)
-    return tap(rng, line.runs(rng.randint(2, 60)))
+def trace(rng, name, made):
+    """A trace of a class. `made` counts what it has."""
+    wishes, tap = WAYS[name]
+    line = LINES[name](rng, wishes)
+    rows = line.runs(rng.randint(2, 60))
+    made.update(line.made)
+    lost = sum(row.is_block() and row.came is None for row in rows)
+    made["block that the tap doesn't see"] += lost if name.endswith("unseen") else 0
+    made["block that comes late"] += sum(row.word == CARD and row.came is None for row in rows) * name.endswith("late")
+    made["beginning in the midst"] += name.endswith("begun late")
+    made["moments"] += name.endswith("timed")
+    return tap(rng, rows)
