@@ -19,8 +19,6 @@ USUAL_SIZE = 32
 MOST_RESYNCHS = 3
 # after so many repeats and corrections a terminal may ask for RESYNCH in place of a refusal, as rule 7.4 is read
 MOST_REPEATS = 3
-# what try-legal knows by its name
-LONGER_REPEAT = "I-block again with a field longer than the size agreed since"
 NAMES = {TERMINAL: "terminal", CARD: "card"}
 # in place of what an end asks for something or refuses a block
 PLACES = {"message": "a message", "next": "a block of its chain", "acknowledgment": "an acknowledgment",
@@ -225,8 +223,6 @@ class End:
             if self.repeats():
                 return self.begins_again("an I-block again")
             self.counts("I-block again")
-            if len(self.pending[1]) > self.widest:
-                self.counts(LONGER_REPEAT)
             return self.sends("repeat", *self.pending)
         if self.in_chain():
             self.pending, self.fails = None, 0

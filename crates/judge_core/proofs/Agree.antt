@@ -527,23 +527,26 @@ resynch_refusal e f s n last (Ready number fault) inf = tt
 resynch_refusal e f s n last (Request t) inf = tt
 resynch_refusal e f s n last (Response t) inf = by_first _ _
 
-resynch_any : (e : End) (expects : Number) (pending : Pending)
-    → Alike (after e (Answer Resynch 0)) (after (record e { expects = expects; pending = pending }) AnyBlock)
-resynch_any e expects pending last (Info number more) inf = tt
-resynch_any e expects pending last (Ready number fault) inf = tt
-resynch_any e expects pending last (Request t) inf = tt
-resynch_any e expects pending last (Response Resynch) inf = then_where (carried inf == 0) (begun e) _
-resynch_any e expects pending last (Response Ifs) inf = tt
-resynch_any e expects pending last (Response Abort) inf = tt
-resynch_any e expects pending last (Response Wtx) inf = tt
+resynch_any : (e : End) (expects : Number) (pending : Pending) (aborted : Bool) → Alike (after e (Answer Resynch 0))
+    (after (record e { expects = expects; pending = pending; aborted = aborted }) AnyBlock)
+resynch_any e expects pending aborted last (Info number more) inf = tt
+resynch_any e expects pending aborted last (Ready number fault) inf = tt
+resynch_any e expects pending aborted last (Request t) inf = tt
+resynch_any e expects pending aborted last (Response Resynch) inf = then_where (carried inf == 0) (begun e) _
+resynch_any e expects pending aborted last (Response Ifs) inf = tt
+resynch_any e expects pending aborted last (Response Abort) inf = tt
+resynch_any e expects pending aborted last (Response Wtx) inf = tt
 
 resynch_unknown : (e : End) (pcb : Pcb) → Both (after e (Answer Resynch 0)) (hears_unknown e pcb)
-resynch_unknown e (Info number more) = together e.side e (record e { expects = other number; pending = Settled })
-    (Answer Resynch 0) AnyBlock (resynch_any e (other number) Settled)
+resynch_unknown e (Info number more) =
+    together e.side e (record e { expects = other number; pending = Settled; aborted = false })
+    (Answer Resynch 0) AnyBlock (resynch_any e (other number) Settled false)
 resynch_unknown e (Ready number fault) =
-    together e.side e e (Answer Resynch 0) AnyBlock (resynch_any e e.expects e.pending)
-resynch_unknown e (Request s) = together e.side e e (Answer Resynch 0) AnyBlock (resynch_any e e.expects e.pending)
-resynch_unknown e (Response s) = together e.side e e (Answer Resynch 0) AnyBlock (resynch_any e e.expects e.pending)
+    together e.side e e (Answer Resynch 0) AnyBlock (resynch_any e e.expects e.pending e.aborted)
+resynch_unknown e (Request s) =
+    together e.side e e (Answer Resynch 0) AnyBlock (resynch_any e e.expects e.pending e.aborted)
+resynch_unknown e (Response s) =
+    together e.side e e (Answer Resynch 0) AnyBlock (resynch_any e e.expects e.pending e.aborted)
 
 resynch_missed : (b : Bool) (e : End) (asked : Option Asked) → Both (after e (Answer Resynch 0))
     (after (if b then record e { tries = 0 } else e) (missed (record e { asked = asked; known = true })))

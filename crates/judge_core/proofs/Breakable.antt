@@ -27,6 +27,7 @@ use Rattle.judge_core.specs.declared.end.Row.{Row}
 use Rattle.judge_core.specs.declared.end.End.{End}
 use Rattle.judge_core.specs.declared.rule.Rule.{Rule}
 use Rattle.judge_core.specs.declared.rule.Rule.TheVariants as rule
+use Rattle.judge_core.specs.Ends.{widest}
 use Rattle.judge_core.specs.Sends.{Sent, acknowledges, again_as, asked_again, is_asked, is_foreign, is_pending, is_refusal, is_waiting, is_within, is_between, messages, most_asked, or_refuses, sends_owed, sends_info, sends_ready, repeats_request}
 use Rattle.judge_core.specs.Stakes.{acknowledgment_breaks, any_breaks, asked_so_often, begun_or_corrected_breaks, can_break, carries, correction_breaks, either_breaks, is_asked_out, is_corrected_out, is_early, is_terminal, is_unsettled, message_breaks, or_refusal_breaks, owed_breaks, refusal_breaks, repeat_breaks, request_breaks, response_breaks, takes_less, CanBeSent, IsBreakable}
 use Rattle.judge_core.proofs.AtStake.{both, first, second}
@@ -214,16 +215,16 @@ module _ (e : End) (last : List ℕ) (short : length last ≤ 254) (sized : CanB
   resynch owed r terminal h = shown owed r (Request Resynch) [] (refl, tt) (own-resynch e.side terminal) h
 
   -- a field with more octets than the other end takes
-  long : (inf : List ℕ) → length inf ≡ 254 → takes_less e ≡ true → nat_le (length inf) e.room ≡ false
-  long inf h less = grind (arith, nat_tests)
+  long : (room : ℕ) (inf : List ℕ) → length inf ≡ 254 → takes_less room ≡ true → nat_le (length inf) room ≡ false
+  long room inf h less = grind (arith, nat_tests)
 
-  too-long : (owed : Owed) → takes_less e ≡ true
-      → ((inf : List ℕ) → nat_le (length inf) e.room ≡ false
+  too-long : (owed : Owed) (room : ℕ) → takes_less room ≡ true
+      → ((inf : List ℕ) → nat_le (length inf) room ≡ false
       → sends_owed e owed last (Info e.next false) inf ≡ Err rule.FieldSize) → Shown owed rule.FieldSize
-  too-long owed less h =
+  too-long owed room less h =
       let filled : length {A = ℕ} (replicate 254 0) ≡ 254 = length-replicate {A = ℕ} 254 0 in
       shown owed rule.FieldSize (Info e.next false) (replicate 254 0) (omega (arith, filled))
-      (own-info e.side e.next false) (h (replicate 254 0) (long (replicate 254 0) filled less))
+      (own-info e.side e.next false) (h (replicate 254 0) (long room (replicate 254 0) filled less))
 
   info-long : (inf : List ℕ) → nat_le (length inf) e.room ≡ false
       → sends_info e e.next false inf ≡ Err rule.FieldSize
@@ -252,7 +253,7 @@ module _ (e : End) (last : List ℕ) (short : length last ≤ 254) (sized : CanB
   message-shown : (owed : Owed) → Plainly owed (messages e owed) → (r : Rule) → message_breaks e owed r ≡ true
       → Shown owed r
   message-shown owed plain rule.FieldSize h =
-      too-long owed h (λ inf more. plain (Info e.next false) inf refl ∙ info-long inf more)
+      too-long owed e.room h (λ inf more. plain (Info e.next false) inf refl ∙ info-long inf more)
   message-shown owed plain rule.SequenceNumber h =
       info owed rule.SequenceNumber (other e.next) false (plain (Info (other e.next) false) [] refl ∙ info-wrong)
   message-shown owed plain rule.BlockDue h = free owed rule.BlockDue Zero (plain (Ready Zero Free) [] refl)
@@ -371,7 +372,7 @@ module _ (e : End) (last : List ℕ) (short : length last ≤ 254) (sized : CanB
   response-shown s n r h = absurd (cc h)
 
   either-shown : (r : Rule) → either_breaks e r ≡ true → Shown EitherBlock r
-  either-shown rule.FieldSize h = too-long EitherBlock h info-long
+  either-shown rule.FieldSize h = too-long EitherBlock e.room h info-long
   either-shown rule.SequenceNumber h = info EitherBlock rule.SequenceNumber (other e.next) false info-wrong
   either-shown rule.ErrorCode h =
       shown EitherBlock rule.ErrorCode (Ready Zero Redundancy) [] refl (own-redundancy e.side Zero) refl
@@ -380,7 +381,7 @@ module _ (e : End) (last : List ℕ) (short : length last ≤ 254) (sized : CanB
   either-shown r h = absurd (cc h)
 
   begun_or_corrected-shown : (r : Rule) → begun_or_corrected_breaks e r ≡ true → Shown MessageOrCorrection r
-  begun_or_corrected-shown rule.FieldSize h = too-long MessageOrCorrection h info-long
+  begun_or_corrected-shown rule.FieldSize h = too-long MessageOrCorrection e.room h info-long
   begun_or_corrected-shown rule.SequenceNumber h =
       info MessageOrCorrection rule.SequenceNumber (other e.next) false info-wrong
   begun_or_corrected-shown rule.Unasked h = response MessageOrCorrection rule.Unasked refl
@@ -390,7 +391,7 @@ module _ (e : End) (last : List ℕ) (short : length last ≤ 254) (sized : CanB
   begun_or_corrected-shown r h = absurd (cc h)
 
   any-shown : (r : Rule) → any_breaks e r ≡ true → Shown AnyBlock r
-  any-shown rule.FieldSize h = too-long AnyBlock h (λ inf more. no (nat_le (length inf) e.room) _ _ more)
+  any-shown rule.FieldSize h = too-long AnyBlock (widest e) h (λ inf more. no (nat_le (length inf) (widest e)) _ _ more)
   any-shown r h = absurd (cc h)
 
   -- a refusal is one correction more

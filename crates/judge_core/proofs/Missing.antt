@@ -1,6 +1,7 @@
 -- A trace from which a lost block is missing.
 use Rattle.std.proofs.Common.{◌≡◌, ◌≤◌, ℕ, List, [], ◌∷◌, length, ap, arith, not, refl, subst, sym, true≢false, ◌∙◌}
-use Rattle.std.specs.Prelude.{◌&&◌, Bool, true, false, if◌then◌else◌, nat_le, Option, Some, Ok}
+use Rattle.judge_core.specs.Ends.{widest}
+use Rattle.std.specs.Prelude.{◌&&◌, max, Bool, true, false, if◌then◌else◌, nat_le, Option, Some, Ok}
 use Rattle.block_core.specs.declared.pcb.Pcb.{Pcb}
 use Rattle.block_core.specs.declared.pcb.Pcb.TheVariants.{Info, Ready, Request, Response}
 use Rattle.block_core.specs.declared.side.Side.{Side}
@@ -429,6 +430,9 @@ forgives m Terminal seen = λ unasked nothing turn. record {
 within : (n room : ℕ) → n ≤ room → nat_le n room ≡ true
 within n room h = grind (arith, nat_tests)
 
+wider : (n room first : ℕ) → n ≤ room → n ≤ max room first
+wider n room first h = grind arith
+
 -- it is permitted, or an unknown last block permits it
 then-permitted : (judged : Judged) (s : Sent) → (e : End) × (s ≡ Ok e) → IsNoDeviation (or_openly true judged s).verdict
 then-permitted judged s (e, is) = go judged.verdict
@@ -443,7 +447,7 @@ sent-within : (e : End) (last : List ℕ) (pcb : Pcb) (inf : List ℕ) → is_fo
 sent-within e last (Info number more) inf own fits = (
   _,
   is_else (is_foreign e.side (Info number more)) _ _ own
-      ∙ is_then (nat_le (length inf) e.room) _ _ (within (length inf) e.room fits),
+      ∙ is_then (nat_le (length inf) (widest e)) _ _ (within (length inf) (widest e) (wider (length inf) e.room e.first_room fits)),
 )
 sent-within e last (Ready number fault) inf own fits = (_, is_else (is_foreign e.side (Ready number fault)) _ _ own)
 sent-within e last (Request s) inf own fits = (_, is_else (is_foreign e.side (Request s)) _ _ own)

@@ -72,9 +72,10 @@ doubt_after doubt pcb (Deviates broken owed) = Refusable
 
 -- ---- what the tap didn't see
 
--- the end as if it answered the request for a size that it heard (11.4.2): then it may send longer fields
+-- The end as if it answered the request for a size that it heard (11.4.2): then it may send longer fields. If it took an
+-- I-block after ABORT, it owes no longer what is due after ABORT.
 abbrev pub sized_by : End → Pcb → ℕ → End
-sized_by e (Info number more) octet = e
+sized_by e (Info number more) octet = record e { aborted = false }
 sized_by e (Ready number fault) octet = e
 sized_by e (Request Resynch) octet = e
 sized_by e (Request Ifs) octet = record e { room = max e.room octet }

@@ -46,6 +46,10 @@ new_end side room = record {
   aborted = false;
 }
 
+-- The larger one of the size that holds and of that at the start.
+abbrev pub widest : End → ℕ
+widest e = max e.room e.first_room
+
 -- After RESYNCH numbers begin again (rule 6.5). Whether sizes do too isn't certain, so the larger size is permitted.
 abbrev pub begun : End → End
 begun e = record e {
@@ -56,7 +60,7 @@ begun e = record e {
   before = NewMessage;
   tries = 0;
   row = no_row;
-  room = max e.room e.first_room;
+  room = widest e;
   known = true;
   aborted = false;
 }
@@ -138,7 +142,8 @@ hears_asking e (Some asked) pcb carried =
 
 -- The line damaged the end's own last block, so nobody knows it. The numbers of the other end's block hold.
 abbrev pub hears_unknown : End → Pcb → After
-hears_unknown e (Info number more) = after (record e { expects = other number; pending = Settled }) AnyBlock
+hears_unknown e (Info number more) =
+    after (record e { expects = other number; pending = Settled; aborted = false }) AnyBlock
 hears_unknown e (Ready number fault) = after e AnyBlock
 hears_unknown e (Request s) = after e AnyBlock
 hears_unknown e (Response s) = after e AnyBlock

@@ -37,7 +37,7 @@ use Rattle.judge_core.specs.declared.connection.Last.{Last}
 use Rattle.judge_core.specs.declared.connection.Last.TheVariants.{Here, Unclear, Asked, Answered}
 use Rattle.judge_core.specs.declared.end.End.{End}
 use Rattle.judge_core.specs.Connections.{gone_on, gone_quiet, is_asked, is_away, is_open_to, pairs_with, settled}
-use Rattle.judge_core.specs.Ends.{new_end}
+use Rattle.judge_core.specs.Ends.{new_end, widest}
 use Rattle.judge_core.specs.Followed.{last_after}
 use Rattle.judge_core.specs.Courses.{got_whole, got_none, first_course, is_sure}
 use Rattle.judge_core.specs.Doubts.{corrected, doubt_after, doubted_by, in_doubt, is_open, is_turn, judged_of, passed_over, presumed, unknown_end, waited}
@@ -384,7 +384,7 @@ asks_resynch (malformed broken) = false
 asks_resynch damage = false
 
 abbrev pub shaken_end : End → End
-shaken_end e = unknown_end (record e { room = max e.room e.first_room })
+shaken_end e = unknown_end (record e { room = widest e })
 
 abbrev pub shaken : Bool → Watched → Watched
 shaken resynch w = if resynch then record w { «end» = shaken_end w.«end» } else w

@@ -1,5 +1,5 @@
 -- What an end of T=1 may send if it owes this (ISO/IEC 7816-3:2006, clause 11.6), and which rule another block breaks.
-use Rattle.std.specs.Prelude.{ℕ, ◌+◌, ◌==◌, nat_lt, nat_le, min, List, length, bytes_eq, Bool, true, false, if◌then◌else◌, Option, Some, None, Result, Ok, Err}
+use Rattle.std.specs.Prelude.{ℕ, ◌+◌, ◌==◌, ◌&&◌, not, nat_lt, nat_le, min, List, length, bytes_eq, Bool, true, false, if◌then◌else◌, Option, Some, None, Result, Ok, Err}
 use Rattle.block_core.specs.Block.{other}
 use Rattle.block_core.specs.declared.pcb.Number.{Number}
 use Rattle.block_core.specs.declared.pcb.Fault.{Fault}
@@ -22,7 +22,7 @@ use Rattle.judge_core.specs.declared.end.Row.{Row}
 use Rattle.judge_core.specs.declared.end.End.{End}
 use Rattle.judge_core.specs.declared.rule.Rule.{Rule}
 use Rattle.judge_core.specs.declared.rule.Rule.TheVariants as rule
-use Rattle.judge_core.specs.Ends.{begun, no_row}
+use Rattle.judge_core.specs.Ends.{begun, no_row, widest}
 
 -- the end after a block that it may send, or the rule that the block breaks
 abbrev pub Sent : Type 0
@@ -332,19 +332,20 @@ suggested e (Request s) n =
 suggested e (Response s) n = responded (record e { asked = None; before = NewMessage; known = true }) s n
 
 -- Whether an end that the line hid is known again: it has sent an I-block since, it heard one after that, and this one
--- has the next number.
+-- has the next number. An ABORT ends a chain too, and after it nobody knows what the end heard.
 abbrev pub is_next : Owed → Pending → Bool → Bool
 is_next AnyBlock pending next = false
 is_next owed Settled next = next
 is_next owed Chain next = false
 is_next owed Last next = false
 
--- Any block of an end whose last block nobody knows. It is known again after a second I-block, or after RESYNCH.
+-- Any block of an end whose last block nobody knows. It is known again after a second I-block, or after RESYNCH. The
+-- block may repeat one that the end sent before a smaller size was agreed (rule 7.1).
 abbrev pub any_block : End → Pcb → List ℕ → Sent
 any_block e (Info number more) inf =
-    if nat_le (length inf) e.room
+    if nat_le (length inf) (widest e)
     then Ok (record (informed e number more) {
-      known = is_next e.before e.pending (same number e.next);
+      known = is_next e.before e.pending (same number e.next && not e.aborted);
       before = NewMessage;
     })
     else Err rule.FieldSize

@@ -34,7 +34,7 @@ use Rattle.judge_core.specs.Sends.{Sent, is_between, is_within, is_waiting, most
 use Rattle.judge_core.specs.Courses.{attempted, got_none, got_whole, is_sure, judges}
 use Rattle.judge_core.specs.Doubts.{is_open, only_openly, sent_openly, unknown_end}
 use Rattle.judge_core.specs.Monitored.{due, said_in, sender, IsSent, Seen, whole, malformed, damage}
-use Rattle.judge_core.specs.Ends.{after}
+use Rattle.judge_core.specs.Ends.{after, widest}
 use Rattle.judge_core.specs.States.{state_of}
 
 abbrev pub is_terminal : Side → Bool
@@ -48,8 +48,8 @@ is_card Card = true
 -- ---- what an end that owes something can break
 
 -- the other end takes so few octets that a block can have more (11.4.2)
-abbrev pub takes_less : End → Bool
-takes_less e = nat_lt e.room 254
+abbrev pub takes_less : ℕ → Bool
+takes_less room = nat_lt room 254
 
 -- a terminal corrected as often as it may; only a terminal has limits and asks for RESYNCH (rules 6.1 and 7.4)
 abbrev pub is_corrected_out : End → Bool
@@ -84,7 +84,7 @@ is_early_alone e = is_early e && not (is_waiting e.asked)
 
 -- the rules of a message that begins or goes on
 abbrev pub message_breaks : End → Owed → Rule → Bool
-message_breaks e owed rule.FieldSize = takes_less e
+message_breaks e owed rule.FieldSize = takes_less e.room
 message_breaks e owed rule.SequenceNumber = true
 message_breaks e owed rule.BlockDue = true
 message_breaks e owed rule.Unasked = true
@@ -143,7 +143,7 @@ response_breaks s octet r = false
 
 -- the rules after ABORT
 abbrev pub either_breaks : End → Rule → Bool
-either_breaks e rule.FieldSize = takes_less e
+either_breaks e rule.FieldSize = takes_less e.room
 either_breaks e rule.SequenceNumber = true
 either_breaks e rule.ErrorCode = true
 either_breaks e rule.Unasked = true
@@ -152,7 +152,7 @@ either_breaks e r = false
 
 -- the rules after an R-block that hands over the right to send or asks for the last R-block again
 abbrev pub begun_or_corrected_breaks : End → Rule → Bool
-begun_or_corrected_breaks e rule.FieldSize = takes_less e
+begun_or_corrected_breaks e rule.FieldSize = takes_less e.room
 begun_or_corrected_breaks e rule.SequenceNumber = true
 begun_or_corrected_breaks e rule.Unasked = true
 begun_or_corrected_breaks e rule.NoChain = true
@@ -165,7 +165,7 @@ or_refusal_breaks e rule.TooManyRepeats breaks = is_corrected_out e
 or_refusal_breaks e r breaks = breaks
 
 abbrev pub any_breaks : End → Rule → Bool
-any_breaks e rule.FieldSize = takes_less e
+any_breaks e rule.FieldSize = takes_less (widest e)
 any_breaks e r = false
 
 abbrev pub owed_breaks : End → Owed → Rule → Bool

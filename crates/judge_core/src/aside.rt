@@ -177,7 +177,7 @@ fn shaken_end(end: End) -> End
     ensures { result ≡ shaken_end end }
 {
     unknown_end(End {
-        room: end.room.max(end.first_room),
+        room: end.widest(),
         ..end
     })
 }

@@ -119,7 +119,8 @@ fn sized(end: End, heard: Heard) -> End
     }
 }
 
-/// Returns the end as if it answered this block, if that asks about a size: then it may send longer fields.
+/// Returns the end as if it answered this block, if that asks about a size: then it may send longer fields. After an
+/// I-block, what is due after ABORT is over.
 fn sized_by(end: End, pcb: Pcb, octet: u8) -> End
     ensures { result ≡ sized_by end pcb octet }
 {
@@ -128,7 +129,11 @@ fn sized_by(end: End, pcb: Pcb, octet: u8) -> End
             room: end.room.max(octet),
             ..end
         },
-        Pcb::Info { .. } | Pcb::Ready { .. } | Pcb::Request(_) | Pcb::Response(_) => end,
+        Pcb::Info { .. } => End {
+            aborted: false,
+            ..end
+        },
+        Pcb::Ready { .. } | Pcb::Request(_) | Pcb::Response(_) => end,
     }
 }
 

@@ -1,7 +1,7 @@
 //! The state of an end of the line, and what it owes.
 
 ghost use Rattle.std.specs.Prelude.{◌≡◌};
-ghost use Rattle.judge_core.specs.Ends.{after, begun, new_end, no_row};
+ghost use Rattle.judge_core.specs.Ends.{after, begun, new_end, no_row, widest};
 
 use block_core::{Number, S, Side};
 
@@ -140,10 +140,17 @@ impl End {
         ensures { result ≡ begun self }
     {
         End {
-            room: self.room.max(self.first_room),
+            room: self.widest(),
             first_room: self.first_room,
             ..End::new(self.side, self.room)
         }
+    }
+
+    /// Returns the larger one of the size that holds and of that at the start.
+    pub(crate) fn widest(self) -> u8
+        ensures { result ≡ widest self }
+    {
+        self.room.max(self.first_room)
     }
 
     /// Returns the end with what it owes.

@@ -137,6 +137,7 @@ impl End {
             Pcb::Info { number, .. } => End {
                 expects: number.other(),
                 pending: Pending::Settled,
+                aborted: false,
                 ..self
             }
             .owes(Owed::AnyBlock),

@@ -178,9 +178,13 @@ impl End {
             ..self
         };
         match pcb {
-            Pcb::Info { .. } if inf.len() > usize::from(self.room) => Err(Rule::FieldSize),
+            Pcb::Info { .. } if inf.len() > usize::from(self.widest()) => Err(Rule::FieldSize),
             Pcb::Info { number, more } => Ok(End {
-                known: is_next(self.before, self.pending, same(number, self.next)),
+                known: is_next(
+                    self.before,
+                    self.pending,
+                    same(number, self.next) && !self.aborted,
+                ),
                 before: Owed::NewMessage,
                 ..self.informed(number, more)
             }),
@@ -201,7 +205,8 @@ pub(crate) fn carried(inf: &[u8]) -> u8
     inf.first().copied().unwrap_or(0)
 }
 
-/// Whether an end that the line hid is known again after an I-block. `next` says whether that has the next number.
+/// Whether an end that the line hid is known again after an I-block. `next` says whether that has the next number and no
+/// ABORT came between.
 fn is_next(owed: Owed, pending: Pending, next: bool) -> bool
     ensures { result ≡ is_next owed pending next }
 {

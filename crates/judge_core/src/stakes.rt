@@ -89,7 +89,7 @@ impl End {
         ensures { result ≡ message_breaks self owed rule }
     {
         match rule {
-            Rule::FieldSize => self.takes_less(),
+            Rule::FieldSize => takes_less(self.room),
             Rule::SequenceNumber | Rule::BlockDue | Rule::Unasked => true,
             Rule::NoChain => !is_within(owed),
             Rule::EarlyResynch => is_terminal(self.side) && !is_between(owed),
@@ -155,7 +155,7 @@ impl End {
         ensures { result ≡ either_breaks self rule }
     {
         match rule {
-            Rule::FieldSize => self.takes_less(),
+            Rule::FieldSize => takes_less(self.room),
             Rule::SequenceNumber | Rule::ErrorCode | Rule::Unasked | Rule::NoChain => true,
             _ => false,
         }
@@ -167,7 +167,7 @@ impl End {
         ensures { result ≡ begun_or_corrected_breaks self rule }
     {
         match rule {
-            Rule::FieldSize => self.takes_less(),
+            Rule::FieldSize => takes_less(self.room),
             Rule::SequenceNumber | Rule::Unasked | Rule::NoChain => true,
             Rule::TooManyRepeats => self.is_corrected_out(),
             _ => false,
@@ -188,16 +188,9 @@ impl End {
         ensures { result ≡ any_breaks self rule }
     {
         match rule {
-            Rule::FieldSize => self.takes_less(),
+            Rule::FieldSize => takes_less(self.widest()),
             _ => false,
         }
-    }
-
-    /// Whether a block can have more octets than the other end takes.
-    fn takes_less(self) -> bool
-        ensures { result ≡ takes_less self }
-    {
-        usize::from(self.room) < LONGEST_INF
     }
 
     /// Whether it is a terminal that corrected as often as it may.
@@ -299,4 +292,11 @@ fn is_nothing(heard: Heard) -> bool
         Heard::Nothing => true,
         Heard::Beginning | Heard::Whole(..) | Heard::Perhaps(..) | Heard::Broken => false,
     }
+}
+
+/// Whether a block can have more octets than this size permits.
+fn takes_less(room: u8) -> bool
+    ensures { result ≡ takes_less room }
+{
+    usize::from(room) < LONGEST_INF
 }
