@@ -47,6 +47,7 @@ export declare const Judged: {
     readonly PERMITTED: 0; readonly DAMAGE: 1; readonly UNSEEN: 2; readonly DEVIATION: 3; readonly ELSEWHERE: 4;
 };
 export declare const Silence: { readonly NO: 0; readonly POSSIBLE: 1; readonly CERTAIN: 2 };
+export declare const OffTime: { readonly NO: 0; readonly LATE: 1; readonly EARLY: 2 };
 export declare const Rule: {
     readonly NODE_ADDRESS: 1; readonly CONTROL_OCTET: 2; readonly LENGTH: 3; readonly RESERVED_SIZE: 4;
     readonly FIELD_SIZE: 5; readonly TURN: 6; readonly FOREIGN_REQUEST: 7; readonly SEQUENCE_NUMBER: 8;
@@ -465,11 +466,30 @@ export interface Judgment {
     readonly rule: number | null;
     readonly due: Due | null;
 }
+export interface Exercise {
+    readonly kept: readonly number[];
+    readonly broken: number | null;
+    readonly due: number | null;
+}
+export interface Timed {
+    readonly off: number;
+    readonly elapsed: number;
+    readonly limit: number;
+    readonly over: boolean;
+}
 export declare class Judge {
     constructor(ifsc: number);
     block(end: number, octets: Octets, arrival?: number, came?: Octets): Judgment;
+    exercise(end: number, octets: Octets, arrival?: number, came?: Octets): Exercise;
     quiet(): Judgment;
     finish(): Judgment;
+    close(): void;
+}
+export declare class Times {
+    constructor(t1: { readonly ifsc: number; readonly bwi: number; readonly cwi: number }, hertz: number,
+        rates?: { readonly fi: number; readonly di: number });
+    block(judge: Judge, end: number, octets: Octets,
+        how?: { first?: number | null; last?: number | null; arrival?: number; came?: Octets }): Timed;
     close(): void;
 }
 

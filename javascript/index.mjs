@@ -2,7 +2,8 @@
 export { CallRefused, Closed, Duplicate, InUse, InvalidArgument, NoAnswer, NoT1, Refused, ScardError, Short,
     TurnError } from './errors.mjs';
 export { About, Arrival, Asked, clauseText, Codec, End, Event, Fault, Format, isRefusal, Judged, Kind, nameOf, note,
-    Noted, Owed, reasons, Rule, ruleText, Shape, Silence, StatusClass, T1Fault, TurnKind, version } from './names.mjs';
+    Noted, OffTime, Owed, reasons, Rule, ruleText, Shape, Silence, StatusClass, T1Fault, TurnKind,
+    version } from './names.mjs';
 export { fromHex, isText, lrc, toHex } from './octets.mjs';
 export { Atr, T1 } from './atr.mjs';
 export { Block, BLOCK_ROOM, cut } from './block.mjs';
@@ -13,6 +14,6 @@ export { Card, LONGEST_ANSWER, LONGEST_COMMAND, Terminal } from './ends.mjs';
 export { CardSessionSteps, SessionSteps } from './steps.mjs';
 export { AskIfs, AsyncCardSession, AsyncSession, Garbled, MoreTime } from './session.mjs';
 export { CcidLine } from './ccid.mjs';
-export { Judge } from './judge.mjs';
+export { Judge, Times } from './judge.mjs';
 export { WebSerialLine } from './serial.mjs';
 export { answer } from './program.mjs';

@@ -130,6 +130,12 @@ export const Silence = Object.freeze({
     POSSIBLE: 1,
     CERTAIN: 2,
 });
+/** Whether a block came too late or too early. */
+export const OffTime = Object.freeze({
+    NO: 0,
+    LATE: 1,
+    EARLY: 2,
+});
 /** A rule of T=1 that a judge knows. */
 export const Rule = Object.freeze({
     NODE_ADDRESS: 1,

@@ -7,19 +7,19 @@ from typing import Any, Tuple, Type
 
 from . import _scard, block
 from ._errors import Argument, Closed, Duplicate, Refused, Short
-from ._numbers import Asked, Judged, Owed, Rule, Shape, Silence, TurnKind
+from ._numbers import Asked, Judged, OffTime, Owed, Rule, Shape, Silence, TurnKind
 from .apdu import Command, Response
 from .atr import T1, Atr, Indicated, Interface, Rates
 from .ends import Turn
-from .judge import Due, Judgment
+from .judge import Due, Exercise, Judgment, Timed
 from .session import Step
 from .tlv import DataObject, Entry
 
 # In the order of `enum made` of src/scardmodule.h.
 _EXCEPTIONS = (Refused, Short, Argument, Duplicate, Closed)
 _VALUES = (Atr, Interface, Indicated, T1, Rates, block.Block, Command, Response, DataObject, Entry, Turn, Due, Judgment,
-           Step)
-_ENUMS = (Shape, TurnKind, Owed, Asked, Judged, Rule, Silence)
+           Exercise, Timed, Step)
+_ENUMS = (Shape, TurnKind, Owed, Asked, Judged, Rule, Silence, OffTime)
 
 
 def _fields(made: Any) -> Tuple[str, ...]:

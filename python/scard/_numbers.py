@@ -165,6 +165,14 @@ class Silence(enum.IntEnum):
     CERTAIN = 2
 
 
+class OffTime(enum.IntEnum):
+    """Whether a block came too late or too early."""
+
+    NO = 0
+    LATE = 1
+    EARLY = 2
+
+
 class Rule(RuleTexts):
     """A rule of T=1 that a judge knows."""
 

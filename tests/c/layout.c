@@ -48,11 +48,16 @@ static void sizes(void)
     SIZE(SCARD_STRUCT_LENT_CARD_SESSION, scard_lent_card_session);
     SIZE(SCARD_STRUCT_SESSION_NEXT, scard_session_next);
     SIZE(SCARD_STRUCT_PCB, scard_pcb);
+    SIZE(SCARD_STRUCT_EXERCISE, scard_exercise);
+    SIZE(SCARD_STRUCT_LENT_TIMES, scard_lent_times);
+    SIZE(SCARD_STRUCT_MOMENTS, scard_moments);
+    SIZE(SCARD_STRUCT_TIMED, scard_timed);
     CHECK(sizeof(struct scard_lent_terminal) < 128 && sizeof(struct scard_lent_card) < 128);
     CHECK(sizeof(struct scard_lent_check) == 92 && sizeof(struct scard_lent_check) < 128);
     CHECK(sizeof(struct scard_lent_receiver) == 32 && sizeof(struct scard_lent_judge) == 592);
+    CHECK(sizeof(struct scard_lent_times) == 56);
     CHECK(sizeof(struct scard_lent_block_reader) == 264 && sizeof(struct scard_lent_atr_reader) == 40);
-    CHECK(scard_struct_size(0) == 0 && scard_struct_size(41) == 0 && scard_struct_size(255) == 0);
+    CHECK(scard_struct_size(0) == 0 && scard_struct_size(45) == 0 && scard_struct_size(255) == 0);
 }
 
 static void places(void)
@@ -165,6 +170,11 @@ static void places(void)
     PLACE(scard_judgment, verdict, 24);
     PLACE(scard_judgment, silence, 26);
     PLACE(scard_judgment, due, 27);
+    PLACE(scard_exercise, due, 5);
+    PLACE(scard_lent_times, hertz, 40);
+    PLACE(scard_lent_times, cwi, 52);
+    PLACE(scard_moments, has_last, 17);
+    PLACE(scard_timed, over, 17);
 }
 
 /* ---- what the library writes into the fields ---- */

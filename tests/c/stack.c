@@ -62,6 +62,10 @@ static struct scard_lent_block_reader block_reader;
 static struct scard_lent_atr_reader atr_reader;
 static struct scard_lent_judge judge;
 static struct scard_judgment judgment;
+static struct scard_exercise exercise;
+static struct scard_lent_times line_times;
+static struct scard_moments moments;
+static struct scard_timed timed;
 static struct scard_part parts[2048];
 static struct scard_entry entries[2];
 static struct scard_lent_framer framer;
@@ -224,6 +228,11 @@ static void lent_judge(void)
 {
     static const uint8_t asked[] = {0x00, 0x81, 0x00, 0x81};
     verdict = scard_lent_judge_begin(&judge, 254);
+    verdict = scard_lent_times_begin(&line_times, &t1, &rates, 3571200);
+    verdict = scard_lent_judge_exercise(&judge, SCARD_END_CARD, asked, sizeof asked, SCARD_ARRIVAL_CAME, sent,
+                                        sizeof sent, &exercise);
+    verdict = scard_lent_times_block(&line_times, &judge, SCARD_END_CARD, asked, sizeof asked, SCARD_ARRIVAL_CAME,
+                                     sent, sizeof sent, &moments, &timed);
     verdict = scard_lent_judge_block(&judge, SCARD_END_CARD, asked, sizeof asked, SCARD_ARRIVAL_CAME, sent, sizeof sent,
                                      &judgment);
     scard_lent_judge_quiet(&judge, &judgment);

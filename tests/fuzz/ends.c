@@ -161,8 +161,12 @@ static void judge(struct input *input)
         const uint8_t *octets, *came;
         uint8_t from = take(input), arrival = take(input);
         size_t count = take_octets(input, &octets, take(input)), came_count = take_octets(input, &came, take(input) % 16);
+        struct scard_exercise exercise;
+        struct scard_verdict before = scard_lent_judge_exercise(&state, from % 3, octets, count, arrival % 4, came,
+                                                                came_count, &exercise);
         struct scard_verdict verdict = scard_lent_judge_block(&state, from % 3, octets, count, arrival % 4, came,
                                                               came_count, &said);
+        SHOULD(same_verdict(verdict, before) && (verdict.status != SCARD_OK || exercise.broken == said.rule));
         SHOULD(verdict.status == (from % 3 == 2 || arrival % 4 == 3 ? SCARD_ARGUMENT : SCARD_OK));
         SHOULD(verdict.status != SCARD_OK || (said.silence < 4 && said.verdict < 8));
         if (from >= 0xF0) {

@@ -11,6 +11,7 @@ const T1 = { ifsc: 32, bwi: 4, cwi: 5 };
 const MANY = Number(process.env.SCARD_MISUSES ?? 4000);
 const TERMINALS = 10000;
 const NONE = new Uint8Array();
+const JUDGE = new scard.Judge(32);
 const NAMED = [scard.ScardError, TypeError, RangeError];
 
 /** An object of each class that holds memory, and the calls on it. */
@@ -28,7 +29,8 @@ const OBJECTS = {
     BlockReader: [() => new scard.BlockReader(), { feed: [NONE], finish: [], value: null }],
     Receiver: [() => new scard.Receiver({ most: 100 }), { feed: [NONE], finish: [], message: null }],
     TlvReader: [() => new scard.TlvReader(), { feed: [NONE], finish: [] }],
-    Judge: [() => new scard.Judge(32), { block: [0, NONE], quiet: [], finish: [] }],
+    Judge: [() => new scard.Judge(32), { block: [0, NONE], exercise: [0, NONE], quiet: [], finish: [] }],
+    Times: [() => new scard.Times(T1, 3571200), { block: [JUDGE, 0, NONE] }],
 };
 /** What a call may get in the place of any argument. */
 const ODD = [undefined, null, -1, 0.5, NaN, Infinity, 2 ** 32, 2 ** 53, 2n ** 64n, -1n, '', 'AA', {}, [], [1], true,
@@ -142,7 +144,7 @@ test('objects of many sizes, closed in any order, leave no memory behind', () =>
 test('a refused constructor leaves no memory', async () => {
     const begun = measure();
     for (const made of [() => new scard.Terminal({ ifsc: 0, bwi: 0, cwi: 0 }), () => new scard.Judge(255),
-        () => new scard.BlockReader(0), () => new scard.Receiver({ number: 2 }), () => new scard.TlvReader(2 ** 30),
+        () => new scard.Times(T1, 0), () => new scard.BlockReader(0), () => new scard.Receiver({ number: 2 }), () => new scard.TlvReader(2 ** 30),
         () => new scard.SessionSteps({ t1: T1, hertz: 999 }), () => new scard.SessionSteps({ t1: T1, silence: 1e9 }),
         () => new scard.CardSessionSteps({ t1: T1, di: 65 }), () => new scard.AsyncSession({}, { t1: T1, fi: 0 })]) {
         await thrown(scard.InvalidArgument, made);

@@ -19,6 +19,27 @@ test('the module has each call of api.json that needs no memory, and its structs
     }
 });
 
+test('which rules a block exercises, and when it is late', async () => {
+    const { End, OffTime, Owed, Rule } = scard;
+    const [request, response] = [fromHex('00C000C0'), fromHex('00E000E0')];
+    const judge = new scard.Judge(32);
+    const times = new scard.Times({ ifsc: 32, bwi: 4, cwi: 5 }, 3571200);
+    const first = judge.exercise(End.TERMINAL, request);
+    assert.deepEqual([first.broken, first.due], [null, Owed.NEW_MESSAGE]);
+    assert.deepEqual(first.kept, [Rule.NODE_ADDRESS, Rule.CONTROL_OCTET, Rule.LENGTH, Rule.RESERVED_SIZE,
+        Rule.FIELD_SIZE, Rule.FOREIGN_REQUEST, Rule.SEQUENCE_NUMBER, Rule.BLOCK_DUE, Rule.UNASKED, Rule.NO_CHAIN,
+        Rule.CHECK_OCTET]);
+    assert.deepEqual(judge.exercise(End.CARD, response), { kept: [], broken: Rule.TURN, due: null });
+    assert.equal(times.block(judge, End.TERMINAL, request, { first: 0 }).off, OffTime.NO);
+    judge.block(End.TERMINAL, request);
+    assert.deepEqual(times.block(judge, End.CARD, response, { first: 1614585 }),
+        { elapsed: 1614585, limit: 1614584, off: OffTime.LATE, over: true });
+    judge.block(End.CARD, response);
+    await thrown(scard.InvalidArgument, () => times.block(judge, End.TERMINAL, request, { first: 1614584 }));
+    judge.close();
+    times.close();
+});
+
 test('octets in each kind of buffer', () => {
     const octets = fromHex('00000500A4040000');
     const wide = new Uint8Array([9, ...octets, 9]);

@@ -111,6 +111,8 @@ class WrongTypes(unittest.TestCase):
 
     def test_out_of_range(self):
         for call in (lambda: scard.Judge(0), lambda: scard.Judge(255), lambda: scard.Block.decode(b"", 0),
+                     lambda: scard.Times(T1, 0), lambda: scard.Times(scard.T1(0, 4, 13), 1),
+                     lambda: scard.Judge(32).exercise(2, b""),
                      lambda: scard.Block.r(2), lambda: scard.Block.i(0, bytes(255)), lambda: scard.cut(b"", 0),
                      lambda: scard.cut(bytes(131073), 254), lambda: scard.Terminal(scard.T1(0, 4, 13)),
                      lambda: scard.Card(scard.T1(32, 16, 13)), lambda: scard.T1(0, 4, 13).cwt,

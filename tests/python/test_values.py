@@ -21,7 +21,8 @@ ENUMS = {"codec": (scard.Codec, "CODEC_"), "t1_fault": (scard.T1Fault, "T1_"), "
          "block_about": (scard.About, "S_"), "shape": (scard.Shape, ""), "status_class": (scard.StatusClass, "CLASS_"),
          "format": (scard.Format, ""), "noted": (scard.Noted, "NOTED_"), "end": (scard.End, "END_"),
          "arrival": (scard.Arrival, "ARRIVAL_"), "judged": (scard.Judged, "JUDGED_"), "rule": (scard.Rule, "RULE_"),
-         "silence": (scard.Silence, "SILENCE_"), "owed": (scard.Owed, "OWED_"), "asked": (scard.Asked, "ASKED_")}
+         "off_time": (scard.OffTime, "OFF_TIME_"), "silence": (scard.Silence, "SILENCE_"),
+         "owed": (scard.Owed, "OWED_"), "asked": (scard.Asked, "ASKED_")}
 EXTRA = {scard.Codec: {"NONE": 0}, scard.T1Fault: {"USABLE": 0}}
 ROUNDS = 2000
 
@@ -290,6 +291,39 @@ class Values(unittest.TestCase):
                          [(1, 0, 0), (0, 0, 1), (2, 0, 0), (3, 2, 0), (4, 2, 0)])
         self.assertEqual([it.silence for it in (first, quiet)], [scard.Silence.NO, scard.Silence.CERTAIN])
         self.assertEqual((wrong.rule, wrong.verdict), (scard.Rule.TURN, scard.Judged.DEVIATION))
+
+    def test_what_a_block_exercises(self):
+        """The rules that a permitted block keeps, and the one that another block breaks. Nothing is taken."""
+        judge, rule = scard.Judge(32), scard.Rule
+        command, octets = scard.Block.i(0, b"abcde").encode(), scard.Block.i(1, b"abcde").encode()
+        first = judge.exercise(scard.End.TERMINAL, command)
+        self.assertEqual(judge.exercise(scard.End.TERMINAL, command), first)
+        self.assertEqual((first.broken, first.due), (None, scard.Owed.NEW_MESSAGE))
+        self.assertEqual(first.kept, (
+            rule.NODE_ADDRESS, rule.CONTROL_OCTET, rule.LENGTH, rule.RESERVED_SIZE, rule.FIELD_SIZE,
+            rule.FOREIGN_REQUEST, rule.SEQUENCE_NUMBER, rule.BLOCK_DUE, rule.UNASKED, rule.NO_CHAIN, rule.CHECK_OCTET))
+        self.assertEqual(judge.exercise(scard.End.TERMINAL, octets),
+                         scard.Exercise((), rule.SEQUENCE_NUMBER, scard.Owed.NEW_MESSAGE))
+        self.assertEqual(judge.exercise(scard.End.CARD, command), scard.Exercise((), rule.TURN, None))
+        self.assertEqual(judge.exercise(scard.End.CARD, b"abc"), scard.Exercise((), None, None))
+        self.assertEqual(judge.block(scard.End.TERMINAL, command).number, 1)
+
+    def test_times_of_blocks(self):
+        """A card's block that is late by a microsecond, and a terminal's that is early by one."""
+        request, answer = bytes.fromhex("00C000C0"), bytes.fromhex("00E000E0")
+        judge, times = scard.Judge(32), scard.Times(scard.T1(32, 4, 5), 3571200)
+        rows = ((scard.End.TERMINAL, request, 0, scard.Timed(scard.OffTime.NO, 0, 0, False)),
+                (scard.End.CARD, answer, 1614585, scard.Timed(scard.OffTime.LATE, 1614585, 1614584, True)),
+                (scard.End.TERMINAL, request, 1700000, scard.Timed(scard.OffTime.NO, 0, 0, False)),
+                (scard.End.CARD, answer, 1710000, scard.Timed(scard.OffTime.NO, 0, 0, False)),
+                (scard.End.TERMINAL, request, 1715728, scard.Timed(scard.OffTime.EARLY, 5728, 5729, False)))
+        for end, octets, first, wanted in rows:
+            self.assertEqual(times.block(judge, end, octets, first=first), wanted)
+            judge.block(end, octets)
+        self.assertRaises(scard.Argument, times.block, judge, scard.End.CARD, answer, first=1715727)
+        self.assertEqual(times.block(judge, scard.End.CARD, answer, last=1715728).off, scard.OffTime.NO)
+        unknown = scard.Times(scard.T1(32, 4, 5), 3571200, scard.Rates(0, 0))
+        self.assertEqual(unknown.block(scard.Judge(32), scard.End.TERMINAL, request, first=0).off, scard.OffTime.NO)
 
     def test_values_pickle(self):
         for value in self.VALUES:

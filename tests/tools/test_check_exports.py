@@ -90,7 +90,7 @@ class Small(unittest.TestCase):
 class Repository(unittest.TestCase):
     def exports(self):
         found = [it for crate in tool.CRATES for text in tool.files_of(crate) for it in tool.functions_of(text, r"scard_\w+")]
-        self.assertEqual(len(found), 121)
+        self.assertEqual(len(found), 124)
         return found
 
     def test_each_clause_that_an_export_loses_is_told(self):

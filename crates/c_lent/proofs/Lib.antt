@@ -6,5 +6,6 @@ pub mod Lending
 pub mod Puts
 pub mod Reading
 pub mod Sessions
+pub mod TimesKept
 pub mod Told
 pub mod Turns

@@ -6,7 +6,8 @@ use Rattle.std.specs.Prelude.{ℕ, ◌==◌, if◌then◌else◌}
 -- check, of a receiver, text, entry of a list, note, framer, reader of a block, and of an answer to reset; what decides
 -- what an end may send, what it received, an end of the line, state of a judge, what was due, and judgment; rules of a
 -- line, what an end has done on it, the line, and what the end does next; setup of a session, state of a terminal's
--- session, and of a card's, what a session does next, and the parts of a PCB; else 0
+-- session, and of a card's, what a session does next, and the parts of a PCB; what a block exercises, times of a line,
+-- moments of a block, and what is said of its time; else 0
 abbrev pub size_of_struct : ℕ → ℕ
 size_of_struct number =
     if number == 1 then 16
@@ -49,4 +50,8 @@ size_of_struct number =
     else if number == 38 then 504
     else if number == 39 then 24
     else if number == 40 then 5
+    else if number == 41 then 8
+    else if number == 42 then 56
+    else if number == 43 then 24
+    else if number == 44 then 24
     else 0

@@ -20,6 +20,9 @@ pub mod KeptCheck
 pub mod LentCheck
 pub mod KeptJudge
 pub mod LentJudge
+pub mod LentExercise
+pub mod KeptTimes
+pub mod LentTimes
 pub mod KeptReceiver
 pub mod LentReceiver
 pub mod LentReaders

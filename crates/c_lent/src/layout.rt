@@ -12,8 +12,11 @@ use crate::kept::{CCard, CTerminal};
 use crate::kept_check::{CCheck, CHeader};
 use crate::kept_judge::{CEnd, CHeard, CJudge, CWatched};
 use crate::kept_receiver::CReceiver;
+use crate::kept_times::{CMoments, CTimes};
+use crate::lent_exercise::CExercise;
 use crate::lent_judge::{CDue, CJudgment};
 use crate::lent_readers::{CAtrReader, CBlockReader};
+use crate::lent_times::CTimed;
 use crate::names::CText;
 use crate::note::CNote;
 use crate::parts::{CKnown, CPart, CTag};
@@ -77,6 +80,10 @@ pub fn struct_size(number: u8) -> usize
         38 => size_of::<CCardSession>(),
         39 => size_of::<CSessionNext>(),
         40 => size_of::<CPcb>(),
+        41 => size_of::<CExercise>(),
+        42 => size_of::<CTimes>(),
+        43 => size_of::<CMoments>(),
+        44 => size_of::<CTimed>(),
         _ => 0,
     }
 }

@@ -170,7 +170,7 @@ pub fn judge_clause_text(rule: u8, out: &mut CText)
     *out = CText { octets };
 }
 
-fn arrival_of(arrival: u8, came: &[u8]) -> Option<Arrival<'_>>
+pub(crate) fn arrival_of(arrival: u8, came: &[u8]) -> Option<Arrival<'_>>
     ensures { result ≡ arrival_of arrival came.entry }
 {
     match arrival {

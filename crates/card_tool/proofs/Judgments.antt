@@ -8,7 +8,7 @@ use Rattle.exchange_core.proofs.Found.{accepted-whole, verdict-found}
 use Rattle.exchange_text.specs.declared.fault.ExchangeFault.{ExchangeFault}
 use Rattle.exchange_text.specs.declared.fault.ExchangeFault.TheVariants.{Memory}
 use Rattle.trace_judge.specs.Judging.{Judges}
-use Rattle.trace_judge.specs.Waiting.{rates_before, Offered, Rates}
+use Rattle.judge_times.specs.Waiting.{rates_before, Offered, Rates}
 use Rattle.atr_core.specs.Atr.{AtrParts, IsAtr}
 use Rattle.atr_core.specs.T1.{t1_params_of, T1Values}
 use Rattle.atr_core.specs.declared.params.ParamFault.{ParamFault}

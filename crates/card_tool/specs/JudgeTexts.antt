@@ -20,7 +20,7 @@ use Rattle.block_core.specs.declared.side.Side.TheVariants as side
 use Rattle.trace_judge.specs.Judging.{Judges}
 use Rattle.trace_judge.specs.declared.standing.Judgment.{Judgment}
 use Rattle.trace_judge.specs.declared.standing.Scope.{Scope}
-use Rattle.trace_judge.specs.Waiting.{rates_before, Offered}
+use Rattle.judge_times.specs.Waiting.{rates_before, Offered}
 use Rattle.explainer.specs.Notes.{IsSessionNote}
 use Rattle.card_tool.specs.FileNotes.{trace_note}
 use Rattle.card_tool.specs.ExchangeTexts.{file_fault_text}

@@ -6,7 +6,7 @@ use Rattle.exchange_text.specs.declared.fault.ExchangeFault.{ExchangeFault}
 use Rattle.exchange_text.specs.declared.fault.ExchangeFault.TheVariants.{Memory}
 use Rattle.trace_judge.specs.declared.standing.Judgment.{Judgment}
 use Rattle.trace_judge.specs.declared.standing.Scope.{Scope}
-use Rattle.trace_judge.specs.Waiting.{Offered}
+use Rattle.judge_times.specs.Waiting.{Offered}
 use Rattle.trace_text.specs.Reading.{is_line_end}
 use Rattle.trace_judge.specs.Judging.{start, Fails, IsConcluded, Judges, JudgesLine, JudgesLines, Standing}
 

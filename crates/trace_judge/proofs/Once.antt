@@ -28,7 +28,7 @@ use Rattle.trace_text.specs.declared.entry.Reach.{Reach}
 use Rattle.trace_text.proofs.Once.{entry-read, HasOctets, IsOfOctets, IsRead}
 use Rattle.trace_judge.specs.declared.standing.Judgment.{Judgment}
 use Rattle.trace_judge.specs.declared.standing.Scope.{Scope}
-use Rattle.trace_judge.specs.Waiting.{Offered}
+use Rattle.judge_times.specs.Waiting.{Offered}
 use Rattle.trace_text.specs.Reading.{entry_of}
 use Rattle.trace_judge.specs.Judging.{at_moment, is_before, is_ok, judged_text, start, told_before, until_moment, told_block, Concludes, ExercisesIf, Fails, IsArrival, IsBlockTold, IsEntered, IsFalling, IsTold, Judges, JudgesLine, JudgesLines, Standing}
 use Rattle.trace_judge.proofs.SeenOnce.{one-sent, one-taking, some-arrival, some-sent}

@@ -6,10 +6,11 @@ use Rattle.judge_core.specs.declared.monitor.Monitor.{Monitor}
 use Rattle.judge_core.specs.declared.monitor.Report.{Report}
 use Rattle.judge_core.specs.declared.exercise.Exercise.{Exercise}
 use Rattle.trace_judge.specs.declared.standing.Judgment.{Judgment}
-use Rattle.trace_judge.specs.declared.timing.Early.{Early}
-use Rattle.trace_judge.specs.declared.timing.Late.{Late}
-use Rattle.trace_judge.specs.declared.timing.Timing.{Timing}
-use Rattle.trace_judge.specs.Judging.{early_as, early_from, is_ok, judged_text, late_as, late_from, late_now, place_of, timed_as, told_block, told_early, told_exercise, told_late, told_monitored, told_report, with_summary, IsConcluded, Standing}
+use Rattle.judge_times.specs.declared.timing.Early.{Early}
+use Rattle.judge_times.specs.declared.timing.Late.{Late}
+use Rattle.judge_times.specs.declared.timing.Timing.{Timing}
+use Rattle.judge_times.specs.Waiting.{early_as, late_as, timed_as}
+use Rattle.trace_judge.specs.Judging.{early_from, is_ok, judged_text, late_from, late_now, place_of, told_block, told_early, told_exercise, told_late, told_monitored, told_report, with_summary, IsConcluded, Standing}
 use Rattle.trace_judge.specs.Coverage.{with_coverage}
 
 -- a block: the report on it

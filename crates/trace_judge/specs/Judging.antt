@@ -37,15 +37,15 @@ use Rattle.trace_text.specs.declared.entry.Reach.TheVariants.{Unsaid, Lost, Pari
 use denote.Ref.{Bor}
 use Rattle.trace_judge.specs.declared.tally.Tally.{Tally}
 use Rattle.trace_judge.specs.declared.standing.Scope.{Scope}
-use Rattle.trace_judge.specs.declared.timing.Early.{Early}
-use Rattle.trace_judge.specs.declared.timing.Late.{Late}
-use Rattle.trace_judge.specs.declared.timing.Timing.{Timing}
+use Rattle.judge_times.specs.declared.timing.Early.{Early}
+use Rattle.judge_times.specs.declared.timing.Late.{Late}
+use Rattle.judge_times.specs.declared.timing.Timing.{Timing}
 use Rattle.trace_judge.specs.declared.standing.Judgment.{Judgment}
 use Rattle.trace_judge.specs.declared.coverage.Coverage.{Coverage}
 use Rattle.trace_judge.specs.Coverage.{covered, nothing_covered, with_coverage}
 use Rattle.trace_judge.specs.Objects.{pps_object, Place}
 use Rattle.trace_judge.specs.Telling.{with_certain, with_deviation, with_early, with_elsewhere, with_late, with_neither, with_possible, with_unseen, with_unwaited}
-use Rattle.trace_judge.specs.Waiting.{earliness, lateness, new_timing, past, timed, untimed, Offered, Rates}
+use Rattle.judge_times.specs.Waiting.{earliness, early_as, late_as, lateness, new_timing, past, timed_as, untimed, Offered, Rates}
 
 -- The state of the judgment after the lines so far.
 pub record Standing : Type 0 where
@@ -262,21 +262,6 @@ IsArrival (Came octets) arrival = HasCome octets arrival
 abbrev pub ExercisesIf : Bool → Monitor → Side → List ℕ → Arrival → Exercise → Type 0
 ExercisesIf true monitor from octets arrival exercise = Exercises monitor from octets arrival exercise
 ExercisesIf false monitor from octets arrival exercise = exercise ≡ Unknown
-
--- A block of another logical connection isn't judged in time, and no block directly after it is.
-abbrev pub is_timed : Said → Bool
-is_timed Damage = true
-is_timed Elsewhere = false
-is_timed (Judged verdict) = true
-
-abbrev pub timed_as : Said → Timing → Side → ℕ → Timing
-timed_as said timing from octets = if is_timed said then timed timing from octets else untimed timing
-
-abbrev pub late_as : Said → Option Late → Option Late
-late_as said late = if is_timed said then late else None
-
-abbrev pub early_as : Said → Option Early → Option Early
-early_as said early = if is_timed said then early else None
 
 -- where octets are that come now
 abbrev pub place_of : Standing → List ℕ → Place

@@ -2,7 +2,6 @@
 pub mod Saying
 pub mod Objects
 pub mod Telling
-pub mod Waiting
 pub mod Coverage
 pub mod Judging
 pub mod Places

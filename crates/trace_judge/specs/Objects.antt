@@ -11,8 +11,8 @@ use Rattle.judge_core.specs.Rules.{rule_clause, rule_name}
 use Rattle.judge_core.specs.States.{state_name}
 use Rattle.layouts.specs.Members.{object_of, with_number, with_string, with_value}
 use Rattle.trace_judge.specs.Saying.{due_text, side_text}
-use Rattle.trace_judge.specs.declared.timing.Early.{Early}
-use Rattle.trace_judge.specs.declared.timing.Late.{Late}
+use Rattle.judge_times.specs.declared.timing.Early.{Early}
+use Rattle.judge_times.specs.declared.timing.Late.{Late}
 
 -- Where in a trace a block is: its line from 1, the moment at which it began if that is known, and its octets.
 pub record Place : Type 0 where

@@ -16,8 +16,8 @@ use Rattle.judge_core.specs.declared.end.After.{After}
 use Rattle.judge_core.specs.declared.rule.Rule.{Rule}
 use Rattle.judge_core.specs.declared.rule.Rule.TheVariants.{NodeAddress, Silence}
 use Rattle.judge_core.specs.Rules.{rule_clause, rule_name}
-use Rattle.trace_judge.specs.declared.timing.Early.{Early}
-use Rattle.trace_judge.specs.declared.timing.Late.{Late}
+use Rattle.judge_times.specs.declared.timing.Early.{Early}
+use Rattle.judge_times.specs.declared.timing.Late.{Late}
 
 abbrev pub side_text : Side → List ℕ
 side_text Terminal = codes "terminal"

@@ -8,8 +8,8 @@ use Rattle.layouts.specs.declared.layout.Layout.{Layout}
 use Rattle.layouts.specs.declared.layout.Layout.TheVariants.{Lines, Json}
 use Rattle.trace_judge.specs.Objects.{certain_object, deviation_object, early_object, elsewhere_object, late_object, neither_object, possible_object, unseen_object, unwaited_object, Place}
 use Rattle.trace_judge.specs.Saying.{certain_text, deviation_text, early_text, elsewhere_text, late_text, neither_text, possible_text, unseen_text, unwaited_text}
-use Rattle.trace_judge.specs.declared.timing.Early.{Early}
-use Rattle.trace_judge.specs.declared.timing.Late.{Late}
+use Rattle.judge_times.specs.declared.timing.Early.{Early}
+use Rattle.judge_times.specs.declared.timing.Late.{Late}
 
 abbrev pub with_deviation : Layout → List ℕ → Place → ℕ → Side → Rule → After → List ℕ
 with_deviation Lines text place number side broken due = text ++ deviation_text number side broken due

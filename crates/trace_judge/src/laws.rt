@@ -6,7 +6,7 @@ ghost use Rattle.exchange_text.specs.declared.fault.ExchangeFault.TheVariants.{M
 ghost use Rattle.trace_judge.specs.Judging.{Judges};
 ghost use Rattle.trace_judge.specs.declared.standing.Judgment.{Judgment as AnyJudgment};
 ghost use Rattle.trace_judge.specs.declared.standing.Scope.{Scope as AnyScope};
-ghost use Rattle.trace_judge.specs.Waiting.{Offered};
+ghost use Rattle.judge_times.specs.Waiting.{Offered};
 
 /// The text of a trace has one judgment or one fault, and no other result except out of memory.
 pub fn one_judgment()

@@ -6,11 +6,9 @@
 //! count which rules and states of the protocol the trace exercises.
 #![tactic(auto)]
 
-mod apart;
 mod arriving;
 mod counting;
 mod coverage;
-mod early;
 pub mod laws;
 mod objects;
 mod place;
@@ -19,7 +17,6 @@ mod saying;
 pub mod standing;
 mod tally;
 mod telling;
-pub mod timing;
 
+pub use judge_times::{Offer, Rates, rates_before};
 pub use standing::{Judgment, Scope, judge_trace};
-pub use timing::{Offer, Rates, rates_before};

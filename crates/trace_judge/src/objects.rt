@@ -7,8 +7,8 @@ ghost use Rattle.trace_judge.specs.Places.{placed};
 
 use crate::place::Place;
 use crate::saying::{due_words, side_word};
-use crate::timing::{Early, Late};
 use judge_core::{After, Rule, Side};
+use judge_times::{Early, Late};
 use layouts::Members;
 use octet_core::{Named, hex_upper};
 use std::alloc::{AllocError, Global};

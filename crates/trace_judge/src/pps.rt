@@ -5,10 +5,10 @@ ghost use Rattle.trace_judge.specs.Judging.{is_pps, pps1_of, pps_timed, rate_tex
 
 use crate::objects;
 use crate::saying::push_number;
-use crate::timing::{Rates, Timing};
 use arrayvec::ArrayVec;
 use atr_core::{Atr, Convention, Interface, rates};
 use judge_core::Side;
+use judge_times::{Rates, Timing};
 use layouts::Layout;
 use octet_core::lrc;
 use std::alloc::{AllocError, Global};

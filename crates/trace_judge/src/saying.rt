@@ -4,9 +4,9 @@ ghost use Rattle.std.specs.Prelude.{◌≡◌, ◌++◌, IfOk, OnOk, codes, deci
 ghost use Rattle.judge_core.specs.Rules.{rule_name};
 ghost use Rattle.trace_judge.specs.Saying.{after_text, asked_text, block_text, certain_text, clause_text, condition_text, deviation_text, digit_text, due_text, early_elapsed, early_text, elapsed_text, elsewhere_text, late_text, least_text, neither_text, permitted_text, possible_text, side_text, subject_text, unseen_text, unwaited_text};
 
-use crate::timing::{Early, Late};
 use block_core::{Number, S};
 use judge_core::{After, Asked, End, Owed, Rule, Side};
+use judge_times::{Early, Late};
 use octet_core::Named;
 use std::alloc::{AllocError, Global};
 

@@ -5,16 +5,15 @@ ghost use Rattle.exchange_text.specs.declared.fault.ExchangeFault.TheVariants.{F
 ghost use Rattle.trace_judge.specs.Judging.{is_before, is_judged, pps_timed, quietened, renewed, start, told_before, told_exercise, told_report, told_said, told_verdict, midway, ExercisesIf, Fails, IsBlockTold, IsConcluded, IsEntered, IsFalling, IsTold, JudgesLine, Judges};
 ghost use Rattle.trace_judge.specs.Places.{placed};
 
-use crate::apart::{early_as, late_as, timed_as};
 use crate::arriving::arrival_of;
 use crate::coverage::Coverage;
 use crate::place::Place;
 use crate::pps::{is_pps, octet_at, pps_timed, push_answered_pps};
 use crate::tally::Tally;
 use crate::telling::{tell_deviation, tell_neither, tell_unseen};
-use crate::timing::{Offer, Timing};
 use exchange_text::ExchangeFault;
 use judge_core::{Arrival, Exercise, Monitor, Report, Rule, Said, Side, Silence, Verdict};
+use judge_times::{Offer, Timing, early_as, late_as, timed_as};
 use layouts::Layout;
 use octet_core::{Octets, Text};
 use std::alloc::{AllocError, Global};

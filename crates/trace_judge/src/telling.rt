@@ -5,9 +5,9 @@ ghost use Rattle.trace_judge.specs.Telling.{with_certain, with_deviation, with_e
 ghost use Rattle.trace_judge.specs.Places.{placed};
 
 use crate::place::Place;
-use crate::timing::{Early, Late};
 use crate::{objects, saying};
 use judge_core::{After, Rule, Side};
+use judge_times::{Early, Late};
 use layouts::Layout;
 use std::alloc::{AllocError, Global};
 

@@ -185,6 +185,9 @@ pub const SCARD_ASKED_IFS: u8 = 1;
 pub const SCARD_ASKED_WTX: u8 = 2;
 pub const SCARD_ASKED_ABORT: u8 = 3;
 pub const SCARD_ASKED_RESYNCH: u8 = 4;
+pub const SCARD_OFF_TIME_NO: u8 = 0;
+pub const SCARD_OFF_TIME_LATE: u8 = 1;
+pub const SCARD_OFF_TIME_EARLY: u8 = 2;
 pub const SCARD_STRUCT_VERDICT: u8 = 1;
 pub const SCARD_STRUCT_INTERFACE: u8 = 2;
 pub const SCARD_STRUCT_INDICATED: u8 = 3;
@@ -225,6 +228,10 @@ pub const SCARD_STRUCT_LENT_SESSION: u8 = 37;
 pub const SCARD_STRUCT_LENT_CARD_SESSION: u8 = 38;
 pub const SCARD_STRUCT_SESSION_NEXT: u8 = 39;
 pub const SCARD_STRUCT_PCB: u8 = 40;
+pub const SCARD_STRUCT_EXERCISE: u8 = 41;
+pub const SCARD_STRUCT_LENT_TIMES: u8 = 42;
+pub const SCARD_STRUCT_MOMENTS: u8 = 43;
+pub const SCARD_STRUCT_TIMED: u8 = 44;
 
 #[repr(C)]
 #[derive(Clone, Copy)]
@@ -698,6 +705,54 @@ pub struct scard_lent_judge {
 }
 const _: () = assert!(size_of::<scard_lent_judge>() == 592);
 const _: () = assert!(align_of::<scard_lent_judge>() == 8);
+#[repr(C)]
+#[derive(Clone, Copy)]
+pub struct scard_exercise {
+    pub kept: u32,
+    pub broken: u8,
+    pub due: u8,
+}
+const _: () = assert!(size_of::<scard_exercise>() == 8);
+const _: () = assert!(align_of::<scard_exercise>() == 4);
+#[repr(C)]
+#[derive(Clone, Copy)]
+pub struct scard_lent_times {
+    pub least: u64,
+    pub sent_moment: u64,
+    pub sent_octets: u64,
+    pub came_moment: u64,
+    pub came_octets: u64,
+    pub hertz: u32,
+    pub fi: u16,
+    pub di: u16,
+    pub has_sent: u8,
+    pub has_came: u8,
+    pub ifsc: u8,
+    pub bwi: u8,
+    pub cwi: u8,
+}
+const _: () = assert!(size_of::<scard_lent_times>() == 56);
+const _: () = assert!(align_of::<scard_lent_times>() == 8);
+#[repr(C)]
+#[derive(Clone, Copy)]
+pub struct scard_moments {
+    pub first: u64,
+    pub last: u64,
+    pub has_first: u8,
+    pub has_last: u8,
+}
+const _: () = assert!(size_of::<scard_moments>() == 24);
+const _: () = assert!(align_of::<scard_moments>() == 8);
+#[repr(C)]
+#[derive(Clone, Copy)]
+pub struct scard_timed {
+    pub elapsed: u64,
+    pub limit: u64,
+    pub off: u8,
+    pub over: u8,
+}
+const _: () = assert!(size_of::<scard_timed>() == 24);
+const _: () = assert!(align_of::<scard_timed>() == 8);
 
 extern "C" {
     pub fn scard_version() -> u32;
@@ -798,6 +853,9 @@ extern "C" {
     pub fn scard_lent_judge_block(state: *mut scard_lent_judge, from_end: u8, octets: *const u8, count: usize, arrival: u8, came: *const u8, came_count: usize, out: *mut scard_judgment) -> scard_verdict;
     pub fn scard_lent_judge_quiet(state: *mut scard_lent_judge, out: *mut scard_judgment);
     pub fn scard_lent_judge_finish(state: *const scard_lent_judge, out: *mut scard_judgment);
+    pub fn scard_lent_judge_exercise(state: *const scard_lent_judge, from_end: u8, octets: *const u8, count: usize, arrival: u8, came: *const u8, came_count: usize, out: *mut scard_exercise) -> scard_verdict;
+    pub fn scard_lent_times_begin(times: *mut scard_lent_times, params: *const scard_t1, rates: *const scard_rates, hertz: u32) -> scard_verdict;
+    pub fn scard_lent_times_block(times: *mut scard_lent_times, judge: *const scard_lent_judge, from_end: u8, octets: *const u8, count: usize, arrival: u8, came: *const u8, came_count: usize, moments: *const scard_moments, out: *mut scard_timed) -> scard_verdict;
     pub fn scard_judge_rule_text(rule: u8, out: *mut scard_text);
     pub fn scard_judge_clause_text(rule: u8, out: *mut scard_text);
     pub fn scard_struct_size(number: u8) -> usize;

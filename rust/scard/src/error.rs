@@ -85,7 +85,7 @@ reasons!(/// Why octets are no data object list.
     });
 
 /// A text of the library, by a call that writes where it is.
-fn text_of(call: impl FnOnce(&mut c::scard_text)) -> &'static str {
+pub(crate) fn text_of(call: impl FnOnce(&mut c::scard_text)) -> &'static str {
     // SAFETY: a struct of zeros is valid, and the call writes it. The text is a constant of the library, in ASCII, and
     // its size counts the 0 at its end.
     unsafe {

@@ -1,6 +1,6 @@
 //! A smart card stack for contact cards with T=1, over C that was made of proved code: answers to reset, blocks, commands
-//! and responses, data objects, a framer, both ends of T=1 as steps, and sessions as steps. The crate converts values
-//! and decides nothing about octets. It needs no allocator and no system.
+//! and responses, data objects, a framer, both ends of T=1 as steps, sessions as steps, and a judge of the blocks on a
+//! line. The crate converts values and decides nothing about octets. It needs no allocator and no system.
 //!
 //! ```
 //! use scard::{Block, Ifs};
@@ -17,6 +17,7 @@ mod block;
 mod ends;
 mod error;
 mod framing;
+mod judge;
 mod session;
 mod tlv;
 
@@ -28,6 +29,10 @@ pub use error::{
     AtrReason, BlockReason, ChainReason, CommandReason, DolReason, Failure, Reason, Refusal, ResponseReason, TlvReason,
 };
 pub use framing::{AtrReader, BlockReader, Framer, Progress, Receiver, TlvCheck};
+pub use judge::{
+    Arrival, End, Exercise, Falls, Judge, Judged, Judgment, Moments, OffTime, Owed, Rule, Rules, Seen, Silence, Timed,
+    Times,
+};
 pub use session::{CardSession, Event, Session, Setup, Step};
 pub use tlv::{
     check, dol_entry, entries, fill, tidy, tlv_header, Entry, Forest, Format, Known, Part, Tag, HEADER_ROOM,

@@ -9,14 +9,13 @@ ghost use Rattle.trace_judge.specs.Judging.{early_from, late_from, late_now, pla
 ghost use Rattle.trace_judge.specs.Places.{placed};
 
 use super::Standing;
-use crate::early::earliness;
 use crate::place::Place;
 use crate::telling::{
     tell_certain, tell_early, tell_elsewhere, tell_late, tell_possible, tell_unwaited,
 };
-use crate::timing::{Early, Late, lateness};
 use exchange_text::ExchangeFault;
 use judge_core::{Exercise, Rule, Side, Silence};
+use judge_times::{Early, Late, earliness, lateness};
 use std::alloc::{AllocError, Global};
 
 impl Standing {

@@ -1,4 +1,4 @@
-use Rattle.std.proofs.Common.{◌≡◌, ◌≤◌, ◌-◌, length}
+use Rattle.std.proofs.Common.{◌≤◌, ◌-◌, length}
 use Rattle.c_lent.specs.Parts.{ArePutSoFar}
 use Rattle.c_lent.proofs.parts.put_parts.Given as goal
 

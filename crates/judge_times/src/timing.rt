@@ -1,7 +1,7 @@
 //! The times of a trace, and when a card's block comes too late (ISO/IEC 7816-3:2006, 11.4.3).
 
 ghost use Rattle.std.specs.Prelude.{◌≡◌, ◌<◌, ◌^◌};
-ghost use Rattle.trace_judge.specs.Waiting.{after_card, begun_at, etu_of, granted, late_after, late_by, lateness, multiple_of, new_timing, past, permitted_parts, permitted_time, rates_before, rates_by, sent_by, timed, untimed, waited, waited_by};
+ghost use Rattle.judge_times.specs.Waiting.{after_card, begun_at, etu_of, granted, late_after, late_by, lateness, multiple_of, new_timing, past, permitted_parts, permitted_time, rates_before, rates_by, sent_by, timed, untimed, waited, waited_by};
 
 use atr_core::{Atr, T1Params, rates};
 use block_core::{Pcb, S};
@@ -27,7 +27,7 @@ pub struct Offer {
 }
 
 impl Model for Offer {
-    ghost use Rattle.trace_judge.specs.Waiting.{Offered};
+    ghost use Rattle.judge_times.specs.Waiting.{Offered};
 
     ghost Value = { Offered };
 
@@ -50,31 +50,31 @@ pub(crate) struct Etu {
 
 /// Octets of a block of which a moment is known: all of them, or the last one alone.
 #[derive(Clone, Copy)]
-pub(crate) struct Sent {
+pub struct Sent {
     /// When the first of them began, in microseconds.
-    pub(crate) moment: u64,
+    pub moment: u64,
     /// How many they are.
-    pub(crate) octets: usize,
+    pub octets: usize,
 }
 
 /// What is known about the times on the line.
 #[derive(Clone, Copy)]
-pub(crate) struct Timing {
+pub struct Timing {
     /// F and D in force.
-    pub(crate) rates: Rates,
+    pub rates: Rates,
     /// The moment directly before the next block.
-    pub(crate) now: Option<u64>,
+    pub now: Option<u64>,
     /// The moment of the last octet of the next block.
-    pub(crate) until: Option<u64>,
+    pub until: Option<u64>,
     /// The terminal's last block, if a moment of it is known, and of the card's block after it.
-    pub(crate) sent: Option<Sent>,
+    pub sent: Option<Sent>,
     /// The card's block after it.
-    pub(crate) came: Option<Sent>,
+    pub came: Option<Sent>,
 }
 
 impl Timing {
     /// Returns the timing at a reset of a card that offers these rates.
-    pub(crate) fn new(rates: Rates) -> Timing
+    pub fn new(rates: Rates) -> Timing
         ensures { result ≡ new_timing rates }
     {
         Timing {
@@ -87,7 +87,7 @@ impl Timing {
     }
 
     /// Returns the timing after a block of so many octets.
-    pub(crate) fn timed(self, from: Side, octets: usize) -> Timing
+    pub fn timed(self, from: Side, octets: usize) -> Timing
         ensures { result ≡ timed self from octets }
     {
         let block = sent_by(self.until, self.now, octets);
@@ -115,7 +115,7 @@ impl Timing {
     }
 
     /// Returns the timing if no moment is known.
-    pub(crate) fn untimed(self) -> Timing
+    pub fn untimed(self) -> Timing
         ensures { result ≡ untimed self }
     {
         Timing {
@@ -126,7 +126,7 @@ impl Timing {
     }
 
     /// Returns the timing without the moments directly before: they count only for what comes directly after them.
-    pub(crate) fn past(self) -> Timing
+    pub fn past(self) -> Timing
         ensures { result ≡ past self }
     {
         Timing {
@@ -168,20 +168,20 @@ pub(crate) struct Interval {
 
 /// A card's block that came too late.
 #[derive(Clone, Copy)]
-pub(crate) struct Late {
+pub struct Late {
     /// How many microseconds after the terminal's block it came, from its beginning or its last octet on.
-    pub(crate) elapsed: u64,
+    pub elapsed: u64,
     /// How many microseconds the standard permits.
-    pub(crate) permitted: u64,
+    pub permitted: u64,
 }
 
 /// A terminal's block that came too early.
 #[derive(Clone, Copy)]
-pub(crate) struct Early {
+pub struct Early {
     /// How many microseconds after the last block it came, from its beginning or its last octet on.
-    pub(crate) elapsed: u64,
+    pub elapsed: u64,
     /// How many microseconds the standard requires at least.
-    pub(crate) least: u64,
+    pub least: u64,
 }
 
 /// Returns F and D from a reset until an exchange of PPS (ISO/IEC 7816-3:2006, 8.3).
@@ -210,12 +210,7 @@ fn rates_by(ta2: Option<u8>, offered: Rates) -> Rates
 
 /// Returns by how much a card's block is late if it comes now. It depends on what the card heard, and on the clock in
 /// hertz.
-pub(crate) fn lateness(
-    params: T1Params,
-    clock: Option<u64>,
-    timing: Timing,
-    heard: Heard,
-) -> Option<Late>
+pub fn lateness(params: T1Params, clock: Option<u64>, timing: Timing, heard: Heard) -> Option<Late>
     ensures { result ≡ lateness params clock timing heard }
 {
     late_by(

@@ -1,5 +1,5 @@
--- When a card's block comes too late: ISO/IEC 7816-3:2006, 11.4.3.
-use Rattle.std.specs.Prelude.{ℕ, ◌+◌, ◌-◌, ◌*◌, ◌/◌, ◌==◌, nat_lt, max, min, bit_and, List, [], ◌∷◌, Option, Some, None, if◌then◌else◌}
+-- When a card's block comes too late, and a terminal's too early: ISO/IEC 7816-3:2006, 11.4.3.
+use Rattle.std.specs.Prelude.{ℕ, ◌+◌, ◌-◌, ◌*◌, ◌/◌, ◌==◌, nat_lt, max, min, bit_and, Bool, true, false, List, [], ◌∷◌, Option, Some, None, if◌then◌else◌}
 use Rattle.std.specs.Int.{div_ceil}
 use Rattle.atr_core.specs.Atr.{AtrParts}
 use Rattle.atr_core.specs.Rates.{rates_of}
@@ -12,14 +12,16 @@ use Rattle.block_core.specs.declared.pcb.Pcb.TheVariants.{Info, Ready, Request, 
 use Rattle.block_core.specs.declared.pcb.S.TheVariants.{Resynch, Ifs, Abort, Wtx}
 use Rattle.judge_core.specs.declared.courses.Heard.{Heard}
 use Rattle.judge_core.specs.declared.courses.Heard.TheVariants.{Beginning, Whole, Perhaps, Broken, Nothing}
+use Rattle.judge_core.specs.declared.monitor.Said.{Said}
+use Rattle.judge_core.specs.declared.monitor.Said.TheVariants.{Damage, Elsewhere, Block}
 use Rattle.block_core.specs.declared.side.Side.{Side}
 use Rattle.block_core.specs.declared.side.Side.TheVariants.{Terminal, Card}
-use Rattle.trace_judge.specs.declared.timing.Etu.{Etu}
-use Rattle.trace_judge.specs.declared.timing.Early.{Early}
-use Rattle.trace_judge.specs.declared.timing.Late.{Late}
-use Rattle.trace_judge.specs.declared.timing.Sent.{Sent}
-use Rattle.trace_judge.specs.declared.timing.Timing.{Timing}
-use Rattle.trace_judge.specs.declared.timing.Interval.{Interval}
+use Rattle.judge_times.specs.declared.timing.Etu.{Etu}
+use Rattle.judge_times.specs.declared.timing.Early.{Early}
+use Rattle.judge_times.specs.declared.timing.Late.{Late}
+use Rattle.judge_times.specs.declared.timing.Sent.{Sent}
+use Rattle.judge_times.specs.declared.timing.Timing.{Timing}
+use Rattle.judge_times.specs.declared.timing.Interval.{Interval}
 
 -- F and D, each if it is known
 abbrev pub Rates : Type 0
@@ -200,3 +202,20 @@ early_by v None multiple etu w came = None
 abbrev pub earliness : T1Values → Option ℕ → Timing → Heard → Option Early
 earliness v clock timing heard = early_by v clock (granted_or_one (granted heard)) (etu_of timing.rates)
     (waited timing) (waited_by timing.now timing.came)
+
+-- ---- other logical connections
+
+-- A block of another logical connection isn't judged in time, and no block directly after it is.
+abbrev pub is_timed : Said → Bool
+is_timed Damage = true
+is_timed Elsewhere = false
+is_timed (Block verdict) = true
+
+abbrev pub timed_as : Said → Timing → Side → ℕ → Timing
+timed_as said timing from octets = if is_timed said then timed timing from octets else untimed timing
+
+abbrev pub late_as : Said → Option Late → Option Late
+late_as said late = if is_timed said then late else None
+
+abbrev pub early_as : Said → Option Early → Option Early
+early_as said early = if is_timed said then early else None

@@ -1,7 +1,7 @@
 //! When a terminal's block comes too early (ISO/IEC 7816-3:2006, 11.4.3).
 
 ghost use Rattle.std.specs.Prelude.{◌≡◌, ◌<◌, ◌^◌};
-ghost use Rattle.trace_judge.specs.Waiting.{early_after_card, early_alone, early_before, early_by, early_with, earliness, granted_or_one, least_time};
+ghost use Rattle.judge_times.specs.Waiting.{early_after_card, early_alone, early_before, early_by, early_with, earliness, granted_or_one, least_time};
 
 use crate::timing::{Early, Etu, Interval, Timing, etu_of, granted, waited, waited_by};
 use atr_core::T1Params;
@@ -15,7 +15,7 @@ const BLOCK_GUARD: u64 = 22;
 
 /// Returns by how much a terminal's block is early if it comes now. It depends on what the terminal's last block granted
 /// the card, as the card heard it, and on the clock in hertz.
-pub(crate) fn earliness(
+pub fn earliness(
     params: T1Params,
     clock: Option<u64>,
     timing: Timing,

@@ -1,0 +1,3 @@
+-- to be believed: when a block comes too late or too early
+pub mod Waiting
+pub mod Clocked
