@@ -14,18 +14,16 @@ HEAD = """\
 # What has to be believed
 
 The proofs show that the code does what definitions say. No proof shows that the definitions say what the standards say:
-a person has to read them. This page lists the definitions to read, the lowest crate first. `tools/daily/reference`
-makes it from the sources.
+a person has to read them. `tools/daily/reference` lists them here from the sources, the lowest crate first.
 
-A row has a file of `crates/CRATE/specs`, the number of its lines without comments, the clauses that it cites, and its
-first sentence. The clauses are those of ISO/IEC 7816-3:2006. In tlv_core and apdu_core they are those of EMV Book 3 and
-ISO/IEC 7816-4. To read a file:
+A row has a file of `crates/CRATE/specs`, its lines without comments, the clauses that it cites, and its first sentence.
+The clauses are those of ISO/IEC 7816-3:2006, in tlv_core of EMV Book 3, in apdu_core of ISO/IEC 7816-4. To read a file:
 
     less crates/block_core/specs/Block.antt
 
-Some crates separate the definitions to believe from those of what the code keeps between calls. For these crates, only
-the files to believe are listed below their names. The [last part](#what-the-code-keeps-between-calls) lists each other
-file that a contract of a public function cites. *(own)* in a file marks a choice of this project.
+Some crates separate the definitions to believe from those of what the code keeps between calls. Only the files to
+believe are below their names. The [last part](#what-the-code-keeps-between-calls) lists each other file that a contract
+of a public function cites. *(own)* in a file marks a choice of this project.
 """
 KEPT = """\
 ## What the code keeps between calls

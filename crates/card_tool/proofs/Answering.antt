@@ -3,7 +3,7 @@ use Rattle.std.proofs.Common.{◌≡◌, ◌⊎◌, inl, inr, ℕ, List, [], Opt
 use Rattle.card_words.specs.Texts.{fault_text}
 use Rattle.card_words.specs.Given.{octets_given, IsFromReader}
 use Rattle.card_words.specs.declared.given.OctetSource.{OctetSource}
-use Rattle.card_words.specs.Words.{AskForFile, AskForOctets, HasOther, IsOnce, IsRead, NeedsFile, NeedsOctets, called_for_version, taken, called_for_help, not_taken}
+use Rattle.card_words.specs.Words.{AskFor, AskForFile, AskForOctets, HasOther, IsOnce, IsRead, NeedsFile, NeedsOctets, called_for_version, taken, called_for_help, not_taken}
 use Rattle.clap.specs.Kinds.{IsAmong}
 use Rattle.clap.specs.declared.error.kind.ErrorKind.TheVariants.{DisplayHelp}
 use Rattle.std.specs.Result.{MatchResult}
@@ -15,8 +15,9 @@ use Rattle.card_words.specs.declared.request.Asked.TheVariants.{Once}
 use Rattle.card_words.specs.declared.request.Request.{Request}
 use Rattle.card_words.specs.declared.request.Request.TheVariants.{Help, Version}
 use Rattle.card_tool.specs.Calls.{calls, Calls}
-use Rattle.card_tool.specs.Answers.{IsAnswerTo, IsRight, IsRightTo, IsToldOf}
+use Rattle.card_tool.specs.Answers.{AskToJudge, IsAnswerTo, IsJudge, IsRight, IsRightTo, IsToldOf}
 use Rattle.card_tool.specs.Files.{IsTaken, ReadsWhole}
+use Rattle.card_tool.specs.Pieces.{ReadsFor}
 use Rattle.card_kinds.specs.declared.status.Status.{Status}
 use Rattle.card_kinds.specs.declared.status.Status.TheVariants as status
 
@@ -30,34 +31,47 @@ pub told-at_once : (request : Request) (held : Option (List ℕ)) (count : ℕ) 
 told-at_once request held count text ended free answer =
     inl (record { file = Ok []; is_file = λ needs. absurd (free needs); is_answer = answer })
 
--- words that were read as a request ask for a file exactly where the request does
-asks : (words : List (List ℕ)) (request : Request) → IsRead words (Ok (Once request)) → AskForFile words
-    → NeedsFile request
-asks words request (called_for_version version e) ask = absurd (cc (version, ask.0.parsed))
-asks words request (taken are e) ask = MatchResult-at_ok (IsOnce NeedsFile) (λ _. ⊥) (Once request) (sym e) ask.1
-asks words request (called_for_help parsed among help e) ask = absurd (subst (IsAmong DisplayHelp) ask.0.free among)
-asks words request (not_taken parsed other e) ask = cc e
+module _ (Needs : Request → Type 0) (words : List (List ℕ)) where
+  -- words that were read as a request ask for what it needs
+  asks : (request : Request) → IsRead words (Ok (Once request)) → AskFor Needs words → Needs request
+  asks request (called_for_version version e) ask = absurd (cc (version, ask.0.parsed))
+  asks request (taken are e) ask = MatchResult-at_ok (IsOnce Needs) (λ _. ⊥) (Once request) (sym e) ask.1
+  asks request (called_for_help parsed among help e) ask = absurd (subst (IsAmong DisplayHelp) ask.0.free among)
+  asks request (not_taken parsed other e) ask = cc e
 
--- where the request needs a file, the words that were read as it ask for one
-pub needs : (words : List (List ℕ)) (request : Request) → IsRead words (Ok (Once request)) → NeedsFile request
+  -- where a request needs this, the words that were read as it ask for it; help and the version never do
+  pub needs : (Needs Version → ⊥) → ((help : List ℕ) → Needs (Help help) → ⊥) → (request : Request)
+      → IsRead words (Ok (Once request)) → Needs request → AskFor Needs words
+  needs no_version no_help request (called_for_version version e) need =
+      let is : request ≡ Version = cc e in
+      absurd (no_version (subst Needs is need))
+  needs no_version no_help request (taken are e) need =
+      (are, subst (λ (r : Result Asked Fault). MatchResult r (IsOnce Needs) (λ _. ⊥)) e need)
+  needs no_version no_help request (called_for_help parsed among help e) need =
+      let is : request ≡ Help help = cc e in
+      absurd (no_help help (subst Needs is need))
+  needs no_version no_help request (not_taken parsed other e) need = cc e
+
+  -- words that were refused ask for nothing
+  pub asks-none : (fault : Fault) → IsRead words (Err fault) → AskFor Needs words → ⊥
+  asks-none fault (called_for_version version e) ask = cc e
+  asks-none fault (taken are e) ask =
+      subst (λ (r : Result Asked Fault). MatchResult r (IsOnce Needs) (λ _. ⊥)) (sym e) ask.1
+  asks-none fault (called_for_help parsed among help e) ask = cc e
+  asks-none fault (not_taken parsed other e) ask = let bad = subst HasOther ask.0.free other in bad.1
+
+-- a request that needs a file, where the words ask for one
+pub needs-file : (words : List (List ℕ)) (request : Request) → IsRead words (Ok (Once request)) → NeedsFile request
     → AskForFile words
-needs words request (called_for_version version e) need =
-    let is : request ≡ Version = cc e in
-    absurd (subst NeedsFile is need)
-needs words request (taken are e) need =
-    (are, subst (λ (r : Result Asked Fault). MatchResult r (IsOnce NeedsFile) (λ _. ⊥)) e need)
-needs words request (called_for_help parsed among help e) need =
-    let is : request ≡ Help help = cc e in
-    absurd (subst NeedsFile is need)
-needs words request (not_taken parsed other e) need = cc e
+needs-file words request read need = needs NeedsFile words (λ no. no) (λ help no. no) request read need
 
--- words that were refused ask for none
-pub asks-none : (words : List (List ℕ)) (fault : Fault) → IsRead words (Err fault) → AskForFile words → ⊥
-asks-none words fault (called_for_version version e) ask = cc e
-asks-none words fault (taken are e) ask =
-    subst (λ (r : Result Asked Fault). MatchResult r (IsOnce NeedsFile) (λ _. ⊥)) (sym e) ask.1
-asks-none words fault (called_for_help parsed among help e) ask = cc e
-asks-none words fault (not_taken parsed other e) ask = let bad = subst HasOther ask.0.free other in bad.1
+-- a request to judge a trace, where the words ask for that
+pub needs-judge : (words : List (List ℕ)) (request : Request) → IsRead words (Ok (Once request)) → IsJudge request
+    → AskToJudge words
+needs-judge words request read need = needs IsJudge words (λ no. no) (λ help no. no) request read need
+
+abbrev IsWith : Request → Request → Type 0
+IsWith other asked = (asked ≡ other) × NeedsFile asked
 
 module _ (words : List (List ℕ)) (reads : Calls) where
   -- what is right of the request is right of the words that were read as it
@@ -65,7 +79,9 @@ module _ (words : List (List ℕ)) (reads : Calls) where
       → IsRightTo request reads text ended → IsRight words reads text ended
   right request text ended read (inl to) = inl (record {
     file = to.file;
-    is_file = λ ask. to.is_file (asks words request read ask);
+    is_file = λ other ask.
+        let is = asks (IsWith other) words request read ask in
+        subst (λ (r : Request). ReadsFor r reads to.file) is.0 (to.is_file is.1);
     is_answer = record { read = Ok (Once request); is_read = read; is_answer = to.is_answer };
   })
   right request text ended read (inr wanting) = inr wanting
@@ -79,7 +95,7 @@ refused-words words held count fault (inl memory) =
     inr (ap fault_text same, refl, refl)
 refused-words words held count fault (inr refused) = inl (record {
   file = Ok [];
-  is_file = λ ask. absurd (asks-none words fault refused ask);
+  is_file = λ request ask. absurd (asks-none (IsWith request) words fault refused ask);
   is_answer = record { read = Err fault; is_read = refused; is_answer = (refl, refl) };
 })
 
@@ -100,7 +116,9 @@ needs-octets words asked (not_taken parsed other e) need = cc e
 
 -- a request that tells of the octets that are given
 module _ (request : Request) (given : OctetSource) (Told : List ℕ → List ℕ → Status → Type 0)
-    (reads : Calls) (need : NeedsFile request → IsFromReader given)
+    (reads : Calls)
+    (had_for : (file : Result (List ℕ) Fault) → (IsFromReader given → ReadsWhole reads file) → NeedsFile request
+    → ReadsFor request reads file)
     (answers : (file : Result (List ℕ) Fault) (text : List ℕ) (ended : Status)
     → IsToldOf Told (octets_given given file) text ended → IsAnswerTo request file text ended) where
   -- where no octets were taken, the line of that fault is a right answer
@@ -111,7 +129,7 @@ module _ (request : Request) (given : OctetSource) (Told : List ℕ → List ℕ
         | inl is ↦
             inl (record {
               file = had.file;
-              is_file = λ asked. had.is_file (need asked);
+              is_file = had_for had.file had.is_file;
               is_answer = answers had.file (fault_text fault) status.Fault
                   (subst (λ (r : Result (List ℕ) Fault). IsToldOf Told r (fault_text fault) status.Fault) is
                   (refl, refl));
@@ -123,24 +141,3 @@ module _ (request : Request) (given : OctetSource) (Told : List ℕ → List ℕ
   pub told-wanting : (octets : List ℕ) → IsTaken given reads (Ok octets)
       → IsRightTo request reads (fault_text Memory) status.Fault
   told-wanting octets had = inr (refl, refl, had.count)
-
--- ---- a whole file
-
--- a request that tells of what standard input has
-module _ (request : Request) (Told : List ℕ → List ℕ → Status → Type 0) (reads : Calls)
-    (answers : (file : Result (List ℕ) Fault) (text : List ℕ) (ended : Status) → IsToldOf Told file text ended
-    → IsAnswerTo request file text ended) where
-  -- the line of a fault in reading it answers the request
-  pub file-fault : (fault : Fault) → ReadsWhole reads (Err fault)
-      → IsRightTo request reads (fault_text fault) status.Fault
-  file-fault fault had = inl (record {
-    file = Err fault;
-    is_file = λ asked. had;
-    is_answer =
-        answers (Err fault) (fault_text fault) status.Fault (refl, refl);
-  })
-
-  -- and where memory runs out after it was read, the line of that does
-  pub file-wanting : (file : List ℕ) → ReadsWhole reads (Ok file)
-      → IsRightTo request reads (fault_text Memory) status.Fault
-  file-wanting file had = inr (refl, refl, had.count)

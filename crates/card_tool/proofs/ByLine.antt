@@ -23,7 +23,8 @@ use Rattle.card_kinds.specs.declared.status.Status.TheVariants as status
 
 -- ---- lines of joined octets
 
-lines-append : (line a b : List ℕ) → lines_after line (a ++ b) ≡ lines_after line a ++ lines_after (rest_after line a) b
+pub lines-append : (line a b : List ℕ) → lines_after line (a ++ b) ≡ lines_after line a
+    ++ lines_after (rest_after line a) b
 lines-append line [] b = refl
 lines-append line (x ∷ a) b = go (x == 10) refl (lines-append [] a b) (lines-append (line ++ (x ∷ [])) a b)
   where
@@ -34,7 +35,7 @@ lines-append line (x ∷ a) b = go (x == 10) refl (lines-append [] a b) (lines-a
     go true e ended more = rw e (ap (λ (l : List (List ℕ)). line ∷ l) ended)
     go false e ended more = rw e more
 
-rest-append : (line a b : List ℕ) → rest_after line (a ++ b) ≡ rest_after (rest_after line a) b
+pub rest-append : (line a b : List ℕ) → rest_after line (a ++ b) ≡ rest_after (rest_after line a) b
 rest-append line [] b = refl
 rest-append line (x ∷ a) b = go (x == 10) refl (rest-append [] a b) (rest-append (line ++ (x ∷ [])) a b)
   where

@@ -20,6 +20,7 @@ use Rattle.card_tool.specs.Explained.{differs, form_note, octets_of, on_known, o
 use Rattle.card_tool.specs.FileNotes.{line_text, IsWhy}
 use Rattle.card_tool.specs.TracePlaces.{trace_place}
 use Rattle.card_tool.specs.Files.{largest_file, ReadsWhole}
+use Rattle.card_tool.specs.Pieces.{ReadsFor}
 use Rattle.card_tool.specs.declared.judged.WithNote.{WithNote}
 use Rattle.card_tool.specs.declared.replies.Taken.{Taken}
 use Rattle.card_tool.specs.declared.replies.Taken.TheVariants.{Given, Refused}
@@ -110,7 +111,7 @@ faulted told Note note (Err other) same h = same
 module _ (words : List (List ℕ)) (request : Request) (reads : Calls) where
   -- an answer of which nothing is said
   pub alone : (made : WithNote) (file : Result (List ℕ) Fault)
-      → (NeedsFile request → ReadsWhole reads file)
+      → (NeedsFile request → ReadsFor request reads file)
       → IsAnswerTo request file made.answer.text made.answer.status
       → IfOk made.note (λ note. string_bytes note ≡ []) → IsReplyTo words request reads made
   alone made file is_file h none =
@@ -123,7 +124,7 @@ module _ (words : List (List ℕ)) (request : Request) (reads : Calls) where
 
   -- an answer with a note
   pub with-note : (made : WithNote) (file : Result (List ℕ) Fault)
-      → (NeedsFile request → ReadsWhole reads file)
+      → (NeedsFile request → ReadsFor request reads file)
       → IsAnswerTo request file made.answer.text made.answer.status
       → IfOk made.note (λ note. IsNoteTo words request file (string_bytes note))
       → IsReplyTo words request reads made
@@ -179,7 +180,9 @@ read-with form reads text result had octets explains asks same note = record {
 module _ (explains : Bool) (words : List (List ℕ)) (request : Request) (given : OctetSource)
     (Told : List ℕ → List ℕ → Status → Type 0)
     (Note : List ℕ → List ℕ → Type 0)
-    (reads : Calls) (need : NeedsFile request → IsFromReader given)
+    (reads : Calls)
+    (had_for : (file : Result (List ℕ) Fault) → (IsFromReader given → ReadsWhole reads file) → NeedsFile request
+    → ReadsFor request reads file)
     (answers : (file : Result (List ℕ) Fault) (text : List ℕ) (ended : Status)
     → IsToldOf Told (octets_given given file) text ended → IsAnswerTo request file text ended)
     (notes : (file : Result (List ℕ) Fault) (note : List ℕ) → IsNoteOn given file Note note
@@ -219,7 +222,7 @@ module _ (explains : Bool) (words : List (List ℕ)) (request : Request) (given 
       elim had.taken.is_taken [
         | inl is ↦ record {
           file = had.taken.file;
-          is_file = λ asked. had.taken.is_file (need asked);
+          is_file = had_for had.taken.file had.taken.is_file;
           is_answer = subst (λ (a : Answer). IsAnswerTo request had.taken.file a.text a.status) (sym same)
               (answers had.taken.file one.answer.text one.answer.status
               (subst (λ (r : Result (List ℕ) Fault). IsToldOf Told r one.answer.text one.answer.status) is answer));
@@ -235,7 +238,7 @@ module _ (explains : Bool) (words : List (List ℕ)) (request : Request) (given 
       elim had.taken.is_taken [
         | inl is ↦ record {
           file = had.taken.file;
-          is_file = λ asked. had.taken.is_file (need asked);
+          is_file = had_for had.taken.file had.taken.is_file;
           is_answer = answers had.taken.file made.answer.text made.answer.status
               (subst (λ (r : Result (List ℕ) Fault). IsToldOf Told r made.answer.text made.answer.status) is
               (had.is_note.0.text, had.is_note.0.status));

@@ -7,20 +7,32 @@ use Rattle.exchange_core.specs.Replay.{size_of, IsFound}
 use Rattle.exchange_core.proofs.Found.{accepted-whole, verdict-found}
 use Rattle.exchange_text.specs.declared.fault.ExchangeFault.{ExchangeFault}
 use Rattle.exchange_text.specs.declared.fault.ExchangeFault.TheVariants.{Memory}
-use Rattle.trace_judge.specs.Judging.{Judges}
+use Rattle.trace_judge.specs.Judging.{start, Judges, JudgesLines}
+use Rattle.trace_judge.specs.declared.standing.Scope.{Scope}
+use Rattle.trace_judge.proofs.Lines as lines
 use Rattle.judge_times.specs.Waiting.{rates_before, Offered, Rates}
 use Rattle.atr_core.specs.Atr.{AtrParts, IsAtr}
 use Rattle.atr_core.specs.T1.{t1_params_of, T1Values}
 use Rattle.atr_core.specs.declared.params.ParamFault.{ParamFault}
 use Rattle.trace_judge.proofs.Once.{judgment-or-fault, one-judgment, one-text-fault, some-judgment}
-use Rattle.card_kinds.specs.declared.answer.Answer.{Answer}
 use Rattle.card_kinds.specs.declared.status.Status.{Status}
 use Rattle.card_kinds.specs.declared.status.Status.TheVariants as status
 use Rattle.card_kinds.proofs.OneOf.{OneText}
 use Rattle.card_words.specs.declared.request.Judging.{Judging}
 use Rattle.card_tool.specs.ExchangeTexts.{file_fault_text}
 use Rattle.card_tool.specs.Laid.{laid}
-use Rattle.card_tool.specs.FileNotes.{trace_note}
+use Rattle.card_tool.specs.FileNotes.{kept_note}
+use Rattle.card_tool.specs.Calls.{Calls}
+use Rattle.card_tool.specs.Answers.{IsRightTo}
+use Rattle.card_tool.specs.Explained.{IsReplyTo}
+use Rattle.card_tool.specs.Pieces.{IsAll, ReadsAll}
+use Rattle.card_tool.specs.TraceLines.{lines_of, HasFault}
+use Rattle.card_tool.proofs.Explaining.{with-note}
+use Rattle.card_tool.proofs.Faults.{note-kept}
+use Rattle.card_words.specs.Texts.{fault_text}
+use Rattle.card_words.specs.declared.fault.Fault.{Fault}
+use Rattle.card_words.specs.declared.fault.Fault.TheVariants as word
+use Rattle.card_words.specs.declared.request.Request.TheVariants.{Judge}
 use Rattle.card_tool.specs.Judged.{AreOf}
 use Rattle.card_tool.specs.JudgeTexts.{at_line, faulty, judged, judged_in, judged_status, on_text, refused, scope_of, unusable_in, used, IsJudgeNote, IsOffer, IsTextNote, JudgesText, JudgesTrace}
 use Rattle.card_tool.specs.declared.judged.WithNote.{WithNote}
@@ -90,26 +102,27 @@ module _ (atr : List ℕ) (offered : Offered) (judging : Judging) (file : List �
 
 -- ---- what calls answer
 
-module _ (atr : List ℕ) (offered : Offered) (judging : Judging) (file : List ℕ) (fault : ExchangeFault) where
-  -- the line of a text's fault
-  pub faulty-text : {E : Type 0} (r : Result Answer E) → Judges offered (scope_of judging) file (Err fault)
-      → IfOk r (λ _. fault ≢ Memory) → IfOk r (λ answer. answer.text ≡ file_fault_text fault)
-      → IfOk r (λ answer. answer.status ≡ status.Fault)
-      → IfOk r (λ answer. JudgesText atr offered judging file answer.text answer.status)
-  faulty-text (Ok answer) told known text stops = faulty fault told known text stops
-  faulty-text (Err e) told known text stops = tt
+-- the fault of a line is that of its text
+pub faulty-lines : (offered : Offered) (scope : Scope) (text line : List ℕ) (fault : ExchangeFault)
+    → HasFault offered scope (lines_of text) line fault → Judges offered scope text (Err fault)
+faulty-lines offered scope text line fault h = lines.faulted offered scope text fault
+    (subst (λ (l : List (List ℕ)). JudgesLines (start offered scope) l (Err fault)) (sym h.are_all)
+    (lines.stopped (start offered scope) h.standing h.before h.after line fault h.are_judged h.fails))
 
-  -- and the note on it
-  pub faulty-noted : {E : Type 0} (r : Result WithNote E) → Judges offered (scope_of judging) file (Err fault)
-      → IfOk r (λ _. fault ≢ Memory)
-      → IfOk r (AreOf (λ text stops. (text ≡ file_fault_text fault) × (stops ≡ status.Fault))
-      (λ note. note ≡ trace_note file fault))
-      → IfOk r (AreOf (JudgesText atr offered judging file) (IsTextNote offered judging file))
-  faulty-noted (Ok made) told known h = (
-    faulty fault told known h.0.0 h.0.1,
-    if-ok made.note (λ note on. at_line fault told known on) h.1,
-  )
-  faulty-noted (Err e) told known h = tt
+-- the line of a text's fault, and the note on it
+pub faulty-noted : {E : Type 0} (atr : List ℕ) (offered : Offered) (judging : Judging) (file line : List ℕ)
+    (fault : ExchangeFault) (r : Result WithNote E) → HasFault offered (scope_of judging) (lines_of file) line fault
+    → IfOk r (λ _. fault ≢ Memory)
+    → IfOk r (AreOf (λ text stops. (text ≡ file_fault_text fault) × (stops ≡ status.Fault))
+    (λ note. note ≡ kept_note line fault))
+    → IfOk r (AreOf (JudgesText atr offered judging file) (IsTextNote offered judging file))
+faulty-noted atr offered judging file line fault (Ok made) has told h =
+    let known = faulty-lines offered (scope_of judging) file line fault has in (
+      faulty fault known told h.0.0 h.0.1,
+      if-ok made.note (λ note on. at_line fault known told
+          (on ∙ sym (note-kept offered (scope_of judging) file line fault has))) h.1,
+    )
+faulty-noted atr offered judging file line fault (Err e) has told h = tt
 
 -- a text with its note, where the answer to reset says so
 pub used-noted : {E : Type 0} (atr : List ℕ) (offered : Offered) (judging : Judging) (file : List ℕ)
@@ -153,3 +166,23 @@ judged-once atr octets judging file = record {
   some = let found = verdict-found one-accepted atr ((atr_goes.one-verdict atr octets).some) in
       some-traced atr judging file found.0 found.1;
 }
+
+-- ---- a trace from a reader
+
+module _ (words : List (List ℕ)) (atr : List ℕ) (judging : Judging) (reads : Calls) where
+  -- what its text comes to is the answer
+  pub trace-replied : (text : List ℕ) (made : WithNote) → IsAll reads text
+      → AreOf (JudgesTrace atr judging text) (IsJudgeNote atr judging text) made
+      → IsReplyTo words (Judge atr judging) reads made
+  trace-replied text made all told =
+      with-note words (Judge atr judging) reads made (Ok text) (λ need. all) told.0 told.1
+
+  -- or memory ran out after it was read
+  pub trace-wanting : (text : List ℕ) (fault : Fault) → IsAll reads text → fault ≡ word.Memory
+      → IsRightTo (Judge atr judging) reads (fault_text fault) status.Fault
+  trace-wanting text fault all is = inr (ap fault_text is, refl, all.count)
+
+  -- or it wasn't read to its end
+  pub trace-unread : (fault : Fault) → ReadsAll reads (Err fault)
+      → IsRightTo (Judge atr judging) reads (fault_text fault) status.Fault
+  trace-unread fault h = inl (record { file = Err fault; is_file = λ need. h; is_answer = (refl, refl) })

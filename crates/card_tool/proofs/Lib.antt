@@ -17,3 +17,6 @@ pub mod InJson
 pub mod Records
 pub mod Judgments
 pub mod ExchangeNotes
+pub mod Unlimited
+pub mod TraceLines
+pub mod Faults

@@ -1,5 +1,5 @@
 -- That words have one text, and a reader one file.
-use Rattle.std.proofs.Common.{◌≡◌, ◌≢◌, ◌<◌, ◌⊎◌, ◌∙◌, ◌++◌, inl, inr, ℕ, List, [], ◌∷◌, Bool, true, false, Option, Some, None, Result, Ok, Err, IfOk, ap, append-nil, arith, length, le-leb, subst, sym, refl}
+use Rattle.std.proofs.Common.{◌≡◌, ◌≢◌, ◌<◌, ◌≤◌, ◌⊎◌, ◌∙◌, ◌++◌, inl, inr, ℕ, List, [], ◌∷◌, Bool, true, false, Option, Some, None, Result, Ok, Err, IfOk, ap, append-nil, arith, length, le-leb, subst, sym, refl}
 use Rattle.std.specs.Result.{MatchResult}
 use Rattle.std.proofs.lemmas.List.{length-append}
 use Rattle.std.proofs.lemmas.Bool.Decides.{nat_tests}
@@ -28,6 +28,7 @@ use Rattle.card_tool.specs.Answers as same_text
 use Rattle.card_tool.specs.Answers.{AsksForNotes, AskForNotes, HaveNotes, IsAnswer, IsAnswerAsked, IsPlain, IsSameText, IsWithout}
 use Rattle.notes.specs.Noted.{without_notes}
 use Rattle.card_tool.specs.Files.{file_of, largest_file, ReadsWhole}
+use Rattle.card_tool.specs.Pieces.{most_pieces, ReadsAll}
 use Rattle.card_kinds.specs.declared.status.Status.{Status}
 use Rattle.card_kinds.specs.declared.status.Status.TheVariants as status
 use Rattle.card_tool.proofs.Answering.{needs-octets}
@@ -198,3 +199,19 @@ one-file b left before after (Err Read) h kept few = absurd (omega (arith, h.1, 
 one-file b left before after (Err Memory) h kept few = inl refl
 one-file b left before after (Err Words) h kept few = absurd h
 one-file b left before after (Err Hex) h kept few = absurd h
+
+-- and so does reading without a limit, where the octets aren't too many to count
+pub one-trace : (b : List ℕ) (left : Option (List ℕ)) (before after : ℕ) (text : Result (List ℕ) Fault)
+    → ReadsAll (calls (Some b) left before after) text → after ≡ before → before < most_failures
+    → (text ≡ Err Memory) ⊎ ((text ≡ Ok b) ⊎ ((text ≡ Err TooLarge) × (most_pieces ≤ length b)))
+one-trace b None before after (Ok text) h kept few = absurd h.from
+one-trace b (Some left) before after (Ok text) h kept few =
+    let is : b ≡ text = h.from ∙ ap (λ (l : List ℕ). text ++ l) h.end ∙ append-nil text in
+    inr (inl (rw is refl))
+one-trace b None before after (Err TooLarge) h kept few = absurd h.from
+one-trace b (Some left) before after (Err TooLarge) h kept few =
+    inr (inr (refl, omega (arith, ap length h.from, length-append h.read left, h.many)))
+one-trace b left before after (Err Read) h kept few = absurd (omega (arith, h.1, kept, few))
+one-trace b left before after (Err Memory) h kept few = inl refl
+one-trace b left before after (Err Words) h kept few = absurd h
+one-trace b left before after (Err Hex) h kept few = absurd h

@@ -14,12 +14,12 @@ use Rattle.card_tool.specs.RecordTexts.{Records}
 use Rattle.card_tool.specs.JudgeTexts.{JudgesTrace}
 use Rattle.answer_json.specs.Answers.{json_text}
 use Rattle.card_kinds.specs.Json.{object_head, with_notes}
-use Rattle.card_tool.specs.Files.{ReadsWhole}
+use Rattle.card_tool.specs.Pieces.{ReadsFor}
 use Rattle.card_tool.specs.Lines.{all_lines, line_octets, AreTold}
 use Rattle.card_words.specs.Given.{octets_given}
 use Rattle.command_line.specs.Version.{version_line}
 use Rattle.clap.specs.Words.{subcommand_of}
-use Rattle.card_words.specs.Words.{asked_of, once_of, AreTaken, AskForFile, IsRead, NeedsFile}
+use Rattle.card_words.specs.Words.{asked_of, once_of, AreTaken, AskFor, IsRead, NeedsFile}
 use Rattle.command_line.specs.Form.{scard}
 use Rattle.card_kinds.specs.declared.status.Status.{Status}
 use Rattle.card_kinds.specs.declared.status.Status.TheVariants as status
@@ -225,11 +225,23 @@ pub record IsAnswer (words : List (List ℕ)) (file : Result (List ℕ) Fault) (
 abbrev pub IsWanting : Calls → List ℕ → Status → Type 0
 IsWanting reads text ended = (text ≡ fault_text Memory) × (ended ≡ status.Fault) × (reads.after ≡ reads.before)
 
+-- words that ask for this request, which needs standard input
+abbrev pub AskWithFile : Request → List (List ℕ) → Type 0
+AskWithFile request = AskFor (λ asked. (asked ≡ request) × NeedsFile asked)
+
+-- words that ask to judge a trace
+abbrev pub IsJudge : Request → Type 0
+IsJudge (Judge atr judging) = Unit {0}
+IsJudge _ = ⊥
+
+abbrev pub AskToJudge : List (List ℕ) → Type 0
+AskToJudge = AskFor IsJudge
+
 -- the text and the status of words, with what was read if they ask for it
 pub record IsAnswerFrom (words : List (List ℕ)) (reads : Calls) (text : List ℕ)
     (ended : Status) : Type 0 where
   pub file : Result (List ℕ) Fault
-  pub is_file : AskForFile words → ReadsWhole reads file
+  pub is_file : (request : Request) → AskWithFile request words → ReadsFor request reads file
   pub is_answer : IsAnswer words file text ended
 
 -- the text and the status of words, or memory ran out
@@ -241,7 +253,7 @@ IsRight words reads text ended =
 pub record IsAnswerToFrom (request : Request) (reads : Calls) (text : List ℕ)
     (ended : Status) : Type 0 where
   pub file : Result (List ℕ) Fault
-  pub is_file : NeedsFile request → ReadsWhole reads file
+  pub is_file : NeedsFile request → ReadsFor request reads file
   pub is_answer : IsAnswerTo request file text ended
 
 abbrev pub IsRightTo : Request → Calls → List ℕ → Status → Type 0

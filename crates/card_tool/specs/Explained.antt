@@ -35,7 +35,8 @@ use Rattle.explainer.specs.Texts.{offsets_note}
 use Rattle.explainer.specs.Words.{IsWordsNote}
 use Rattle.card_tool.specs.Calls.{Calls}
 use Rattle.card_tool.specs.Answers.{IsAnswerTo, IsRight, IsRightTo}
-use Rattle.card_tool.specs.Files.{largest_file, IsTaken, ReadsWhole}
+use Rattle.card_tool.specs.Files.{largest_file, IsTaken}
+use Rattle.card_tool.specs.Pieces.{ReadsFor}
 use Rattle.card_tool.specs.Judged.{IsForestNote, IsKindNote, IsListNote, SaysIf}
 use Rattle.card_tool.specs.declared.judged.WithNote.{WithNote}
 use Rattle.card_tool.specs.declared.replies.Taken.{Taken}
@@ -135,7 +136,7 @@ pub data Fits (words : List (List ℕ)) (text note : List ℕ) : Type 0 where
 pub record IsNotedFrom (words : List (List ℕ)) (request : Request) (reads : Calls)
     (text note : List ℕ) (ended : Status) : Type 0 where
   pub file : Result (List ℕ) Fault
-  pub is_file : NeedsFile request → ReadsWhole reads file
+  pub is_file : NeedsFile request → ReadsFor request reads file
   pub is_answer : IsAnswerTo request file text ended
   pub is_note : IsNoteTo words request file note
 
@@ -185,7 +186,7 @@ pub record IsReplyTo (words : List (List ℕ)) (request : Request) (reads : Call
     (made : WithNote) :
     Type 0 where
   pub file : Result (List ℕ) Fault
-  pub is_file : NeedsFile request → ReadsWhole reads file
+  pub is_file : NeedsFile request → ReadsFor request reads file
   pub is_answer : IsAnswerTo request file made.answer.text made.answer.status
   pub is_note : IfOk made.note (λ note. (string_bytes note ≡ []) ⊎ IsNoteTo words request file (string_bytes note))
 

@@ -134,6 +134,10 @@ fault_note text fault = line_text text (line_of fault) (expected text fault)
 abbrev pub trace_note : List ℕ → ExchangeFault → List ℕ
 trace_note text fault = line_text text (line_of fault) (expected_seen text fault)
 
+-- the same note, from the line alone
+abbrev pub kept_note : List ℕ → ExchangeFault → List ℕ
+kept_note line fault = line_note (line_of fault) (line_shown (take 80 line)) (expected_seen line fault)
+
 -- ---- why an end differs from a line
 
 -- why the end differs, by what it gives there, and whether that is past the lines of the file

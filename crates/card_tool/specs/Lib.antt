@@ -1,5 +1,7 @@
 pub mod Files
 pub mod Lines
+pub mod Pieces
+pub mod TraceLines
 pub mod Laid
 pub mod ExchangeTexts
 pub mod SimulationTexts

@@ -4,7 +4,7 @@ ghost use Rattle.std.specs.Prelude.{◌≡◌, ◌≢◌, ℕ, List, IfOk, strin
 ghost use Rattle.std.specs.Str.{trim_end};
 ghost use Rattle.card_tool.specs.ExchangeTexts.{IsOutcome};
 ghost use Rattle.card_tool.specs.Explained.{IsDifferenceNote};
-ghost use Rattle.card_tool.specs.FileNotes.{fault_note, line_from, line_shown, line_text, lines_left, reason, trace_note, IsWhy};
+ghost use Rattle.card_tool.specs.FileNotes.{fault_note, kept_note, line_from, line_shown, line_text, lines_left, reason, trace_note, IsWhy};
 ghost use Rattle.exchange_text.specs.declared.fault.ExchangeFault.TheVariants.{Memory};
 ghost use Rattle.explainer.specs.Notes.{line_note, IsSessionNote};
 
@@ -20,6 +20,16 @@ const SHOWN: usize = 80;
 
 /// The number of the line with the answer to reset.
 pub(crate) const ATR_LINE: usize = 2;
+
+/// What is expected in a line of a trace whose words are wrong.
+const WORDS_SEEN: &str =
+    "expected: t HEX or c HEX, with lost, parity or as HEX or not, quiet, reset, begins unknown, at N or until N";
+
+/// What is expected for the octets of a line of a trace.
+const HEX_SEEN: &str = "expected: none, or an even number of hexadecimal digits";
+
+/// What is expected for a moment.
+const FALLS: &str = "expected: a number that isn't below that of an earlier line at N";
 
 /// Returns a note: a line of a file with its number and its text, and what there is to say about it.
 fn line_said(alloc: Global, number: usize, line: &str, what: &str) -> Result<String, AllocError>
@@ -45,10 +55,7 @@ pub(crate) fn fault_note(
         }
         ExchangeFault::Word { line } => shown_at(alloc, text, line, form_at(text, line)),
         ExchangeFault::Hex { line } => shown_at(alloc, text, line, octets_at(text, line)),
-        ExchangeFault::Falls { line } => {
-            let what = "expected: a number that isn't below that of an earlier line at N";
-            shown_at(alloc, text, line, what)
-        }
+        ExchangeFault::Falls { line } => shown_at(alloc, text, line, FALLS),
         ExchangeFault::Memory => Err(AllocError),
     }
 }
@@ -63,16 +70,28 @@ pub(crate) fn trace_note(
     ensures other { IfOk result (λ _. fault ≢ Memory) }
 {
     match fault {
-        ExchangeFault::Word { line } => {
-            let what =
-                "expected: t HEX or c HEX, with lost, parity or as HEX or not, quiet, reset, begins unknown, at N or until N";
-            shown_at(alloc, text, line, what)
-        }
-        ExchangeFault::Hex { line } => {
-            let what = "expected: none, or an even number of hexadecimal digits";
-            shown_at(alloc, text, line, what)
-        }
+        ExchangeFault::Word { line } => shown_at(alloc, text, line, WORDS_SEEN),
+        ExchangeFault::Hex { line } => shown_at(alloc, text, line, HEX_SEEN),
         other => fault_note(alloc, text, other),
+    }
+}
+
+/// Returns the note on the first faulty line of a trace, without the text before and after it. A line of a trace has no
+/// other fault than these three.
+pub(crate) fn kept_note(
+    alloc: Global,
+    line: &[u8],
+    fault: ExchangeFault,
+) -> Result<String, AllocError>
+    ensures { IfOk result (λ note. string_bytes note ≡ kept_note line.now fault) }
+{
+    match fault {
+        ExchangeFault::Word { line: number } => kept_line(alloc, line, number, WORDS_SEEN),
+        ExchangeFault::Hex { line: number } => kept_line(alloc, line, number, HEX_SEEN),
+        ExchangeFault::Falls { line: number } => kept_line(alloc, line, number, FALLS),
+        ExchangeFault::Header | ExchangeFault::End { .. } | ExchangeFault::Memory => {
+            Err(AllocError)
+        }
     }
 }
 
@@ -152,7 +171,14 @@ pub(crate) fn shown_at(
 ) -> Result<String, AllocError>
     ensures { IfOk result (λ note. string_bytes note ≡ line_text text.now number what.now) }
 {
-    let rest = line_from(text, number);
+    kept_line(alloc, line_from(text, number), number, what)
+}
+
+/// Returns the same note, by the text from the line with this number on.
+fn kept_line(alloc: Global, rest: &[u8], number: usize, what: &str) -> Result<String, AllocError>
+    ensures { IfOk result (λ note.
+        string_bytes note ≡ line_note number (line_shown (take 80 rest.now)) what.now) }
+{
     let line = shown(alloc, front(rest))?;
     line_said(alloc, number, line.as_str(), what)
 }

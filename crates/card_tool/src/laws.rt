@@ -1,6 +1,6 @@
 //! What holds of the program's definitions alone. The contracts state it.
 
-ghost use Rattle.std.specs.Prelude.{◌≡◌, ◌<◌, ◌⊎◌, ◌++◌, ◌∷◌, [], ℕ, List, Option, Some, Result, Err, IfOk};
+ghost use Rattle.std.specs.Prelude.{◌≡◌, ◌<◌, ◌≤◌, ◌⊎◌, ◌++◌, ◌∷◌, [], ℕ, List, Option, Some, Result, Ok, Err, IfOk, length};
 ghost use Rattle.clap.specs.Kinds.{IsAmong};
 ghost use Rattle.clap.specs.Words.{fault_of};
 ghost use Rattle.clap.specs.declared.error.kind.ErrorKind.TheVariants.{DisplayHelp};
@@ -10,11 +10,12 @@ ghost use Rattle.card_tool.specs.Calls.{calls};
 ghost use Rattle.card_tool.specs.Answers.{plain_asked, AreAlike, IsAnswer, IsAnswerAsked, IsPlain, IsSameText};
 ghost use Rattle.card_tool.specs.Conversations.{Event};
 ghost use Rattle.card_tool.specs.Files.{file_of, ReadsWhole};
+ghost use Rattle.card_tool.specs.Pieces.{most_pieces, ReadsAll};
 ghost use Rattle.card_tool.specs.LineAnswers.{AnswersLines, heard_by, IsHearing, IsUpToDate, told_by};
 ghost use Rattle.card_words.specs.Words.{AreSized, AskForOctets, HaveOctets, IsOnce, NeedsOctets};
 ghost use Rattle.command_line.specs.Form.{scard};
 ghost use Rattle.card_words.specs.declared.fault.Fault.{Fault as AnyFault};
-ghost use Rattle.card_words.specs.declared.fault.Fault.TheVariants.{Memory};
+ghost use Rattle.card_words.specs.declared.fault.Fault.TheVariants.{Memory, TooLarge};
 ghost use Rattle.card_words.specs.declared.request.Asked.{Asked as AnyAsked};
 ghost use Rattle.card_tool.specs.declared.telling.Telling.{Telling as AnyTelling};
 ghost use Rattle.card_kinds.specs.declared.status.Status.{Status as AnyStatus};
@@ -56,11 +57,16 @@ pub fn one_text()
 {}
 
 /// If the octets of a reader are known and no call of it fails, reading a file gives these octets. It gives `TooLarge`
-/// if there are too many, and may give `Memory`.
+/// if there are too many, and may give `Memory`. Reading a trace to judge gives all octets too, however many. It may
+/// give `TooLarge` only for 2<sup>50</sup> octets or more.
 pub fn one_file()
-    ensures { (octets : List ℕ) (left : Option (List ℕ)) (before after : ℕ)
+    ensures file { (octets : List ℕ) (left : Option (List ℕ)) (before after : ℕ)
         (file : Result (List ℕ) AnyFault) → ReadsWhole (calls (Some octets) left before after) file
         → after ≡ before → before < most_failures → (file ≡ Err Memory) ⊎ (file ≡ file_of octets) }
+    ensures trace { (octets : List ℕ) (left : Option (List ℕ)) (before after : ℕ)
+        (text : Result (List ℕ) AnyFault) → ReadsAll (calls (Some octets) left before after) text
+        → after ≡ before → before < most_failures → (text ≡ Err Memory) ⊎ ((text ≡ Ok octets)
+        ⊎ ((text ≡ Err TooLarge) × (most_pieces ≤ length octets))) }
 {}
 
 /// Whenever a conversation about lines reads more, the texts written before are exactly the answers to all lines that

@@ -3,7 +3,8 @@
 //! card_words reads what a command line asks for: one text, as a `Request`, or the text for each line of standard
 //! input, which `answer_lines` gives. The module `replies` makes the text, the status and the explanation for a
 //! request. It calls card_kinds for octets. A module each is for files of recorded exchanges, for traces that are
-//! recorded or judged, and for simulated sessions. `read_whole` reads the input, and `run` writes the text.
+//! recorded or judged, and for simulated sessions. `read_whole` reads the input, but `read_lines` a trace that is judged,
+//! of which it keeps one line at a time. `run` writes the text.
 //!
 //! Definitions say which text is right: `IsAnswer` in `specs/Answers.antt`, over card_words' `IsRead`. The root also
 //! reexports what exchange_core gives.
@@ -22,11 +23,13 @@ mod judging;
 mod laid;
 pub mod laws;
 pub mod lines;
+mod pieces;
 pub mod program;
 mod recording;
 mod replies;
 mod simulation;
 pub mod telling;
+mod trace_lines;
 mod trace_place;
 mod waits;
 

@@ -15,15 +15,13 @@ use crate::conversation::{Conversation, Streams};
 use crate::file::LARGEST_FILE;
 use crate::json::{explained, object_told};
 use crate::judged::WithNote;
+use crate::pieces::PIECE;
 use crate::telling::{Telling, line_told, with_indented};
 use card_kinds::{Answer, Status};
 use card_words::{Aim, Fault, Task};
 use layouts::Layout;
 use octet_core::{Octets, Sink, Source, WriteFault};
 use std::alloc::{AllocError, Global};
-
-/// The most octets that one call reads.
-const PIECE: usize = 8_192;
 
 /// The state between two calls of the reader.
 #[derive(Drop)]

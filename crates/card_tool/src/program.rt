@@ -2,7 +2,7 @@
 
 ghost use Rattle.std.specs.Prelude.{◌≡◌, ◌++◌, IfErr, IfOk};
 ghost use Rattle.card_tool.specs.Calls.{calls_of};
-ghost use Rattle.card_tool.specs.Answers.{IsReadFrom, IsWritten, Writes};
+ghost use Rattle.card_tool.specs.Answers.{AskToJudge, IsReadFrom, IsWritten, Writes};
 ghost use Rattle.card_tool.specs.Explained.{said_of, Gives, IsSaid};
 ghost use Rattle.card_tool.specs.InJson.{HaveAnswer, IsRightAsked, IsRightJson};
 ghost use Rattle.card_tool.specs.Files.{IsBegun};
@@ -31,7 +31,8 @@ use std::alloc::{AllocError, Global};
 ///
 /// If memory can't grow, the text is `fault: memory`. If the writer fails, a part of the text is written. In both cases
 /// the status is `Fault`. The reader is called only if the words ask for octets, pairs or blocks of standard input, or
-/// for a file of recorded exchanges. It is read to its end, but at most one octet past the largest file.
+/// for a file of recorded exchanges. It is read to its end, but at most one octet past the largest file, except for a
+/// trace that is judged: that has no limit, and only one of its lines is kept at a time.
 ///
 /// If the words ask for the lines of standard input, each line is answered before the reader is called again, however
 /// many come. With `--explain` an explanation comes after each. After a fault of memory or of the reader no more lines
@@ -48,7 +49,7 @@ pub fn run<R: Source, W: Sink>(
         → WritesLines (telling_of (texts words.items) task) (calls_of R.remaining R.failures reader.old reader.new) (calls_of W.contents W.failures writer.old writer.new) result }
     ensures unread { AskForNoLines (texts words.items) → (AskForFile (texts words.items) → ⊥)
         → reader.new ≡ reader.old }
-    ensures few { AskForNoLines (texts words.items)
+    ensures few { AskForNoLines (texts words.items) → (AskToJudge (texts words.items) → ⊥)
         → IsBegun (calls_of R.remaining R.failures reader.old reader.new) 4194305 }
 {
     let words = words.as_slice();
@@ -76,7 +77,8 @@ fn one_text<R: Source, W: Sink>(
         (calls_of R.remaining R.failures reader.old reader.new))
         (calls_of W.contents W.failures writer.old writer.new) result }
     ensures unread { (AskForFile (texts words.now) → ⊥) → reader.new ≡ reader.old }
-    ensures few { IsBegun (calls_of R.remaining R.failures reader.old reader.new) 4194305 }
+    ensures few { (AskToJudge (texts words.now) → ⊥)
+        → IsBegun (calls_of R.remaining R.failures reader.old reader.new) 4194305 }
 {
     match answer_as_asked(alloc, words, read, reader) {
         Ok(made) => write_made(&made, writer),
@@ -135,7 +137,8 @@ fn answer_as_asked<R: Source>(
     ensures told { Gives (IsRightAsked (texts words.now)
         (calls_of R.remaining R.failures reader.old reader.new)) result }
     ensures unread { (AskForFile (texts words.now) → ⊥) → reader.new ≡ reader.old }
-    ensures few { IsBegun (calls_of R.remaining R.failures reader.old reader.new) 4194305 }
+    ensures few { (AskToJudge (texts words.now) → ⊥)
+        → IsBegun (calls_of R.remaining R.failures reader.old reader.new) 4194305 }
 {
     if asks_for_json(words) {
         answer_in_json(alloc, words, read, reader)
@@ -155,7 +158,8 @@ fn answer_in_json<R: Source>(
     ensures told { Gives (IsRightJson (texts words.now)
         (calls_of R.remaining R.failures reader.old reader.new)) result }
     ensures unread { (AskForFile (texts words.now) → ⊥) → reader.new ≡ reader.old }
-    ensures few { IsBegun (calls_of R.remaining R.failures reader.old reader.new) 4194305 }
+    ensures few { (AskToJudge (texts words.now) → ⊥)
+        → IsBegun (calls_of R.remaining R.failures reader.old reader.new) 4194305 }
 {
     let object = object_by(&read);
     let made = whole_reply(alloc, words, read, reader)?;
@@ -179,7 +183,8 @@ fn whole_reply<R: Source>(
     ensures failed { IfErr result (λ _.
         HaveAnswer (texts words.now) (calls_of R.remaining R.failures reader.old reader.new)) }
     ensures unread { (AskForFile (texts words.now) → ⊥) → reader.new ≡ reader.old }
-    ensures few { IsBegun (calls_of R.remaining R.failures reader.old reader.new) 4194305 }
+    ensures few { (AskToJudge (texts words.now) → ⊥)
+        → IsBegun (calls_of R.remaining R.failures reader.old reader.new) 4194305 }
 {
     match reply(alloc, words, read, reader) {
         Ok(made) => Ok(made),

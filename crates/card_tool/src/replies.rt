@@ -5,7 +5,7 @@
 
 ghost use Rattle.std.specs.Prelude.{◌≡◌, ◌≢◌, ℕ, List, Ok, true, false, IfOk, string_bytes};
 ghost use Rattle.card_tool.specs.Calls.{calls_of};
-ghost use Rattle.card_tool.specs.Answers.{IsReadFrom};
+ghost use Rattle.card_tool.specs.Answers.{AskToJudge, IsJudge, IsReadFrom};
 ghost use Rattle.card_tool.specs.Explained.{octets_of, text_note, IsFaulted, IsNotedLine, IsTakenWith, Replies, RepliesTo, SaysOf};
 ghost use Rattle.card_tool.specs.Files.{largest_file, IsBegun};
 ghost use Rattle.explainer.specs.Notes.{large_note};
@@ -40,7 +40,8 @@ pub(crate) fn reply<R: Source>(
     ensures told { Replies (texts words.now) (calls_of R.remaining R.failures reader.old reader.new)
         result }
     ensures unread { (AskForFile (texts words.now) → ⊥) → reader.new ≡ reader.old }
-    ensures few { IsBegun (calls_of R.remaining R.failures reader.old reader.new) 4194305 }
+    ensures few { (AskToJudge (texts words.now) → ⊥)
+        → IsBegun (calls_of R.remaining R.failures reader.old reader.new) 4194305 }
 {
     match read {
         Ok(request) => request_reply(alloc, words, request, reader),
@@ -60,7 +61,8 @@ fn request_reply<R: Source>(
     ensures told { Replies (texts words.now) (calls_of R.remaining R.failures reader.old reader.new)
         result }
     ensures unread { (AskForFile (texts words.now) → ⊥) → reader.new ≡ reader.old }
-    ensures few { IsBegun (calls_of R.remaining R.failures reader.old reader.new) 4194305 }
+    ensures few { (AskToJudge (texts words.now) → ⊥)
+        → IsBegun (calls_of R.remaining R.failures reader.old reader.new) 4194305 }
 {
     let explains = asks_to_explain(words);
     match replied_to(alloc, words, request, explains, reader) {
@@ -82,7 +84,8 @@ fn replied_to<R: Source>(
     ensures told { RepliesTo (texts words.now) request
         (calls_of R.remaining R.failures reader.old reader.new) result }
     ensures unread { (NeedsFile request → ⊥) → reader.new ≡ reader.old }
-    ensures few { IsBegun (calls_of R.remaining R.failures reader.old reader.new) 4194305 }
+    ensures few { (IsJudge request → ⊥)
+        → IsBegun (calls_of R.remaining R.failures reader.old reader.new) 4194305 }
 {
     match request {
         Request::Tell(task, given) => {
@@ -106,10 +109,7 @@ fn replied_to<R: Source>(
             let text = read_whole(alloc, reader)?;
             Ok(recording::recorded(alloc, atr.get(), text.get())?)
         }
-        Request::Judge { atr, judging } => {
-            let text = read_whole(alloc, reader)?;
-            Ok(judging::judged(alloc, atr.get(), judging, text.get())?)
-        }
+        Request::Judge { atr, judging } => judging::judged(alloc, atr.get(), judging, reader),
         Request::Simulate(session) => Ok(simulation::simulated(alloc, &session)?),
         Request::SimulateLines(session) => {
             let text = read_whole(alloc, reader)?;

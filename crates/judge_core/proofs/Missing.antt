@@ -447,7 +447,8 @@ sent-within : (e : End) (last : List ℕ) (pcb : Pcb) (inf : List ℕ) → is_fo
 sent-within e last (Info number more) inf own fits = (
   _,
   is_else (is_foreign e.side (Info number more)) _ _ own
-      ∙ is_then (nat_le (length inf) (widest e)) _ _ (within (length inf) (widest e) (wider (length inf) e.room e.first_room fits)),
+      ∙ is_then (nat_le (length inf) (widest e)) _ _
+      (within (length inf) (widest e) (wider (length inf) e.room e.first_room fits)),
 )
 sent-within e last (Ready number fault) inf own fits = (_, is_else (is_foreign e.side (Ready number fault)) _ _ own)
 sent-within e last (Request s) inf own fits = (_, is_else (is_foreign e.side (Request s)) _ _ own)

@@ -1,52 +1,55 @@
 -- How the lines of a trace are judged, one after another.
-use Rattle.std.proofs.Common.{◌≡◌, ◌<◌, ◌⊎◌, ◌∙◌, inl, inr, ℕ, List, [], ◌∷◌, Result, Ok, Err, refl, ap, sym, ◌+◌, arith, length, get_or, drop, subst, MatchResult}
+use Rattle.std.proofs.Common.{◌≡◌, inl, inr, ℕ, List, [], ◌∷◌, ◌++◌, Result, Ok, Err, refl, ap, ◌+◌, arith, length, subst, MatchResult}
 use Rattle.std.specs.List.{slice_split}
-use Rattle.std.proofs.lemmas.List.{drop_more, drop_all}
 use Rattle.exchange_text.specs.declared.fault.ExchangeFault.{ExchangeFault}
-use Rattle.exchange_text.specs.declared.fault.ExchangeFault.TheVariants.{Memory}
+use Rattle.trace_text.specs.Reading.{entry_of, is_line_end}
+use Rattle.trace_text.specs.declared.entry.Entry.{Entry}
 use Rattle.trace_judge.specs.declared.standing.Judgment.{Judgment}
 use Rattle.trace_judge.specs.declared.standing.Scope.{Scope}
 use Rattle.judge_times.specs.Waiting.{Offered}
-use Rattle.trace_text.specs.Reading.{is_line_end}
-use Rattle.trace_judge.specs.Judging.{start, Fails, IsConcluded, Judges, JudgesLine, JudgesLines, Standing}
+use Rattle.trace_judge.specs.Judging.{start, Fails, IsConcluded, IsEntered, Judges, JudgesLine, JudgesLines, Standing}
 
--- whatever the lines that are left come to is what all lines come to, and each line was counted
-pub record IsOnTheWay (s : Standing) (lines : List (List ℕ)) (done : ℕ) (begun : Standing) : Type 0 where
-  pub same : (all : Result Standing ExchangeFault) → JudgesLines s (drop done lines) all → JudgesLines begun lines all
-  pub number : s.number ≡ done + 1
+abbrev standing-of : Standing → Result Standing ExchangeFault → Standing
+standing-of otherwise (Ok s) = s
+standing-of otherwise (Err fault) = otherwise
 
--- the line at a place comes next
-pub left-at : (line : List ℕ) (lines : List (List ℕ)) (i : ℕ) → (i < length lines) × (line ≡ get_or lines i line)
-    → line ∷ drop (i + 1) lines ≡ drop i lines
-left-at line lines i at =
-    ap (λ (l : List ℕ). l ∷ drop (i + 1) lines) at.1 ∙ sym (drop_more lines i line at.0)
+-- what more lines come to after the first ones is what all come to
+pub joined : (begun s : Standing) (done more : List (List ℕ)) (all : Result Standing ExchangeFault)
+    → JudgesLines begun done (Ok s) → JudgesLines s more all → JudgesLines begun (done ++ more) all
+joined begun s [] more all h g =
+    subst (λ (m : Standing). JudgesLines m more all) (ap (standing-of begun) h) g
+joined begun s (line ∷ done) more all (inl (m, is, left)) g = inl (m, is, joined m s done more all left g)
+joined begun s (line ∷ done) more all (inr (fault, fails, e)) g = cc e
 
--- it is taken
-pub next-line : (before after begun : Standing) (line : List ℕ) (lines : List (List ℕ)) (i : ℕ)
-    → (i < length lines) × (line ≡ get_or lines i line) → JudgesLine before line after
-    → after.number ≡ before.number + 1 → IsOnTheWay before lines i begun → IsOnTheWay after lines (i + 1) begun
-next-line before after begun line lines i at is count kept = record {
-  same = λ all more.
-      let P : List (List ℕ) → Type 0 = λ left. JudgesLines before left all in
-      kept.same all (subst P (left-at line lines i at) (inl (after, is, more)));
-  number = let k = kept.number in omega arith;
-}
+-- each line is counted
+pub line-number : (s after : Standing) (line : List ℕ) → JudgesLine s line after → after.number ≡ s.number + 1
+line-number s after line h = go (entry_of s.number line) h
+  where
+    go : (read : Result Entry ExchangeFault) → MatchResult read
+        (λ entry. (m : Standing) × IsEntered s entry m × (after ≡ record m { number = s.number + 1 })) (λ fault. ⊥)
+        → after.number ≡ s.number + 1
+    go (Ok entry) (m, is, e) = ap (λ (t : Standing). t.number) e
+    go (Err fault) h = absurd h
 
--- or it is at fault
-pub next-fault : (before begun : Standing) (line : List ℕ) (lines : List (List ℕ)) (i : ℕ) (fault : ExchangeFault)
-    → (i < length lines) × (line ≡ get_or lines i line) → Fails before line fault → IsOnTheWay before lines i begun
-    → JudgesLines begun lines (Err fault)
-next-fault before begun line lines i fault at fails kept =
-    let P : List (List ℕ) → Type 0 = λ left. JudgesLines before left (Err fault) in
-    kept.same (Err fault) (subst P (left-at line lines i at) (inr (fault, fails, refl)))
+pub lines-number : (begun s : Standing) (lines : List (List ℕ)) → JudgesLines begun lines (Ok s)
+    → s.number ≡ begun.number + length lines
+lines-number begun s [] h =
+    let same = ap (λ (r : Result Standing ExchangeFault). (standing-of begun r).number) h in
+    omega (arith, same)
+lines-number begun s (line ∷ lines) (inl (m, is, left)) =
+    omega (arith, line-number begun m line is, lines-number m s lines left)
+lines-number begun s (line ∷ lines) (inr (fault, fails, e)) = cc e
 
--- no line is left
-pub no-more : (s begun : Standing) (lines : List (List ℕ)) (i : ℕ) → i ≡ length lines → IsOnTheWay s lines i begun
-    → JudgesLines begun lines (Ok s)
-no-more s begun lines i e kept =
-    let none : [] ≡ drop i lines = rw e (sym (drop_all (length lines) lines (omega arith))) in
-    let P : List (List ℕ) → Type 0 = λ left. JudgesLines s left (Ok s) in
-    kept.same (Ok s) (subst P none refl)
+-- one more line is judged
+pub one-more : (begun s after : Standing) (done : List (List ℕ)) (line : List ℕ) → JudgesLines begun done (Ok s)
+    → JudgesLine s line after → JudgesLines begun (done ++ (line ∷ [])) (Ok after)
+one-more begun s after done line h is = joined begun s done (line ∷ []) (Ok after) h (inl (after, is, refl))
+
+-- or it is at fault, and so are all lines that begin with these
+pub stopped : (begun s : Standing) (done more : List (List ℕ)) (line : List ℕ) (fault : ExchangeFault)
+    → JudgesLines begun done (Ok s) → Fails s line fault → JudgesLines begun (done ++ (line ∷ more)) (Err fault)
+stopped begun s done more line fault h fails =
+    joined begun s done (line ∷ more) (Err fault) h (inr (fault, fails, refl))
 
 -- a fault of the lines is that of the text
 pub faulted : (offered : Offered) (scope : Scope) (text : List ℕ) (fault : ExchangeFault)
@@ -54,24 +57,8 @@ pub faulted : (offered : Offered) (scope : Scope) (text : List ℕ) (fault : Exc
     → Judges offered scope text (Err fault)
 faulted offered scope text fault all = inr (Err fault, all, refl)
 
-pub out-of-memory : (offered : Offered) (scope : Scope) (text : List ℕ) (fault : ExchangeFault) → fault ≡ Memory
-    → Judges offered scope text (Err fault)
-out-of-memory offered scope text fault e = inl (ap Err e)
-
 -- and the text is concluded
-pub concluded : (offered : Offered) (scope : Scope) (text : List ℕ) (s : Standing)
-    (result : Result Judgment ExchangeFault)
-    → JudgesLines (start offered scope) (slice_split is_line_end text) (Ok s)
-    → MatchResult result (IsConcluded s) (λ fault. fault ≡ Memory) → Judges offered scope text result
-concluded offered scope text s (Ok judgment) all is = inr (Ok s, all, is)
-concluded offered scope text s (Err fault) all is = inl (ap Err is)
-
--- a line that isn't taken
-pub stopped : (offered : Offered) (scope : Scope) (text line : List ℕ) (before : Standing) (i : ℕ)
-    (fault : ExchangeFault)
-    → (i < length (slice_split is_line_end text)) × (line ≡ get_or (slice_split is_line_end text) i line)
-    → (fault ≡ Memory) ⊎ Fails before line fault
-    → IsOnTheWay before (slice_split is_line_end text) i (start offered scope) → Judges offered scope text (Err fault)
-stopped offered scope text line before i fault at (inl memory) kept = out-of-memory offered scope text fault memory
-stopped offered scope text line before i fault at (inr fails) kept = faulted offered scope text fault
-    (next-fault before (start offered scope) line (slice_split is_line_end text) i fault at fails kept)
+pub concluded : (offered : Offered) (scope : Scope) (text : List ℕ) (s : Standing) (judgment : Judgment)
+    → JudgesLines (start offered scope) (slice_split is_line_end text) (Ok s) → IsConcluded s judgment
+    → Judges offered scope text (Ok judgment)
+concluded offered scope text s judgment all is = inr (Ok s, all, is)

@@ -1,19 +1,11 @@
 -- That a trace has one judgment, or one fault.
-use Rattle.std.proofs.Common.{◌≡◌, ◌≢◌, ◌<◌, ◌≤◌, ◌⊎◌, ◌∙◌, ◌||◌, ◌&&◌, ◌+◌, ◌==◌, inl, inr, not, ℕ, List, [], ◌∷◌, codes, length, Bool, true, false, Option, Some, None, Result, Ok, Err, MatchResult, if◌then◌else◌, ap, arith, refl, subst, sym}
-use Rattle.std.specs.Str.{bytes_eq}
+use Rattle.std.proofs.Common.{◌≡◌, ◌≢◌, ◌<◌, ◌≤◌, ◌⊎◌, ◌∙◌, ◌+◌, inl, inr, ℕ, List, [], ◌∷◌, Bool, true, false, Result, Ok, Err, MatchResult, ap, arith, refl, subst, sym}
 use Rattle.std.specs.List.{slice_split}
 use Rattle.std.proofs.lemmas.Bool.{cases_lt}
-use Rattle.hex.specs.Hex.{decode_of}
-use Rattle.hex.specs.declared.error.FromHexError.{FromHexError}
-use Rattle.hex.proofs.HexLemmas.{decode_of-ok}
 use Rattle.octet_core.specs.Octets.{AreOctets}
-use Rattle.octet_core.specs.Decimal.{decimal_number}
-use Rattle.exchange_text.specs.Names.{name_text}
-use Rattle.exchange_text.specs.declared.name.Name.TheVariants as name
 use Rattle.exchange_text.specs.declared.fault.ExchangeFault.{ExchangeFault}
-use Rattle.exchange_text.specs.declared.fault.ExchangeFault.TheVariants.{Falls, Memory, Word}
+use Rattle.exchange_text.specs.declared.fault.ExchangeFault.TheVariants.{Falls, Memory}
 use Rattle.block_core.specs.declared.side.Side.{Side}
-use Rattle.block_core.specs.declared.side.Side.TheVariants as side
 use Rattle.judge_core.specs.declared.monitor.Arrival.{Arrival}
 use Rattle.judge_core.specs.declared.monitor.Monitor.{Monitor}
 use Rattle.judge_core.specs.declared.monitor.Report.{Report}

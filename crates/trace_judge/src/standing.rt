@@ -1,8 +1,8 @@
 //! A trace judged line by line.
 
-ghost use Rattle.std.specs.Prelude.{◌≡◌, ◌⊎◌, ◌++◌, ◌+◌, ◌<◌, ◌≤◌, ◌^◌, IfErr, MatchResult, OnOk, string_bytes, false};
+ghost use Rattle.std.specs.Prelude.{◌≡◌, ◌⊎◌, ◌++◌, ◌+◌, ◌<◌, ◌≤◌, ◌^◌, IfErr, IfOk, OnOk};
 ghost use Rattle.exchange_text.specs.declared.fault.ExchangeFault.TheVariants.{Falls, Memory};
-ghost use Rattle.trace_judge.specs.Judging.{is_before, is_judged, pps_timed, quietened, renewed, start, told_before, told_exercise, told_report, told_said, told_verdict, midway, ExercisesIf, Fails, IsBlockTold, IsConcluded, IsEntered, IsFalling, IsTold, JudgesLine, Judges};
+ghost use Rattle.trace_judge.specs.Judging.{is_before, is_judged, pps_timed, quietened, renewed, start, told_before, told_exercise, told_report, told_said, told_verdict, midway, ExercisesIf, Fails, IsBlockTold, IsConcluded, IsEntered, IsFalling, IsTold, JudgesLine};
 ghost use Rattle.trace_judge.specs.Places.{placed};
 
 use crate::arriving::arrival_of;
@@ -46,35 +46,13 @@ pub struct Judgment {
     pub is_ok: bool,
 }
 
-/// Judges the text of a trace for a card that offers this: both ends, or one end alone.
-///
-/// LF ends a line, and the last line needs none. [`entry_of`] says which lines there are. No moment is below an earlier
-/// one.
+/// The state of the judgment after the lines of a trace so far.
 ///
 /// With a clock, a card's block can be late. That needs a moment directly before it, at which it began, and one
 /// directly before the terminal's block: the moment at which that began, or its last octet (ISO/IEC 7816-3:2006,
 /// 11.4.3). In the same way a terminal's block can be early after the block before.
-///
-/// The error is the first fault of the first wrong line, counted from 1: `Word` if its words have none of these forms,
-/// then `Hex`, then `Falls` for a moment below an earlier one. `Memory` can replace any result.
-pub fn judge_trace(
-    alloc: Global,
-    offer: Offer,
-    scope: Scope,
-    text: &[u8],
-) -> Result<Judgment, ExchangeFault>
-    ensures { Judges offer scope text.now result }
-{
-    let mut standing = Standing::new(alloc, offer, scope);
-    for line in text.split(|octet| *octet == b'\n') {
-        standing.take(alloc, line)?;
-    }
-    standing.conclude(alloc)
-}
-
-/// The state of the judgment after the lines so far.
 #[derive(Drop)]
-struct Standing {
+pub struct Standing {
     monitor: Monitor,
     offer: Offer,
     scope: Scope,
@@ -110,7 +88,8 @@ impl Model for Standing {
 }
 
 impl Standing {
-    fn new(alloc: Global, offer: Offer, scope: Scope) -> Standing
+    /// Returns the state before the first line, for a card that offers this.
+    pub fn new(alloc: Global, offer: Offer, scope: Scope) -> Standing
         ensures { result ≡ start offer scope }
     {
         let monitor = Monitor::new(offer.params.ifsc());
@@ -129,8 +108,13 @@ impl Standing {
         }
     }
 
-    /// Takes one more line, without its line feed.
-    fn take(&mut self, alloc: Global, line: &[u8]) -> Result<(), ExchangeFault>
+    /// Judges one more line, without its line feed. [`entry_of`] says which lines there are. No moment is below an earlier
+    /// one. There can be fewer than 2<sup>64</sup> - 1 lines.
+    ///
+    /// The error is the fault of the line, by its number, counted from 1: `Word` if its words have none of these forms,
+    /// then `Hex`, then `Falls` for a moment below an earlier one. `Memory` can replace any result. After an error no more
+    /// is known about the state.
+    pub fn take(&mut self, alloc: Global, line: &[u8]) -> Result<(), ExchangeFault>
         requires { self.old.number + 1 < 2 ^ 64 }
         ensures said { OnOk result (JudgesLine self.old line.now self.new) }
         ensures number { OnOk result (self.new.number ≡ self.old.number + 1) }
@@ -369,8 +353,8 @@ impl Standing {
     }
 
     /// Returns the judgment at the end of the trace.
-    fn conclude(mut self, alloc: Global) -> Result<Judgment, ExchangeFault>
-        ensures { MatchResult result (IsConcluded self) (λ fault. fault ≡ Memory) }
+    pub fn conclude(mut self, alloc: Global) -> Result<Judgment, AllocError>
+        ensures { IfOk result (IsConcluded self) }
     {
         let Scope { layout, rules, .. } = self.scope;
         self.coverage.push_if(alloc, &mut self.text, layout, rules)?;

@@ -1,5 +1,5 @@
-use Rattle.card_tool.proofs.OneText.{one-file}
+use Rattle.card_tool.proofs.OneText.{one-file, one-trace}
 use Rattle.card_tool.proofs.laws.one_file.Goals as goal
 
 pub returns : goal.returns
-returns c = one-file
+returns c = record { file = one-file; trace = one-trace }

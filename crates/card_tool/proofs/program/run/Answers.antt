@@ -28,7 +28,7 @@ returns-in-Ok-Lines-clause-unread g c =
 
 pub returns-in-Ok-Lines-clause-few : goal.returns-in-Ok-Lines-clause-few
 returns-in-Ok-Lines-clause-few g c =
-    λ none. absurd (none c.in-Ok-Lines.task
+    λ none _. absurd (none c.in-Ok-Lines.task
     (lines-asked (texts c.args.words.items) c.read.result c.in-Ok-Lines.task
     (c.in-Ok-Lines.is ∙ ap read_as c.in-Ok-Lines.field-0-is)
     (rw c.as_slice-words.ensures.value at c.read.ensures.read)))

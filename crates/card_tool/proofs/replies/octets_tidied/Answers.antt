@@ -11,7 +11,7 @@ pub returns-in_err-octets-clause-told : goal.returns-in_err-octets-clause-told
 returns-in_err-octets-clause-told g c = λ words.
     let fault = err_from_is_err_and c.from_residual.result c.from_residual.ensures.1 in
     rw (fault.1, fault.2) (told-fault (BuildTidy c.args.given) c.args.given Tidies
-    (calls_of g.R.Source.remaining g.R.Source.failures c.args.reader.now c.octets_taken.new.reader) (λ need. need)
+    (calls_of g.R.Source.remaining g.R.Source.failures c.args.reader.now c.octets_taken.new.reader) (λ file had. had)
     (λ file text ended h. h)
     c.in_err-octets.field-0.0 c.in_err-octets.ensures.taken.taken)
 
@@ -21,7 +21,7 @@ returns-in_err-made-in-Given-clause-told g c = λ words.
     c.from_residual-in_err-made-in-Given.ensures.1 in
     let had = rw c.in-Given.is at c.in_ok-octets.ensures.taken in
     rw (fault.1, fault.2) (told-wanting (BuildTidy c.args.given) c.args.given Tidies
-    (calls_of g.R.Source.remaining g.R.Source.failures c.args.reader.now c.octets_taken.new.reader) (λ need. need)
+    (calls_of g.R.Source.remaining g.R.Source.failures c.args.reader.now c.octets_taken.new.reader) (λ file had. had)
     (λ file text ended h. h)
     c.in-Given.octets had.taken)
 
@@ -31,7 +31,7 @@ returns-in_ok-made-in-Given-clause-told g c = λ words.
     let had = rw c.in-Given.is at c.in_ok-octets.ensures.taken in
     noted-given c.args.explains words (BuildTidy c.args.given) c.args.given Tidies
     IsForestNote (calls_of g.R.Source.remaining g.R.Source.failures c.args.reader.now c.octets_taken.new.reader)
-    (λ need. need) (λ file text ended h. h)
+    (λ file had. had) (λ file text ended h. h)
     (λ file note h. h) c.in-Given.octets c.in-Given.note had
     c.in_ok-made-in-Given.made c.and.result made.0 made.1 c.and.ensures.answer c.and.ensures.note
 
@@ -40,5 +40,5 @@ returns-in-Refused-clause-told g c = λ words.
     let had = rw c.in-Refused.is at c.in_ok-octets.ensures.taken in
     noted-refused c.args.explains words (BuildTidy c.args.given) c.args.given Tidies
     IsForestNote (calls_of g.R.Source.remaining g.R.Source.failures c.args.reader.now c.octets_taken.new.reader)
-    (λ need. need) (λ file text ended h. h)
+    (λ file had. had) (λ file text ended h. h)
     (λ file note h. h) c.in-Refused.made had

@@ -1,6 +1,6 @@
 use Rattle.std.proofs.Common.{◌∙◌, [], Ok}
 use Rattle.command_line.specs.Form.{texts}
-use Rattle.card_words.specs.declared.request.Request.TheVariants.{BuildChain, BuildFill, Judge, Simulate, Help, Version}
+use Rattle.card_words.specs.declared.request.Request.TheVariants.{BuildChain, BuildFill, Simulate, Help, Version}
 use Rattle.card_tool.proofs.Explaining.{alone, with-note}
 use Rattle.card_tool.proofs.replies.replied_to.Goals as goal
 use Rattle.card_tool.specs.Calls.{calls_of}
@@ -22,13 +22,9 @@ returns-in_ok-filled-in-BuildFill-clause-told g c =
     (calls_of g.R.Source.remaining g.R.Source.failures c.args.reader.now c.args.reader.now)
     c.in_ok-filled-in-BuildFill.field-0 (Ok []) (λ needs. absurd needs) made.0 made.1)
 
-pub returns-in_ok-judged-in-Judge-clause-told : goal.returns-in_ok-judged-in-Judge-clause-told
-returns-in_ok-judged-in-Judge-clause-told g c =
-    let made = rw (c.get-in-Judge.ensures, c.get-in-Judge-2.ensures) at c.in_ok-judged-in-Judge.ensures in
-    rw c.in-Judge.is (with-note (texts c.args.words.now) (Judge c.in-Judge.atr c.in-Judge.judging)
-    (calls_of g.R.Source.remaining g.R.Source.failures c.args.reader.now c.read_whole-in-Judge.new.reader)
-    c.in_ok-judged-in-Judge.field-0 (Ok c.in_ok-text-in-Judge.text) (λ needs. c.in_ok-text-in-Judge.ensures)
-    made.0 made.1)
+pub returns-in-Judge-clause-told : goal.returns-in-Judge-clause-told
+returns-in-Judge-clause-told g c =
+    rw c.in-Judge.is (rw c.get-in-Judge.ensures at (c.judged.ensures (texts c.args.words.now)))
 
 pub returns-in_ok-simulated-in-Simulate-clause-told : goal.returns-in_ok-simulated-in-Simulate-clause-told
 returns-in_ok-simulated-in-Simulate-clause-told g c =

@@ -9,7 +9,7 @@ use Rattle.card_tool.specs.Calls.{calls_of}
 use Rattle.card_tool.specs.Explained.{said_of}
 use Rattle.card_tool.specs.Files.{largest_file}
 use Rattle.card_tool.specs.declared.judged.WithNote.{WithNote}
-use Rattle.card_tool.proofs.Answering.{needs}
+use Rattle.card_tool.proofs.Answering.{needs-file, needs-judge}
 use Rattle.card_tool.proofs.Explaining.{fits-large, replied-words, said-alone, said-asked, said-fault, said-nothing}
 use Rattle.card_tool.proofs.replies.request_reply.Goals as goal
 
@@ -62,4 +62,20 @@ returns-in-Err-2-clause-told g c = said-nothing (texts c.args.words.now)
 
 pub returns-in-Ok-clause-unread : goal.returns-in-Ok-clause-unread
 returns-in-Ok-clause-unread g c = λ free.
-    c.replied_to.ensures.unread (λ need. free (needs (texts c.args.words.now) c.args.request c.requires need))
+    c.replied_to.ensures.unread (λ need. free (needs-file (texts c.args.words.now) c.args.request c.requires need))
+
+pub returns-in-Ok-clause-few : goal.returns-in-Ok-clause-few
+returns-in-Ok-clause-few g c = λ free.
+    c.replied_to.ensures.few (λ judge. free (needs-judge (texts c.args.words.now) c.args.request c.requires judge))
+
+pub returns-in-Ok-2-clause-few : goal.returns-in-Ok-2-clause-few
+returns-in-Ok-2-clause-few g c = λ free.
+    c.replied_to.ensures.few (λ judge. free (needs-judge (texts c.args.words.now) c.args.request c.requires judge))
+
+pub returns-in-Err-clause-few : goal.returns-in-Err-clause-few
+returns-in-Err-clause-few g c = λ free.
+    c.replied_to.ensures.few (λ judge. free (needs-judge (texts c.args.words.now) c.args.request c.requires judge))
+
+pub returns-in-Err-2-clause-few : goal.returns-in-Err-2-clause-few
+returns-in-Err-2-clause-few g c = λ free.
+    c.replied_to.ensures.few (λ judge. free (needs-judge (texts c.args.words.now) c.args.request c.requires judge))
