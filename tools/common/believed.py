@@ -13,23 +13,15 @@ CLAUSE = re.compile(r"\b[1-9]\d?(?:\.[1-9]\d?)+\b(?!\.\d)|(?<=clause )\d+\b")
 HEAD = """\
 # What has to be believed
 
-The proofs show that the code does what definitions say. No proof shows that the definitions say what the standards say:
-a person has to read them. `tools/daily/reference` lists them here from the sources, the lowest crate first.
-
-A row has a file of `crates/CRATE/specs`, its lines without comments, the clauses that it cites, and its first sentence.
-The clauses are those of ISO/IEC 7816-3:2006, in tlv_core of EMV Book 3, in apdu_core of ISO/IEC 7816-4. To read a file:
-
-    less crates/block_core/specs/Block.antt
-
-Some crates separate the definitions to believe from those of what the code keeps between calls. Only the files to
-believe are below their names. The [last part](#what-the-code-keeps-between-calls) lists each other file that a contract
-of a public function cites. *(own)* in a file marks a choice of this project.
+No proof shows that the definitions say what the standards say: a person has to read them. `tools/daily/reference` lists
+them here, the lowest crate first. A row has a file of `crates/CRATE/specs`, its lines without comments, its clauses,
+and its first sentence. The clauses are those of ISO/IEC 7816-3:2006, in tlv_core of EMV Book 3, in apdu_core of 7816-4.
+*(own)* in a file marks a choice of ours. What code [keeps](#what-the-code-keeps-between-calls) is apart.
 """
 KEPT = """\
 ## What the code keeps between calls
 
-Contracts of public functions cite these files too. They say what a reader, an end or another value holds between calls,
-what a call writes into a buffer, and how calls fail. To read such a contract, read them.
+To read a contract of a public function, read the files that it cites of these too.
 
 | Crate | File | Lines | What it says |
 |---|---|---|---|
