@@ -208,7 +208,11 @@ class Calls:
         structs."""
         lines, given, window = [], [], FIRST_GIVEN
         shaped = 0
+        copied = self.copied(call)
         for place, one in enumerate(call.takes):
+            if one.name in copied:
+                given.append(one.name)
+                continue
             if not one.is_pointer:
                 given.append(f"(u{64 if KINDS[one.type] == I64 else 32}){one.name}" if one.type != "bool" else
                              f"({one.name} ? 1u : 0u)")
@@ -239,6 +243,15 @@ class Calls:
             raise Unfit(f"{call.name} has too many pointers")
         return lines, given, shaped
 
+    def copied(self, call):
+        """The names of the arguments that are copied to the stack of the call, and their structs: as many as don't have a
+        window of their own. The call only reads them, and they have no pointers."""
+        few = FIRST_GIVEN + sum(it.is_pointer for it in call.takes) + 1 - WINDOWS
+        structs = ((it.name, self.structs.get(it.type.removeprefix("struct "))) for place, it in enumerate(call.takes)
+                   if it.is_pointer and it.is_const and not counted(call, place))
+        fit = [(name, struct) for name, struct in structs if struct and not struct.has_pointers()]
+        return dict(sorted(fit, key=lambda it: it[1].octets)[:max(few, 0)])
+
     def image(self, call):
         """The struct with pointers that a call writes, and its argument."""
         found = [(self.structs[it.type.removeprefix("struct ")], it.name) for it in call.takes
@@ -257,7 +270,9 @@ class Calls:
         lines, given, shaped = self.lent(call)
         gives = self.structs.get(call.gives.removeprefix("struct "))
         room = gives.octets if gives else 0
-        depth = -(-(self.depths.of(function) + room) // 16) * 16
+        copied = self.copied(call)
+        taken = sum(-(-it.octets // 16) * 16 for it in copied.values())
+        depth = -(-(self.depths.of(function) + room + taken) // 16) * 16
         image = self.image(call)
         own = ["struct call m;", f"u8 stack[{max(depth, 16)}];"]
         own += [["struct shaped *shaped = NULL;", "SHAPED_HERE", "struct shaped shaped[WINDOWS];"][shaped]]
@@ -267,11 +282,18 @@ class Calls:
         self.parts.add(part)
         constants = [f"lend(&m, 0, {part}, sizeof {part});"] if part else []
         lines = ["begin(&m, stack, sizeof stack, shaped);", *constants, *lines]
+        place = max(depth, 16)
+        for name, struct in copied.items():
+            place -= -(-struct.octets // 16) * 16
+            lines += self.packed(struct, name, place)
+            given[given.index(name)] = f"ADDRESS(1) + {place}u"
+        if copied:
+            lines.append(f"m.g0 -= {taken};")
         if gives:
             lines.append(f"m.g0 -= {room};")
             given.insert(0, "m.g0")
         made = f"{self.names[function]}({', '.join(['&m', *given])})"
-        lines += self.ended(call, made, gives, max(depth, 16) - room, image)
+        lines += self.ended(call, made, gives, place - room, image)
         own = [it for it in own if it]
         text = [wrapped(f"{call.gives} {call.name}(", call.said, ")"), "{", *("    " + it for it in own)]
         return "\n".join([*text, *(broken(it) for it in lines), "}", ""])
@@ -285,6 +307,11 @@ class Calls:
         if call.gives == "void":
             return [f"{made};"]
         return [f"return {made} != 0;" if call.gives == "bool" else f"return ({call.gives}){made};"]
+
+    def packed(self, struct, name, place):
+        """The lines that copy the fields of a struct to a place of the stack, as the module has them."""
+        puts = {1: "stack[{}] = {};", 2: "put16(stack + {}, {});", 4: "put32(stack + {}, {});", 8: "put64(stack + {}, {});"}
+        return [puts[it.octets].format(place + it.place, f"{name}->{it.path}") for it in struct.fields]
 
     def unpacked(self, struct, to, image):
         """The lines that read the fields of a struct of the module from octets."""
