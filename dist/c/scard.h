@@ -1717,6 +1717,91 @@ void scard_lent_judge_quiet(struct scard_lent_judge *state, struct scard_judgmen
  */
 void scard_lent_judge_finish(const struct scard_lent_judge *state, struct scard_judgment *out);
 
+/* What a block exercises. A permitted block keeps each rule that is at stake: each rule that its sender could break
+ * with some block then. A block that isn't permitted breaks one rule, and the judge says nothing about the others. All
+ * fields are 0 for damage and for a block of another logical connection.
+ */
+struct scard_exercise {
+    uint32_t kept;  /* the rules that the block keeps: the sum of 1 << rule for each enum scard_rule; else 0 */
+    uint8_t broken; /* enum scard_rule: the rule that it breaks, else 0 */
+    uint8_t due;    /* enum scard_owed: what was due from its sender, else 0, as if it was the other end's turn */
+};
+
+/* Writes to *out what a block exercises. The state doesn't change: call scard_lent_judge_block with the same arguments
+ * next. Returns OK with place 0; or ARGUMENT (another end or arrival), and then nothing changes. A card that breaks
+ * SCARD_RULE_SILENCE sends no block: the field `silence` of the judgment tells.
+ */
+SCARD_MUST_USE
+struct scard_verdict scard_lent_judge_exercise(const struct scard_lent_judge *state, uint8_t from,
+                                               const uint8_t *octets, size_t count, uint8_t arrival,
+                                               const uint8_t *came, size_t came_count, struct scard_exercise *out);
+
+/* The caller-owned times of a line, 56 octets. With them a judge says which blocks came too late or too early (ISO/IEC
+ * 7816-3:2006, 11.4.3). The fields belong to the library: `begin` writes them, and so does `block`. A call is safe with
+ * any octets in the struct: it continues from some valid times or returns ARGUMENT, as it does if all octets are 0.
+ * These calls allocate nothing. docs/JUDGE.md has the formulas.
+ */
+struct scard_lent_times {
+    scard_size least;
+    scard_size sent_moment;
+    scard_size sent_octets;
+    scard_size came_moment;
+    scard_size came_octets;
+    uint32_t hertz;
+    uint16_t fi;
+    uint16_t di;
+    uint8_t has_sent;
+    uint8_t has_came;
+    uint8_t ifsc;
+    uint8_t bwi;
+    uint8_t cwi;
+};
+
+/* The moments of a block in microseconds, by the caller's clock. A moment is known if its mark isn't 0. */
+struct scard_moments {
+    scard_size first;  /* when its first octet began: the leading edge of the start bit */
+    scard_size last;   /* when its last octet began */
+    uint8_t has_first;
+    uint8_t has_last;
+};
+
+enum scard_off_time {
+    SCARD_OFF_TIME_NO = 0,   /* neither, or too little is known */
+    SCARD_OFF_TIME_LATE = 1, /* a card's block that began after its waiting time */
+    SCARD_OFF_TIME_EARLY = 2 /* a terminal's block that began before the least time after the block before */
+};
+
+/* What is said about the time of a block. */
+struct scard_timed {
+    scard_size elapsed; /* microseconds from the block before to this one: from its last octet, if that moment is known,
+                           otherwise from its first. 0 unless the block is late or early */
+    scard_size limit;   /* the permitted microseconds: at most if it is late, at least if it is early, else 0 */
+    uint8_t off;        /* enum scard_off_time */
+    uint8_t over;       /* 1 if the card's waiting time was over when the block began, else 0. A terminal's block after
+                           SCARD_SILENCE_CERTAIN tells by this mark which end was wrong: if it is 0, the terminal may
+                           have sent too early */
+};
+
+/* Begins the times at a reset of the card, and again after an exchange of PPS. The struct may hold anything before.
+ * `params` and `rates` are those in force. A rate of 0 isn't known, and then no block is late or early. `hertz` is the
+ * frequency of the card's clock. Returns OK with place 0; or ARGUMENT (`hertz` is 0, IFSC is 0 or 255, or an index is
+ * above 15), and then nothing changes.
+ */
+SCARD_MUST_USE
+struct scard_verdict scard_lent_times_begin(struct scard_lent_times *times, const struct scard_t1 *params,
+                                            const struct scard_rates *rates, uint32_t hertz);
+
+/* Takes the octets of a block with its moments, and writes to *out whether the block came too late or too early. The
+ * state of `judge` is that before the block: call scard_lent_judge_block with the same arguments next. Call this for
+ * each block, also for one without moments. Returns OK with place 0; or ARGUMENT (another end or arrival, a moment
+ * below an earlier one, or times that weren't begun), and then nothing changes.
+ */
+SCARD_MUST_USE
+struct scard_verdict scard_lent_times_block(struct scard_lent_times *times, const struct scard_lent_judge *judge,
+                                            uint8_t from, const uint8_t *octets, size_t count, uint8_t arrival,
+                                            const uint8_t *came, size_t came_count,
+                                            const struct scard_moments *moments, struct scard_timed *out);
+
 /* Write to *out a text about a rule, an enum scard_rule. scard_judge_rule_text gives what breaks the rule ("sequence
  * number"), and scard_judge_clause_text its clause in ISO/IEC 7816-3:2006 ("11.6.2.3 rule 2.2"). For an unknown number
  * the text is "". The library owns the text.
@@ -1767,7 +1852,11 @@ enum scard_struct {
     SCARD_STRUCT_LENT_SESSION = 37,
     SCARD_STRUCT_LENT_CARD_SESSION = 38,
     SCARD_STRUCT_SESSION_NEXT = 39,
-    SCARD_STRUCT_PCB = 40
+    SCARD_STRUCT_PCB = 40,
+    SCARD_STRUCT_EXERCISE = 41,
+    SCARD_STRUCT_LENT_TIMES = 42,
+    SCARD_STRUCT_MOMENTS = 43,
+    SCARD_STRUCT_TIMED = 44
 };
 
 /* Returns the size in octets that a struct has in the library, to compare with its sizeof. `number` is an enum
