@@ -61,8 +61,8 @@ class Debug(unittest.TestCase):
 
     def test_the_types_of_the_repository_are_read(self):
         names = {it.name for crate, text in tool.sources(TOP) for it in tool.types_of(crate, text) if it.holds}
-        for name in ("octet_core::Octets", "octet_core::Text", "judge_core::Arrival", "card_kinds::Shown", "card_kinds::Judged",
-                     "line_core::Framer", "exchange_core::Event", "tlv_core::Tag", "block_core::BlockRef"):
+        for name in ("octet_core::Octets", "octet_core::Text", "judge_core::Arrival", "program_octets::Shown",
+                     "program_octets::CheckedAnswer", "line_core::Framer", "exchange_core::Event", "tlv_core::Tag", "block_core::BlockRef"):
             self.assertIn(name, names)
 
 

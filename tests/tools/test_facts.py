@@ -14,8 +14,8 @@ REPEATED = [
     (tool.RULE, '"11.3.4"', '"11.3.5"', [tool.JUDGE]),
     (tool.RULE, "    Unasked,\n", "    Unwanted,\n", [tool.HEADER]),
     (tool.STATE, '"any block"', '"all"', [tool.JUDGE, tool.SCHEMA]),
-    ("crates/card_kinds/src/block.rt", '"WTX"', '"WAIT"', [tool.SAYING, tool.SCHEMA, tool.HEADER, tool.SECOND]),
-    ("crates/card_words/src/words.rt", '"dol" => Ok', '"list" => Ok', [tool.OBJECT, tool.SCHEMA, tool.ANSWERS, tool.BASH]),
+    ("crates/program_octets/src/block.rt", '"WTX"', '"WAIT"', [tool.SAYING, tool.SCHEMA, tool.HEADER, tool.SECOND]),
+    ("crates/program_words/src/words.rt", '"dol" => Ok', '"list" => Ok', [tool.OBJECT, tool.SCHEMA, tool.ANSWERS, tool.BASH]),
     (tool.FORMS, '"draw", &DRAW', '"paint", &DRAW', [tool.BASH]),
     (tool.FORM, '"dump" => Ok', '"lump" => Ok', [tool.BASH]),
 ]

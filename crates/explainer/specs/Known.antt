@@ -3,9 +3,9 @@ use Rattle.std.specs.Prelude.{◌≡◌, ℕ, not, ◌+◌, ◌<◌, List, [], �
 use Rattle.hex.specs.Hex.{encode_upper}
 use Rattle.tlv_core.specs.Fill.{HasDuplicate}
 use Rattle.tlv_core.specs.declared.known.Known.{Known}
-use Rattle.card_words.specs.Known.{format_of, tag_of_word}
-use Rattle.card_words.specs.Value.{parted}
-use Rattle.card_words.specs.declared.fault.Fault.{Fault}
+use Rattle.program_words.specs.Known.{format_of, tag_of_word}
+use Rattle.program_words.specs.Value.{parted}
+use Rattle.program_words.specs.declared.fault.Fault.{Fault}
 use Rattle.explainer.specs.Notes.{word_note}
 use Rattle.explainer.specs.Places.{place_of, places}
 use Rattle.explainer.specs.Words.{digits_note, first_note, hex_note, or_note}

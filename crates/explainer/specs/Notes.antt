@@ -12,9 +12,9 @@ use Rattle.atr_core.specs.declared.reason.AtrReason.{AtrReason}
 use Rattle.shortfall.specs.Apdu.{command_least, response_least}
 use Rattle.shortfall.specs.Block.{block_least}
 use Rattle.shortfall.specs.List.{list_least}
-use Rattle.card_words.specs.declared.request.Kind.{Kind}
-use Rattle.card_words.specs.declared.request.Kind.TheVariants as kind
-use Rattle.card_words.specs.declared.session.Session.{Session}
+use Rattle.program_words.specs.declared.request.Kind.{Kind}
+use Rattle.program_words.specs.declared.request.Kind.TheVariants as kind
+use Rattle.program_words.specs.declared.session.Session.{Session}
 use Rattle.explainer.specs.Sentences.{atr_sentence, lack_sentence}
 
 -- the place of the first octet that is shown: at most 16 octets come before the marked one

@@ -3,7 +3,7 @@ use Rattle.std.specs.Prelude.{ℕ, Bool, ◌+◌, ◌-◌, ◌%◌, List, ◌++�
 use Rattle.std.specs.Char.{is_ascii_hexdigit}
 use Rattle.std.specs.List.{slice_split}
 use Rattle.octet_core.specs.Words.{first_word}
-use Rattle.card_words.specs.PairLines.{is_line_end}
+use Rattle.program_words.specs.PairLines.{is_line_end}
 use Rattle.explainer.specs.Texts.{wrong_note}
 use Rattle.explainer.specs.declared.hexadecimal.Wrong.{Wrong}
 use Rattle.explainer.specs.declared.hexadecimal.Wrong.TheVariants.{Digit, Odd, NoReply, Third}

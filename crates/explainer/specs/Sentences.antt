@@ -14,8 +14,8 @@ use Rattle.tlv_core.specs.declared.reason.TlvReason.{TlvReason}
 use Rattle.tlv_core.specs.declared.reason.TlvReason.TheVariants as tlv
 use Rattle.tlv_core.specs.declared.reason.DolReason.{DolReason}
 use Rattle.tlv_core.specs.declared.reason.DolReason.TheVariants as dol
-use Rattle.card_words.specs.declared.given.Form.{Form}
-use Rattle.card_words.specs.declared.given.Form.TheVariants as form
+use Rattle.program_words.specs.declared.given.Form.{Form}
+use Rattle.program_words.specs.declared.given.Form.TheVariants as form
 use Rattle.dumps.specs.declared.no_dump.DumpWrong.{DumpWrong}
 use Rattle.dumps.specs.declared.no_dump.DumpWrong.TheVariants as dump
 use Rattle.atr_core.specs.declared.params.ParamFault.{ParamFault}

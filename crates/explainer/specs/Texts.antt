@@ -4,10 +4,10 @@ use Rattle.std.specs.Char.{is_ascii_hexdigit, is_ascii_whitespace}
 use Rattle.std.specs.List.{repeat, suffix_len}
 use Rattle.hex.specs.Hex.{encode_upper}
 use Rattle.octet_core.specs.Words.{is_blank}
-use Rattle.card_words.specs.Given.{octets_in}
-use Rattle.card_words.specs.declared.fault.Fault.{Fault}
-use Rattle.card_words.specs.declared.given.Form.{Form}
-use Rattle.card_words.specs.declared.given.Form.TheVariants as form
+use Rattle.program_words.specs.Given.{octets_in}
+use Rattle.program_words.specs.declared.fault.Fault.{Fault}
+use Rattle.program_words.specs.declared.given.Form.{Form}
+use Rattle.program_words.specs.declared.given.Form.TheVariants as form
 use Rattle.dumps.specs.Dump.{begins_with_offset}
 use Rattle.dumps.specs.DumpStop.{dump_stop}
 use Rattle.dumps.specs.OctalWords.{is_octal_words}

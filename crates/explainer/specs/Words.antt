@@ -6,10 +6,10 @@ use Rattle.clap.specs.Words.{fault_of}
 use Rattle.octet_core.specs.Words.{is_blank}
 use Rattle.chain_core.specs.Chain.{longest_message}
 use Rattle.command_line.specs.Form.{scard}
-use Rattle.card_words.specs.Session.{blocks_of}
-use Rattle.card_words.specs.Value.{parted}
-use Rattle.card_words.specs.Words.{clock_of, kind_of, number_of_word, one_end, size_of}
-use Rattle.card_words.specs.declared.fault.Fault.{Fault}
+use Rattle.program_words.specs.Session.{blocks_of}
+use Rattle.program_words.specs.Value.{parted}
+use Rattle.program_words.specs.Words.{clock_of, kind_of, number_of_word, one_end, size_of}
+use Rattle.program_words.specs.declared.fault.Fault.{Fault}
 use Rattle.explainer.specs.Notes.{digit_note, odd_note, word_note}
 use Rattle.explainer.specs.Places.{has_option, has_place, nth_word, option_place, option_value, place_of, places, subcommand, subcommand_place, word_at}
 use Rattle.explainer.specs.Texts.{is_mark}

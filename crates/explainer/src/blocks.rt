@@ -4,7 +4,7 @@ ghost use Rattle.std.specs.Prelude.{◌≡◌, [], None, Some, nat_lt, IfOk, OnO
 ghost use Rattle.std.specs.List.{list_any};
 ghost use Rattle.explainer.specs.Notes.{next_shown, run_text, unsent_shown, with_run, AreUnsentNotes, IsUnsentNote};
 
-use card_words::{BlockNumbers, Session};
+use program_words::{BlockNumbers, Session};
 use std::alloc::{AllocError, Global};
 
 /// The first and the last number of a range.

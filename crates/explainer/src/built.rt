@@ -2,15 +2,15 @@
 
 ghost use Rattle.std.specs.Prelude.{◌≡◌, is_ok, Some, IfOk, string_bytes};
 ghost use Rattle.command_line.specs.Form.{texts};
-ghost use Rattle.card_words.specs.Words.{number_of_word, size_of};
+ghost use Rattle.program_words.specs.Words.{number_of_word, size_of};
 ghost use Rattle.explainer.specs.Words.{build_note, chain_note, list_note, message_note, numbers_note, tidy_note};
 
 use crate::given::given_note;
 use crate::place::{has_option, place_of, word_at};
 use crate::word::said;
 use crate::words::{nth_note, option_note};
-use card_words::numerals::{number, size};
 use chain_core::LONGEST_MESSAGE;
+use program_words::numerals::{number, size};
 use std::alloc::{AllocError, Global};
 
 /// The note on a form of standard input if words give the octets.

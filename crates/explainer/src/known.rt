@@ -4,16 +4,16 @@ ghost use Rattle.std.specs.Prelude.{◌≡◌, ◌∷◌, bytes_eq, is_ok, IfOk,
 ghost use Rattle.std.specs.List.{position_or_len};
 ghost use Rattle.command_line.specs.Form.{texts};
 ghost use Rattle.tlv_core.specs.Fill.{HasDuplicate};
-ghost use Rattle.card_words.specs.Known.{tag_of_word};
+ghost use Rattle.program_words.specs.Known.{tag_of_word};
 ghost use Rattle.explainer.specs.Known.{known_note, tag_note, tagged_note, twice_note, value_note, IsFirstTwice, IsTwiceNote};
 
 use crate::pairs::sum;
 use crate::place::{place_of, word_at};
 use crate::word::{digits_note, hex_note, said};
-use card_words::Fault;
-use card_words::known::{format, tag};
-use card_words::value::parts;
 use octet_core::hex_upper;
+use program_words::Fault;
+use program_words::known::{format, tag};
+use program_words::value::parts;
 use std::alloc::{AllocError, Global};
 use std::collections::BTreeMap;
 use tlv_core::{Known, Tag};

@@ -5,8 +5,8 @@ ghost use Rattle.explainer.specs.Notes.{least_of, verdict_text};
 
 use crate::mark::{left, stop_note};
 use crate::reason::Explained;
-use card_words::Kind;
 use octet_core::Stop;
+use program_words::Kind;
 use shortfall::{block_least, command_least, list_least, response_least};
 use std::alloc::{AllocError, Global};
 

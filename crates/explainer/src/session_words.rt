@@ -7,9 +7,9 @@ ghost use Rattle.explainer.specs.Words.{has_both, is_list, is_wrong_clock, is_wr
 use crate::place::{has_option, option_value, place_of, word_at};
 use crate::word::{hex_note, said};
 use crate::words::{nth_note, option_note};
-use card_words::value::parts;
-use card_words::words::{clock, one_end};
-use card_words::{Fault, read_blocks};
+use program_words::value::parts;
+use program_words::words::{clock, one_end};
+use program_words::{Fault, read_blocks};
 use std::alloc::{AllocError, Global};
 
 /// Returns the note on the end that is judged, the clock, and an answer to reset.

@@ -6,9 +6,9 @@ ghost use Rattle.explainer.specs.Texts.{begins_with_mark, first_note, has_other_
 
 use crate::hexadecimal::hexadecimal_note;
 use crate::misread::{dump_note, source_note};
-use card_words::{Fault, Form};
 use dumps::{begins_with_offset, is_octal_words};
 use octet_core::Octets;
+use program_words::{Fault, Form};
 use std::alloc::{AllocError, Global};
 
 /// The note on a dump that is read as hexadecimal.

@@ -12,8 +12,8 @@ use crate::message::{shown_words, without_advice};
 use crate::place::{option_place, place_of, subcommand_place, word_at};
 use crate::session_words::{judge_note, session_note};
 use crate::word::{hex_note, said};
-use card_words::words::kind;
 use command_line::parser_message;
+use program_words::words::kind;
 use std::alloc::{AllocError, Global};
 
 /// Returns the explanation of words, the first of which is the program's name. If the parser of command lines refuses

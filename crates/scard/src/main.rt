@@ -1,10 +1,10 @@
-//! The program `scard`. Its standard output and its exit status come from card_tool.
+//! The program `scard`. Its standard output and its exit status come from program.
 #![tactic(auto)]
 
 mod notice;
 
-use card_tool::{Counted, serve};
 use notice::Announced;
+use program::{Counted, serve};
 use std::process::ExitCode;
 
 fn main(rt: HostRuntime) -> ExitCode {

@@ -22,8 +22,8 @@ use Rattle.t1_core.specs.declared.turns.CardFault.TheVariants.{TooLong as ReplyT
 use Rattle.t1_core.proofs.Good.{Good}
 use Rattle.t1_core.proofs.Kept.{good_always}
 use Rattle.t1_core.proofs.Promised.{in_step_when_idle}
-use Rattle.card_words.specs.declared.session.Pair.{Pair}
-use Rattle.card_words.specs.declared.session.Session.{Session}
+use Rattle.program_words.specs.declared.session.Pair.{Pair}
+use Rattle.program_words.specs.declared.session.Session.{Session}
 use Rattle.exchange_core.specs.Recording.{Recording, link_of, events_of, outcome_of, recorded, with_outcome, under_way_of, added, terminal_outcome, card_outcome, arrival_outcome, loss_outcome, whole, IsSent}
 use Rattle.exchange_core.specs.Records.{after_event}
 use Rattle.exchange_core.specs.Replay.{IsFound, size_of}

@@ -3,7 +3,7 @@ use Rattle.std.proofs.Common.{◌≡◌, ◌<◌, ◌≤◌, ◌+◌, ◌++◌, 
 use Rattle.std.specs.Result.{result_unwrap_or}
 use Rattle.t1_core.specs.Link as link
 use Rattle.t1_core.specs.Link.{UnderWay, nothing, to_card, to_terminal}
-use Rattle.card_words.specs.declared.session.Session.{Session}
+use Rattle.program_words.specs.declared.session.Session.{Session}
 use Rattle.exchange_core.specs.Recording.{Recording, added, arrival_outcome, closed, outcome_of, recorded, untold, with_outcome, link_of, whole}
 use Rattle.exchange_text.specs.Text.{exchange_text, header_text, line_text, lines_text, octets_text}
 use Rattle.exchange_core.specs.declared.event.EventFault.{EventFault}

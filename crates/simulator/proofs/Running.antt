@@ -8,8 +8,8 @@ use Rattle.exchange_core.specs.declared.event.EventFault.{EventFault}
 use Rattle.exchange_core.specs.declared.event.EventFault.TheVariants.{NothingUnderWay, Terminal as AtTerminal, Card as AtCard, Memory}
 use Rattle.exchange_core.specs.declared.event.LastTurn.{LastTurn}
 use Rattle.exchange_core.specs.declared.event.LastTurn.TheVariants.{Nothing, Terminal, Card}
-use Rattle.card_words.specs.declared.session.Pair.{Pair}
-use Rattle.card_words.specs.declared.session.Session.{Session}
+use Rattle.program_words.specs.declared.session.Pair.{Pair}
+use Rattle.program_words.specs.declared.session.Session.{Session}
 use Rattle.exchange_text.specs.declared.line.Line.{Line}
 use Rattle.exchange_text.specs.Exchange.{ExchangeParts}
 use Rattle.exchange_core.specs.Replay.{IsFound}

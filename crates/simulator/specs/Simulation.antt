@@ -4,8 +4,8 @@ use Rattle.std.specs.List.{list_any}
 use Rattle.std.specs.HashSet.{contains, HashSet}
 use Rattle.std.specs.declared.hash.BuildHasherDefault.{BuildHasherDefault}
 use Rattle.std.specs.declared.hash.FoldHasher.{FoldHasher}
-use Rattle.card_words.specs.declared.session.Pair.{Pair}
-use Rattle.card_words.specs.declared.session.Session.{Session}
+use Rattle.program_words.specs.declared.session.Pair.{Pair}
+use Rattle.program_words.specs.declared.session.Session.{Session}
 use Rattle.t1_core.specs.Terminal.{longest}
 use Rattle.t1_core.specs.Link as link
 use Rattle.t1_core.specs.declared.turns.TerminalTurn.TheVariants.{Send, Answered, IfsSet, GivenUp, Dead}

@@ -3,10 +3,10 @@
 ghost use Rattle.std.specs.Prelude.{◌≡◌, IfOk};
 ghost use Rattle.exchange_core.specs.Recording.{event_of};
 ghost use Rattle.simulator.specs.Simulation.{fate, AreFates, HasBlocks};
-ghost use Rattle.card_words.specs.declared.session.Session.{Session};
+ghost use Rattle.program_words.specs.declared.session.Session.{Session};
 
-use card_words::{BlockNumbers, Session};
 use exchange_core::Event;
+use program_words::{BlockNumbers, Session};
 use std::alloc::{AllocError, Global};
 use std::collections::HashSet;
 

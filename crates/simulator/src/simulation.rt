@@ -7,14 +7,14 @@ ghost use Rattle.exchange_core.specs.Replay.{Replays};
 ghost use Rattle.exchange_core.specs.Told.{AnswersAreReplies};
 ghost use Rattle.exchange_core.specs.declared.event.EventFault.{EventFault};
 ghost use Rattle.block_core.specs.declared.side.Side.TheVariants as side;
-ghost use Rattle.card_words.specs.declared.session.Session.{Session};
+ghost use Rattle.program_words.specs.declared.session.Session.{Session};
 ghost use Rattle.simulator.specs.declared.fault.SimulationFault.{SimulationFault};
 ghost use Rattle.simulator.specs.Simulation.{begins, most_events, next, sends, simulated, start, AreFates, IfTooLarge, IsSimulated, WhereTooLarge};
 
 use crate::fates::Fates;
 use crate::fault::SimulationFault;
-use card_words::{Pair, Session};
 use exchange_core::{Event, EventFault, Exchange, LastTurn, Recorder};
+use program_words::{Pair, Session};
 use std::alloc::Global;
 use std::marker::Model;
 use t1_core::{CardTurn, TerminalTurn};

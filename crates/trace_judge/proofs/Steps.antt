@@ -10,11 +10,11 @@ use Rattle.judge_times.specs.declared.timing.Early.{Early}
 use Rattle.judge_times.specs.declared.timing.Late.{Late}
 use Rattle.judge_times.specs.declared.timing.Timing.{Timing}
 use Rattle.judge_times.specs.Waiting.{early_as, late_as, timed_as}
-use Rattle.trace_judge.specs.Judging.{early_from, is_ok, judged_text, late_from, late_now, place_of, told_block, told_early, told_exercise, told_late, told_monitored, told_report, with_summary, IsConcluded, Standing}
+use Rattle.trace_judge.specs.Judging.{early_from, is_ok, judged_text, late_from, late_now, place_of, told_block, told_early, told_exercise, told_late, told_monitored, told_report, with_summary, IsConcluded, JudgeState}
 use Rattle.trace_judge.specs.Coverage.{with_coverage}
 
 -- a block: the report on it
-pub told-report : (s old counted told : Standing) (monitor : Monitor) (from : Side) (b : List ℕ) (exercise : Exercise)
+pub told-report : (s old counted told : JudgeState) (monitor : Monitor) (from : Side) (b : List ℕ) (exercise : Exercise)
     (over : Bool) (report : Report) (timing : Timing) (place : Place) → s ≡ old → place ≡ place_of old b
     → timing ≡ timed_as report.said s.timing from (length b)
     → counted ≡ told_exercise (record s { monitor = monitor; begun = true; timing = timing }) from exercise
@@ -22,17 +22,17 @@ pub told-report : (s old counted told : Standing) (monitor : Monitor) (from : Si
     → told ≡ told_monitored s monitor from b exercise report
 told-report s old counted told monitor from b exercise over report timing place same here moved covers ended tells =
     tells ∙ ap (λ (p : Place). told_report counted p from over report)
-    (here ∙ ap (λ (m : Standing). place_of m b) (sym same))
-    ∙ ap (λ (m : Standing). told_report m (place_of s b) from over report) covers
+    (here ∙ ap (λ (m : JudgeState). place_of m b) (sym same))
+    ∙ ap (λ (m : JudgeState). told_report m (place_of s b) from over report) covers
     ∙ ap (λ (t : Timing). told_report (told_exercise
     (record s { monitor = monitor; begun = true; timing = t }) from exercise) (place_of s b) from over report) moved
     ∙ ap (λ (o : Bool). told_report (told_exercise
     (record s { monitor = monitor; begun = true; timing = timed_as report.said s.timing from (length b) })
     from exercise) (place_of s b) from o report)
-    (ended ∙ ap (λ (m : Standing). is_some (late_now m)) (sym same))
+    (ended ∙ ap (λ (m : JudgeState). is_some (late_now m)) (sym same))
 
 -- and then whether it was late or early
-pub told-by : (s old told later after : Standing) (monitor : Monitor) (from : Side) (b : List ℕ) (exercise : Exercise)
+pub told-by : (s old told later after : JudgeState) (monitor : Monitor) (from : Side) (b : List ℕ) (exercise : Exercise)
     (report : Report) (late : Option Late) (early : Option Early) (named_late : Option Late)
     (named_early : Option Early) (place : Place) → s ≡ old → place ≡ place_of old b
     → told ≡ told_monitored s monitor from b exercise report
@@ -43,28 +43,28 @@ pub told-by : (s old told later after : Standing) (monitor : Monitor) (from : Si
 told-by s old told later after monitor from b exercise report late early named_late named_early place same here tells is
     names_late then too names_early last =
     let number = s.monitor.terminal.number in
-    let at = here ∙ ap (λ (m : Standing). place_of m b) (sym same) in
+    let at = here ∙ ap (λ (m : JudgeState). place_of m b) (sym same) in
     last ∙ ap (told_early later place) names_early
     ∙ ap (λ (p : Place). told_early later p (early_as report.said early)) at
-    ∙ ap (λ (m : Standing). told_early m (place_of s b) (early_as report.said early))
+    ∙ ap (λ (m : JudgeState). told_early m (place_of s b) (early_as report.said early))
     (then ∙ ap (told_late told place number) names_late
     ∙ ap (λ (p : Place). told_late told p number (late_as report.said late)) at
-    ∙ ap (λ (m : Standing). told_late m (place_of s b) number (late_as report.said late)) tells
+    ∙ ap (λ (m : JudgeState). told_late m (place_of s b) number (late_as report.said late)) tells
     ∙ ap (λ (l : Option Late). told_late (told_monitored s monitor from b exercise report) (place_of s b) number
     (late_as report.said l))
-    (is ∙ ap (λ (m : Standing). late_from m from) (sym same)))
+    (is ∙ ap (λ (m : JudgeState). late_from m from) (sym same)))
     ∙ ap (λ (e : Option Early). told_early
     (told_late (told_monitored s monitor from b exercise report) (place_of s b) number
     (late_as report.said (late_from s from)))
     (place_of s b) (early_as report.said e))
-    (too ∙ ap (λ (m : Standing). early_from m from) (sym same))
+    (too ∙ ap (λ (m : JudgeState). early_from m from) (sym same))
 
 -- the end: what is said of rules and states, and then the counts
-pub concluded-by : (s m : Standing) (judgment : Judgment) (covered : List ℕ) → m ≡ s
+pub concluded-by : (s m : JudgeState) (judgment : Judgment) (covered : List ℕ) → m ≡ s
     → covered ≡ with_coverage m.scope.layout m.scope.rules m.text m.coverage
     → judgment.text ≡ with_summary m.scope.layout covered m.monitor.blocks m.tally
     → judgment.is_ok ≡ is_ok m.tally → IsConcluded s judgment
 concluded-by s m judgment covered is counts text ok = record {
   text = text ∙ ap (λ (t : List ℕ). with_summary m.scope.layout t m.monitor.blocks m.tally) counts ∙ ap judged_text is;
-  is_ok = ok ∙ ap (λ (e : Standing). is_ok e.tally) is;
+  is_ok = ok ∙ ap (λ (e : JudgeState). is_ok e.tally) is;
 }

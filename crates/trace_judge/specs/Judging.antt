@@ -48,7 +48,7 @@ use Rattle.trace_judge.specs.Telling.{with_certain, with_deviation, with_early, 
 use Rattle.judge_times.specs.Waiting.{earliness, early_as, late_as, lateness, new_timing, past, timed_as, untimed, Offered, Rates}
 
 -- The state of the judgment after the lines so far.
-pub record Standing : Type 0 where
+pub record JudgeState : Type 0 where
   pub monitor : Monitor
   -- what the card's answer to reset offers
   pub offered : Offered
@@ -78,7 +78,7 @@ nothing_told = record {
   card_damaged = 0;
 }
 
-abbrev pub start : Offered → Scope → Standing
+abbrev pub start : Offered → Scope → JudgeState
 start offered scope = record {
   monitor = new_monitor offered.values.ifsc;
   offered = offered;
@@ -122,17 +122,17 @@ damaged_of Terminal tally = record tally { terminal_damaged = number_after tally
 damaged_of Card tally = record tally { card_damaged = number_after tally.card_damaged }
 
 -- the standing with this text and this tally, if this end is judged
-abbrev pub tells : Standing → Side → Tally → List ℕ → Standing
+abbrev pub tells : JudgeState → Side → Tally → List ℕ → JudgeState
 tells s side tally text =
     if is_judged s.scope.only side then record s { tally = tally; text = text } else s
 
 -- the standing with what a block of an end exercised, if this end is judged
-abbrev pub told_exercise : Standing → Side → Exercise → Standing
+abbrev pub told_exercise : JudgeState → Side → Exercise → JudgeState
 told_exercise s side exercise =
     if is_judged s.scope.only side then record s { coverage = covered side exercise s.coverage } else s
 
 -- the standing after a card sent no block
-abbrev pub told_silence : Standing → Silence → Standing
+abbrev pub told_silence : JudgeState → Silence → JudgeState
 told_silence s No = s
 told_silence s (Possible number) =
     tells s Card (unseen_in s.tally) (with_possible s.scope.layout s.text s.number number)
@@ -141,7 +141,7 @@ told_silence s (Certain number) =
     (Breaks SilenceRule None)
 
 -- the standing after a block of an end
-abbrev pub told_verdict : Standing → Place → Side → ℕ → Verdict → Standing
+abbrev pub told_verdict : JudgeState → Place → Side → ℕ → Verdict → JudgeState
 told_verdict s place from before Permitted = s
 told_verdict s place from before Unseen =
     tells s from (unseen_in s.tally) (with_unseen s.scope.layout s.text place s.monitor.blocks from before)
@@ -151,51 +151,51 @@ told_verdict s place from before (Deviates broken due) =
 
 -- The standing after a block of another logical connection. The judgment names it whichever end is judged, since nobody
 -- judges what the other end owes there.
-abbrev pub told_elsewhere : Standing → Place → Side → Standing
+abbrev pub told_elsewhere : JudgeState → Place → Side → JudgeState
 told_elsewhere s place from = record s {
   tally = elsewhere_in s.tally;
   text = with_elsewhere s.scope.layout s.text place s.monitor.blocks from;
 }
 
-abbrev pub told_said : Standing → Place → Side → ℕ → Said → Standing
+abbrev pub told_said : JudgeState → Place → Side → ℕ → Said → JudgeState
 told_said s place from before Damage = tells s from (damaged_of from s.tally) s.text
 told_said s place from before Elsewhere = told_elsewhere s place from
 told_said s place from before (Judged verdict) = told_verdict s place from before verdict
 
 -- The standing after a card sent no block before the terminal's next one. If it got the terminal's block, it deviates
 -- only if its time was over; else the terminal may have sent too early.
-abbrev pub told_missing : Standing → Bool → Silence → Standing
+abbrev pub told_missing : JudgeState → Bool → Silence → JudgeState
 told_missing s over No = s
 told_missing s over (Possible number) = told_silence s (Possible number)
 told_missing s true (Certain number) = told_silence s (Certain number)
 told_missing s false (Certain number) =
     tells s Card (unseen_in s.tally) (with_unwaited s.scope.layout s.text s.number number)
 
-abbrev pub told_report : Standing → Place → Side → Bool → Report → Standing
+abbrev pub told_report : JudgeState → Place → Side → Bool → Report → JudgeState
 told_report s place from over report =
     told_said (told_missing s over report.silence) place from report.before report.said
 
 -- by how much a card's block would be late now
-abbrev pub late_now : Standing → Option Late
+abbrev pub late_now : JudgeState → Option Late
 late_now s = lateness s.offered.values s.scope.clock s.timing s.monitor.card.heard
 
 -- Whether a card's block is late, from what was known before it.
-abbrev pub late_from : Standing → Side → Option Late
+abbrev pub late_from : JudgeState → Side → Option Late
 late_from s Terminal = None
 late_from s Card = late_now s
 
 -- Whether a terminal's block is early, from what was known before it.
-abbrev pub early_from : Standing → Side → Option Early
+abbrev pub early_from : JudgeState → Side → Option Early
 early_from s Terminal = earliness s.offered.values s.scope.clock s.timing s.monitor.card.heard
 early_from s Card = None
 
-abbrev pub told_late : Standing → Place → ℕ → Option Late → Standing
+abbrev pub told_late : JudgeState → Place → ℕ → Option Late → JudgeState
 told_late s place before None = s
 told_late s place before (Some late) =
     tells s Card (late_in s.tally) (with_late s.scope.layout s.text place s.monitor.blocks before late)
 
 -- the block before a terminal's early one is the last of both ends
-abbrev pub told_early : Standing → Place → Option Early → Standing
+abbrev pub told_early : JudgeState → Place → Option Early → JudgeState
 told_early s place None = s
 told_early s place (Some early) = tells s Terminal (early_in s.tally)
     (with_early s.scope.layout s.text place s.monitor.blocks (s.monitor.blocks - 1) early)
@@ -222,7 +222,7 @@ abbrev pub rates_text : Option ℕ → Option ℕ → List ℕ
 rates_text f d = codes "pps F " ++ (rate_text f ++ (codes " D " ++ (rate_text d ++ codes "\n")))
 
 -- octets before the first block, with FF instead of a node address
-abbrev pub is_before : Standing → List ℕ → Bool
+abbrev pub is_before : JudgeState → List ℕ → Bool
 is_before s octets = not s.begun && (slice_index octets 0 == 255)
 
 abbrev pub with_pps : Layout → List ℕ → ℕ → List ℕ
@@ -238,7 +238,7 @@ abbrev pub pps_timed : Timing → Side → List ℕ → Timing
 pps_timed timing Terminal octets = past timing
 pps_timed timing Card octets = record (past timing) { rates = rates_at (pps1_of octets) }
 
-abbrev pub told_before : Standing → Side → List ℕ → Standing
+abbrev pub told_before : JudgeState → Side → List ℕ → JudgeState
 told_before s from octets = record s {
   timing = if is_pps octets then pps_timed s.timing from octets else past s.timing;
   text = if is_pps octets then with_pps_of s.scope.layout s.text from octets
@@ -264,11 +264,11 @@ ExercisesIf true monitor from octets arrival exercise = Exercises monitor from o
 ExercisesIf false monitor from octets arrival exercise = exercise ≡ Unknown
 
 -- where octets are that come now
-abbrev pub place_of : Standing → List ℕ → Place
+abbrev pub place_of : JudgeState → List ℕ → Place
 place_of s octets = record { line = s.number; moment = s.timing.now; octets = octets }
 
 -- the standing with what the monitor says of a block
-abbrev pub told_monitored : Standing → Monitor → Side → List ℕ → Exercise → Report → Standing
+abbrev pub told_monitored : JudgeState → Monitor → Side → List ℕ → Exercise → Report → JudgeState
 told_monitored s monitor from octets exercise report = told_report (told_exercise (record s {
   monitor = monitor;
   begun = true;
@@ -277,14 +277,14 @@ told_monitored s monitor from octets exercise report = told_report (told_exercis
 
 -- The standing after a block: it counts what the block exercised, reports what the monitor says, and then whether the
 -- block was late or early.
-abbrev pub told_block : Standing → Monitor → Side → List ℕ → Exercise → Report → Standing
+abbrev pub told_block : JudgeState → Monitor → Side → List ℕ → Exercise → Report → JudgeState
 told_block s monitor from octets exercise report = told_early (told_late
     (told_monitored s monitor from octets exercise report) (place_of s octets) s.monitor.terminal.number
     (late_as report.said (late_from s from)))
     (place_of s octets) (early_as report.said (early_from s from))
 
 -- The monitor takes octets of an end, and s' is the standing with its report.
-pub record IsTold (s : Standing) (from : Side) (octets : List ℕ) (reach : Reach) (s' : Standing) : Type 0 where
+pub record IsTold (s : JudgeState) (from : Side) (octets : List ℕ) (reach : Reach) (s' : JudgeState) : Type 0 where
   pub arrival : Arrival
   pub is_arrival : IsArrival reach arrival
   pub monitor : Monitor
@@ -294,15 +294,15 @@ pub record IsTold (s : Standing) (from : Side) (octets : List ℕ) (reach : Reac
   pub exercises : ExercisesIf s.scope.rules s.monitor from octets arrival exercise
   pub told : s' ≡ told_block s monitor from octets exercise report
 
-abbrev pub IsBlockTold : Bool → Standing → Side → List ℕ → Reach → Standing → Type 0
+abbrev pub IsBlockTold : Bool → JudgeState → Side → List ℕ → Reach → JudgeState → Type 0
 IsBlockTold true s from octets reach s' = s' ≡ told_before s from octets
 IsBlockTold false s from octets reach s' = IsTold s from octets reach s'
 
-abbrev pub quietened : Standing → Standing
+abbrev pub quietened : JudgeState → JudgeState
 quietened s = told_silence (record s { monitor = quiet_after s.monitor; timing = past s.timing })
     (silence_of s.monitor.card.heard s.monitor.terminal.number)
 
-abbrev pub renewed : Standing → Standing
+abbrev pub renewed : JudgeState → JudgeState
 renewed s = record s {
   monitor = reset_after s.monitor s.offered.values.ifsc;
   begun = false;
@@ -310,20 +310,20 @@ renewed s = record s {
 }
 
 -- the standing at a place where the trace begins in the midst of a session
-abbrev pub midway : Standing → Standing
+abbrev pub midway : JudgeState → JudgeState
 midway s = record s {
   monitor = midway_after s.monitor;
   begun = true;
   timing = untimed s.timing;
 }
 
-abbrev pub at_moment : Standing → ℕ → Standing
+abbrev pub at_moment : JudgeState → ℕ → JudgeState
 at_moment s moment = record s { least = moment; timing = record s.timing { now = Some moment; until = None } }
 
-abbrev pub until_moment : Standing → ℕ → Standing
+abbrev pub until_moment : JudgeState → ℕ → JudgeState
 until_moment s moment = record s { least = moment; timing = record s.timing { until = Some moment } }
 
-abbrev pub IsEntered : Standing → Entry → Standing → Type 0
+abbrev pub IsEntered : JudgeState → Entry → JudgeState → Type 0
 IsEntered s Nothing s' = s' ≡ s
 IsEntered s Quiet s' = s' ≡ quietened s
 IsEntered s Reset s' = s' ≡ renewed s
@@ -332,7 +332,7 @@ IsEntered s (Moment moment) s' = (s.least ≤ moment) × (s' ≡ at_moment s mom
 IsEntered s (Until moment) s' = (s.least ≤ moment) × (s' ≡ until_moment s moment)
 IsEntered s (Block from octets reach) s' = IsBlockTold (is_before s octets) s from octets reach s'
 
-abbrev pub IsFalling : Standing → Entry → Type 0
+abbrev pub IsFalling : JudgeState → Entry → Type 0
 IsFalling s Nothing = ⊥
 IsFalling s Quiet = ⊥
 IsFalling s Reset = ⊥
@@ -342,20 +342,20 @@ IsFalling s (Until moment) = moment < s.least
 IsFalling s (Block from octets reach) = ⊥
 
 -- A line is taken, or has a fault.
-abbrev pub JudgesLine : Standing → List ℕ → Standing → Type 0
+abbrev pub JudgesLine : JudgeState → List ℕ → JudgeState → Type 0
 JudgesLine s line s' = MatchResult (entry_of s.number line)
-    (λ entry. (m : Standing) × IsEntered s entry m × (s' ≡ record m { number = s.number + 1 }))
+    (λ entry. (m : JudgeState) × IsEntered s entry m × (s' ≡ record m { number = s.number + 1 }))
     (λ fault. ⊥)
 
-abbrev pub Fails : Standing → List ℕ → ExchangeFault → Type 0
+abbrev pub Fails : JudgeState → List ℕ → ExchangeFault → Type 0
 Fails s line fault = MatchResult (entry_of s.number line)
     (λ entry. IsFalling s entry × (fault ≡ Falls s.number))
     (λ wrong. fault ≡ wrong)
 
-abbrev pub JudgesLines : Standing → List (List ℕ) → Result Standing ExchangeFault → Type 0
+abbrev pub JudgesLines : JudgeState → List (List ℕ) → Result JudgeState ExchangeFault → Type 0
 JudgesLines s [] result = result ≡ Ok s
 JudgesLines s (line ∷ lines) result =
-    ((m : Standing) × JudgesLine s line m × JudgesLines m lines result)
+    ((m : JudgeState) × JudgesLine s line m × JudgesLines m lines result)
     ⊎ ((fault : ExchangeFault) × Fails s line fault × (result ≡ Err fault))
 
 -- ---- the end
@@ -477,20 +477,20 @@ with_summary Json items blocks tally = summary_members blocks tally items
 
 -- The whole text of a standing at the end. That a card sent nothing is said after the terminal's waiting time or at its
 -- next block, and not at the end: no time passes there.
-abbrev pub judged_text : Standing → List ℕ
+abbrev pub judged_text : JudgeState → List ℕ
 judged_text s = with_summary s.scope.layout (with_coverage s.scope.layout s.scope.rules s.text s.coverage)
     s.monitor.blocks s.tally
 
-pub record IsConcluded (s : Standing) (judgment : Judgment) : Type 0 where
+pub record IsConcluded (s : JudgeState) (judgment : Judgment) : Type 0 where
   pub text : judgment.text ≡ judged_text s
   pub is_ok : judgment.is_ok ≡ is_ok s.tally
 
-abbrev pub Concludes : Result Standing ExchangeFault → Result Judgment ExchangeFault → Type 0
+abbrev pub Concludes : Result JudgeState ExchangeFault → Result Judgment ExchangeFault → Type 0
 Concludes (Ok s) result = MatchResult result (IsConcluded s) (λ fault. ⊥)
 Concludes (Err fault) result = result ≡ Err fault
 
 -- The judgment on a text for a card that offers this: its lines, or the first fault; or out of memory.
 abbrev pub Judges : Offered → Scope → List ℕ → Result Judgment ExchangeFault → Type 0
 Judges offered scope text result = (result ≡ Err Memory)
-    ⊎ ((all : Result Standing ExchangeFault)
+    ⊎ ((all : Result JudgeState ExchangeFault)
     × JudgesLines (start offered scope) (slice_split is_line_end text) all × Concludes all result)

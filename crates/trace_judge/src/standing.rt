@@ -52,7 +52,7 @@ pub struct Judgment {
 /// directly before the terminal's block: the moment at which that began, or its last octet (ISO/IEC 7816-3:2006,
 /// 11.4.3). In the same way a terminal's block can be early after the block before.
 #[derive(Drop)]
-pub struct Standing {
+pub struct JudgeState {
     monitor: Monitor,
     offer: Offer,
     scope: Scope,
@@ -67,11 +67,11 @@ pub struct Standing {
     text: String,
 }
 
-impl Model for Standing {
+impl Model for JudgeState {
     ghost use Rattle.std.specs.Prelude.{string_bytes};
     ghost use Rattle.trace_judge.specs.Judging as judging;
 
-    ghost Value = { judging.Standing };
+    ghost Value = { judging.JudgeState };
 
     ghost view = { λ s. record {
       monitor = s.monitor;
@@ -87,14 +87,14 @@ impl Model for Standing {
     } };
 }
 
-impl Standing {
+impl JudgeState {
     /// Returns the state before the first line, for a card that offers this.
-    pub fn new(alloc: Global, offer: Offer, scope: Scope) -> Standing
+    pub fn new(alloc: Global, offer: Offer, scope: Scope) -> JudgeState
         ensures { result ≡ start offer scope }
     {
         let monitor = Monitor::new(offer.params.ifsc());
         let timing = Timing::new(offer.rates);
-        Standing {
+        JudgeState {
             monitor,
             offer,
             scope,

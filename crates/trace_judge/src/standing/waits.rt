@@ -8,7 +8,7 @@ ghost use Rattle.judge_core.specs.declared.monitor.Silence.TheVariants as Silenc
 ghost use Rattle.trace_judge.specs.Judging.{early_from, late_from, late_now, place_of, told_early, told_elsewhere, told_late, told_missing, told_silence, IsEntered, IsFalling};
 ghost use Rattle.trace_judge.specs.Places.{placed};
 
-use super::Standing;
+use super::JudgeState;
 use crate::place::Place;
 use crate::telling::{
     tell_certain, tell_early, tell_elsewhere, tell_late, tell_possible, tell_unwaited,
@@ -18,7 +18,7 @@ use judge_core::{Exercise, Rule, Side, Silence};
 use judge_times::{Early, Late, earliness, lateness};
 use std::alloc::{AllocError, Global};
 
-impl Standing {
+impl JudgeState {
     /// Takes the moment at which the next block begins.
     pub(super) fn moment(&mut self, moment: u64) -> Result<(), ExchangeFault>
         ensures said { OnOk result (IsEntered self.old (Moment moment) self.new) }

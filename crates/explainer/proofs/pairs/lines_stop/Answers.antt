@@ -4,7 +4,7 @@ use Rattle.std.proofs.lemmas.Iterator.Splits.{YieldsList-from_slice_split}
 use Rattle.std.proofs.lemmas.List.{length_push}
 use Rattle.std.proofs.lemmas.Result.{IfOk-weaker}
 use Rattle.std.specs.List.{slice_split}
-use Rattle.card_words.specs.PairLines.{is_line_end}
+use Rattle.program_words.specs.PairLines.{is_line_end}
 use Rattle.explainer.specs.Pairs.{lines_stop}
 use Rattle.explainer.proofs.Pairing.{line-right, line-wrong, lines-right}
 use Rattle.explainer.proofs.pairs.lines_stop.Goals as goal

@@ -1,6 +1,6 @@
 use Rattle.std.proofs.Common.{◌≡◌, drop, length}
 use Rattle.std.specs.List.{slice_split}
-use Rattle.card_words.specs.PairLines.{is_line_end}
+use Rattle.program_words.specs.PairLines.{is_line_end}
 use Rattle.explainer.specs.Pairs.{lines_stop}
 use Rattle.explainer.proofs.pairs.lines_stop.Given as goal
 

@@ -1,8 +1,0 @@
-use Rattle.std.proofs.lemmas.Result.{IfOk-weaker}
-use Rattle.card_tool.proofs.ExchangeNotes.{of-exchange}
-use Rattle.card_tool.proofs.exchange.told.Goals as goal
-
-pub returns-in-Ok : goal.returns-in-Ok
-returns-in-Ok c = IfOk-weaker c.told_of.result _ _
-    (λ made h. of-exchange c.args.task c.args.file.now c.in-Ok.exchange made c.in-Ok.ensures.said h)
-    c.told_of.ensures

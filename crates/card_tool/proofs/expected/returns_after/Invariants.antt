@@ -1,6 +1,0 @@
-use Rattle.std.proofs.Common.{◌≡◌, drop}
-use Rattle.card_tool.specs.FileNotes.{returns_after}
-use Rattle.card_tool.proofs.expected.returns_after.Given as goal
-
-abbrev pub invariant-loop-octet : goal.invariant-loop-octet
-invariant-loop-octet l = returns_after l.last (drop l.octet-index l.text) ≡ returns_after l.before l.text

@@ -1,5 +1,0 @@
-use Rattle.std.proofs.Common.{◌∙◌}
-use Rattle.card_tool.proofs.host.serve.Goals as goal
-
-pub returns : goal.returns
-returns g c = (c.done-status.result, c.from.ensures ∙ c.number.ensures, c.done-status.ensures)

@@ -1,9 +1,0 @@
-use Rattle.card_tool.proofs.Explaining.{says-by}
-use Rattle.card_tool.proofs.judged.checked_by.Goals as goal
-
-pub returns : goal.returns
-returns g c = (
-  c.in_ok-answer.ensures.told,
-  says-by c.args.telling.explains (g.C.Codec.codec c.args.telling.task.expected) _ _ c.args.octets.now _
-      c.asked_note-note.result c.in_ok-answer.ensures.verdict c.asked_note-note.ensures,
-)

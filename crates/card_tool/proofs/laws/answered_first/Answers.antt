@@ -1,6 +1,0 @@
-use Rattle.card_tool.proofs.Waiting.{waits}
-use Rattle.card_tool.proofs.laws.answered_first.Goals as goal
-
-pub returns : goal.returns
-returns c = λ telling events before after event ended lines is hears.
-    waits telling events before after event ended lines is hears

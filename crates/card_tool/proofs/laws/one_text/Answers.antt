@@ -1,5 +1,0 @@
-use Rattle.card_tool.proofs.OneText.{one-text, some-text}
-use Rattle.card_tool.proofs.laws.one_text.Goals as goal
-
-pub returns : goal.returns
-returns c = record { some = some-text; one = one-text }

@@ -1,7 +1,0 @@
-use Rattle.std.proofs.Common.{refl}
-use Rattle.card_tool.specs.Answers.{cut}
-use Rattle.card_tool.proofs.program.write.Goals as goal
-
-pub returns-in-Err : goal.returns-in-Err
-returns-in-Err g c = cut c.in-Err.field-0.written c.in-Err.ensures.fewer c.in-Err.ensures.first c.in-Err.ensures.failed
-    refl

@@ -1,7 +1,0 @@
-use Rattle.std.proofs.lemmas.Result.{IfOk-weaker}
-use Rattle.card_tool.proofs.Records.{of-items}
-use Rattle.card_tool.proofs.recording.recorded.Goals as goal
-
-pub returns-in-Ok : goal.returns-in-Ok
-returns-in-Ok c = IfOk-weaker c.recorded_items.result _ _
-    (λ made h. of-items c.args.atr.now c.args.text.now c.in-Ok.trace made c.in-Ok.ensures h) c.recorded_items.ensures

@@ -1,5 +1,0 @@
-use Rattle.std.proofs.Common.{refl}
-use Rattle.card_tool.proofs.replies.fault_noted.Goals as goal
-
-pub returns-in-Ok : goal.returns-in-Ok
-returns-in-Ok c = (record { status = c.in-Ok.ensures.status; text = c.in-Ok.ensures.text }, refl)

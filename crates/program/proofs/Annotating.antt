@@ -1,0 +1,194 @@
+-- That a value or a refusal has notes which are cut off again.
+use Rattle.std.proofs.Common.{◌≡◌, ◌∙◌, ◌++◌, ◌-◌, [], true, false, List, ℕ, Result, Ok, Err, ap, append_assoc, arith, codes, length, length-append, refl, subst, sym, take}
+use Rattle.std.proofs.Math.Seq.{take-append_seam}
+use Rattle.octet_core.specs.declared.stop.Stop.{Stop}
+use Rattle.program_octets.proofs.NoSign.{no-sign}
+use Rattle.program_octets.proofs.Noting.{refusal-ends, value-lines}
+use Rattle.program_octets.specs.Codec.{Codec, IsVerdict, Stops, Takes}
+use Rattle.program_octets.specs.Json.{accepted_members, notes_member, object_head, object_line, with_member, with_notes}
+use Rattle.program_octets.specs.Places.{places_member}
+use Rattle.program_octets.specs.Texts.{refused_text}
+use Rattle.program_octets.specs.Verdicts.{Shows, ShowsWhere, accepted, codec_of, kind_name, refused, shown_in, status_of}
+use Rattle.program_octets.specs.declared.status.Status.{Status}
+use Rattle.program_octets.specs.declared.status.Status.TheVariants as status
+use Rattle.program.specs.Answers.{ShowsNoted, ShowsNotedObject}
+use Rattle.program.specs.Judged.{IsRefusalBy, IsRefusalLine}
+use Rattle.program_words.specs.declared.request.Expected.{Expected}
+use Rattle.layouts.specs.declared.layout.Layout.TheVariants.{Json, Lines}
+use Rattle.notes.proofs.Cutting.{cut-noted}
+use Rattle.notes.proofs.Ends.{line-noted}
+use Rattle.notes.specs.Noted.{IsNoted, noted_line}
+
+module _ (expected : Expected) (b text : List ℕ) (ended : Status) where
+  -- a value with notes
+  of-value : (v : (codec_of expected.kind expected).Value) (n : ℕ)
+      → Takes (codec_of expected.kind expected).codec b v n
+      → text ≡ (codec_of expected.kind expected).codec.lines true v → ended ≡ status.Accepted
+      → ShowsNoted expected.kind expected b text ended
+  of-value v n h is e =
+      let plain : List ℕ = (codec_of expected.kind expected).codec.lines false v in
+      let shown : Shows Lines expected.kind expected b plain ended = accepted v n h refl e in
+      let noted : IsNoted plain text =
+      subst (λ (l : List ℕ). IsNoted plain l) (sym is) (value-lines expected.kind expected v) in
+      record {
+        words = [];
+        has_notes = accepted v n h is e;
+        plain = plain;
+        is_shown = shown;
+        is_noted = noted;
+        is_cut = cut-noted plain text (no-sign expected.kind expected b plain ended shown) noted;
+        unnoted = λ fault. absurd (let bad : status.Accepted ≡ status.Fault = sym e ∙ fault in cc);
+      }
+
+  -- a refusal with words as a note
+  of-refusal : (stop : Stop (codec_of expected.kind expected).Reason) (words : List ℕ)
+      → Stops (codec_of expected.kind expected).codec b stop
+      → text ≡ noted_line (refused_text (codec_of expected.kind expected).codec.name stop) words
+      → ended ≡ status.Refused → ShowsNoted expected.kind expected b text ended
+  of-refusal stop words h is e =
+      let plain : List ℕ = refused_text (codec_of expected.kind expected).codec.name stop in
+      let shown : Shows Lines expected.kind expected b plain ended = refused stop h refl e in
+      let ends = refusal-ends (codec_of expected.kind expected).codec.name stop in
+      let noted : IsNoted plain text =
+      subst (λ (l : List ℕ). IsNoted plain l) (sym is) (subst (λ (l : List ℕ). IsNoted l (noted_line l words))
+      (sym ends.1) (line-noted ends.0 words).is) in
+      record {
+        words = words;
+        has_notes = refused stop h is e;
+        plain = plain;
+        is_shown = shown;
+        is_noted = noted;
+        is_cut = cut-noted plain text (no-sign expected.kind expected b plain ended shown) noted;
+        unnoted = λ fault. absurd (let bad : status.Refused ≡ status.Fault = sym e ∙ fault in cc);
+      }
+
+-- what is told where nothing is refused
+pub accepted-noted : (expected : Expected) (b text : List ℕ) (ended : Status) → (ended ≡ status.Refused → ⊥)
+    → ShowsWhere true Lines expected.kind expected b text ended → ShowsNoted expected.kind expected b text ended
+accepted-noted expected b text ended other (accepted v n h is e) = of-value expected b text ended v n h is e
+accepted-noted expected b text ended other (refused stop h is e) = absurd (other e)
+
+-- a refusal to whose line words are added
+pub refused-noted : (expected : Expected) (b plain lent text words : List ℕ) (ended : Status) → ended ≡ status.Refused
+    → ShowsWhere true Lines expected.kind expected b plain ended → lent ≡ plain → text ≡ noted_line lent words
+    → ShowsNoted expected.kind expected b text status.Refused
+refused-noted expected b plain lent text words ended over (accepted v n h is e) lends adds =
+    absurd (let bad : status.Accepted ≡ status.Refused = sym e ∙ over in cc)
+refused-noted expected b plain lent text words ended over (refused stop h is e) lends adds =
+    of-refusal expected b text status.Refused stop words h
+    (adds ∙ ap (λ (l : List ℕ). noted_line l words) (lends ∙ is)) refl
+
+-- what is told without notes is told with them too
+pub some-noted : (expected : Expected) (b text : List ℕ) (ended : Status)
+    → Shows Lines expected.kind expected b text ended → (t : List ℕ) × ShowsNoted expected.kind expected b t ended
+some-noted expected b text ended (accepted v n h is e) =
+    let noted : List ℕ = (codec_of expected.kind expected).codec.lines true v in
+    (noted, of-value expected b noted ended v n h refl e)
+some-noted expected b text ended (refused stop h is e) =
+    let noted : List ℕ = noted_line (refused_text (codec_of expected.kind expected).codec.name stop) [] in
+    (noted, of-refusal expected b noted ended stop [] h refl e)
+
+-- ---- as an object
+
+-- a member comes before the end of an object
+member-last : (front member : List ℕ) → with_member (front ++ codes "}\n") member ≡ front ++ (member ++ codes "}\n")
+member-last front member =
+    let place : length (front ++ codes "}\n") - 2 ≡ length front = omega (arith, length-append front (codes "}\n")) in
+    ap (λ (l : List ℕ). l ++ (member ++ codes "}\n"))
+    (ap (λ (k : ℕ). take k (front ++ codes "}\n")) place ∙ take-append_seam front (codes "}\n"))
+
+-- the object of a value with the notes on its lines is the one without, with a member more
+value-member : (about count members noted : List ℕ)
+    → object_line about (count ++ (members ++ notes_member noted))
+    ≡ with_notes (object_line about (count ++ members)) noted
+value-member about count members noted =
+    let front : List ℕ = object_head about ++ (count ++ members) in
+    let whole : object_line about (count ++ members) ≡ front ++ codes "}\n" =
+    simp append_assoc refl in
+    let parts : object_line about (count ++ (members ++ notes_member noted))
+    ≡ front ++ (notes_member noted ++ codes "}\n") =
+    simp append_assoc refl in
+    parts ∙ sym (member-last front (notes_member noted))
+    ∙ ap (λ (object : List ℕ). with_member object (notes_member noted)) (sym whole)
+
+module _ (expected : Expected) (b text : List ℕ) (ended : Status) where
+  -- a value with notes
+  object-of-value : (v : (codec_of expected.kind expected).Value) (n : ℕ)
+      → Takes (codec_of expected.kind expected).codec b v n
+      → text ≡ shown_in true Json expected.kind (codec_of expected.kind expected).codec v n → ended ≡ status.Accepted
+      → ShowsNotedObject expected.kind expected b text ended
+  object-of-value v n h is e =
+      let c = (codec_of expected.kind expected).codec in
+      let noted : List ℕ = c.lines true v in
+      record {
+        object = shown_in false Json expected.kind c v n;
+        is_shown = accepted v n h refl e;
+        noted = noted;
+        has_notes = of-value expected b noted ended v n h refl e;
+        is_text = is ∙ value-member (kind_name expected.kind) (accepted_members n)
+            (c.members v ++ places_member (c.places v n)) noted;
+      }
+
+  -- a refusal with words as a note on its line
+  object-of-refusal : (object line noted words : List ℕ) → Shows Json expected.kind expected b object ended
+      → IsRefusalLine expected.kind expected b line → ended ≡ status.Refused → noted ≡ noted_line line words
+      → text ≡ with_notes object noted → ShowsNotedObject expected.kind expected b text ended
+  object-of-refusal object line noted words shown refusal e adds is = record {
+    object = object;
+    is_shown = shown;
+    noted = noted;
+    has_notes = of-refusal expected b noted ended refusal.0 words refusal.1
+        (adds ∙ ap (λ (l : List ℕ). noted_line l words) refusal.2) e;
+    is_text = is;
+  }
+
+-- a refusal as an object is the same with notes and without
+refusal-plain : (expected : Expected) (b text : List ℕ) (ended : Status) → ended ≡ status.Refused
+    → ShowsWhere true Json expected.kind expected b text ended → Shows Json expected.kind expected b text ended
+refusal-plain expected b text ended over (accepted v n h is e) =
+    absurd (let bad : status.Accepted ≡ status.Refused = sym e ∙ over in cc)
+refusal-plain expected b text ended over (refused stop h is e) = refused stop h is e
+
+-- what is told as an object where nothing is refused
+pub accepted-object : (expected : Expected) (b text : List ℕ) (ended : Status) → (ended ≡ status.Refused → ⊥)
+    → ShowsWhere true Json expected.kind expected b text ended
+    → ShowsNotedObject expected.kind expected b text ended
+accepted-object expected b text ended other (accepted v n h is e) = object-of-value expected b text ended v n h is e
+accepted-object expected b text ended other (refused stop h is e) = absurd (other e)
+
+-- a refusal to whose object the notes are added
+pub refused-object : (expected : Expected) (b object line noted lent text words : List ℕ) (ended : Status)
+    → ended ≡ status.Refused → ShowsWhere true Json expected.kind expected b object ended
+    → IsRefusalLine expected.kind expected b line → noted ≡ noted_line line words → lent ≡ noted
+    → text ≡ with_notes object lent → ShowsNotedObject expected.kind expected b text status.Refused
+refused-object expected b object line noted lent text words ended over shown refusal adds lends is =
+    object-of-refusal expected b text status.Refused object line noted words
+    (subst (λ (e : Status). Shows Json expected.kind expected b object e) over
+    (refusal-plain expected b object ended over shown))
+    refusal refl adds (is ∙ ap (with_notes object) lends)
+
+-- what is told as an object without notes is told with them too
+pub some-object : (expected : Expected) (b text : List ℕ) (ended : Status)
+    → Shows Json expected.kind expected b text ended → (t : List ℕ)
+    × ShowsNotedObject expected.kind expected b t ended
+some-object expected b text ended (accepted v n h is e) =
+    let object : List ℕ =
+    shown_in true Json expected.kind (codec_of expected.kind expected).codec v n in
+    (object, object-of-value expected b object ended v n h refl e)
+some-object expected b text ended (refused stop h is e) =
+    let line : List ℕ = refused_text (codec_of expected.kind expected).codec.name stop in
+    let noted : List ℕ = noted_line line [] in
+    let object : List ℕ = with_notes text noted in (
+      object,
+      object-of-refusal expected b object ended text line noted [] (refused stop h is e) (stop, h, refl) e refl
+          refl,
+    )
+
+-- the line of a refusal by the verdict of which an answer is one
+pub refusal-by : {V R : Type 0} (c : Codec V R) (b line : List ℕ) (verdict : Result ℕ (Stop R)) (ended : Status)
+    (name : R → List ℕ) → c.name ≡ name → IsVerdict c b verdict → ended ≡ status_of verdict → ended ≡ status.Refused
+    → ((stop : Stop R) → verdict ≡ Err stop → line ≡ refused_text name stop) → IsRefusalBy c b line
+refusal-by {V} {R} c b line (Ok n) ended name named verdict is over says =
+    absurd (let bad : status.Accepted ≡ status.Refused = sym is ∙ over in cc)
+refusal-by {V} {R} c b line (Err stop) ended name named verdict is over says =
+    (stop, verdict, says stop refl ∙ ap (λ (n : R → List ℕ). refused_text n stop) (sym named))

@@ -1,0 +1,86 @@
+-- Answers as objects of JSON, and as lines.
+use Rattle.std.proofs.Common.{◌≡◌, ℕ, List, [], Bool, true, false, Option, Result, Ok, Err, IfErr, append-nil, refl, sym}
+use Rattle.command_line.specs.Asked.{asks_for_json}
+use Rattle.program_words.specs.Texts.{fault_text}
+use Rattle.program_words.specs.declared.fault.Fault.{Fault}
+use Rattle.program_words.specs.declared.fault.Fault.TheVariants.{Memory}
+use Rattle.program_octets.specs.declared.answer.Answer.{Answer}
+use Rattle.program_octets.specs.declared.status.Status.{Status}
+use Rattle.program_octets.specs.declared.status.Status.TheVariants as status
+use Rattle.program.specs.Calls.{calls, Calls}
+use Rattle.program.specs.Answers.{IsWritten, Writes}
+use Rattle.program.specs.Explained.{said_of, Gives, IsRightWith, IsSaid, Replies}
+use Rattle.program.specs.InJson.{HaveAnswer, IsRightAsked, IsRightJson, in_json, in_lines, unmade}
+use Rattle.program.specs.declared.judged.WithNote.{WithNote}
+use Rattle.program.proofs.Asking.{no-words}
+
+module _ (words : List (List ℕ)) (reads : Calls) where
+  -- what is right in JSON is right where JSON is asked for
+  pub json-asked : (r : Result WithNote Fault) → asks_for_json words ≡ true
+      → Gives (IsRightJson words reads) r → Gives (IsRightAsked words reads) r
+  json-asked (Ok made) ask h = in_json ask h
+  json-asked (Err fault) ask h = in_json ask h
+
+  -- and what is right in lines where it isn't
+  pub lines-asked : (r : Result WithNote Fault) → asks_for_json words ≡ false
+      → Replies words reads r → Gives (IsRightAsked words reads) r
+  lines-asked (Ok made) ask h = in_lines ask (record {
+    text = made.answer.text;
+    note = said_of made.note;
+    is_said = h;
+    is_whole = refl;
+  })
+  lines-asked (Err fault) ask h = in_lines ask (record {
+    text = fault_text fault;
+    note = [];
+    is_said = h;
+    is_whole = sym (append-nil (fault_text fault));
+  })
+
+-- the line of a fault that is right is so as an answer of which nothing is said
+pub right-line : (words : List (List ℕ)) (reads : Calls) (fault : Fault)
+    (answer : Answer) (made : WithNote) → IsSaid words reads (fault_text fault) [] status.Fault
+    → answer.text ≡ fault_text fault → answer.status ≡ status.Fault
+    → made.answer ≡ answer → said_of made.note ≡ []
+    → IsSaid words reads made.answer.text (said_of made.note) made.answer.status
+right-line words reads fault answer made h text ended same none =
+    rw (same, none, text, ended) h
+
+-- what holds anyway holds where a call fails
+pub held-err : {A E : Type 0} (r : Result A E) {P : Type 0} → P → IfErr r (λ _. P)
+held-err (Ok a) p = tt
+held-err (Err e) p = p
+
+-- memory for the object was refused, where words have an answer
+pub not-made : {words : List (List ℕ)} {reads : Calls} (r : Result WithNote Fault)
+    (fault : Fault) → r ≡ Err fault → fault ≡ Memory → HaveAnswer words reads
+    → Gives (IsRightJson words reads) r
+not-made r fault is memory h = rw (is, memory) (unmade h refl refl)
+
+-- words that have a text with what comes after it
+said-some : {words : List (List ℕ)} {reads : Calls} {whole : List ℕ} (ended : Status)
+    → IsRightWith words reads whole ended → HaveAnswer words reads
+said-some ended h = record { text = h.text; note = h.note; ended = ended; is_said = h.is_said }
+
+-- the line of memory that ran out before the words were read is right of any
+pub no-words-asked : (held : Option (List ℕ)) (count : ℕ) (writes : Calls)
+    (ended : Status) → IsWritten (fault_text Memory) status.Fault writes ended
+    → (words : List (List ℕ)) → Writes (IsRightAsked words (calls held held count count)) writes ended
+no-words-asked held count writes ended is words = go (asks_for_json words) refl
+  where
+    go : (asked : Bool) → asks_for_json words ≡ asked
+        → Writes (IsRightAsked words (calls held held count count)) writes ended
+    go true ask = let plain = no-words held count writes ended is words in record {
+      text = fault_text Memory;
+      right = status.Fault;
+      is_right = in_json ask (unmade (said-some plain.right plain.is_right) refl refl);
+      is_written = is;
+    }
+    go false ask =
+        let plain = no-words held count writes ended is words in
+        record {
+          text = plain.text;
+          right = plain.right;
+          is_right = in_lines ask plain.is_right;
+          is_written = plain.is_written;
+        }

@@ -1,0 +1,15 @@
+use Rattle.program.proofs.Annotating.{refusal-by}
+use Rattle.program.proofs.Explaining.{says-by}
+use Rattle.program.proofs.judged.shown_by.Goals as goal
+
+pub returns : goal.returns
+returns g c = (
+  (
+    c.in_ok-answer.ensures.told,
+    says-by c.args.telling.explains (g.C.Codec.codec c.args.telling.task.expected) _ _ c.args.octets.now _
+        c.asked_note-note.result c.in_ok-answer.ensures.verdict c.asked_note-note.ensures,
+  ),
+  λ noted json refused. refusal-by (g.C.Codec.codec c.args.telling.task.expected) c.args.octets.now _ _ _ _
+      (g.met.C.Codec.named c.args.telling.task.expected) c.in_ok-answer.ensures.verdict c.in_ok-answer.ensures.ended
+      refused (c.in_ok-line.ensures noted json),
+)

@@ -1,0 +1,11 @@
+use Rattle.std.proofs.Common.{◌≡◌}
+use Rattle.program.proofs.Turns.{HasComeTo}
+use Rattle.program.proofs.lines.answer_lines.Given as goal
+
+-- what was answered so far
+abbrev pub invariant-loop-turn : goal.invariant-loop-turn
+invariant-loop-turn g l = record {
+  telling : l.told.telling ≡ l.fn.telling;
+  so_far : HasComeTo l.fn.telling (g.C.Conversation.said l.fn.conversation) (g.C.Conversation.said l.conversation)
+      l.told.line.items l.told.text.items l.told.status l._turn;
+}

@@ -1,0 +1,5 @@
+use Rattle.std.proofs.Common.{refl}
+use Rattle.program.proofs.replies.fault_noted.Goals as goal
+
+pub returns-in-Ok : goal.returns-in-Ok
+returns-in-Ok c = (record { status = c.in-Ok.ensures.status; text = c.in-Ok.ensures.text }, refl)

@@ -1,0 +1,50 @@
+use Rattle.std.proofs.lemmas.Result.{err_from_is_err_and}
+use Rattle.program_words.specs.declared.request.Request.TheVariants.{Tell}
+use Rattle.program.specs.Calls.{calls_of}
+use Rattle.program.specs.Judged.{IsKindNote}
+use Rattle.program.specs.Answers.{IsTold}
+use Rattle.program.proofs.Answering.{told-fault, told-wanting}
+use Rattle.program.proofs.Explaining.{noted-given, noted-refused}
+use Rattle.program.proofs.replies.octets_told.Goals as goal
+
+pub returns-in_err-octets-clause-told : goal.returns-in_err-octets-clause-told
+returns-in_err-octets-clause-told g c = λ words.
+    let fault = err_from_is_err_and c.from_residual.result c.from_residual.ensures.1 in
+    let task = c.args.telling.task in
+    rw (fault.1, fault.2) (told-fault (Tell task c.args.given) c.args.given (IsTold task)
+    (calls_of g.R.Source.remaining g.R.Source.failures c.args.reader.now c.octets_taken.new.reader) (λ file had. had)
+    (λ file text ended h. h)
+    c.in_err-octets.field-0.0 c.in_err-octets.ensures.taken.taken)
+
+pub returns-in_err-made-in-Given-clause-told : goal.returns-in_err-made-in-Given-clause-told
+returns-in_err-made-in-Given-clause-told g c = λ words.
+    let fault = err_from_is_err_and c.from_residual-in_err-made-in-Given.result
+    c.from_residual-in_err-made-in-Given.ensures.1 in
+    let had = rw c.in-Given.is at c.in_ok-octets.ensures.taken in
+    let task = c.args.telling.task in
+    rw (fault.1, fault.2) (told-wanting (Tell task c.args.given) c.args.given (IsTold task)
+    (calls_of g.R.Source.remaining g.R.Source.failures c.args.reader.now c.octets_taken.new.reader) (λ file had. had)
+    (λ file text ended h. h)
+    c.in-Given.octets had.taken)
+
+pub returns-in_ok-made-in-Given-clause-told : goal.returns-in_ok-made-in-Given-clause-told
+returns-in_ok-made-in-Given-clause-told g c = λ words.
+    let made = rw c.get.ensures at c.in_ok-made-in-Given.ensures in
+    let had = rw c.in-Given.is at c.in_ok-octets.ensures.taken in
+    let task = c.args.telling.task in
+    noted-given c.args.telling.explains words (Tell task c.args.given) c.args.given (IsTold task)
+    (IsKindNote task.expected.kind task.expected)
+    (calls_of g.R.Source.remaining g.R.Source.failures c.args.reader.now c.octets_taken.new.reader) (λ file had. had)
+    (λ file text ended h. h)
+    (λ file note h. h) c.in-Given.octets c.in-Given.note had
+    c.in_ok-made-in-Given.made c.and.result made.0 made.1 c.and.ensures.answer c.and.ensures.note
+
+pub returns-in-Refused-clause-told : goal.returns-in-Refused-clause-told
+returns-in-Refused-clause-told g c = λ words.
+    let had = rw c.in-Refused.is at c.in_ok-octets.ensures.taken in
+    let task = c.args.telling.task in
+    noted-refused c.args.telling.explains words (Tell task c.args.given) c.args.given (IsTold task)
+    (IsKindNote task.expected.kind task.expected)
+    (calls_of g.R.Source.remaining g.R.Source.failures c.args.reader.now c.octets_taken.new.reader) (λ file had. had)
+    (λ file text ended h. h)
+    (λ file note h. h) c.in-Refused.made had

@@ -1,0 +1,280 @@
+-- What the program answers: one text and one status.
+use Rattle.std.specs.Prelude.{◌≡◌, ◌<◌, ◌++◌, ℕ, ◌⊎◌, List, [], ◌∷◌, codes, drop, length, take, Result, Err, MatchResult}
+use Rattle.std.specs.Io.KnownBytes.{Appends}
+use Rattle.octet_core.specs.Failures.{HasFailed}
+use Rattle.program_octets.specs.Verdicts.{Checks, NotesBy, Shows, Tidies, IsFilled, codec_of, kind_name}
+use Rattle.chain_core.specs.Chain.{chain_blocks}
+use Rattle.program_octets.specs.ChainTexts.{blocks_text}
+use Rattle.program_words.specs.Texts.{fault_text}
+use Rattle.chain_core.specs.Cut.{cut_of}
+use Rattle.program.specs.Calls.{Calls}
+use Rattle.program.specs.ExchangeTexts.{TellsFile}
+use Rattle.program.specs.SimulationTexts.{Simulates, SimulatesLines}
+use Rattle.program.specs.RecordTexts.{Records}
+use Rattle.program.specs.JudgeTexts.{JudgesTrace}
+use Rattle.answer_json.specs.Answers.{json_text}
+use Rattle.program_octets.specs.Json.{object_head, with_notes}
+use Rattle.program.specs.Pieces.{ReadsFor}
+use Rattle.program.specs.Lines.{all_lines, line_octets, AreTold}
+use Rattle.program_words.specs.Given.{octets_given}
+use Rattle.command_line.specs.Version.{version_line}
+use Rattle.clap.specs.Words.{subcommand_of}
+use Rattle.program_words.specs.Words.{asked_of, once_of, AreTaken, AskFor, IsRead, NeedsFile}
+use Rattle.command_line.specs.Form.{scard}
+use Rattle.program_octets.specs.declared.status.Status.{Status}
+use Rattle.program_octets.specs.declared.status.Status.TheVariants as status
+use Rattle.program_words.specs.declared.fault.Fault.{Fault}
+use Rattle.program_words.specs.declared.fault.Fault.TheVariants.{Memory}
+use Rattle.program_words.specs.declared.request.Aim.{Aim}
+use Rattle.program_words.specs.declared.request.Aim.TheVariants.{Check, Show, Note}
+use Rattle.layouts.specs.declared.layout.Layout.{Layout}
+use Rattle.layouts.specs.declared.layout.Layout.TheVariants as layout
+use Rattle.program_words.specs.declared.request.Asked.{Asked}
+use Rattle.program_words.specs.declared.request.Asked.TheVariants.{Once, Lines}
+use Rattle.program_words.specs.declared.request.Expected.{Expected}
+use Rattle.program_words.specs.declared.request.Kind.{Kind}
+use Rattle.notes.specs.Noted.{IsNoted, without_notes}
+use Rattle.program_words.specs.declared.request.Request.{Request}
+use Rattle.program_words.specs.declared.request.Request.TheVariants.{BuildChain, BuildTidy, BuildFill, Tell, File, Record, Judge, Simulate, SimulateLines, Help, Version}
+use Rattle.program_words.specs.declared.request.Task.{Task}
+
+-- the answer about octets, or the line of the fault if there are no octets
+abbrev pub IsToldOf : (List ℕ → List ℕ → Status → Type 0) → Result (List ℕ) Fault → List ℕ → Status → Type 0
+IsToldOf Told octets text ended = MatchResult octets (λ b. Told b text ended)
+    (λ fault. (text ≡ fault_text fault) × (ended ≡ status.Fault))
+
+-- The value with the notes on its lines, or a refusal with some words as a note. Cut at its notes, the text is that of
+-- `show` without them. A fault has no note. The words on a refusal are open.
+pub record ShowsNoted (kind : Kind) (expected : Expected) (b text : List ℕ) (ended : Status) : Type 0 where
+  pub words : List ℕ
+  pub has_notes : NotesBy (codec_of kind expected).codec words b text ended
+  pub plain : List ℕ
+  pub is_shown : Shows layout.Lines kind expected b plain ended
+  pub is_noted : IsNoted plain text
+  pub is_cut : without_notes text ≡ plain
+  pub unnoted : ended ≡ status.Fault → text ≡ plain
+
+-- The object of the value or of the refusal, with the notes of the lines that have notes.
+pub record ShowsNotedObject (kind : Kind) (expected : Expected) (b text : List ℕ) (ended : Status) : Type 0 where
+  pub object : List ℕ
+  pub is_shown : Shows layout.Json kind expected b object ended
+  pub noted : List ℕ
+  pub has_notes : ShowsNoted kind expected b noted ended
+  pub is_text : text ≡ with_notes object noted
+
+-- the answer about octets
+abbrev pub Tells : Aim → Layout → Expected → List ℕ → List ℕ → Status → Type 0
+Tells Check how expected = Checks how expected.kind expected
+Tells Show how expected = Shows how expected.kind expected
+Tells Note layout.Lines expected = ShowsNoted expected.kind expected
+Tells Note layout.Json expected = ShowsNotedObject expected.kind expected
+
+abbrev pub IsTold : Task → List ℕ → List ℕ → Status → Type 0
+IsTold task = Tells task.aim task.layout task.expected
+
+-- lines as a JSON object about a subject
+abbrev pub json_object : List ℕ → List ℕ → List ℕ
+json_object about lines = object_head about ++ drop 1 (json_text lines)
+
+-- an object with the notes on these lines, if notes are asked for
+abbrev pub noted_as : Aim → List ℕ → List ℕ → List ℕ
+noted_as Check object lines = object
+noted_as Show object lines = object
+noted_as Note object lines = with_notes object lines
+
+-- an answer about octets as a JSON object: it is one already, unless it is the line of a fault, which has no note
+abbrev pub object_of : Aim → Kind → Status → List ℕ → List ℕ
+object_of aim kind status.Accepted told = told
+object_of aim kind status.Refused told = told
+object_of aim kind status.Fault told = noted_as aim (json_object (kind_name kind) told) told
+
+-- the lines that answer a line: a check has one, a value several and an empty one
+abbrev pub lines_text : Aim → List ℕ → List ℕ
+lines_text Check told = told
+lines_text Show told = told ++ codes "\n"
+lines_text Note told = told ++ codes "\n"
+
+-- the text that answers a line, as lines or as a JSON object
+abbrev pub line_text : Aim → Layout → Kind → Status → List ℕ → List ℕ
+line_text aim layout.Lines kind ended told = lines_text aim told
+line_text aim layout.Json kind ended told = object_of aim kind ended told
+
+-- the text that answers a line, by the task
+abbrev pub answer_text : Task → Status → List ℕ → List ℕ
+answer_text task ended told = line_text task.aim task.layout task.expected.kind ended told
+
+-- the text and the status of one line
+pub record IsLineTold (task : Task) (line text : List ℕ) (ended : Status) : Type 0 where
+  pub told : List ℕ
+  pub is_told : IsToldOf (IsTold task) (line_octets line) told ended
+  pub is_text : text ≡ answer_text task ended told
+
+abbrev pub AreLinesTold : Task → List (List ℕ) → List ℕ → Status → Type 0
+AreLinesTold task lines text ended = AreTold (IsLineTold task) lines text ended
+
+-- the text and the status of a request, with the result of reading standard input
+abbrev pub IsAnswerTo : Request → Result (List ℕ) Fault → List ℕ → Status → Type 0
+IsAnswerTo (Tell task given) file text ended = IsToldOf (IsTold task) (octets_given given file) text ended
+IsAnswerTo (BuildChain ifs number message) file text ended =
+    (text ≡ blocks_text (chain_blocks number (cut_of ifs message))) × (ended ≡ status.Accepted)
+IsAnswerTo (BuildTidy given) file text ended = IsToldOf Tidies (octets_given given file) text ended
+IsAnswerTo (BuildFill list known) file text ended = IsFilled list known text ended
+IsAnswerTo (File task) file text ended = IsToldOf (TellsFile task) file text ended
+IsAnswerTo (Record atr) file text ended = IsToldOf (Records atr) file text ended
+IsAnswerTo (Judge atr judging) file text ended = IsToldOf (JudgesTrace atr judging) file text ended
+IsAnswerTo (Simulate session) file text ended = Simulates session text ended
+IsAnswerTo (SimulateLines session) file text ended = IsToldOf (SimulatesLines session) file text ended
+IsAnswerTo (Help help) file text ended = (text ≡ help) × (ended ≡ status.Accepted)
+IsAnswerTo Version file text ended = (text ≡ version_line) × (ended ≡ status.Accepted)
+
+-- the text and the status of what is asked for, with the result of reading standard input
+abbrev pub IsAnswerAsked : Asked → Result (List ℕ) Fault → List ℕ → Status → Type 0
+IsAnswerAsked (Once request) file text ended = IsAnswerTo request file text ended
+IsAnswerAsked (Lines task) file text ended = IsToldOf (λ b. AreLinesTold task (all_lines b)) file text ended
+
+-- ---- without notes
+
+-- the same aim without notes
+abbrev pub plain_aim : Aim → Aim
+plain_aim Check = Check
+plain_aim Show = Show
+plain_aim Note = Show
+
+abbrev pub plain_task : Task → Task
+plain_task task = record task { aim = plain_aim task.aim }
+
+abbrev pub plain_request : Request → Request
+plain_request (Tell task given) = Tell (plain_task task) given
+plain_request other = other
+
+abbrev pub plain_asked : Asked → Asked
+plain_asked (Once request) = Once (plain_request request)
+plain_asked (Lines task) = Lines (plain_task task)
+
+-- objects in a row, each with the lines that its notes are on: without the notes, and with them
+abbrev pub objects_plain : List (List ℕ × List ℕ) → List ℕ
+objects_plain [] = []
+objects_plain (one ∷ more) = one.0 ++ objects_plain more
+
+abbrev pub objects_noted : List (List ℕ × List ℕ) → List ℕ
+objects_noted [] = []
+objects_noted (one ∷ more) = with_notes one.0 one.1 ++ objects_noted more
+
+-- a text of objects with notes, and the same text without them; or the line of a fault, which isn't an object
+pub data HaveNotes (text plain : List ℕ) : Type 0 where
+  in_objects : (objects : List (List ℕ × List ℕ)) → text ≡ objects_noted objects → plain ≡ objects_plain objects
+      → HaveNotes text plain
+  no_object : text ≡ plain → HaveNotes text plain
+
+-- a text, and the same without notes: each line cut at its first note, or each object without the member
+abbrev pub IsWithout : Aim → Layout → List ℕ → List ℕ → Type 0
+IsWithout Check how text plain = plain ≡ text
+IsWithout Show how text plain = plain ≡ text
+IsWithout Note layout.Lines text plain = plain ≡ without_notes text
+IsWithout Note layout.Json text plain = HaveNotes text plain
+
+abbrev pub IsPlainOf : Request → List ℕ → List ℕ → Type 0
+IsPlainOf (Tell task given) text plain = IsWithout task.aim task.layout text plain
+IsPlainOf _ text plain = plain ≡ text
+
+abbrev pub IsPlain : Asked → List ℕ → List ℕ → Type 0
+IsPlain (Once request) text plain = IsPlainOf request text plain
+IsPlain (Lines task) text plain = IsWithout task.aim task.layout text plain
+
+-- two texts that are equal without notes
+pub record AreAlike (asked : Asked) (text other : List ℕ) : Type 0 where
+  pub plain : List ℕ
+  pub first : IsPlain asked text plain
+  pub second : IsPlain asked other plain
+
+-- notes are asked for, in this layout
+abbrev pub HasNotes : Layout → Task → Type 0
+HasNotes how task = (task.aim ≡ Note) × (task.layout ≡ how)
+
+abbrev pub AsksForNotes : Layout → Asked → Type 0
+AsksForNotes how (Once (Tell task given)) = HasNotes how task
+AsksForNotes how (Once _) = ⊥
+AsksForNotes how (Lines task) = HasNotes how task
+
+abbrev pub AskForNotes : Layout → List (List ℕ) → Type 0
+AskForNotes how words =
+    AreTaken words × MatchResult (asked_of (subcommand_of scard words)) (AsksForNotes how) (λ _. ⊥)
+
+-- two texts of the same words: they are equal, or equal without notes if notes are asked for
+pub data IsSameText (words : List (List ℕ)) (text other : List ℕ) : Type 0 where
+  same : text ≡ other → IsSameText words text other
+  in_lines : AskForNotes layout.Lines words → without_notes text ≡ without_notes other → IsSameText words text other
+  in_objects : AskForNotes layout.Json words → (plain : List ℕ) → HaveNotes text plain → HaveNotes other plain
+      → IsSameText words text other
+
+-- the request that words are read as, or memory ran out
+abbrev pub IsReadFrom : List (List ℕ) → Result Request Fault → Type 0
+IsReadFrom words read = (read ≡ Err Memory) ⊎ IsRead words (once_of read)
+
+-- the text and the status of words: those of what they ask for, or of the fault
+pub record IsAnswer (words : List (List ℕ)) (file : Result (List ℕ) Fault) (text : List ℕ) (ended : Status) : Type 0
+  where
+    pub read : Result Asked Fault
+    pub is_read : IsRead words read
+    pub is_answer : MatchResult read (λ asked. IsAnswerAsked asked file text ended)
+        (λ fault. (text ≡ fault_text fault) × (ended ≡ status.Fault))
+
+-- ---- with the octets or the file from a reader
+
+-- memory ran out: the line of that fault, and no call of the reader failed
+abbrev pub IsWanting : Calls → List ℕ → Status → Type 0
+IsWanting reads text ended = (text ≡ fault_text Memory) × (ended ≡ status.Fault) × (reads.after ≡ reads.before)
+
+-- words that ask for this request, which needs standard input
+abbrev pub AskWithFile : Request → List (List ℕ) → Type 0
+AskWithFile request = AskFor (λ asked. (asked ≡ request) × NeedsFile asked)
+
+-- words that ask to judge a trace
+abbrev pub IsJudge : Request → Type 0
+IsJudge (Judge atr judging) = Unit {0}
+IsJudge _ = ⊥
+
+abbrev pub AskToJudge : List (List ℕ) → Type 0
+AskToJudge = AskFor IsJudge
+
+-- the text and the status of words, with what was read if they ask for it
+pub record IsAnswerFrom (words : List (List ℕ)) (reads : Calls) (text : List ℕ)
+    (ended : Status) : Type 0 where
+  pub file : Result (List ℕ) Fault
+  pub is_file : (request : Request) → AskWithFile request words → ReadsFor request reads file
+  pub is_answer : IsAnswer words file text ended
+
+-- the text and the status of words, or memory ran out
+abbrev pub IsRight : List (List ℕ) → Calls → List ℕ → Status → Type 0
+IsRight words reads text ended =
+    IsAnswerFrom words reads text ended ⊎ IsWanting reads text ended
+
+-- the text and the status of a request, with what was read if it needs that
+pub record IsAnswerToFrom (request : Request) (reads : Calls) (text : List ℕ)
+    (ended : Status) : Type 0 where
+  pub file : Result (List ℕ) Fault
+  pub is_file : NeedsFile request → ReadsFor request reads file
+  pub is_answer : IsAnswerTo request file text ended
+
+abbrev pub IsRightTo : Request → Calls → List ℕ → Status → Type 0
+IsRightTo request reads text ended =
+    IsAnswerToFrom request reads text ended ⊎ IsWanting reads text ended
+
+-- how a text was written, and how the program ended
+pub data IsWritten (text : List ℕ) (right : Status) (writes : Calls) (ended : Status) :
+    Type 0 where
+  -- the whole text is written without a failure, and the program ends with the right status
+  all : Appends writes.from writes.to text → writes.after ≡ writes.before → ended ≡ right
+      → IsWritten text right writes ended
+  -- the writer failed, and a part of the text is written
+  cut : (count : ℕ) → count < length text → Appends writes.from writes.to (take count text)
+      → HasFailed writes.before writes.after
+      → ended ≡ status.Fault → IsWritten text right writes ended
+
+-- one text that is right is written
+pub record Writes (Right : List ℕ → Status → Type 0) (writes : Calls) (ended : Status) :
+    Type 0 where
+  pub text : List ℕ
+  pub right : Status
+  pub is_right : Right text right
+  pub is_written : IsWritten text right writes ended

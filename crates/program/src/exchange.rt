@@ -1,0 +1,314 @@
+//! Recorded exchanges: replayed, migrated, listed and drawn.
+
+ghost use Rattle.std.specs.Prelude.{◌≡◌, ◌≢◌, ◌+◌, ◌++◌, IfOk, IsOkAnd, OnOk, length, string_bytes};
+ghost use Rattle.exchange_text.specs.Exchange.{ExchangeParts};
+ghost use Rattle.exchange_text.specs.Text.{exchange_text};
+ghost use Rattle.exchange_text.specs.declared.fault.ExchangeFault.TheVariants.{Memory};
+ghost use Rattle.program.specs.ExchangeTexts.{agrees_in, both_in, both_lines, both_members, card_member, differs_in, drawn, file_fault_text, listed_in, terminal_member, verdict_member, IsOutcome, IsReplayed, IsReplayedAt, IsReplayAnswer, IsToldSo, TellsFile};
+ghost use Rattle.program.specs.Explained.{IsDifferenceNote, IsFileNote, IsNoteAt, IsNoteSo};
+ghost use Rattle.program.specs.FileNotes.{fault_note};
+ghost use Rattle.program.specs.Judged.{AreOf};
+ghost use Rattle.program.specs.Lines.{worse};
+ghost use Rattle.program_octets.specs.declared.status.Status.TheVariants as ended;
+
+use crate::file_notes::{difference_note, fault_note};
+use crate::judged::{WithNote, joined};
+use crate::laid::laid;
+use crate::lines::worse;
+use apdu_list::{apdu_items, list_apdus};
+use drawings::{draw_ladder, draw_picture};
+use exchange_core::{
+    Exchange, ExchangeFault, ReplayFault, Side, migrate, read_exchange, replay, write_exchange,
+};
+use layouts::Layout;
+use octet_core::Octets;
+use program_octets::{Answer, Status};
+use program_words::{Drawing, Ends, FileTask};
+use std::alloc::{AllocError, Global};
+
+/// Returns the answer about a file, with a note on the first line where an end differs, or on the file's first fault.
+pub(crate) fn told(alloc: Global, file: &[u8], task: FileTask) -> Result<WithNote, AllocError>
+    ensures { IfOk result (AreOf (TellsFile task file.now) (IsFileNote task file.now)) }
+{
+    match read_exchange(alloc, file) {
+        Ok(exchange) => told_of(alloc, file, exchange, task),
+        Err(fault) => refused_with_note(alloc, file, fault),
+    }
+}
+
+/// Returns the answer about an exchange, with a note if it is replayed.
+fn told_of(
+    alloc: Global,
+    file: &[u8],
+    exchange: Exchange,
+    task: FileTask,
+) -> Result<WithNote, AllocError>
+    ensures { IfOk result (AreOf (IsToldSo task exchange)
+        (IsNoteSo task file.now exchange)) }
+{
+    let answer = match task {
+        FileTask::Replay(end, layout) => return replayed(alloc, file, &exchange, end, layout),
+        FileTask::Migrate => written(alloc, &migrate(exchange))?,
+        FileTask::Apdus(layout) => laid(alloc, layout, "apdus", listed(alloc, &exchange, layout)?)?,
+        FileTask::Draw(drawing) => drawn(alloc, &exchange, drawing)?,
+    };
+    Ok(WithNote::alone(alloc, answer))
+}
+
+/// Replays an exchange at the end or ends that are named. Returns the answer, with a note.
+fn replayed(
+    alloc: Global,
+    file: &[u8],
+    exchange: &Exchange,
+    end: Ends,
+    layout: Layout,
+) -> Result<WithNote, AllocError>
+    ensures { IfOk result (AreOf (IsReplayAnswer end layout exchange.now)
+        (IsNoteAt end file.now exchange.now)) }
+{
+    let WithNote { answer, note } = replayed_at(alloc, file, exchange, end, layout)?;
+    let answer = laid(alloc, layout, "replay", answer)?;
+    Ok(WithNote { answer, note })
+}
+
+/// Replays an exchange at the end or ends that are named. Returns whether they agree with it, with a note.
+fn replayed_at(
+    alloc: Global,
+    file: &[u8],
+    exchange: &Exchange,
+    end: Ends,
+    layout: Layout,
+) -> Result<WithNote, AllocError>
+    ensures { IfOk result (AreOf (IsReplayedAt end layout exchange.now)
+        (IsNoteAt end file.now exchange.now)) }
+{
+    match end {
+        Ends::Terminal => replayed_by(alloc, file, exchange, Side::Terminal, layout),
+        Ends::Card => replayed_by(alloc, file, exchange, Side::Card, layout),
+        Ends::Both => {
+            let terminal = replayed_by(alloc, file, exchange, Side::Terminal, layout)?;
+            let card = replayed_by(alloc, file, exchange, Side::Card, layout)?;
+            let answer = both(alloc, layout, &terminal.answer, &card.answer)?;
+            let note = joined(terminal.note, card.note);
+            Ok(WithNote { answer, note })
+        }
+    }
+}
+
+/// Replays an exchange at one end. Returns whether the end agrees with it, with a note.
+fn replayed_by(
+    alloc: Global,
+    file: &[u8],
+    exchange: &Exchange,
+    side: Side,
+    layout: Layout,
+) -> Result<WithNote, AllocError>
+    ensures { IfOk result (AreOf (IsReplayed layout exchange.now side)
+        (IsDifferenceNote file.now exchange.now side)) }
+{
+    let outcome = replay(alloc, exchange, side);
+    let answer = agreement(alloc, exchange, side, layout, &outcome)?;
+    let note = difference_note(alloc, file, exchange, side, &outcome);
+    Ok(WithNote { answer, note })
+}
+
+/// Joins what is said of both ends, each after the name of its end.
+fn both(
+    alloc: Global,
+    layout: Layout,
+    terminal: &Answer,
+    card: &Answer,
+) -> Result<Answer, AllocError>
+    ensures text { IfOk result (λ both. both.text
+        ≡ both_in layout terminal.now.text card.now.text both.status) }
+    ensures status { IfOk result (λ both.
+        both.status ≡ worse terminal.now.status card.now.status) }
+{
+    let status = worse(terminal.status, card.status);
+    let text = match layout {
+        Layout::Lines => both_lines(alloc, terminal.text.get(), card.text.get())?,
+        Layout::Json => both_members(alloc, terminal.text.get(), card.text.get(), status)?,
+    };
+    Ok(Answer { text, status })
+}
+
+/// Joins the lines about both ends.
+fn both_lines(alloc: Global, terminal: &[u8], card: &[u8]) -> Result<Octets, AllocError>
+    ensures { IfOk result (λ text. text ≡ both_lines terminal.now card.now) }
+{
+    let mut text = Vec::new(alloc);
+    text.extend_from_slice(b"terminal: ")?;
+    text.extend_from_slice(terminal)?;
+    text.extend_from_slice(b"card: ")?;
+    text.extend_from_slice(card)?;
+    Ok(Octets::of(text))
+}
+
+/// Joins the members about both ends, after the verdict.
+fn both_members(
+    alloc: Global,
+    terminal: &[u8],
+    card: &[u8],
+    status: Status,
+) -> Result<Octets, AllocError>
+    ensures { IfOk result (λ text. text ≡ both_members terminal.now card.now status) }
+{
+    let mut text = Vec::new(alloc);
+    text.extend_from_slice(verdict_member(status).as_bytes())?;
+    push_card(&mut text, card)?;
+    push_terminal(&mut text, terminal)?;
+    Ok(Octets::of(text))
+}
+
+/// Appends the member for what is said of the card.
+#[tactic(auto, unfolding(crate::specs::ExchangeTexts::card_member))]
+fn push_card(text: &mut Vec<u8>, said: &[u8]) -> Result<(), AllocError>
+    ensures { OnOk result (text.new.items ≡ text.old.items ++ card_member said.now) }
+{
+    text.extend_from_slice(b"\"card\":{")?;
+    text.extend_from_slice(said)?;
+    Ok(text.push(b'}')?)
+}
+
+/// Appends the member for what is said of the terminal, after a comma.
+#[tactic(auto, unfolding(crate::specs::ExchangeTexts::terminal_member))]
+fn push_terminal(text: &mut Vec<u8>, said: &[u8]) -> Result<(), AllocError>
+    ensures { OnOk result (text.new.items ≡ text.old.items ++ terminal_member said.now) }
+{
+    text.extend_from_slice(b",\"terminal\":{")?;
+    text.extend_from_slice(said)?;
+    Ok(text.push(b'}')?)
+}
+
+/// Returns the member for the verdict of both ends, by the status.
+fn verdict_member(status: Status) -> &'static str
+    ensures { result.now ≡ verdict_member status }
+{
+    match status {
+        Status::Accepted => "\"verdict\":\"ok\",",
+        Status::Refused => "\"verdict\":\"differs\",",
+        Status::Fault => "",
+    }
+}
+
+/// Returns the line of a fault of the file, with a note on the file's line that has the fault.
+fn refused_with_note(
+    alloc: Global,
+    file: &[u8],
+    fault: ExchangeFault,
+) -> Result<WithNote, AllocError>
+    ensures other { IfOk result (λ _. fault ≢ Memory) }
+    ensures made { IfOk result (AreOf
+        (λ text status. (text ≡ file_fault_text fault) × (status ≡ ended.Fault))
+        (λ note. note ≡ fault_note file.now fault)) }
+{
+    let answer = refused(alloc, fault)?;
+    let note = fault_note(alloc, file, fault);
+    Ok(WithNote { answer, note })
+}
+
+/// Lists the commands and answers of an exchange, as lines or as members.
+fn listed(alloc: Global, exchange: &Exchange, layout: Layout) -> Result<Answer, AllocError>
+    ensures text { IfOk result (λ answer. answer.text ≡ listed_in layout exchange.now.lines) }
+    ensures status { IfOk result (λ answer. answer.status ≡ ended.Accepted) }
+{
+    let text = match layout {
+        Layout::Lines => list_apdus(alloc, exchange)?,
+        Layout::Json => {
+            let items = apdu_items(alloc, exchange)?;
+            format!(in alloc; "\"verdict\":\"ok\",\"exchanges\":[{items}]")?.into_bytes()
+        }
+    };
+    Ok(Answer {
+        text: Octets::of(text),
+        status: Status::Accepted,
+    })
+}
+
+/// Draws an exchange.
+fn drawn(alloc: Global, exchange: &Exchange, drawing: Drawing) -> Result<Answer, AllocError>
+    ensures text { IfOk result (λ answer. answer.text ≡ drawn drawing exchange.now) }
+    ensures status { IfOk result (λ answer. answer.status ≡ ended.Accepted) }
+{
+    let text = match drawing {
+        Drawing::Ladder => draw_ladder(alloc, exchange)?,
+        Drawing::Picture => draw_picture(alloc, exchange)?,
+    };
+    Ok(Answer {
+        text: Octets::of(text),
+        status: Status::Accepted,
+    })
+}
+
+/// Returns whether an end agrees with an exchange, by the outcome of replaying it: a line, or members.
+fn agreement(
+    alloc: Global,
+    exchange: &Exchange,
+    side: Side,
+    layout: Layout,
+    outcome: &Result<(), ReplayFault>,
+) -> Result<Answer, AllocError>
+    requires { IsOutcome exchange.now side outcome.now }
+    ensures { IfOk result (λ answer.
+        IsReplayed layout exchange.now side answer.text answer.status) }
+{
+    match outcome {
+        Ok(()) => {
+            let text = agreed(alloc, exchange.lines().get().len() + 2, layout)?;
+            Ok(Answer::of(text, Status::Accepted))
+        }
+        Err(ReplayFault::Differs { line, gives }) => {
+            let text = differing(alloc, *line, gives.get(), layout)?;
+            Ok(Answer::of(text, Status::Refused))
+        }
+        Err(ReplayFault::Memory) => Err(AllocError),
+    }
+}
+
+/// Returns that an end agrees with so many lines.
+fn agreed(alloc: Global, lines: usize, layout: Layout) -> Result<String, AllocError>
+    ensures { IfOk result (λ text. (e : ExchangeParts) → lines ≡ length e.lines + 2
+        → string_bytes text ≡ agrees_in layout e) }
+{
+    match layout {
+        Layout::Lines => format!(in alloc; "ok {lines} lines\n"),
+        Layout::Json => format!(in alloc; "\"lines\":{lines},\"verdict\":\"ok\""),
+    }
+}
+
+/// Returns that an end differs: what it gives at a line.
+fn differing(alloc: Global, line: usize, gives: &str, layout: Layout) -> Result<String, AllocError>
+    ensures { IfOk result (λ text. string_bytes text ≡ differs_in layout line gives.now) }
+{
+    match layout {
+        Layout::Lines => format!(in alloc; "line {line}: engine gives {gives}\n"),
+        Layout::Json => {
+            format!(in alloc; "\"gives\":\"{gives}\",\"line\":{line},\"verdict\":\"differs\"")
+        }
+    }
+}
+
+/// Returns the text of an exchange.
+pub(crate) fn written(alloc: Global, exchange: &Exchange) -> Result<Answer, AllocError>
+    ensures text { IfOk result (λ answer. answer.text ≡ exchange_text exchange.now) }
+    ensures status { IfOk result (λ answer. answer.status ≡ ended.Accepted) }
+{
+    let text = write_exchange(alloc, exchange)?;
+    Ok(Answer {
+        text: Octets::of(text),
+        status: Status::Accepted,
+    })
+}
+
+/// Returns the line of a fault of the file.
+pub(crate) fn refused(alloc: Global, fault: ExchangeFault) -> Result<Answer, AllocError>
+    ensures other { IfOk result (λ _. fault ≢ Memory) }
+    ensures text { IfOk result (λ answer. answer.text ≡ file_fault_text fault) }
+    ensures status { IfOk result (λ answer. answer.status ≡ ended.Fault) }
+{
+    if fault == ExchangeFault::Memory {
+        return Err(AllocError);
+    }
+    let text = format!(in alloc; "fault: {fault}\n")?;
+    Ok(Answer::of(text, Status::Fault))
+}

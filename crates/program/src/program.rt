@@ -1,0 +1,193 @@
+//! The program: from its words to the text that it writes.
+
+ghost use Rattle.std.specs.Prelude.{◌≡◌, ◌++◌, IfErr, IfOk};
+ghost use Rattle.program.specs.Calls.{calls_of};
+ghost use Rattle.program.specs.Answers.{AskToJudge, IsReadFrom, IsWritten, Writes};
+ghost use Rattle.program.specs.Explained.{said_of, Gives, IsSaid};
+ghost use Rattle.program.specs.InJson.{HaveAnswer, IsRightAsked, IsRightJson};
+ghost use Rattle.program.specs.Files.{IsBegun};
+ghost use Rattle.program.specs.LineAnswers.{AskForNoLines, WritesLines};
+ghost use Rattle.program.specs.LineNotes.{telling_of};
+ghost use Rattle.program_words.specs.Texts.{fault_text};
+ghost use Rattle.program_words.specs.Words.{AskForFile, AskForLines};
+ghost use Rattle.command_line.specs.Form.{texts};
+ghost use Rattle.program_words.specs.declared.request.Task.{Task as AnyTask};
+ghost use Rattle.program_octets.specs.declared.status.Status.TheVariants as ended;
+
+use crate::json::{in_json, object_by};
+use crate::judged::WithNote;
+use crate::lines::tell_lines;
+use crate::replies::reply;
+use crate::telling::Telling;
+use command_line::{asks_for_json, asks_to_explain};
+use octet_core::{Sink, Source, write_octets};
+use program_octets::{Answer, Status};
+use program_words::{Asked, Fault, Request};
+use std::alloc::{AllocError, Global};
+
+/// Runs the program, and writes one text. The first of the words is the program's name. The text is lines, or a JSON
+/// object if the words have `--json`. With `--explain` an explanation comes after the lines, or as a member of the
+/// object. It is left out if memory for it isn't available.
+///
+/// If memory can't grow, the text is `fault: memory`. If the writer fails, a part of the text is written. In both cases
+/// the status is `Fault`. The reader is called only if the words ask for octets, pairs or blocks of standard input, or
+/// for a file of recorded exchanges. It is read to its end, but at most one octet past the largest file, except for a
+/// trace that is judged: that has no limit, and only one of its lines is kept at a time.
+///
+/// If the words ask for the lines of standard input, each line is answered before the reader is called again, however
+/// many come. With `--explain` an explanation comes after each. After a fault of memory or of the reader no more lines
+/// are answered.
+pub fn run<R: Source, W: Sink>(
+    alloc: Global,
+    words: Vec<String>,
+    reader: &mut R,
+    writer: &mut W,
+) -> Status
+    ensures written { AskForNoLines (texts words.items)
+        → Writes (IsRightAsked (texts words.items) (calls_of R.remaining R.failures reader.old reader.new)) (calls_of W.contents W.failures writer.old writer.new) result }
+    ensures lines { (task : AnyTask) → AskForLines task (texts words.items)
+        → WritesLines (telling_of (texts words.items) task) (calls_of R.remaining R.failures reader.old reader.new) (calls_of W.contents W.failures writer.old writer.new) result }
+    ensures unread { AskForNoLines (texts words.items) → (AskForFile (texts words.items) → ⊥)
+        → reader.new ≡ reader.old }
+    ensures few { AskForNoLines (texts words.items) → (AskToJudge (texts words.items) → ⊥)
+        → IsBegun (calls_of R.remaining R.failures reader.old reader.new) 4194305 }
+{
+    let words = words.as_slice();
+    match program_words::read(alloc, words) {
+        Ok(Asked::Lines(task)) => {
+            let explains = asks_to_explain(words);
+            tell_lines(alloc, Telling { task, explains }, reader, writer)
+        }
+        Ok(Asked::Once(request)) => one_text(alloc, words, Ok(request), reader, writer),
+        Err(Fault::Memory) => report(Fault::Memory, writer),
+        Err(fault) => one_text(alloc, words, Err(fault), reader, writer),
+    }
+}
+
+/// Writes the one text for the words, by what they were read as.
+fn one_text<R: Source, W: Sink>(
+    alloc: Global,
+    words: &[String],
+    read: Result<Request, Fault>,
+    reader: &mut R,
+    writer: &mut W,
+) -> Status
+    requires { IsReadFrom (texts words.now) read }
+    ensures written { Writes (IsRightAsked (texts words.now)
+        (calls_of R.remaining R.failures reader.old reader.new))
+        (calls_of W.contents W.failures writer.old writer.new) result }
+    ensures unread { (AskForFile (texts words.now) → ⊥) → reader.new ≡ reader.old }
+    ensures few { (AskToJudge (texts words.now) → ⊥)
+        → IsBegun (calls_of R.remaining R.failures reader.old reader.new) 4194305 }
+{
+    match answer_as_asked(alloc, words, read, reader) {
+        Ok(made) => write_made(&made, writer),
+        Err(fault) => report(fault, writer),
+    }
+}
+
+/// Writes the line of a fault.
+pub fn report<W: Sink>(fault: Fault, writer: &mut W) -> Status
+    ensures { IsWritten (fault_text fault) ended.Fault
+        (calls_of W.contents W.failures writer.old writer.new) result }
+{
+    write(fault.text().as_bytes(), Status::Fault, writer)
+}
+
+/// Writes a text. Returns the status, or that of a fault if the writer fails.
+fn write<W: Sink>(text: &[u8], status: Status, writer: &mut W) -> Status
+    ensures { IsWritten text.now status (calls_of W.contents W.failures writer.old writer.new)
+        result }
+{
+    match write_octets(writer, text) {
+        Ok(()) => status,
+        Err(_) => Status::Fault,
+    }
+}
+
+/// Returns the note of an answer, empty if memory for it wasn't available.
+fn said(made: &WithNote) -> &[u8]
+    ensures { result.now ≡ said_of made.now.note }
+{
+    match &made.note {
+        Ok(note) => note.as_bytes(),
+        Err(_) => &[],
+    }
+}
+
+/// Writes an answer and its note. Returns the answer's status, or that of a fault if the writer fails.
+fn write_made<W: Sink>(made: &WithNote, writer: &mut W) -> Status
+    ensures { IsWritten (made.now.answer.text ++ said_of made.now.note) made.now.answer.status
+        (calls_of W.contents W.failures writer.old writer.new) result }
+{
+    match write_octets(writer, made.answer.text.get()) {
+        Ok(()) => write(said(made), made.answer.status, writer),
+        Err(_fault) => Status::Fault,
+    }
+}
+
+/// Returns the answer to the words as a JSON object, or as lines, with an explanation if they ask for one.
+fn answer_as_asked<R: Source>(
+    alloc: Global,
+    words: &[String],
+    read: Result<Request, Fault>,
+    reader: &mut R,
+) -> Result<WithNote, Fault>
+    requires { IsReadFrom (texts words.now) read }
+    ensures told { Gives (IsRightAsked (texts words.now)
+        (calls_of R.remaining R.failures reader.old reader.new)) result }
+    ensures unread { (AskForFile (texts words.now) → ⊥) → reader.new ≡ reader.old }
+    ensures few { (AskToJudge (texts words.now) → ⊥)
+        → IsBegun (calls_of R.remaining R.failures reader.old reader.new) 4194305 }
+{
+    if asks_for_json(words) {
+        answer_in_json(alloc, words, read, reader)
+    } else {
+        reply(alloc, words, read, reader)
+    }
+}
+
+/// Returns the answer to the words as a JSON object, with the explanation as a member.
+fn answer_in_json<R: Source>(
+    alloc: Global,
+    words: &[String],
+    read: Result<Request, Fault>,
+    reader: &mut R,
+) -> Result<WithNote, Fault>
+    requires { IsReadFrom (texts words.now) read }
+    ensures told { Gives (IsRightJson (texts words.now)
+        (calls_of R.remaining R.failures reader.old reader.new)) result }
+    ensures unread { (AskForFile (texts words.now) → ⊥) → reader.new ≡ reader.old }
+    ensures few { (AskToJudge (texts words.now) → ⊥)
+        → IsBegun (calls_of R.remaining R.failures reader.old reader.new) 4194305 }
+{
+    let object = object_by(&read);
+    let made = whole_reply(alloc, words, read, reader)?;
+    let status = made.answer.status;
+    let text = in_json(alloc, &object, made)?;
+    Ok(WithNote::alone(alloc, Answer { text, status }))
+}
+
+/// Returns the answer to the words, or the line of a fault.
+fn whole_reply<R: Source>(
+    alloc: Global,
+    words: &[String],
+    read: Result<Request, Fault>,
+    reader: &mut R,
+) -> Result<WithNote, AllocError>
+    requires { IsReadFrom (texts words.now) read }
+    ensures told { IfOk result (λ made.
+        IsSaid (texts words.now) (calls_of R.remaining R.failures reader.old reader.new)
+        made.answer.text
+        (said_of made.note) made.answer.status) }
+    ensures failed { IfErr result (λ _.
+        HaveAnswer (texts words.now) (calls_of R.remaining R.failures reader.old reader.new)) }
+    ensures unread { (AskForFile (texts words.now) → ⊥) → reader.new ≡ reader.old }
+    ensures few { (AskToJudge (texts words.now) → ⊥)
+        → IsBegun (calls_of R.remaining R.failures reader.old reader.new) 4194305 }
+{
+    match reply(alloc, words, read, reader) {
+        Ok(made) => Ok(made),
+        Err(fault) => Ok(WithNote::alone(alloc, Answer::faulted(alloc, fault)?)),
+    }
+}

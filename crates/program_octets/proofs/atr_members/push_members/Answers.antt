@@ -1,0 +1,21 @@
+use Rattle.std.proofs.Common.{◌≡◌, ◌++◌, append_assoc, refl, string_bytes}
+use Rattle.program_octets.specs.AtrTexts.{tail_members, atr_members}
+use Rattle.program_octets.proofs.Pushes.{last-added}
+use Rattle.program_octets.proofs.atr_members.push_members.Goals as goal
+
+pub returns : goal.returns
+returns c =
+    let whole : string_bytes c.push_str-4.new.self ++ tail_members c.args.atr.now ≡ string_bytes c.args.text.now
+    ++ atr_members c.args.atr.now =
+    simp (
+      c.in_ok-push_str-4.ensures.bytes,
+      c.as_str.ensures.value,
+      c.in_ok-bytes.ensures,
+      c.in_ok-push_str-3.ensures.bytes,
+      c.in_ok-push_str-2.ensures.bytes,
+      c.convention_name.ensures,
+      c.convention.ensures,
+      c.in_ok-push_str.ensures.bytes,
+      append_assoc,
+    ) refl in
+    last-added c.push_tail.result _ _ _ whole c.push_tail.ensures

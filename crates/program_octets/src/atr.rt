@@ -1,0 +1,86 @@
+//! What the program prints about an answer to reset.
+
+ghost use Rattle.std.specs.Prelude.{◌≡◌, IfOk, refl};
+ghost use Rattle.atr_core.specs.Atr.{AtrParts};
+ghost use Rattle.program_octets.specs.AtrTexts.{atr_codec, atr_members, atr_places, atr_text, convention_text};
+
+use crate::atr_lines::push_lines;
+use crate::atr_members::push_members;
+use crate::atr_places::push_places;
+use crate::codec::{Codec, Outcome};
+use crate::shown::{Showable, Shown};
+use atr_core::{Atr, AtrReason, Convention, check, decode};
+use layouts::Layout;
+use notes::atr_refusal_note;
+use octet_core::Stop;
+use program_words::{Expected, FieldSize};
+use std::alloc::{AllocError, Global};
+
+impl Codec for Atr {
+    type Reason = AtrReason;
+
+    ghost Value = { AtrParts };
+
+    ghost codec = { λ _. atr_codec };
+
+    ghost named = { λ _. refl };
+
+    fn taken(_alloc: Global, octets: &[u8], _expected: Expected) -> Outcome<usize, AtrReason> {
+        Ok(check(octets)?)
+    }
+
+    fn shown(
+        alloc: Global,
+        octets: &[u8],
+        expected: Expected,
+        layout: Layout,
+        noted: bool,
+    ) -> Outcome<Shown, AtrReason> {
+        let (atr, taken) = decode(octets)?;
+        Ok(Shown::of(alloc, &atr, taken, expected.kind, layout, noted)?)
+    }
+
+    fn refusal_note(
+        alloc: Global,
+        octets: &[u8],
+        stop: Stop<AtrReason>,
+        _ifs: FieldSize,
+    ) -> Result<String, AllocError> {
+        atr_refusal_note(alloc, octets, stop)
+    }
+}
+
+impl Showable for Atr {
+    ghost lines = { atr_text };
+
+    ghost members = { atr_members };
+
+    ghost places = { atr_places };
+
+    fn push_lines(&self, _alloc: Global, text: &mut String, noted: bool) -> Result<(), AllocError> {
+        push_lines(text, self, noted)
+    }
+
+    fn push_members(&self, alloc: Global, text: &mut String) -> Result<(), AllocError> {
+        push_members(alloc, text, self)
+    }
+
+    fn push_places(
+        &self,
+        _alloc: Global,
+        items: &mut String,
+        taken: usize,
+    ) -> Result<(), AllocError> {
+        push_places(items, self, taken)
+    }
+}
+
+/// Returns the name of a convention.
+pub(crate) fn convention_name(convention: Convention) -> &'static str
+    ensures { result.now ≡ convention_text convention }
+{
+    match convention {
+        Convention::Direct => "direct",
+        Convention::Inverse => "inverse",
+    }
+}

@@ -1,0 +1,108 @@
+//! JSON objects with what the program prints about octets.
+
+ghost use Rattle.std.specs.Prelude.{◌≡◌, ◌++◌, IfOk, OnOk, string_bytes};
+ghost use Rattle.program_octets.specs.Json.{accepted_members, notes_member, object_head, object_line, refused_at_members, refused_members, short_members};
+ghost use Rattle.program_octets.specs.Verdicts.{kind_name};
+
+use answer_json::note_items;
+use notes::MARK;
+use octet_core::{Named, Stop};
+use program_words::Kind;
+use std::alloc::{AllocError, Global};
+
+/// Returns the name of a kind, as the words of a command line have it.
+pub fn kind_name(kind: Kind) -> &'static str
+    ensures { result.now ≡ kind_name kind }
+{
+    match kind {
+        Kind::Atr => "atr",
+        Kind::Block => "block",
+        Kind::Chain => "chain",
+        Kind::Command => "command",
+        Kind::Response => "response",
+        Kind::Tlv => "tlv",
+        Kind::Dol => "dol",
+    }
+}
+
+/// Returns the beginning of every object: the version of its form, and its subject.
+pub fn object_head(alloc: Global, about: &str) -> Result<String, AllocError>
+    ensures { IfOk result (λ text. string_bytes text ≡ object_head about.now) }
+{
+    let mut text = String::new(alloc);
+    push_head(&mut text, about)?;
+    Ok(text)
+}
+
+/// Appends the beginning of every object.
+pub(crate) fn push_head(text: &mut String, about: &str) -> Result<(), AllocError>
+    ensures { OnOk result (string_bytes text.new ≡ string_bytes text.old ++ object_head about.now) }
+{
+    write!(text, "{{\"version\":1,\"kind\":\"{about}\",")
+}
+
+/// Appends the members for how many octets a value takes.
+pub(crate) fn push_accepted(text: &mut String, taken: usize) -> Result<(), AllocError>
+    ensures { OnOk result (string_bytes text.new ≡ string_bytes text.old
+        ++ accepted_members taken) }
+{
+    write!(text, "\"verdict\":\"ok\",\"octets\":{taken}")
+}
+
+/// Returns the member with the notes on the lines of a text, which begins with a comma. It has each line that has a
+/// note, and the note.
+pub fn notes_member(alloc: Global, noted: &[u8]) -> Result<String, AllocError>
+    ensures { IfOk result (λ member. string_bytes member ≡ notes_member noted.now) }
+{
+    let items = note_items(alloc, MARK.as_bytes(), noted)?;
+    format!(in alloc; ",\"notes\":[{items}]")
+}
+
+/// Returns the object about octets of a kind that are a value of `taken` octets, in one line.
+pub(crate) fn accepted_object(alloc: Global, kind: Kind, taken: usize) -> Result<String, AllocError>
+    ensures { IfOk result (λ text. string_bytes text
+        ≡ object_line (kind_name kind) (accepted_members taken)) }
+{
+    let mut text = object_head(alloc, kind_name(kind))?;
+    push_accepted(&mut text, taken)?;
+    text.push_str("}\n")?;
+    Ok(text)
+}
+
+/// Returns the object about octets of a kind that are refused, in one line.
+pub(crate) fn refused_object<R: Named>(
+    alloc: Global,
+    kind: Kind,
+    stop: Stop<R>,
+) -> Result<String, AllocError>
+    ensures { IfOk result (λ text. string_bytes text
+        ≡ object_line (kind_name kind) (refused_members R.text stop)) }
+{
+    let members = refused_members(alloc, stop)?;
+    let mut text = object_head(alloc, kind_name(kind))?;
+    text.push_str(members.as_str())?;
+    text.push_str("}\n")?;
+    Ok(text)
+}
+
+/// Returns the members for why octets are refused.
+fn refused_members<R: Named>(alloc: Global, stop: Stop<R>) -> Result<String, AllocError>
+    ensures { IfOk result (λ text. string_bytes text ≡ refused_members R.text stop) }
+{
+    match stop {
+        Stop::Short { place } => short_members(alloc, place),
+        Stop::At { place, reason } => refused_at_members(alloc, place, reason.name()),
+    }
+}
+
+fn short_members(alloc: Global, place: usize) -> Result<String, AllocError>
+    ensures { IfOk result (λ text. string_bytes text ≡ short_members place) }
+{
+    format!(in alloc; "\"verdict\":\"short\",\"at\":{place}")
+}
+
+fn refused_at_members(alloc: Global, place: usize, reason: &str) -> Result<String, AllocError>
+    ensures { IfOk result (λ text. string_bytes text ≡ refused_at_members place reason.now) }
+{
+    format!(in alloc; "\"verdict\":\"refused\",\"at\":{place},\"reason\":\"{reason}\"")
+}
