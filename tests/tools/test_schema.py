@@ -68,16 +68,18 @@ class Schema(unittest.TestCase):
             "clause": "11.6.2.3 rule 2.1", "line": 2, "octets": "00900090",
         }
         judged = {
-            "version": 1, "kind": "judge", "verdict": "deviates", "atr": "3B00", "blocks": 2, "deviations": 1,
-            "terminal": 0, "card": 1, "unseen": 0, "told": [found],
+            "version": 1, "kind": "judge", "verdict": "deviates", "atr": "3B00", "program": "scard 1.5.0",
+            "blocks": 2, "deviations": 1, "terminal": 0, "card": 1, "unseen": 0, "told": [found],
         }
         self.assertTrue(self.validator.is_valid(judged))
         for name, value in (
             ("verdict", "ok"), ("verdict", "unsure"), ("deviations", 0), ("late", 0), ("card_damaged", 0), ("told", {}),
-            ("atr", "3"), ("other", 1),
+            ("atr", "3"), ("program", "scard"), ("other", 1),
         ):
             self.assertFalse(self.validator.is_valid({**judged, name: value}), name)
-        unsure = {"version": 1, "kind": "judge", "verdict": "unsure", "atr": "", "blocks": 2, "unseen": 1, "told": []}
+        unsure = {**judged, "verdict": "unsure", "unseen": 1, "told": []}
+        for name in ("deviations", "terminal", "card"):
+            del unsure[name]
         self.assertTrue(self.validator.is_valid(unsure))
         self.assertFalse(self.validator.is_valid({**unsure, "verdict": "ok"}))
         del unsure["unseen"]

@@ -11,7 +11,7 @@ from copies import TOP, OverCopies, printed, script
 
 tool = script("gate/version")
 NOW = (TOP / "VERSION").read_text().strip()
-FILES = ["VERSION", tool.CHANGES, tool.SYMBOLS, *tool.PLACES]
+FILES = ["VERSION", tool.CHANGES, tool.SYMBOLS, *{*tool.PLACES, *tool.OBJECTS}]
 
 
 class Versions(OverCopies):
@@ -48,6 +48,14 @@ class Versions(OverCopies):
         self.change("docs/PROGRAM.md", f"`scard {NOW}` |", "a version |")
         self.assertEqual(self.said()[0], 1)
 
+    def test_an_object_with_another_version_is_named(self):
+        for file in tool.OBJECTS:
+            text = self.text(file)
+            (self.top / file).write_text(text.replace(f'"program":"scard {NOW}"', '"program":"scard 7.8.9"', 1))
+            self.assertEqual(self.said(), (1, f"version: {file}: each object that names the program must have its "
+                                              f"version, {NOW}\n"))
+            (self.top / file).write_text(text)
+
     def test_a_heading_of_another_version_is_named(self):
         self.change(tool.CHANGES, f"## {NOW}\n", "## 0.0.1\n")
         self.assertEqual(self.said()[0], 1)
@@ -64,6 +72,7 @@ class Versions(OverCopies):
         self.assertEqual(self.text("VERSION"), "12.0.345\n")
         self.assertIn("\n    12_000_345\n", self.text("crates/c_lent/src/version.rt"))
         self.assertIn(" == 12000345);", self.text("tests/c/names.c"))
+        self.assertEqual({it for file in tool.OBJECTS for it in tool.MEMBER.findall(self.text(file))}, {"12.0.345"})
         self.assertEqual(tool.HEADING.findall(self.text(tool.CHANGES))[:2], ["12.0.345", NOW])
 
     def test_each_call_has_the_version_in_which_it_came(self):

@@ -1,4 +1,4 @@
--- Words that ask for the version, and the line with the version.
+-- Words that ask for the version of the program.
 use Rattle.std.specs.Prelude.{◌||◌, ◌&&◌, ℕ, List, [], ◌∷◌, codes, Bool, false}
 use Rattle.std.specs.Str.{bytes_eq}
 
@@ -14,6 +14,3 @@ asks_for_version (name ∷ word ∷ []) = is_version word
 asks_for_version (name ∷ first ∷ second ∷ []) =
     (is_version first && is_json second) || (is_json first && is_version second)
 asks_for_version _ = false
-
-abbrev pub version_line : List ℕ
-version_line = codes "scard 1.5.0\n"

@@ -15,4 +15,4 @@ pub mod version;
 pub use asked::{asks_for_json, asks_to_explain};
 pub use explain::parser_message;
 pub use parse::matches_of;
-pub use version::{VERSION_LINE, asks_for_version};
+pub use version::asks_for_version;

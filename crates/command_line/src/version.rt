@@ -1,11 +1,8 @@
-//! The version of the program, and the words that ask for it.
+//! The words that ask for the version of the program.
 
 ghost use Rattle.std.specs.Prelude.{◌≡◌, string_bytes};
 ghost use Rattle.command_line.specs.Version.{asks_for_version, is_json, is_version};
 ghost use Rattle.command_line.specs.Form.{texts};
-
-/// The line that the program prints for `--version`. It has the same version as `include/scard.h`.
-pub const VERSION_LINE: &str = "scard 1.5.0\n";
 
 /// Whether the words after the program's name are `--version` or `-V`, alone or with `--json`.
 pub fn asks_for_version(words: &[String]) -> bool

@@ -32,7 +32,7 @@ use Rattle.program.specs.Files.{largest_file}
 use Rattle.program.specs.Lines.{all_lines, line_octets, worse, AreTold}
 use Rattle.program_words.specs.Words.{AreSized, HasOctets, HaveOctets, IsOnce, IsSized, NeedsOctets}
 use Rattle.program_words.proofs.Givens.{octets-given}
-use Rattle.command_line.specs.Version.{version_line}
+use Rattle.layouts.specs.Version.{version_line}
 use Rattle.program_words.specs.declared.request.Aim.{Aim}
 use Rattle.program_words.specs.declared.request.Aim.TheVariants.{Check, Show, Note}
 use Rattle.program_words.specs.declared.request.Kind.{Kind}

@@ -17,7 +17,7 @@ use Rattle.program_octets.specs.Json.{object_head, with_notes}
 use Rattle.program.specs.Pieces.{ReadsFor}
 use Rattle.program.specs.Lines.{all_lines, line_octets, AreTold}
 use Rattle.program_words.specs.Given.{octets_given}
-use Rattle.command_line.specs.Version.{version_line}
+use Rattle.layouts.specs.Version.{version_line}
 use Rattle.clap.specs.Words.{subcommand_of}
 use Rattle.program_words.specs.Words.{asked_of, once_of, AreTaken, AskFor, IsRead, NeedsFile}
 use Rattle.command_line.specs.Form.{scard}

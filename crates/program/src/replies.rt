@@ -22,8 +22,9 @@ use crate::file::{LARGEST_FILE, read_whole};
 use crate::judged::{WithNote, answer_about, filled, joined, tidied};
 use crate::telling::Telling;
 use crate::{exchange, judging, recording, simulation};
-use command_line::{VERSION_LINE, asks_to_explain};
+use command_line::asks_to_explain;
 use explainer::{large_note, offsets_note, text_note, words_note};
+use layouts::PROGRAM;
 use octet_core::{Octets, Source};
 use program_octets::{Answer, blocks};
 use program_words::{Fault, Form, OctetSource, Request};
@@ -117,7 +118,7 @@ fn replied_to<R: Source>(
         }
         Request::Help(text) => Ok(WithNote::alone(alloc, Answer::told(text.into_inner()))),
         Request::Version => {
-            let line = String::from_str(alloc, VERSION_LINE)?;
+            let line = format!(in alloc; "{PROGRAM}\n")?;
             Ok(WithNote::alone(alloc, Answer::told(line)))
         }
     }

@@ -6,6 +6,7 @@ use Rattle.octet_core.specs.Octets.{xor_of}
 use Rattle.line_core.specs.Bursts.{most_counted}
 use Rattle.layouts.specs.Items.{with_item}
 use Rattle.layouts.specs.Members.{with_array, with_number, with_string}
+use Rattle.layouts.specs.Version.{program_name}
 use Rattle.layouts.specs.declared.layout.Layout.{Layout}
 use Rattle.layouts.specs.declared.layout.Layout.TheVariants.{Lines, Json}
 use Rattle.atr_core.specs.Rates.{baud_rates, clock_rates}
@@ -435,11 +436,16 @@ summary blocks tally =
 unfoldable pub with_unless_zero : List ℕ → List ℕ → ℕ → List ℕ
 with_unless_zero members name n = if n == 0 then members else with_number members name n
 
+-- the members for blocks of another connection, if there are any, and for the program
+unfoldable pub with_program : List ℕ → Tally → List ℕ
+with_program members tally =
+    with_string (with_unless_zero members (codes "not_judged") tally.elsewhere) (codes "program") program_name
+
 -- the members for the counts of the blocks, if no end deviates
 unfoldable pub ok_counts : ℕ → Tally → List ℕ
-ok_counts blocks tally = with_unless_zero (with_unless_zero (with_unless_zero (with_number [] (codes "blocks") blocks)
-    (codes "card_damaged") tally.card_damaged) (codes "not_judged") tally.elsewhere)
-    (codes "terminal_damaged") tally.terminal_damaged
+ok_counts blocks tally = with_unless_zero
+    (with_program (with_unless_zero (with_number [] (codes "blocks") blocks) (codes "card_damaged") tally.card_damaged)
+    tally) (codes "terminal_damaged") tally.terminal_damaged
 
 -- the members of an object if no end deviates, with an array of these items
 abbrev pub ok_members : ℕ → Tally → List ℕ → List ℕ
@@ -455,9 +461,8 @@ card_counts blocks tally = with_unless_zero (with_number (with_number [] (codes 
 -- the members for the counts of the blocks and the deviations
 unfoldable pub deviation_counts : ℕ → Tally → List ℕ
 deviation_counts blocks tally = with_unless_zero (with_number
-    (with_unless_zero (with_unless_zero (with_unless_zero (with_number (card_counts blocks tally)
-    (codes "deviations") (deviations tally)) (codes "early") tally.early) (codes "late") tally.late)
-    (codes "not_judged") tally.elsewhere)
+    (with_program (with_unless_zero (with_unless_zero (with_number (card_counts blocks tally)
+    (codes "deviations") (deviations tally)) (codes "early") tally.early) (codes "late") tally.late) tally)
     (codes "terminal") tally.terminal) (codes "terminal_damaged") tally.terminal_damaged
 
 -- the members of an object if an end deviates, with an array of these items

@@ -1,14 +1,14 @@
 //! How many deviations a trace has.
 
 ghost use Rattle.std.specs.Prelude.{◌≡◌, ◌++◌, [], IfOk, OnOk, codes, decimal, string_bytes};
-ghost use Rattle.trace_judge.specs.Judging.{card_counts, counted, damaged_card, damaged_of, damaged_part, damaged_terminal, damaged_text, deviation_counts, deviation_of, deviations, deviations_members, deviations_text, early_in, elsewhere_in, elsewhere_part, ends_text, is_ok, is_sure, is_undamaged, late_in, nothing_told, ok_counts, ok_members, ok_text, summary, summary_members, time_part, times_part, unseen_in, unseen_part, unsure_part, verdict_name, with_summary, with_unless_zero};
+ghost use Rattle.trace_judge.specs.Judging.{card_counts, counted, damaged_card, damaged_of, damaged_part, damaged_terminal, damaged_text, deviation_counts, deviation_of, deviations, deviations_members, deviations_text, early_in, elsewhere_in, elsewhere_part, ends_text, is_ok, is_sure, is_undamaged, late_in, nothing_told, ok_counts, ok_members, ok_text, summary, summary_members, time_part, times_part, unseen_in, unseen_part, unsure_part, verdict_name, with_program, with_summary, with_unless_zero};
 
 use crate::counting::{
     push_counted, push_damaged_card, push_damaged_terminal, push_time_part, push_unless_zero,
 };
 use crate::saying::push_number;
 use judge_core::Side;
-use layouts::{Layout, Members};
+use layouts::{Layout, Members, PROGRAM};
 use std::alloc::{AllocError, Global};
 
 /// How many deviations each end has, and how many of them are in time. How many blocks must have been damaged or lost
@@ -184,7 +184,7 @@ impl Tally {
         let mut members = Members::new(alloc);
         members.number(alloc, "blocks", blocks)?;
         push_unless_zero(alloc, &mut members, "card_damaged", self.card_damaged)?;
-        push_unless_zero(alloc, &mut members, "not_judged", self.elsewhere)?;
+        self.push_program(alloc, &mut members)?;
         push_unless_zero(
             alloc,
             &mut members,
@@ -192,6 +192,15 @@ impl Tally {
             self.terminal_damaged,
         )?;
         Ok(members)
+    }
+
+    /// Appends the member for blocks of another connection, if there are any, and the one for the program.
+    #[tactic(auto, unfolding(crate::specs::Judging::with_program))]
+    fn push_program(&self, alloc: Global, members: &mut Members) -> Result<(), AllocError>
+        ensures { OnOk result (members.new ≡ with_program members.old self.now) }
+    {
+        push_unless_zero(alloc, members, "not_judged", self.elsewhere)?;
+        members.string(alloc, "program", PROGRAM)
     }
 
     /// Returns the members of an object if an end deviates, with an array of these items.
@@ -220,7 +229,7 @@ impl Tally {
         members.number(alloc, "deviations", self.deviations())?;
         push_unless_zero(alloc, &mut members, "early", self.early)?;
         push_unless_zero(alloc, &mut members, "late", self.late)?;
-        push_unless_zero(alloc, &mut members, "not_judged", self.elsewhere)?;
+        self.push_program(alloc, &mut members)?;
         members.number(alloc, "terminal", self.terminal)?;
         push_unless_zero(
             alloc,
