@@ -145,6 +145,7 @@ end_of c = record {
   row = record { repeats = c.repeats; corrections = c.corrections };
   room = c.room;
   first_room = c.first_room;
+  largest_room = c.largest_room;
   known = mark_in c.known;
   aborted = mark_in c.aborted;
 }

@@ -30,6 +30,7 @@ pub struct CEnd {
     pub corrections: u8,
     pub room: u8,
     pub first_room: u8,
+    pub largest_room: u8,
     pub known: u8,
     pub aborted: u8,
 }
@@ -125,6 +126,7 @@ impl CEnd {
             corrections: end.row.corrections,
             room: end.room,
             first_room: end.first_room,
+            largest_room: end.largest_room,
             known: mark(end.known),
             aborted: mark(end.aborted),
         }
@@ -147,6 +149,7 @@ impl CEnd {
             },
             room: self.room,
             first_room: self.first_room,
+            largest_room: self.largest_room,
             known: mark_in(self.known),
             aborted: mark_in(self.aborted),
         }

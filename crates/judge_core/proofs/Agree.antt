@@ -361,7 +361,7 @@ begun_twice room first = omega arith
 
 abbrev roomy : Side → End → Owed → ℕ → End
 roomy side e owed room = record (asking (record (asked_with e Anew owed) { side = side }) NewMessage Resynch 0)
-    { room = room }
+    { room = room; largest_room = room }
 
 anew_row : (side : Side) (e : End) (owed : Owed) (octet : ℕ) → Same
     (Ok (asking (begun (record (asked_with e Anew owed) { side = side })) NewMessage Resynch octet))

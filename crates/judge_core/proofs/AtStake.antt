@@ -24,7 +24,7 @@ use Rattle.judge_core.specs.declared.end.Row.{Row}
 use Rattle.judge_core.specs.declared.end.End.{End}
 use Rattle.judge_core.specs.declared.rule.Rule.{Rule}
 use Rattle.judge_core.specs.declared.rule.Rule.TheVariants as rule
-use Rattle.judge_core.specs.Ends.{widest}
+use Rattle.judge_core.specs.Ends.{repeatable}
 use Rattle.judge_core.specs.Sends.{Sent, acknowledged, acknowledges, again_as, any_block, asked_again, asks, asks_again, begins_or_corrects, corrects, corrects_again, either, is_asked, is_between, is_foreign, is_pending, is_refusal, is_waiting, is_within, messages, most_asked, or_refuses, refuses, refuses_with, repeats, repeats_again, repeats_info, repeats_request, responds, resynchs, resynchs_refusing, same_subject, sends, sends_info, sends_owed, sends_ready}
 use Rattle.std.specs.Prelude.{bytes_eq}
 use Rattle.judge_core.specs.Stakes.{acknowledgment_breaks, any_breaks, asked_so_often, begun_or_corrected_breaks, can_break, carries, correction_breaks, either_breaks, is_asked_out, is_corrected_out, is_early, is_early_alone, is_repeated_out, is_terminal, is_unsettled, message_breaks, or_refusal_breaks, owed_breaks, refusal_breaks, repeat_breaks, request_breaks, response_breaks, takes_less}
@@ -324,8 +324,8 @@ or_refuses-known e breaks never numbers pcb sent h =
 
 any-known : (e : End) (pcb : Pcb) (inf : List ℕ) → Suits 254 pcb inf → IsKnown (any_breaks e) (any_block e pcb inf)
 any-known e (Info number more) inf suits =
-    on-test (any_breaks e) (nat_le (length inf) (widest e)) (Ok _) (Err rule.FieldSize) (λ _. tt)
-    (λ no. less-room (length inf) (widest e) suits no)
+    on-test (any_breaks e) (nat_le (length inf) (repeatable e)) (Ok _) (Err rule.FieldSize) (λ _. tt)
+    (λ no. less-room (length inf) (repeatable e) suits no)
 any-known e (Ready number fault) inf suits = tt
 any-known e (Request s) inf suits = tt
 any-known e (Response s) inf suits = tt

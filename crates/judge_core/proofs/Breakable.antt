@@ -27,7 +27,7 @@ use Rattle.judge_core.specs.declared.end.Row.{Row}
 use Rattle.judge_core.specs.declared.end.End.{End}
 use Rattle.judge_core.specs.declared.rule.Rule.{Rule}
 use Rattle.judge_core.specs.declared.rule.Rule.TheVariants as rule
-use Rattle.judge_core.specs.Ends.{widest}
+use Rattle.judge_core.specs.Ends.{repeatable}
 use Rattle.judge_core.specs.Sends.{Sent, acknowledges, again_as, asked_again, is_asked, is_foreign, is_pending, is_refusal, is_waiting, is_within, is_between, messages, most_asked, or_refuses, sends_owed, sends_info, sends_ready, repeats_request}
 use Rattle.judge_core.specs.Stakes.{acknowledgment_breaks, any_breaks, asked_so_often, begun_or_corrected_breaks, can_break, carries, correction_breaks, either_breaks, is_asked_out, is_corrected_out, is_early, is_terminal, is_unsettled, message_breaks, or_refusal_breaks, owed_breaks, refusal_breaks, repeat_breaks, request_breaks, response_breaks, takes_less, CanBeSent, IsBreakable}
 use Rattle.judge_core.proofs.AtStake.{both, first, second}
@@ -391,7 +391,8 @@ module _ (e : End) (last : List ℕ) (short : length last ≤ 254) (sized : CanB
   begun_or_corrected-shown r h = absurd (cc h)
 
   any-shown : (r : Rule) → any_breaks e r ≡ true → Shown AnyBlock r
-  any-shown rule.FieldSize h = too-long AnyBlock (widest e) h (λ inf more. no (nat_le (length inf) (widest e)) _ _ more)
+  any-shown rule.FieldSize h = too-long AnyBlock (repeatable e) h
+      (λ inf more. no (nat_le (length inf) (repeatable e)) _ _ more)
   any-shown r h = absurd (cc h)
 
   -- a refusal is one correction more

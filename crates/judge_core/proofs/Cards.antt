@@ -24,7 +24,7 @@ use Rattle.judge_core.specs.declared.end.Owed.TheVariants.{NewMessage, NextBlock
 use Rattle.judge_core.specs.declared.end.End.{End}
 use Rattle.judge_core.specs.declared.courses.Heard.{Heard}
 use Rattle.judge_core.specs.declared.courses.Heard.TheVariants.{Whole, Perhaps, Nothing}
-use Rattle.judge_core.specs.Ends.{after, begun, no_row, due_after, hears, hears_info, hears_ready, is_chain}
+use Rattle.judge_core.specs.Ends.{after, begun, no_row, due_after, hears, hears_info, hears_ready, is_chain, repeatable}
 use Rattle.judge_core.specs.Sends.{is_pending, pending_of, sends, sends_info as judge_info}
 use Rattle.judge_core.specs.Courses.{got_none, got_whole}
 use Rattle.judge_core.specs.Followed.{last_after}
@@ -62,8 +62,8 @@ at (listens joined last) c = record c { saved = None; waits = command joined }
 at (ended joined field) c = record c { saved = Some field; waits = command joined }
 at (chain field rest) c = record c { waits = reply field rest }
 
-abbrev pub busy : Number → Number → Pending → Owed → ℕ → ℕ → Bool → End
-busy next expects pending before room first aborted = record {
+abbrev pub busy : Number → Number → Pending → Owed → ℕ → ℕ → ℕ → Bool → End
+busy next expects pending before room first largest aborted = record {
   side = Card;
   next = next;
   expects = expects;
@@ -74,16 +74,17 @@ busy next expects pending before room first aborted = record {
   row = no_row;
   room = room;
   first_room = first;
+  largest_room = largest;
   known = true;
   aborted = aborted;
 }
 
 abbrev pub in_talk : (c : CardState) → SpareOf c → Kind → End
-in_talk c x k = busy (next_with k c.number) c.expected (pending_with k) x.before x.room x.first false
+in_talk c x k = busy (next_with k c.number) c.expected (pending_with k) x.before x.room x.first x.largest false
 
 -- its host may reply
 abbrev pub rested : (c : CardState) → SpareOf c → Pending → Bool → End
-rested c x pending aborted = busy c.number c.expected pending x.before x.room x.first aborted
+rested c x pending aborted = busy c.number c.expected pending x.before x.room x.first x.largest aborted
 
 abbrev pub question : CardRequest → Question
 question (size n) = Size n
@@ -211,7 +212,7 @@ repeating c k x heard goes_on course other_number pending =
 
 fits_sized : (c : CardState) (k : Kind) (n : ℕ) (x : Spare n first_ifsd)
     → Fits (record (at k c) { ifsd = n }) (at k c).waits
-    (watched (busy (next_with k c.number) c.expected (pending_with k) x.before x.room x.first false) Nothing
+    (watched (busy (next_with k c.number) c.expected (pending_with k) x.before x.room x.first x.largest false) Nothing
     (last_of k))
 fits_sized c (listens joined last) n x = (last, (x, refl))
 fits_sized c (ended joined field) n x = (x, refl)
@@ -224,13 +225,16 @@ size_told c k x view inf =
     let e = in_talk c x k in
     let n = carried inf in
     let heard = heard_at view (got (Request Ifs) inf) in
-    said (watched e heard (last_of k)) (response Ifs inf) (record (at k c) { ifsd = n }) (record e { room = n })
-    (passes e heard (last_of k) (Response Ifs) inf (after e (Answer Ifs n)) (record e { room = n })
+    said (watched e heard (last_of k)) (response Ifs inf) (record (at k c) { ifsd = n })
+    (record e { room = n; largest_room = repeatable e })
+    (passes e heard (last_of k) (Response Ifs) inf (after e (Answer Ifs n))
+    (record e { room = n; largest_room = repeatable e })
     (inl (whole_at view e (Request Ifs) inf)) (is_then (n == n) _ _ (equal_self n))) tt (awaits_kind k c)
     (fits_sized c k n (record {
       before = x.before;
       room = n;
       first = x.first;
+      largest = max x.room x.largest;
       room_ok = omega arith;
       first_ok =
           x.first_ok;
@@ -246,6 +250,7 @@ resynching c e last view inf h =
       before = NewMessage;
       room = max e.room e.first_room;
       first = e.first_room;
+      largest = max e.room e.first_room;
       room_ok = omega arith;
       first_ok = h;
     } in
@@ -307,7 +312,8 @@ taking_alike c k x view (got (Response s) inf) h = other_error c k x (heard_at v
 
 fits_next : (c : CardState) (x : SpareOf c) (field rest : List ℕ)
     → Fits (record c { saved = saving c.saved field rest; waits = waiting field rest }) (waiting field rest)
-    (watched (busy (other c.number) c.expected (pending_of (is_more rest)) x.before x.room x.first false) Nothing field)
+    (watched (busy (other c.number) c.expected (pending_of (is_more rest)) x.before x.room x.first x.largest false)
+    Nothing field)
 fits_next c x field [] = (x, refl)
 fits_next c x field (octet ∷ rest) = (x, refl)
 
@@ -327,7 +333,7 @@ cutting w c x pending aborted owed octets course as_info =
     let rest = drop c.ifsd octets in
     said w (info c.number (is_more rest) field)
     (record c { saved = saving c.saved field rest; waits = waiting field rest })
-    (busy (other c.number) c.expected (pending_of (is_more rest)) x.before x.room x.first false)
+    (busy (other c.number) c.expected (pending_of (is_more rest)) x.before x.room x.first x.largest false)
     (passes w.«end» w.heard w.last (Info c.number (is_more rest)) field (after (rested c x pending aborted) owed) _
     course
     (as_info c.number (is_more rest) field
@@ -371,7 +377,7 @@ joining c k saved x view joined number true inf h after_it in_order =
       last_of k,
       (
         x,
-        ap (λ n. watched (busy n (other c.expected) Settled x.before x.room x.first false) Nothing
+        ap (λ n. watched (busy n (other c.expected) Settled x.before x.room x.first x.largest false) Nothing
             (last_of k)) after_it,
       ),
     )
@@ -383,7 +389,8 @@ joining c k saved x view joined number false inf h after_it in_order = (
     aborted = false;
     owed = NewMessage;
     owes = whole_at view (in_talk c x k) (Info number false) inf ∙ ap Some (taken c k x number false h in_order
-        ∙ ap (λ n. after (busy n (other c.expected) Settled x.before x.room x.first false) NewMessage) after_it);
+        ∙ ap (λ n. after (busy n (other c.expected) Settled x.before x.room x.first x.largest false) NewMessage)
+        after_it);
     message = ((λ last n m i. refl), (λ last n. refl), (λ last n. refl));
   },
 )
@@ -608,6 +615,7 @@ rests_again c x pending aborted e heard last owes = record {
     before = MessageOrRefusal;
     room = x.room;
     first = x.first;
+    largest = x.largest;
     room_ok = x.room_ok;
     first_ok = x.first_ok;
   };

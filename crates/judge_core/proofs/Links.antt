@@ -201,7 +201,14 @@ all_events (e ∷ es) l w goes = all_events es (happens tables l e) (watches w (
 pub terminal_starts : (ifsc : ℕ) (limits : Limits)
     → terminals.Fits (terminal_with limits ifsc) idle (new_watch ifsc).terminal
 terminal_starts ifsc limits = record {
-  spare = record { before = NewMessage; room = ifsc; first = ifsc; room_ok = omega arith; first_ok = omega arith };
+  spare = record {
+    before = NewMessage;
+    room = ifsc;
+    first = ifsc;
+    largest = ifsc;
+    room_ok = omega arith;
+    first_ok = omega arith;
+  };
   pending = Settled;
   tries = 0;
   row = no_row;
@@ -217,6 +224,7 @@ card_starts ifsc limits = (
       before = NewMessage;
       room = first_ifsd;
       first = first_ifsd;
+      largest = first_ifsd;
       room_ok = omega arith;
       first_ok =
           omega arith;

@@ -1,6 +1,6 @@
 -- A trace from which a lost block is missing.
 use Rattle.std.proofs.Common.{◌≡◌, ◌≤◌, ℕ, List, [], ◌∷◌, length, ap, arith, not, refl, subst, sym, true≢false, ◌∙◌}
-use Rattle.judge_core.specs.Ends.{widest}
+use Rattle.judge_core.specs.Ends.{repeatable}
 use Rattle.std.specs.Prelude.{◌&&◌, max, Bool, true, false, if◌then◌else◌, nat_le, Option, Some, Ok}
 use Rattle.block_core.specs.declared.pcb.Pcb.{Pcb}
 use Rattle.block_core.specs.declared.pcb.Pcb.TheVariants.{Info, Ready, Request, Response}
@@ -447,8 +447,8 @@ sent-within : (e : End) (last : List ℕ) (pcb : Pcb) (inf : List ℕ) → is_fo
 sent-within e last (Info number more) inf own fits = (
   _,
   is_else (is_foreign e.side (Info number more)) _ _ own
-      ∙ is_then (nat_le (length inf) (widest e)) _ _
-      (within (length inf) (widest e) (wider (length inf) e.room e.first_room fits)),
+      ∙ is_then (nat_le (length inf) (repeatable e)) _ _
+      (within (length inf) (repeatable e) (wider (length inf) e.room e.largest_room fits)),
 )
 sent-within e last (Ready number fault) inf own fits = (_, is_else (is_foreign e.side (Ready number fault)) _ _ own)
 sent-within e last (Request s) inf own fits = (_, is_else (is_foreign e.side (Request s)) _ _ own)

@@ -207,6 +207,7 @@ pub record Spare (ifsc first_ifsc : ℕ) : Type 0 where
   pub before : Owed
   pub room : ℕ
   pub first : ℕ
+  pub largest : ℕ
   pub room_ok : ifsc ≤ room
   pub first_ok : first_ifsc ≤ first
 

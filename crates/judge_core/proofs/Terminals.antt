@@ -27,7 +27,7 @@ use Rattle.judge_core.specs.declared.end.After.{After}
 use Rattle.judge_core.specs.declared.rule.Rule.TheVariants.{TooManyRepeats}
 use Rattle.judge_core.specs.declared.courses.Heard.{Heard}
 use Rattle.judge_core.specs.declared.courses.Heard.TheVariants.{Whole, Perhaps, Broken}
-use Rattle.judge_core.specs.Ends.{no_row, after, due_after, hears, hears_info, hears_ready, is_chain}
+use Rattle.judge_core.specs.Ends.{no_row, after, due_after, hears, hears_info, hears_ready, is_chain, repeatable}
 use Rattle.judge_core.specs.Sends.{sends, sends_info as judge_info, one_more, is_pending, pending_of}
 use Rattle.judge_core.specs.Courses.{got_whole}
 use Rattle.judge_core.specs.Followed.{last_after}
@@ -65,8 +65,8 @@ next_with (chain field rest) number = other number
 next_with (ends field) number = other number
 next_with (further joined last) number = number
 
-abbrev pub busy : Number → Number → Pending → Owed → ℕ → Row → ℕ → ℕ → End
-busy next expects pending before tries row room first = record {
+abbrev pub busy : Number → Number → Pending → Owed → ℕ → Row → ℕ → ℕ → ℕ → End
+busy next expects pending before tries row room first largest = record {
   side = Terminal;
   next = next;
   expects = expects;
@@ -77,6 +77,7 @@ busy next expects pending before tries row room first = record {
   row = row;
   room = room;
   first_room = first;
+  largest_room = largest;
   known = true;
   aborted = false;
 }
@@ -94,10 +95,12 @@ TalkOf t = Talk t.ifsc t.first_ifsc t.failures
 abbrev pub in_talk : (t : TerminalState) → TalkOf t → Kind → End
 in_talk t x k =
     busy (next_with k t.number) t.expected (pending_with k) x.spare.before t.failures x.row x.spare.room x.spare.first
+    x.spare.largest
 
 -- it may begin a message
 abbrev pub rested : (t : TerminalState) → SpareOf t → Pending → ℕ → Row → Bool → End
-rested t x pending tries row aborted = record (busy t.number t.expected pending x.before tries row x.room x.first)
+rested t x pending tries row aborted = record
+    (busy t.number t.expected pending x.before tries row x.room x.first x.largest)
     { aborted = aborted }
 
 -- it asked for a size
@@ -109,7 +112,8 @@ sizing t x pending aborted tries size = record (rested t x pending tries no_row 
 
 -- it asked for RESYNCH so often
 abbrev pub beginning : ℕ → ℕ → ℕ → End
-beginning room first tries = record (busy Zero Zero Settled NewMessage tries no_row room first) { asked = Some Anew }
+beginning room first tries = record (busy Zero Zero Settled NewMessage tries no_row room first room)
+    { asked = Some Anew }
 
 abbrev pub InTalk : TerminalState → Kind → Watched → Type 0
 InTalk t k w = (x : TalkOf t) × (hearing w Broken ≡ watched (in_talk t x k) Broken (last_of k))
@@ -296,7 +300,8 @@ repeating t k x heard goes_on course other_number pending =
 -- the rest of the message goes out
 fits_next : (t : TerminalState) (x : SpareOf t) (field rest : List ℕ)
     → Fits (record t { failures = 0; waits = waiting field rest }) (waiting field rest)
-    (watched (busy (other t.number) t.expected (pending_of (is_more rest)) x.before 0 no_row x.room x.first) Broken
+    (watched (busy (other t.number) t.expected (pending_of (is_more rest)) x.before 0 no_row x.room x.first x.largest)
+    Broken
     field)
 fits_next t x field [] = (record { spare = x; row = no_row; few = omega arith; fewer = omega arith }, refl)
 fits_next t x field (octet ∷ rest) = (record { spare = x; row = no_row; few = omega arith; fewer = omega arith }, refl)
@@ -317,7 +322,7 @@ cutting w t x pending tries row aborted owed octets course as_info =
     let rest = drop t.ifsc octets in
     let e = rested t x pending tries row aborted in
     said w (info t.number (is_more rest) field) (record t { failures = 0; waits = waiting field rest })
-    (busy (other t.number) t.expected (pending_of (is_more rest)) x.before 0 no_row x.room x.first)
+    (busy (other t.number) t.expected (pending_of (is_more rest)) x.before 0 no_row x.room x.first x.largest)
     (passes w.«end» w.heard w.last (Info t.number (is_more rest)) field (after e owed) _ course
     (as_info t.number (is_more rest) field
     ∙ is_then (same t.number t.number) _ _ (same_self t.number)
@@ -328,7 +333,14 @@ cutting w t x pending tries row aborted owed octets course as_info =
 
 -- it takes another size
 abbrev roomy : (t : TerminalState) → SpareOf t → (n : ℕ) → SpareOf (record t { ifsc = n })
-roomy t x n = record { before = x.before; room = n; first = x.first; room_ok = omega arith; first_ok = x.first_ok }
+roomy t x n = record {
+  before = x.before;
+  room = n;
+  first = x.first;
+  largest = max x.room x.largest;
+  room_ok = omega arith;
+  first_ok = x.first_ok;
+}
 
 size_told : (t : TerminalState) (k : Kind) (x : TalkOf t) (view : View) (inf : List ℕ)
     → Outcome (watched (in_talk t x k) (heard_at view (got (Request Ifs) inf)) (last_of k))
@@ -338,9 +350,9 @@ size_told t k x view inf =
     let n = carried inf in
     said (watched e (heard_at view (got (Request Ifs) inf)) (last_of k)) (response Ifs inf)
     (record t { ifsc = n; waits = waits_of k })
-    (record e { room = n; row = no_row })
+    (record e { room = n; largest_room = repeatable e; row = no_row })
     (passes e (heard_at view (got (Request Ifs) inf)) (last_of k) (Response Ifs) inf (after e (Answer Ifs n))
-    (record e { room = n; row = no_row })
+    (record e { room = n; largest_room = repeatable e; row = no_row })
     (inl (whole_at view e (Request Ifs) inf)) (is_then (n == n) _ _ (equal_self n))) tt (busy_kind k)
     (fits_talk (record t { ifsc = n }) k
     (record { spare = roomy t x.spare n; row = no_row; few = omega arith; fewer = omega arith }))
@@ -565,6 +577,7 @@ all_ifs t size x pending aborted last tries view (got (Response Ifs) inf) few =
           before = NewMessage;
           room = x.room;
           first = x.first;
+          largest = x.largest;
           room_ok = x.room_ok;
           first_ok =
               x.first_ok;
@@ -646,7 +659,14 @@ all_resynch : (t : TerminalState) (asked room first : ℕ) (last : List ℕ) (tr
 all_resynch t asked room first last tries view (got (Response Resynch) inf) few ok = (
   (λ b. b),
   record {
-    spare = record { before = NewMessage; room = max room first; first = first; room_ok = omega arith; first_ok = ok };
+    spare = record {
+      before = NewMessage;
+      room = max room first;
+      first = first;
+      largest = max room first;
+      room_ok = omega arith;
+      first_ok = ok;
+    };
     pending = Settled;
     tries = 0;
     row = no_row;

@@ -15,6 +15,7 @@ use Rattle.judge_core.specs.declared.courses.Judged.{Judged}
 use Rattle.judge_core.specs.declared.doubt.Doubt.{Doubt}
 use Rattle.judge_core.specs.declared.doubt.Doubt.TheVariants.{Clear, Refusable, Open}
 use Rattle.judge_core.specs.declared.monitor.Watched.{Watched}
+use Rattle.t1_core.specs.Terminal.{most_repeats}
 use Rattle.judge_core.specs.Ends.{hears_unknown}
 use Rattle.judge_core.specs.Sends.{Sent, sends}
 use Rattle.judge_core.specs.Courses.{judges, judgment}
@@ -63,6 +64,20 @@ still_open Open (Info number more) = Clear
 still_open Open (Ready number fault) = Open
 still_open Open (Request s) = Open
 still_open Open (Response s) = Open
+
+abbrev pub is_info : Pcb → Bool
+is_info (Info number more) = true
+is_info (Ready number fault) = false
+is_info (Request s) = false
+is_info (Response s) = false
+
+-- The end after its block. If the tap may have missed a block of it, nobody knows how often it tried before this I-block,
+-- so it may ask for RESYNCH in place of a refusal (rule 7.4).
+abbrev pub tried : Bool → End → End
+tried openly e = if openly then record e { tries = most_repeats } else e
+
+abbrev pub tried_after : Doubt → Pcb → End → End
+tried_after doubt pcb e = tried (is_open doubt && is_info pcb) e
 
 -- the other end may refuse a block that breaks a rule
 abbrev pub doubt_after : Doubt → Pcb → Verdict → Doubt

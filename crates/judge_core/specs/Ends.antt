@@ -42,6 +42,7 @@ new_end side room = record {
   row = no_row;
   room = room;
   first_room = room;
+  largest_room = room;
   known = true;
   aborted = false;
 }
@@ -49,6 +50,10 @@ new_end side room = record {
 -- The larger one of the size that holds and of that at the start.
 abbrev pub widest : End → ℕ
 widest e = max e.room e.first_room
+
+-- The longest field that the end may repeat. It may have sent that block when another size held (rule 7.1).
+abbrev pub repeatable : End → ℕ
+repeatable e = max e.room e.largest_room
 
 -- After RESYNCH numbers begin again (rule 6.5). Whether sizes do too isn't certain, so the larger size is permitted.
 abbrev pub begun : End → End
@@ -61,6 +66,7 @@ begun e = record e {
   tries = 0;
   row = no_row;
   room = widest e;
+  largest_room = widest e;
   known = true;
   aborted = false;
 }

@@ -40,7 +40,7 @@ use Rattle.judge_core.specs.Connections.{gone_on, gone_quiet, is_asked, is_away,
 use Rattle.judge_core.specs.Ends.{new_end, widest}
 use Rattle.judge_core.specs.Followed.{last_after}
 use Rattle.judge_core.specs.Courses.{got_whole, got_none, first_course, is_sure}
-use Rattle.judge_core.specs.Doubts.{corrected, doubt_after, doubted_by, in_doubt, is_open, is_turn, judged_of, passed_over, presumed, unknown_end, waited}
+use Rattle.judge_core.specs.Doubts.{corrected, doubt_after, doubted_by, in_doubt, is_open, is_turn, judged_of, passed_over, presumed, tried_after, unknown_end, waited}
 
 -- the most octets that a field can have (11.3.2.3)
 abbrev pub most_size : ℕ
@@ -205,7 +205,7 @@ unknown_after w number = record w {
 
 abbrev pub known_after : Watched → Parts → ℕ → Watched
 known_after w block number = record w {
-  «end» = (judged_of w block).«end»;
+  «end» = tried_after w.doubt block.pcb (judged_of w block).«end»;
   heard = after_silence w.«end».side;
   last = record { items = last_after w.last.items block.pcb block.inf };
   number = number;

@@ -22,7 +22,7 @@ use Rattle.judge_core.specs.declared.end.Row.{Row}
 use Rattle.judge_core.specs.declared.end.End.{End}
 use Rattle.judge_core.specs.declared.rule.Rule.{Rule}
 use Rattle.judge_core.specs.declared.rule.Rule.TheVariants as rule
-use Rattle.judge_core.specs.Ends.{begun, no_row, widest}
+use Rattle.judge_core.specs.Ends.{begun, no_row, repeatable}
 
 -- the end after a block that it may send, or the rule that the block breaks
 abbrev pub Sent : Type 0
@@ -285,7 +285,7 @@ asks_again e (Response s) inf = Err rule.RequestDue
 -- (rule 6).
 abbrev pub responded : End → S → ℕ → End
 responded e Resynch n = begun e
-responded e Ifs n = record e { room = n; row = no_row }
+responded e Ifs n = record e { room = n; largest_room = repeatable e; row = no_row }
 responded e Abort n = record e { pending = Settled; row = no_row; aborted = true }
 responded e Wtx n = record e { row = no_row }
 
@@ -340,13 +340,15 @@ is_next owed Chain next = false
 is_next owed Last next = false
 
 -- Any block of an end whose last block nobody knows. It is known again after a second I-block, or after RESYNCH. The
--- block may repeat one that the end sent before a smaller size was agreed (rule 7.1).
+-- block may repeat one that the end sent before a smaller size was agreed (rule 7.1), and nobody knows how often the end
+-- tried, so it may ask for RESYNCH in place of a refusal (rule 7.4).
 abbrev pub any_block : End → Pcb → List ℕ → Sent
 any_block e (Info number more) inf =
-    if nat_le (length inf) (widest e)
+    if nat_le (length inf) (repeatable e)
     then Ok (record (informed e number more) {
       known = is_next e.before e.pending (same number e.next && not e.aborted);
       before = NewMessage;
+      tries = most_repeats;
     })
     else Err rule.FieldSize
 any_block e (Ready number fault) inf = Ok (record e { expects = number; asked = None; known = false })

@@ -34,7 +34,7 @@ use Rattle.judge_core.specs.Sends.{Sent, is_between, is_within, is_waiting, most
 use Rattle.judge_core.specs.Courses.{attempted, got_none, got_whole, is_sure, judges}
 use Rattle.judge_core.specs.Doubts.{is_open, only_openly, sent_openly, unknown_end}
 use Rattle.judge_core.specs.Monitored.{due, said_in, sender, IsSent, Seen, whole, malformed, damage}
-use Rattle.judge_core.specs.Ends.{after, widest}
+use Rattle.judge_core.specs.Ends.{after, repeatable}
 use Rattle.judge_core.specs.States.{state_of}
 
 abbrev pub is_terminal : Side → Bool
@@ -165,7 +165,7 @@ or_refusal_breaks e rule.TooManyRepeats breaks = is_corrected_out e
 or_refusal_breaks e r breaks = breaks
 
 abbrev pub any_breaks : End → Rule → Bool
-any_breaks e rule.FieldSize = takes_less (widest e)
+any_breaks e rule.FieldSize = takes_less (repeatable e)
 any_breaks e r = false
 
 abbrev pub owed_breaks : End → Owed → Rule → Bool

@@ -2,13 +2,14 @@
 
 ghost use Rattle.std.specs.Prelude.{◌≡◌, ◌&&◌, true};
 ghost use Rattle.judge_core.specs.Courses.{judges};
-ghost use Rattle.judge_core.specs.Doubts.{corrected, doubt_after, doubted_by, in_doubt, is_open, is_turn, judged_of, only_openly, overlooked, passed_over, presumed, refused_doubt, sent_openly, sized, sized_by, still_open, unknown_end, waited, waited_doubt};
+ghost use Rattle.judge_core.specs.Doubts.{corrected, doubt_after, doubted_by, in_doubt, is_open, is_turn, judged_of, only_openly, overlooked, passed_over, presumed, refused_doubt, sent_openly, sized, sized_by, still_open, tried_after, unknown_end, waited, waited_doubt};
 
 use crate::courses::{Heard, Judged, Verdict};
 use crate::end::{End, Owed};
 use crate::monitor::Watched;
 use crate::step::Sent;
 use block_core::{BlockRef, Pcb, S};
+use t1_core::MOST_REPEATS;
 
 /// Whether an end may have sent another block than the last one that was seen.
 #[derive(Clone, Copy, Debug)]
@@ -174,6 +175,19 @@ pub(crate) fn doubt_after(doubt: Doubt, pcb: Pcb, verdict: Verdict) -> Doubt
     match verdict {
         Verdict::Permitted | Verdict::Unseen => still_open(doubt, pcb),
         Verdict::Deviates(..) => Doubt::Refusable,
+    }
+}
+
+/// Returns the end after its block, with the most tries if nobody knows how often it tried before this I-block.
+pub(crate) fn tried_after(doubt: Doubt, pcb: Pcb, end: End) -> End
+    ensures { result ≡ tried_after doubt pcb end }
+{
+    match (doubt, pcb) {
+        (Doubt::Open, Pcb::Info { .. }) => End {
+            tries: MOST_REPEATS,
+            ..end
+        },
+        _ => end,
     }
 }
 

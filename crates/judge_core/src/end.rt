@@ -1,7 +1,7 @@
 //! The state of an end of the line, and what it owes.
 
 ghost use Rattle.std.specs.Prelude.{◌≡◌};
-ghost use Rattle.judge_core.specs.Ends.{after, begun, new_end, no_row, widest};
+ghost use Rattle.judge_core.specs.Ends.{after, begun, new_end, no_row, repeatable, widest};
 
 use block_core::{Number, S, Side};
 
@@ -89,6 +89,9 @@ pub struct End {
     /// The most octets of a field that the other end takes, now and at the start.
     pub room: u8,
     pub first_room: u8,
+    /// The most octets of a field that the other end took at any time since numbers began. The end may repeat a block
+    /// that is longer than it takes now.
+    pub largest_room: u8,
     /// Whether its last block is known. It isn't if the line damaged it.
     pub known: bool,
     /// Whether the other end has just aborted its chain.
@@ -130,6 +133,7 @@ impl End {
             row: Row::none(),
             room,
             first_room: room,
+            largest_room: room,
             known: true,
             aborted: false,
         }
@@ -140,9 +144,8 @@ impl End {
         ensures { result ≡ begun self }
     {
         End {
-            room: self.widest(),
             first_room: self.first_room,
-            ..End::new(self.side, self.room)
+            ..End::new(self.side, self.widest())
         }
     }
 
@@ -151,6 +154,13 @@ impl End {
         ensures { result ≡ widest self }
     {
         self.room.max(self.first_room)
+    }
+
+    /// Returns the length of the longest field that the end may repeat.
+    pub(crate) fn repeatable(self) -> u8
+        ensures { result ≡ repeatable self }
+    {
+        self.room.max(self.largest_room)
     }
 
     /// Returns the end with what it owes.

@@ -13,7 +13,7 @@ use crate::aside::last_sent;
 use crate::class::{Class, class_sent};
 use crate::connection::{Last, Pairs};
 use crate::courses::{Heard, Verdict, first_course};
-use crate::doubt::{Doubt, doubt_after, doubted_by, presumed, unknown_end};
+use crate::doubt::{Doubt, doubt_after, doubted_by, presumed, tried_after, unknown_end};
 use crate::end::{After, End};
 use crate::reach::{
     Reached, after_silence, came_by, heard_in_time, heard_of, is_refusing, opened_on_arrival,
@@ -167,7 +167,7 @@ impl Watched {
     {
         let judged = self.judged(block);
         self.heard = after_silence(self.end.side);
-        self.end = judged.end;
+        self.end = tried_after(self.doubt, block.pcb(), judged.end);
         self.number = number;
         self.doubt = doubt_after(self.doubt, block.pcb(), judged.verdict);
         self.keep(block);

@@ -10,6 +10,7 @@ use crate::hearing::same;
 use crate::rule::Rule;
 use crate::step::Sent;
 use block_core::{Fault, Pcb, S};
+use t1_core::MOST_REPEATS;
 
 impl End {
     /// Returns the end after a block with the field `inf`, or the rule that the block breaks, if the end owes this. Its
@@ -178,7 +179,7 @@ impl End {
             ..self
         };
         match pcb {
-            Pcb::Info { .. } if inf.len() > usize::from(self.widest()) => Err(Rule::FieldSize),
+            Pcb::Info { .. } if inf.len() > usize::from(self.repeatable()) => Err(Rule::FieldSize),
             Pcb::Info { number, more } => Ok(End {
                 known: is_next(
                     self.before,
@@ -186,6 +187,7 @@ impl End {
                     same(number, self.next) && !self.aborted,
                 ),
                 before: Owed::NewMessage,
+                tries: MOST_REPEATS,
                 ..self.informed(number, more)
             }),
             Pcb::Ready { number, .. } => Ok(End {

@@ -188,7 +188,7 @@ impl End {
         ensures { result ≡ any_breaks self rule }
     {
         match rule {
-            Rule::FieldSize => takes_less(self.widest()),
+            Rule::FieldSize => takes_less(self.repeatable()),
             _ => false,
         }
     }

@@ -127,6 +127,7 @@ impl End {
             S::Resynch => self.begun(),
             S::Ifs => End {
                 room: octet,
+                largest_room: self.repeatable(),
                 row: Row::none(),
                 ..self
             },
