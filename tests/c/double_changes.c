@@ -1,6 +1,6 @@
 /* Counts the changes of two octets of a block after which a card accepts the octets as a block. Shows that no change of
  * one octet is accepted, no block with its end missing, and no block with octets after it. The counts are those of
- * docs/PROMISES-STACK.md. With a number N it counts only for a field of N octets: 254 takes some minutes.
+ * docs/PROMISES.md. With a number N it counts only for a field of N octets: 254 takes some minutes.
  */
 #include "check.h"
 #include "scard.h"
