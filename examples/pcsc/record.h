@@ -1,4 +1,4 @@
-/* Records a session. It writes what happens, with moments, as the lines of an exchange file (docs/EXCHANGE-FILE.md). */
+/* Records a session. It writes what happens, with moments, as the lines of an exchange file (docs/RECORDED.md). */
 #ifndef RECORD_H
 #define RECORD_H
 

@@ -26,7 +26,7 @@ def bench(*words):
 
 class Samples(unittest.TestCase):
     def test_each_file_of_the_folder_is_a_sample(self):
-        others = {"README.md", "make", "make_line.py", "__pycache__"}
+        others = {"make", "make_line.py", "__pycache__"}
         self.assertEqual({it.name for it in FOLDER.iterdir()} - others, set(FORMATS))
 
     def test_each_trace_has_the_blocks_and_the_verdict(self):

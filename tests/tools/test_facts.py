@@ -15,12 +15,34 @@ REPEATED = [
     (tool.RULE, "    Unasked,\n", "    Unwanted,\n", [tool.HEADER]),
     (tool.STATE, '"any block"', '"all"', [tool.JUDGE, tool.SCHEMA]),
     ("crates/program_octets/src/block.rt", '"WTX"', '"WAIT"', [tool.SAYING, tool.SCHEMA, tool.HEADER, tool.SECOND]),
-    ("crates/program_words/src/words.rt", '"dol" => Ok', '"list" => Ok', [tool.OBJECT, tool.SCHEMA, tool.ANSWERS, tool.BASH]),
+    ("crates/program_words/src/words.rt", '"dol" => Ok', '"list" => Ok',
+     [tool.OBJECT, tool.SCHEMA, tool.ANSWERS, tool.PROGRAM, tool.BASH]),
     (tool.FORMS, '"draw", &DRAW', '"paint", &DRAW', [tool.BASH]),
-    (tool.FORM, '"dump" => Ok', '"lump" => Ok', [tool.BASH]),
+    (tool.FORM, '"dump" => Ok', '"lump" => Ok', [tool.BASH, tool.PROGRAM]),
+    (tool.WORD, '"given-up"', '"ended"', [tool.RECORDED]),
+    (tool.FAULT, '"line {line}: Falls"', '"line {line}: Sinks"', [tool.RECORDED]),
+    (tool.UNFIT, '=> "Midway"', '=> "Within"', [tool.RECORDED]),
+    (tool.UNFIT, '=> "Silence"', '=> "Quiet"', [tool.RECORDED]),
+    (tool.ATR_FAULT, '=> "BadAtr"', '=> "NoAtr"', [f"{tool.RECORDED}, replay", f"{tool.RECORDED}, simulate"]),
+    (tool.PARAM_FAULT, '=> "Crc"', '=> "Sum"',
+     [f"{tool.RECORDED}, replay", f"{tool.RECORDED}, simulate", tool.PROTOCOL]),
+    (tool.WAITS, "(state More", "(state Rest", [tool.SESSION]),
+    (tool.WAITS, "(state Host", "(state Owed", [tool.SESSION]),
+    (tool.CAPTURES, '"usbmon": "a', '"usbcap": "a', [tool.BENCH]),
+    (tool.SCENARIO, '"wtx", "chained', '"time", "chained', [tool.BENCH]),
+    (tool.PLAN, '"extend"}', '"lengthen"}', [tool.PCSC]),
+    (tool.PLAN, 'strcmp(word, "seed")', 'strcmp(word, "start")', [tool.PCSC]),
+    (tool.HEADER, "SCARD_EVENT_SILENT = 3", "SCARD_EVENT_STILL = 3", [tool.WIRING]),
+    (tool.HEADER, "SCARD_SESSION_USED_UP = 65", "SCARD_SESSION_SPENT = 65", [tool.LIBRARY, tool.WIRING]),
+    (tool.STEPS, "mostBlocks = 0,", "blocks = 0,", [tool.JAVASCRIPT]),
+    (tool.ROOMS, "commandRoom = LONGEST_COMMAND", "room = LONGEST_COMMAND", [tool.JAVASCRIPT]),
+    (tool.IN_PYTHON, "class InUse(", "class Busy(", [tool.PYTHON]),
+    (tool.IN_JAVASCRIPT, "class InUse extends", "class Busy extends", [tool.JAVASCRIPT]),
 ]
-FILES = sorted({tool.RULE, tool.STATE, tool.PCB, tool.KIND, tool.FORM, tool.SAYING, tool.OBJECT, tool.FORMS, tool.JUDGE,
-                tool.ANSWERS, tool.SCHEMA, tool.HEADER, tool.BASH, tool.SECOND, *(it[0] for it in REPEATED)})
+PAGES = {tool.JUDGE, tool.ANSWERS, tool.PROGRAM, tool.RECORDED, tool.PROTOCOL, tool.SESSION, tool.BENCH, tool.PCSC,
+         tool.LIBRARY, tool.WIRING, tool.PYTHON, tool.JAVASCRIPT}
+FILES = sorted({tool.STATE, tool.PCB, tool.KIND, tool.FORM, tool.SAYING, tool.OBJECT, tool.SCHEMA, tool.HEADER,
+                tool.BASH, tool.SECOND, *PAGES, *(it[0] for it in REPEATED)})
 
 
 class Facts(OfTool):

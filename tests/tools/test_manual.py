@@ -1,5 +1,6 @@
 #!/usr/bin/env python3
-"""Tests tools/release/manual: each call of the library for C has a page, and man can read its name."""
+"""Tests tools/release/manual: each call of the library for C has a page, man can read its name, and a page that only
+shows another one names one that is there."""
 
 import pathlib
 import re
@@ -19,7 +20,8 @@ class Pages(unittest.TestCase):
         room = tempfile.TemporaryDirectory()
         self.addCleanup(room.cleanup)
         subprocess.run([TOP / "tools/release/manual", room.name], check=True)
-        self.pages = pathlib.Path(room.name) / "man3"
+        self.room = pathlib.Path(room.name)
+        self.pages = self.room / "man3"
 
     def page_of(self, name):
         """The text of the page with a name, also of one that refers to another page."""
@@ -38,6 +40,13 @@ class Pages(unittest.TestCase):
         for call in self.calls():
             self.assertIn(f"{call}(", self.page_of(call), call)
             self.assertRegex(self.page_of(call), rf'\.SS ".*\b{call}\b', call)
+
+    def test_pages_that_show_another_one(self):
+        texts = {page.name: page.read_text() for page in (self.room / "man5").iterdir()}
+        shown = {name: text.removeprefix(".so ").strip() for name, text in texts.items() if text.startswith(".so ")}
+        self.assertEqual(sorted(shown), ["scard-exchange.5", "scard-input.5"])
+        for other in shown.values():
+            self.assertIn(".SH DESCRIPTION", (self.room / other).read_text())
 
     def test_each_page_has_a_name_that_man_finds(self):
         if not shutil.which("lexgrog"):
