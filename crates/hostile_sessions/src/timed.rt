@@ -9,13 +9,12 @@ ghost use Rattle.session_laws.specs.Ending.{HasBurst};
 
 use crate::queue::{Queue, ROOM, arriving, harmed};
 use atr_core::T1Params;
-use line_core::{Framer, Host, TimedDevice};
+use line_core::{Host, TimedDevice};
 use rand_pcg::Pcg32;
-use session_core::{Action, FOREVER, Limits, Line, Progress, Rules};
+use session_core::{Action, CardSession, FOREVER, Limits, Rules, TerminalSession};
 use session_laws::{ask_ifs_ends, exchange_ends, resynch_ends, serve_events};
 use std::alloc::Global;
 use std::io;
-use t1_core::{LentCard, LentTerminal};
 use test_support::{Case, Fault, Share};
 
 /// The answer to reset of a card that takes fields of 32 octets.
@@ -115,13 +114,12 @@ impl TimedDevice for Desk {
     }
 }
 
-/// Returns the line of an end that hasn't used it yet. Times are in microseconds.
-fn line_of(is_card: u8) -> Line
-    ensures burst { HasBurst result }
-    ensures end { is_set result.rules.is_card ≡ is_set is_card }
-    ensures clock { is_set result.rules.has_clock ≡ false }
+/// Returns the rules of the line of an end. Times are in microseconds.
+fn rules_of(is_card: u8) -> Rules
+    ensures end { is_set result.is_card ≡ is_set is_card }
+    ensures clock { is_set result.has_clock ≡ false }
 {
-    let rules = Rules {
+    Rules {
         bwt: 1_000,
         cwt: 100,
         bgt: 22,
@@ -133,20 +131,13 @@ fn line_of(is_card: u8) -> Line
         has_echo: 0,
         refuses_empty: 1,
         is_card,
-    };
-    let progress = Progress::new(&rules);
-    let framer = Framer::new();
-    Line {
-        rules,
-        progress,
-        framer,
     }
 }
 
-/// A card with its buffers and its application.
+/// A card's session with its buffers and its application.
 #[derive(Drop)]
 struct Chip {
-    card: LentCard,
+    session: CardSession,
     command: [u8; COMMAND],
     reply: [u8; REPLY],
     application: Application,
@@ -157,7 +148,7 @@ impl Chip {
         let mut command = [0; COMMAND];
         let mut reply = [0; REPLY];
         Chip {
-            card: LentCard::begin(params, &mut command, &mut reply),
+            session: CardSession::new(params, &rules_of(1), false, &mut command, &mut reply),
             command,
             reply,
             application: Application {
@@ -174,10 +165,11 @@ impl Chip {
             here,
             said: Queue::new(),
         };
-        if self.card.fits(self.command.len(), self.reply.len()) {
+        let session = &mut self.session;
+        session.line.begin(&rules_of(1));
+        if session.card.fits(self.command.len(), self.reply.len()) && !session.takes_short {
             let _served = serve_events(
-                &mut self.card,
-                &mut line_of(1),
+                session,
                 &mut self.command,
                 &mut self.reply,
                 &mut desk,
@@ -232,50 +224,54 @@ enum Call {
     Exchange(u8),
 }
 
-/// A terminal with its buffers.
+/// A terminal's session with its buffers.
 #[derive(Drop)]
 struct Post {
-    terminal: LentTerminal,
+    session: TerminalSession,
     command: [u8; COMMAND],
     answer: [u8; REPLY],
 }
 
 impl Post {
-    fn new(params: T1Params) -> Post {
+    fn new(params: T1Params) -> Post
+        ensures terminal { is_set result.session.line.rules.is_card ≡ false }
+        ensures clock { is_set result.session.line.rules.has_clock ≡ false }
+        ensures burst { HasBurst result.session.line }
+    {
         let mut command = [0; COMMAND];
         let mut answer = [0; REPLY];
         Post {
-            terminal: LentTerminal::begin(params, &mut command, &mut answer),
+            session: TerminalSession::new(params, &rules_of(0), &mut command, &mut answer),
             command,
             answer,
         }
     }
 
     /// Runs the loop of a call, and returns its last action.
-    fn run(&mut self, line: &mut Line, wire: &mut Wire, call: Call) -> Option<Action>
-        requires terminal { is_set line.old.rules.is_card ≡ false }
-        requires clock { is_set line.old.rules.has_clock ≡ false }
-        requires burst { HasBurst line.old }
-        ensures { IfSome result (λ _. (is_set line.new.rules.is_card ≡ false)
-            × (is_set line.new.rules.has_clock ≡ false) × HasBurst line.new) }
+    fn run(&mut self, wire: &mut Wire, call: Call) -> Option<Action>
+        requires terminal { is_set self.old.session.line.rules.is_card ≡ false }
+        requires clock { is_set self.old.session.line.rules.has_clock ≡ false }
+        requires burst { HasBurst self.old.session.line }
+        ensures { IfSome result (λ _. (is_set self.new.session.line.rules.is_card ≡ false)
+            × (is_set self.new.session.line.rules.has_clock ≡ false) × HasBurst self.new.session.line) }
     {
         let Post {
-            terminal: end,
+            session,
             command,
             answer,
         } = self;
-        if !end.fits(command.len(), answer.len()) {
+        if !session.terminal.fits(command.len(), answer.len()) {
             return None;
         }
         let room = &mut [0; ROOM];
         let ended = match call {
-            Call::Resynch => resynch_ends(end, line, command, answer, wire, room).ok()?,
+            Call::Resynch => resynch_ends(session, command, answer, wire, room).ok()?,
             Call::Size(size) => {
-                ask_ifs_ends(end, line, LIMITS, command, answer, size, wire, room).ok()?
+                ask_ifs_ends(session, command, answer, size, LIMITS, wire, room).ok()?
             }
             Call::Exchange(number) => {
                 let octets = command_of(number);
-                exchange_ends(end, line, LIMITS, command, answer, &octets, wire, room).ok()?
+                exchange_ends(session, command, answer, &octets, LIMITS, wire, room).ok()?
             }
         };
         Some(ended.action)
@@ -334,11 +330,14 @@ fn session(seed: u32, tally: &mut Tally) {
 }
 
 /// Runs a session: RESYNCH, a request for a size, and the exchanges.
-fn go_through(mut post: Post, mut wire: Wire, tally: &mut Tally) {
-    let mut line = line_of(0);
+fn go_through(mut post: Post, mut wire: Wire, tally: &mut Tally)
+    requires terminal { is_set post.session.line.rules.is_card ≡ false }
+    requires clock { is_set post.session.line.rules.has_clock ≡ false }
+    requires burst { HasBurst post.session.line }
+{
     let calls = [Call::Resynch, Call::Size(48)];
     for call in calls {
-        let Some(action) = post.run(&mut line, &mut wire, call) else {
+        let Some(action) = post.run(&mut wire, call) else {
             return tally.wrong = tally.wrong.saturating_add(1);
         };
         if !has_begun(action, tally) {
@@ -346,7 +345,7 @@ fn go_through(mut post: Post, mut wire: Wire, tally: &mut Tally) {
         }
     }
     for number in 0..EXCHANGES {
-        let Some(action) = post.run(&mut line, &mut wire, Call::Exchange(number)) else {
+        let Some(action) = post.run(&mut wire, Call::Exchange(number)) else {
             return tally.wrong = tally.wrong.saturating_add(1);
         };
         if !counted(action, &post.answer, number, tally) {

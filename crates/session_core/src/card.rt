@@ -1,8 +1,9 @@
 //! The session of a card, step by step: its line, the card of T=1 above it, and its host.
 //!
-//! The caller keeps the card, its line, both buffers, and a buffer for the block that is sent. `own` is how many octets
-//! at the front of `out` are that block. `granted` is how many requests of the host about the present command the
-//! terminal granted.
+//! These are the calls of [`CardSession`](crate::CardSession) for a program that keeps the parts of a session apart. The
+//! caller keeps the card, its line, both buffers, and a buffer for the block that is sent. `own` is how many octets at
+//! the front of `out` are that block. `granted` is how many requests of the host about the present command the terminal
+//! granted.
 
 ghost use Rattle.std.specs.Prelude.{◌≡◌, ◌≤◌, List, ℕ, length, take, IfErr};
 ghost use Rattle.t1_core.specs.Card.{replies, more_time, ask_ifs};

@@ -10,14 +10,17 @@
 //!
 //! - [`Progress`] is what one end has done on its line so far, and [`Line`] has its rules and its burst besides:
 //!   `specs/Wire.antt` is the table.
-//! - [`terminal`] and [`card`] are sessions: an end of t1_core over its line. `specs/Terminals.antt` and
+//! - [`TerminalSession`] and [`CardSession`] are sessions: an end of t1_core over its line. `specs/Terminals.antt` and
 //!   `specs/Cards.antt` are their tables, and each call returns an [`Action`].
+//! - [`terminal`] and [`card`] have the same calls as functions, for a program that keeps the parts of a session apart,
+//!   as the library for C does.
 //! - [`Setup`] has the numbers of a session, from which the rules of its line follow: `specs/Setup.antt`.
 #![tactic(auto)]
 
 pub mod action;
 pub mod bursting;
 pub mod card;
+pub mod card_session;
 pub mod event;
 pub mod limits;
 pub mod lines;
@@ -26,9 +29,12 @@ pub mod sending;
 pub mod setup;
 pub mod stepping;
 pub mod terminal;
+pub mod terminal_session;
 
 pub use action::Action;
+pub use card_session::CardSession;
 pub use event::{Event, Next};
 pub use lines::{Line, LineNext, Start};
 pub use progress::{FOREVER, Moment, NO_SILENCE, Phase, Progress, Rules};
 pub use setup::{Limits, Setup};
+pub use terminal_session::TerminalSession;

@@ -72,6 +72,19 @@ impl LineNext {
 }
 
 impl Line {
+    /// Returns the line of an end that hasn't used it yet.
+    pub fn new(rules: &Rules) -> Line
+        ensures rules { result.rules ≡ rules.now }
+        ensures progress { seen result.progress ≡ fresh (ruled rules.now) }
+        ensures burst { HasHeard result.framer [] }
+    {
+        Line {
+            rules: *rules,
+            progress: Progress::new(rules),
+            framer: Framer::new(),
+        }
+    }
+
     /// Begins the line of an end that hasn't used it yet.
     pub fn begin(&mut self, rules: &Rules)
         ensures rules { self.new.rules ≡ rules.now }

@@ -1,7 +1,8 @@
 //! The session of a terminal, step by step: its line, and the terminal of T=1 above it.
 //!
-//! The caller keeps the terminal, its line, both buffers, and a buffer for the block that is sent. `own` is how many
-//! octets at the front of `out` are that block.
+//! These are the calls of [`TerminalSession`](crate::TerminalSession) for a program that keeps the parts of a session
+//! apart. The caller keeps the terminal, its line, both buffers, and a buffer for the block that is sent. `own` is how
+//! many octets at the front of `out` are that block.
 
 ghost use Rattle.std.specs.Prelude.{◌≡◌, ◌≤◌, List, ℕ, length, take, IfErr};
 ghost use Rattle.t1_core.specs.Came.{class_of, quiet};

@@ -292,20 +292,19 @@ ran-run old new t line opening spoken last blocks waited ran off fault =
 
 -- the result of a loop that began so
 abbrev pub IsRanSo : {A : Type 0} → (A → List Sound → Type 0) → (A → List Sound → Type 0) → TerminalState → Line
-    → Opening → TerminalState → Line → Action → ℕ → ℕ → Type 0
-IsRanSo {A} old new t line opening left line_after action blocks waited =
-    (own : ℕ) × (out : List ℕ) × (spoken : List Spoken)
+    → Opening → TerminalState → Line → ℕ → Action → ℕ → ℕ → Type 0
+IsRanSo {A} old new t line opening left line_after own action blocks waited =
+    (out : List ℕ) × (spoken : List Spoken)
     × Ran old new t line opening spoken (standing left line_after own out action) blocks waited
     × ((fault : Error) → IsRun t opening.input spoken (ending_by fault action) left)
 
 pub gone-run : {A : Type 0} (old new : A → List Sound → Type 0) (t : TerminalState) (line : Line) (opening : Opening)
     (first : Standing) (spoken : List Spoken) (last : Standing) (blocks waited : ℕ) → IsBegun t line opening first
     → Gone old new first spoken last blocks waited → goes last.next ≡ false
-    → IsRanSo old new t line opening last.terminal last.line last.next blocks waited
+    → IsRanSo old new t line opening last.terminal last.line last.own last.next blocks waited
 gone-run old new t line opening first spoken last blocks waited begun gone off =
     let ran : Ran old new t line opening spoken last blocks waited =
     record { first = first; begun = begun; gone = gone } in (
-      last.own,
       last.out,
       spoken,
       ran,

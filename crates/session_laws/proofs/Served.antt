@@ -1,5 +1,5 @@
 -- The turns of a card's loop, from what its calls ensure.
-use Rattle.std.proofs.Common.{◌≡◌, ◌<◌, ◌≤◌, ◌+◌, ℕ, List, [], ◌∷◌, ◌++◌, length, take, false, Some, Result, Ok, Err, refl, sym, subst, arith, length-append}
+use Rattle.std.proofs.Common.{◌≡◌, ◌<◌, ◌≤◌, ◌+◌, ℕ, List, [], ◌∷◌, ◌++◌, length, take, Bool, false, Some, Result, Ok, Err, refl, sym, subst, arith, length-append}
 use Rattle.std.proofs.lemmas.List.{append-nil, append_assoc}
 use Rattle.t1_core.specs.Card.{CardState, replies, card_turn, turn_of}
 use Rattle.t1_core.specs.CardViews.{owed}
@@ -47,21 +47,24 @@ begun-ran heard served card line first begun = record {
 }
 
 -- what the line makes of an event with this number and these octets
-abbrev pub IsSteppedBy : Placed → ℕ → List ℕ → List ℕ → CardState → Line → ℕ → ℕ → List ℕ → Result Action CardFault
-    → Type 0
-IsSteppedBy before event octets burst card line granted own out result =
+abbrev pub IsSteppedBy : Bool → Placed → ℕ → List ℕ → List ℕ → CardState → Line → ℕ → ℕ → List ℕ
+    → Result Action CardFault → Type 0
+IsSteppedBy takes_short before event octets burst card line granted own out result =
     IsStepped (stepped event (ruled before.line.rules) (seen before.line.progress) burst octets 0
     (take before.own before.out)).next
     (stepped event (ruled before.line.rules) (seen before.line.progress) burst octets 0 (take before.own before.out))
-    before.line.rules before.card false before.granted granted 0 card line before.own own before.out out result
+    before.line.rules before.card takes_short before.granted granted 0 card line before.own own before.out out result
 
+-- the session passes its host no message that is too short for a command
 pub step-of : (before : Placed) (sound : Sound) (event : ℕ) (octets burst : List ℕ) (card : CardState) (line : Line)
-    (granted own : ℕ) (out : List ℕ) (result : Result Action CardFault) → event ≡ event_of sound
-    → octets ≡ octets_of sound → IsSteppedBy before event octets burst card line granted own out result
-    → IsSteppedBy before (event_of sound) (octets_of sound) burst card line granted own out result
-step-of before sound event octets burst card line granted own out result is same h =
-    subst (λ (o : List ℕ). IsSteppedBy before (event_of sound) o burst card line granted own out result) same
-    (subst (λ (n : ℕ). IsSteppedBy before n octets burst card line granted own out result) is h)
+    (granted own : ℕ) (out : List ℕ) (result : Result Action CardFault) (takes_short : Bool) → event ≡ event_of sound
+    → octets ≡ octets_of sound → takes_short ≡ false
+    → IsSteppedBy takes_short before event octets burst card line granted own out result
+    → IsSteppedBy false before (event_of sound) (octets_of sound) burst card line granted own out result
+step-of before sound event octets burst card line granted own out result takes_short is same short h =
+    subst (λ (o : List ℕ). IsSteppedBy false before (event_of sound) o burst card line granted own out result) same
+    (subst (λ (n : ℕ). IsSteppedBy false before n octets burst card line granted own out result) is
+    (subst (λ (b : Bool). IsSteppedBy b before event octets burst card line granted own out result) short h))
 
 unfoldable pub line-ran : {A B : Type 0} (old now new : A → List Sound → Type 0)
     (before_host host : B → List Event → Type 0)
@@ -140,7 +143,8 @@ pub line-stopped : {A B : Type 0} (old now new : A → List Sound → Type 0)
     (card_after : CardState) (line_after : Line) → (ran : Ran old now before_host host card line events before)
     → length ran.sounds + length ran.acts < most → Sounds now new (sound ∷ []) → IsAsked before.next before.out sound
     → HasHeard before.line.framer burst
-    → IsSteppedBy before (event_of sound) (octets_of sound) burst card_after line_after granted own out (Err fault)
+    → IsSteppedBy false before (event_of sound) (octets_of sound) burst card_after line_after granted own out
+    (Err fault)
     → Stopped old new before_host host card line most fault
 line-stopped old now new before_host host card line most fault events before sound burst granted own out card_after
     line_after ran few adds asked_for heard stepped_so = record {

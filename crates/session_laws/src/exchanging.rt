@@ -12,9 +12,8 @@ ghost use Rattle.session_laws.specs.Running.{Gone, Ran, IsRefused, IsStopped, co
 
 use crate::device::{LONGEST_BLOCK, SILENT, done};
 use line_core::TimedDevice;
-use session_core::terminal::{self, step};
-use session_core::{Action, Limits, Line};
-use t1_core::{LentTerminal, TerminalFault};
+use session_core::{Action, Limits, TerminalSession};
+use t1_core::TerminalFault;
 
 /// How an exchange ended.
 #[derive(Clone, Copy, Debug)]
@@ -58,35 +57,36 @@ fn waited(event: u8, action: &Action) -> u64
 /// Does what each action says, from the first one on, until the session rests. The terminal has begun within these
 /// limits.
 fn run<D: TimedDevice>(
-    end: &mut LentTerminal,
-    line: &mut Line,
-    own: &mut usize,
-    limits: Limits,
+    session: &mut TerminalSession,
     command: &[u8],
     answer: &mut [u8],
+    limits: Limits,
     first: Action,
     device: &mut D,
     room: &mut [u8],
     out: &mut [u8; LONGEST_BLOCK],
 ) -> Result<Ended, TerminalFault>
-    requires fit { IsLentTerminal end.old (length command.now) (length answer.old) }
-    requires within { IsWithin limits.blocks 0 line.old first }
-    requires waited { is_limited limits.time → HasWaited limits.time 0 line.old first }
+    requires fit { IsLentTerminal session.old.terminal (length command.now) (length answer.old) }
+    requires within { IsWithin limits.blocks 0 session.old.line first }
+    requires waited { is_limited limits.time → HasWaited limits.time 0 session.old.line first }
     requires room { 1 ≤ length room.old }
-    ensures fit { IsLentTerminal end.new (length command.now) (length answer.new) }
-    ensures again { IfOk result (λ _. (is_set line.new.rules.is_card ≡ false)
-        × (is_set line.new.rules.has_clock ≡ false) × HasBurst line.new) }
+    ensures fit { IsLentTerminal session.new.terminal (length command.now) (length answer.new) }
+    ensures again { IfOk result (λ _. (is_set session.new.line.rules.is_card ≡ false)
+        × (is_set session.new.line.rules.has_clock ≡ false) × HasBurst session.new.line) }
     ensures few { IfOk result (λ ended. ended.blocks ≤ limits.blocks) }
     ensures soon { is_limited limits.time → IfOk result (λ ended. ended.waited ≤ limits.time) }
     ensures over { IfOk result (λ ended. goes ended.action ≡ false) }
     ensures gone { IfOk result (λ ended. (spoken : List Spoken)
         × Gone (D.heard device.old) (D.heard device.new)
-        (standing (terminal_held end.old command.now answer.old) line.old own.old out.old first) spoken
-        (standing (terminal_held end.new command.now answer.new) line.new own.new out.new ended.action)
+        (standing (terminal_held session.old.terminal command.now answer.old) session.old.line session.old.own out.old
+        first) spoken
+        (standing (terminal_held session.new.terminal command.now answer.new) session.new.line session.new.own out.new
+        ended.action)
         ended.blocks ended.waited) }
     ensures stopped { IfErr result (λ fault. (sounds : List Sound)
         × Sounds (D.heard device.old) (D.heard device.new) sounds
-        × IsStopped (standing (terminal_held end.old command.now answer.old) line.old own.old out.old first) fault
+        × IsStopped (standing (terminal_held session.old.terminal command.now answer.old) session.old.line
+        session.old.own out.old first) fault
         sounds) }
 {
     let mut blocks: u32 = 0;
@@ -96,17 +96,7 @@ fn run<D: TimedDevice>(
         let (event, count) = done(&action, device, out, room);
         blocks += sends(&action);
         time = time.saturating_add(waited(event, &action));
-        action = step(
-            end,
-            line,
-            own,
-            command,
-            answer,
-            event,
-            &room[..count],
-            0,
-            out,
-        )?;
+        action = session.step(command, answer, event, &room[..count], 0, out)?;
     }
     Ok(Ended {
         action,
@@ -122,133 +112,134 @@ fn run<D: TimedDevice>(
 /// What comes is put into `room` first. The answer is at the front of `answer` if the last action is
 /// [`Action::Answered`].
 pub fn exchange_ends<D: TimedDevice>(
-    end: &mut LentTerminal,
-    line: &mut Line,
-    limits: Limits,
+    session: &mut TerminalSession,
     command: &mut [u8],
     answer: &mut [u8],
     octets: &[u8],
+    limits: Limits,
     device: &mut D,
     room: &mut [u8],
 ) -> Result<Ended, TerminalFault>
-    requires fit { IsLentTerminal end.old (length command.old) (length answer.old) }
-    requires terminal { is_set line.old.rules.is_card ≡ false }
-    requires clock { is_set line.old.rules.has_clock ≡ false }
-    requires burst { HasBurst line.old }
+    requires fit { IsLentTerminal session.old.terminal (length command.old) (length answer.old) }
+    requires terminal { is_set session.old.line.rules.is_card ≡ false }
+    requires clock { is_set session.old.line.rules.has_clock ≡ false }
+    requires burst { HasBurst session.old.line }
     requires room { 1 ≤ length room.old }
-    ensures fit { IsLentTerminal end.new (length command.new) (length answer.new) }
-    ensures again { IfOk result (λ _. (is_set line.new.rules.is_card ≡ false)
-        × (is_set line.new.rules.has_clock ≡ false) × HasBurst line.new) }
+    ensures fit { IsLentTerminal session.new.terminal (length command.new) (length answer.new) }
+    ensures again { IfOk result (λ _. (is_set session.new.line.rules.is_card ≡ false)
+        × (is_set session.new.line.rules.has_clock ≡ false) × HasBurst session.new.line) }
     ensures few { IfOk result (λ ended. ended.blocks ≤ limits.blocks) }
     ensures soon { is_limited limits.time → IfOk result (λ ended. ended.waited ≤ limits.time) }
-    ensures run { IfOk result (λ ended. (own : ℕ) × (out : List ℕ) × (spoken : List Spoken)
-        × Ran (D.heard device.old) (D.heard device.new) (terminal_held end.old command.old answer.old) line.old
+    ensures run { IfOk result (λ ended. (out : List ℕ) × (spoken : List Spoken)
+        × Ran (D.heard device.old) (D.heard device.new) (terminal_held session.old.terminal command.old answer.old)
+        session.old.line
         (command_within octets.now limits) spoken
-        (standing (terminal_held end.new command.new answer.new) line.new own out ended.action)
+        (standing (terminal_held session.new.terminal command.new answer.new) session.new.line session.new.own out
+        ended.action)
         ended.blocks ended.waited
-        × ((fault : Error) → IsRun (terminal_held end.old command.old answer.old)
+        × ((fault : Error) → IsRun (terminal_held session.old.terminal command.old answer.old)
         (command_within octets.now limits).input spoken (ending_by fault ended.action)
-        (terminal_held end.new command.new answer.new))) }
+        (terminal_held session.new.terminal command.new answer.new))) }
     ensures over { IfOk result (λ ended. goes ended.action ≡ false) }
     ensures refused { IfErr result (λ fault. (sounds : List Sound)
         × Sounds (D.heard device.old) (D.heard device.new) sounds
-        × IsRefused (terminal_held end.old command.old answer.old) line.old
+        × IsRefused (terminal_held session.old.terminal command.old answer.old) session.old.line
         (command_within octets.now limits) fault sounds) }
 {
     let mut out = [0; LONGEST_BLOCK];
-    let mut own = 0;
-    let action = terminal::exchange(
-        end, line, &mut own, limits, command, answer, octets, 0, &mut out,
-    )?;
+    session.own = 0;
+    let action = session.exchange(command, answer, octets, limits, 0, &mut out)?;
     run(
-        end, line, &mut own, limits, command, answer, action, device, room, &mut out,
+        session, command, answer, limits, action, device, room, &mut out,
     )
 }
 
 /// Asks the card over a device to send fields of at most so many octets. It ends as an exchange does, and the last action
 /// is [`Action::IfsSet`] if the card accepted.
 pub fn ask_ifs_ends<D: TimedDevice>(
-    end: &mut LentTerminal,
-    line: &mut Line,
-    limits: Limits,
+    session: &mut TerminalSession,
     command: &[u8],
     answer: &mut [u8],
     size: u8,
+    limits: Limits,
     device: &mut D,
     room: &mut [u8],
 ) -> Result<Ended, TerminalFault>
-    requires fit { IsLentTerminal end.old (length command.now) (length answer.old) }
-    requires terminal { is_set line.old.rules.is_card ≡ false }
-    requires clock { is_set line.old.rules.has_clock ≡ false }
-    requires burst { HasBurst line.old }
+    requires fit { IsLentTerminal session.old.terminal (length command.now) (length answer.old) }
+    requires terminal { is_set session.old.line.rules.is_card ≡ false }
+    requires clock { is_set session.old.line.rules.has_clock ≡ false }
+    requires burst { HasBurst session.old.line }
     requires room { 1 ≤ length room.old }
-    ensures fit { IsLentTerminal end.new (length command.now) (length answer.new) }
-    ensures again { IfOk result (λ _. (is_set line.new.rules.is_card ≡ false)
-        × (is_set line.new.rules.has_clock ≡ false) × HasBurst line.new) }
+    ensures fit { IsLentTerminal session.new.terminal (length command.now) (length answer.new) }
+    ensures again { IfOk result (λ _. (is_set session.new.line.rules.is_card ≡ false)
+        × (is_set session.new.line.rules.has_clock ≡ false) × HasBurst session.new.line) }
     ensures few { IfOk result (λ ended. ended.blocks ≤ limits.blocks) }
     ensures soon { is_limited limits.time → IfOk result (λ ended. ended.waited ≤ limits.time) }
-    ensures run { IfOk result (λ ended. (own : ℕ) × (out : List ℕ) × (spoken : List Spoken)
-        × Ran (D.heard device.old) (D.heard device.new) (terminal_held end.old command.now answer.old) line.old
+    ensures run { IfOk result (λ ended. (out : List ℕ) × (spoken : List Spoken)
+        × Ran (D.heard device.old) (D.heard device.new) (terminal_held session.old.terminal command.now answer.old)
+        session.old.line
         (size_within size limits) spoken
-        (standing (terminal_held end.new command.now answer.new) line.new own out ended.action)
+        (standing (terminal_held session.new.terminal command.now answer.new) session.new.line session.new.own out
+        ended.action)
         ended.blocks ended.waited
-        × ((fault : Error) → IsRun (terminal_held end.old command.now answer.old)
+        × ((fault : Error) → IsRun (terminal_held session.old.terminal command.now answer.old)
         (size_within size limits).input spoken (ending_by fault ended.action)
-        (terminal_held end.new command.now answer.new))) }
+        (terminal_held session.new.terminal command.now answer.new))) }
     ensures over { IfOk result (λ ended. goes ended.action ≡ false) }
     ensures refused { IfErr result (λ fault. (sounds : List Sound)
         × Sounds (D.heard device.old) (D.heard device.new) sounds
-        × IsRefused (terminal_held end.old command.now answer.old) line.old (size_within size limits) fault
+        × IsRefused (terminal_held session.old.terminal command.now answer.old) session.old.line
+        (size_within size limits) fault
         sounds) }
 {
     let mut out = [0; LONGEST_BLOCK];
-    let mut own = 0;
-    let action = terminal::ask_ifs(
-        end, line, &mut own, limits, command, answer, size, 0, &mut out,
-    )?;
+    session.own = 0;
+    let action = session.ask_ifs(command, answer, size, limits, 0, &mut out)?;
     run(
-        end, line, &mut own, limits, command, answer, action, device, room, &mut out,
+        session, command, answer, limits, action, device, room, &mut out,
     )
 }
 
 /// Begins over a device with a card that can't be reset: drops octets until the line is silent, and asks for RESYNCH
-/// (ISO/IEC 7816-3, clause 11.6.3.2). The terminal and the line were just begun. The last action is
-/// [`Action::GivenUp`] if the card answered: then both ends are as at their start. No limit of an exchange applies.
+/// (ISO/IEC 7816-3, clause 11.6.3.2). The session was just begun. The last action is [`Action::GivenUp`] if the card
+/// answered: then both ends are as at their start. No limit of an exchange applies.
 pub fn resynch_ends<D: TimedDevice>(
-    end: &mut LentTerminal,
-    line: &mut Line,
+    session: &mut TerminalSession,
     command: &[u8],
     answer: &mut [u8],
     device: &mut D,
     room: &mut [u8],
 ) -> Result<Ended, TerminalFault>
-    requires fit { IsLentTerminal end.old (length command.now) (length answer.old) }
-    requires terminal { is_set line.old.rules.is_card ≡ false }
-    requires clock { is_set line.old.rules.has_clock ≡ false }
-    requires burst { HasBurst line.old }
+    requires fit { IsLentTerminal session.old.terminal (length command.now) (length answer.old) }
+    requires terminal { is_set session.old.line.rules.is_card ≡ false }
+    requires clock { is_set session.old.line.rules.has_clock ≡ false }
+    requires burst { HasBurst session.old.line }
     requires room { 1 ≤ length room.old }
-    ensures fit { IsLentTerminal end.new (length command.now) (length answer.new) }
-    ensures again { IfOk result (λ _. (is_set line.new.rules.is_card ≡ false)
-        × (is_set line.new.rules.has_clock ≡ false) × HasBurst line.new) }
-    ensures run { IfOk result (λ ended. (own : ℕ) × (out : List ℕ) × (spoken : List Spoken)
+    ensures fit { IsLentTerminal session.new.terminal (length command.now) (length answer.new) }
+    ensures again { IfOk result (λ _. (is_set session.new.line.rules.is_card ≡ false)
+        × (is_set session.new.line.rules.has_clock ≡ false) × HasBurst session.new.line) }
+    ensures run { IfOk result (λ ended. (out : List ℕ) × (spoken : List Spoken)
         × Ran (D.heard device.old) (D.heard device.new)
-        (asking_resynch (terminal_held end.old command.now answer.old)) line.old resynchronising spoken
-        (standing (terminal_held end.new command.now answer.new) line.new own out ended.action)
+        (asking_resynch (terminal_held session.old.terminal command.now answer.old)) session.old.line resynchronising
+        spoken
+        (standing (terminal_held session.new.terminal command.now answer.new) session.new.line session.new.own out
+        ended.action)
         ended.blocks ended.waited
-        × ((fault : Error) → IsRun (asking_resynch (terminal_held end.old command.now answer.old))
+        × ((fault : Error) → IsRun (asking_resynch (terminal_held session.old.terminal command.now answer.old))
         resynchronising.input spoken (ending_by fault ended.action)
-        (terminal_held end.new command.now answer.new))) }
+        (terminal_held session.new.terminal command.now answer.new))) }
     ensures over { IfOk result (λ ended. goes ended.action ≡ false) }
     ensures refused { IfErr result (λ fault. (sounds : List Sound)
         × Sounds (D.heard device.old) (D.heard device.new) sounds
-        × IsRefused (asking_resynch (terminal_held end.old command.now answer.old)) line.old resynchronising
+        × IsRefused (asking_resynch (terminal_held session.old.terminal command.now answer.old)) session.old.line
+        resynchronising
         fault sounds) }
 {
     let mut out = [0; LONGEST_BLOCK];
-    let mut own = 0;
-    let action = terminal::resynch(end, line, &mut own, command, answer, 0, &mut out)?;
+    session.own = 0;
+    let action = session.resynch(command, answer, 0, &mut out)?;
     let limits = Limits::NONE;
     run(
-        end, line, &mut own, limits, command, answer, action, device, room, &mut out,
+        session, command, answer, limits, action, device, room, &mut out,
     )
 }

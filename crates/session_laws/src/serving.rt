@@ -1,6 +1,6 @@
 //! The loop of a card.
 
-ghost use Rattle.std.specs.Prelude.{◌≡◌, ◌≤◌, ℕ, List, [], ◌∷◌, length, true, IfOk, IfErr, Some};
+ghost use Rattle.std.specs.Prelude.{◌≡◌, ◌≤◌, ℕ, List, [], ◌∷◌, length, true, false, IfOk, IfErr, Some};
 ghost use Rattle.t1_core.specs.Card.{replies};
 ghost use Rattle.t1_core.specs.CardViews.{card_held, IsLentCard, owed};
 ghost use Rattle.line_core.specs.Service.{Event, asked, Happens};
@@ -14,9 +14,8 @@ ghost use Rattle.session_laws.specs.Serving.{placed, lives, Ran, IsOver, IsServe
 
 use crate::device::{LONGEST_BLOCK, SILENT, done};
 use line_core::{Host, TimedDevice};
-use session_core::card::{self, step};
-use session_core::{Action, Line};
-use t1_core::{CardFault, LentCard};
+use session_core::{Action, CardSession};
+use t1_core::CardFault;
 
 /// Whether the session goes on after this action.
 fn lives(action: &Action) -> bool
@@ -36,14 +35,13 @@ fn is_over(action: &Action, event: u8) -> bool
 }
 
 /// Serves what comes over a device to a card: does what each action says, and passes the result to the session. The host
-/// acts on each command.
+/// acts on each command. It gets no message of fewer than four octets, so `takes_short` of the session isn't set.
 ///
 /// This returns after `most` turns, each a call of the device or of the host. It returns earlier only if the last action
 /// ends the session, as after a failure of the line, or if nothing came in a wait without a limit. What comes is put
 /// into `room` first.
 pub fn serve_events<D: TimedDevice, H: Host>(
-    end: &mut LentCard,
-    line: &mut Line,
+    session: &mut CardSession,
     command: &mut [u8],
     reply: &mut [u8],
     device: &mut D,
@@ -51,47 +49,37 @@ pub fn serve_events<D: TimedDevice, H: Host>(
     room: &mut [u8],
     most: usize,
 ) -> Result<Action, CardFault>
-    requires fit { IsLentCard end.old (length command.old) (length reply.old) }
-    requires burst { HasBurst line.old }
+    requires fit { IsLentCard session.old.card (length command.old) (length reply.old) }
+    requires burst { HasBurst session.old.line }
+    requires short { session.old.takes_short ≡ false }
     requires room { 1 ≤ length room.old }
-    ensures fit { IsLentCard end.new (length command.new) (length reply.new) }
-    ensures again { IfOk result (λ _. HasBurst line.new) }
-    ensures run { IfOk result (λ action. (granted own : ℕ) × (out : List ℕ) × (events : List Event)
+    ensures fit { IsLentCard session.new.card (length command.new) (length reply.new) }
+    ensures again { IfOk result (λ _. HasBurst session.new.line) }
+    ensures short { session.new.takes_short ≡ false }
+    ensures run { IfOk result (λ action. (out : List ℕ) × (events : List Event)
         × (ran : Ran (D.heard device.old) (D.heard device.new) (H.served host.old)
-        (H.served host.new) (card_held end.old command.old reply.old) line.old events
-        (placed (card_held end.new command.new reply.new) line.new granted own out action))
+        (H.served host.new) (card_held session.old.card command.old reply.old) session.old.line events
+        (placed (card_held session.new.card command.new reply.new) session.new.line session.new.granted session.new.own
+        out action))
         × IsOver most ran.sounds ran.acts action
-        × IsServed (card_held end.old command.old reply.old) events
-        (placed (card_held end.new command.new reply.new) line.new granted own out action)) }
+        × IsServed (card_held session.old.card command.old reply.old) events
+        (placed (card_held session.new.card command.new reply.new) session.new.line session.new.granted session.new.own
+        out action)) }
     ensures refused { IfErr result (λ fault.
         Stopped (D.heard device.old) (D.heard device.new) (H.served host.old) (H.served host.new)
-        (card_held end.old command.old reply.old) line.old most fault) }
+        (card_held session.old.card command.old reply.old) session.old.line most fault) }
 {
     let mut out = [0; LONGEST_BLOCK];
-    let mut own = 0;
-    let mut granted = 0;
     let mut left = most;
-    let mut action = card::serve(line, &mut own, 0);
+    let mut action = session.serve(0);
     while left > 0 && lives(&action) {
         left -= 1;
         if let Action::Asked(_) = action {
-            action = reply_to(end, line, &mut own, command, reply, host, &mut out)?;
+            action = reply_to(session, command, reply, host, &mut out)?;
         } else {
             let (event, count) = done(&action, device, &out, room);
             let is_last = is_over(&action, event);
-            action = step(
-                end,
-                line,
-                &mut own,
-                &mut granted,
-                false,
-                command,
-                reply,
-                event,
-                &room[..count],
-                0,
-                &mut out,
-            )?;
+            action = session.step(command, reply, event, &room[..count], 0, &mut out)?;
             if is_last {
                 return Ok(action);
             }
@@ -102,28 +90,28 @@ pub fn serve_events<D: TimedDevice, H: Host>(
 
 /// Lets the host act on its command, and replies for it.
 fn reply_to<H: Host>(
-    end: &mut LentCard,
-    line: &mut Line,
-    own: &mut usize,
+    session: &mut CardSession,
     command: &[u8],
     reply: &mut [u8],
     host: &mut H,
     out: &mut [u8],
 ) -> Result<Action, CardFault>
     requires room { 258 ≤ length out.old }
-    requires fit { IsLentCard end.old (length command.now) (length reply.old) }
-    requires owes { owed (card_held end.old command.now reply.old)
-        (card_held end.old command.now reply.old).waits
-        ≡ Some (card_held end.old command.now reply.old).command }
-    ensures fit { IsLentCard end.new (length command.now) (length reply.new) }
+    requires fit { IsLentCard session.old.card (length command.now) (length reply.old) }
+    requires owes { owed (card_held session.old.card command.now reply.old)
+        (card_held session.old.card command.now reply.old).waits
+        ≡ Some (card_held session.old.card command.now reply.old).command }
+    ensures fit { IsLentCard session.new.card (length command.now) (length reply.new) }
+    ensures host { (session.new.granted ≡ session.old.granted)
+        × (session.new.takes_short ≡ session.old.takes_short) }
     ensures replied { (answer : List ℕ)
         × Happens (H.served host.old) (H.served host.new)
-        (asked (card_held end.old command.now reply.old).command answer ∷ [])
-        × ((burst : List ℕ) → HasHeard line.old.framer burst
-        → TurnsTo (card_held end.old command.now reply.old) (replies answer) Exchange line.old.rules
-        (seen line.old.progress) burst 0 (card_held end.new command.now reply.new) line.new own.old own.new out.old
-        out.new result) }
+        (asked (card_held session.old.card command.now reply.old).command answer ∷ [])
+        × ((burst : List ℕ) → HasHeard session.old.line.framer burst
+        → TurnsTo (card_held session.old.card command.now reply.old) (replies answer) Exchange session.old.line.rules
+        (seen session.old.line.progress) burst 0 (card_held session.new.card command.now reply.new) session.new.line
+        session.old.own session.new.own out.old out.new result) }
 {
-    host.act(end.command(command).unwrap_or(&[]));
-    card::reply(end, line, own, command, reply, host.reply(), 0, out)
+    host.act(session.card.command(command).unwrap_or(&[]));
+    session.reply(command, reply, host.reply(), 0, out)
 }

@@ -10,19 +10,20 @@ use Rattle.session_laws.proofs.exchanging.ask_ifs_ends.Goals as goal
 
 pub run-requires-clause-within : goal.run-requires-clause-within
 run-requires-clause-within g c =
-    begun-within _ _ c.args.limits c.args.line.now _ _ _ _ _ _ _ _ _ c.requires.terminal c.requires.clock (search rules)
+    begun-within _ _ c.args.limits c.args.session.now.line _ _ _ _ _ _ _ _ _ c.requires.terminal c.requires.clock
+    (search rules)
     (c.in_ok-action.ensures.turn _ c.requires.burst.1)
 
 pub run-requires-clause-waited : goal.run-requires-clause-waited
 run-requires-clause-waited g c =
-    begun-waited _ _ c.args.limits c.args.line.now _ _ _ _ _ _ _ _ _ c.requires.clock
+    begun-waited _ _ c.args.limits c.args.session.now.line _ _ _ _ _ _ _ _ _ c.requires.clock
     (c.in_ok-action.ensures.turn _ c.requires.burst.1)
 
 pub returns-clause-run : goal.returns-clause-run
 returns-clause-run g c =
     ok-by _ _ _ c.run.result
     (λ ended gone off. gone-run (g.D.TimedDevice.heard c.args.device.now) (g.D.TimedDevice.heard c.run.new.device) _
-    c.args.line.now (size_within c.args.size c.args.limits) _ gone.0 _ _ _ record {
+    c.args.session.now.line (size_within c.args.size c.args.limits) _ gone.0 _ _ _ record {
       out = _;
       burst = _;
       heard = c.requires.burst.1;
@@ -34,7 +35,7 @@ pub returns-clause-refused : goal.returns-clause-refused
 returns-clause-refused g c =
     err-by _ _ c.run.result
     (λ fault is. opened-stopped (g.D.TimedDevice.heard c.args.device.now) (g.D.TimedDevice.heard c.run.new.device) _
-    c.args.line.now (size_within c.args.size c.args.limits) _ fault record {
+    c.args.session.now.line (size_within c.args.size c.args.limits) _ fault record {
       out = _;
       burst = _;
       heard = c.requires.burst.1;

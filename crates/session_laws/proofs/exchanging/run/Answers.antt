@@ -25,7 +25,7 @@ loop-action-smaller g c =
     let count : c.loop-action.blocks + c.sends-blocks.result ≡ c.loop-action.blocks + sends c.loop-action.action =
     search rules in
     (stepped-within c.args.limits.blocks c.loop-action.blocks (c.loop-action.blocks + c.sends-blocks.result) _
-    c.loop-action.line _ _ _ _ _ _ _ _ _ _ _ c.loop-action.action _ c.loop-action.invariant.1 on count
+    c.loop-action.session.line _ _ _ _ _ _ _ _ _ _ _ c.loop-action.action _ c.loop-action.invariant.1 on count
     c.loop-action.invariant.1.burst.1 (c.in_ok-action.ensures.step _ c.loop-action.invariant.1.burst.1)
     (front-fits _ _ _ c.done-event.ensures.fits c.done-event.ensures.some)
     (front-short _ _ c.loop-action.invariant.3)).1
@@ -37,11 +37,12 @@ loop-action-preserved g c =
     search rules in (
       c.step.ensures.fit,
       (stepped-within c.args.limits.blocks c.loop-action.blocks (c.loop-action.blocks + c.sends-blocks.result) _
-          c.loop-action.line _ _ _ _ _ _ _ _ _ _ _ c.loop-action.action _ c.loop-action.invariant.1 on count
+          c.loop-action.session.line _ _ _ _ _ _ _ _ _ _ _ c.loop-action.action _ c.loop-action.invariant.1 on count
           c.loop-action.invariant.1.burst.1 (c.in_ok-action.ensures.step _ c.loop-action.invariant.1.burst.1)
           (front-fits _ _ _ c.done-event.ensures.fits c.done-event.ensures.some)
           (front-short _ _ c.loop-action.invariant.3)).0,
-      (λ limited. stepped-waited c.args.limits.time c.loop-action.time _ _ c.loop-action.line _ _ _ _ _ _ _ _ _ _ _
+      (λ limited. stepped-waited c.args.limits.time c.loop-action.time _ _ c.loop-action.session.line _ _ _ _ _ _ _ _ _
+          _ _
           c.loop-action.action _ (c.loop-action.invariant.2 limited) on (search rules) (search rules) limited
           (c.in_ok-action.ensures.step _ c.loop-action.invariant.1.burst.1)
           (front-fits _ _ _ c.done-event.ensures.fits c.done-event.ensures.some)),
@@ -62,12 +63,13 @@ pub returns-in_err-action-clause-stopped : goal.returns-in_err-action-clause-sto
 returns-in_err-action-clause-stopped g c =
     let (sound, adds, asked_for, event, octets) = c.done-event.ensures.called in
     let burst = c.loop-action.invariant.1.burst in
-    let before = standing (terminal_held c.loop-action.«end» c.args.command.now c.loop-action.answer)
-    c.loop-action.line c.loop-action.own c.loop-action.out c.loop-action.action in
-    let after = terminal_held c.step.new.«end» c.args.command.now c.step.new.answer in
+    let before = standing (terminal_held c.loop-action.session.terminal c.args.command.now c.loop-action.answer)
+    c.loop-action.session.line c.loop-action.session.own c.loop-action.out c.loop-action.action in
+    let after = terminal_held c.step.new.self.terminal c.args.command.now c.step.new.answer in
     let p = err_from_is_err_and c.from_residual.result c.from_residual.ensures.1 in
     rw (p.1, p.2) (burst-stopped (g.D.TimedDevice.heard c.args.device.now)
     (g.D.TimedDevice.heard c.loop-action.device) (g.D.TimedDevice.heard c.done-event.new.device) _ _ _ before _ _ sound
-    burst.0 after c.step.new.line c.step.new.own c.step.new.out c.loop-action.invariant.5.1 adds asked_for burst.1
-    (step-of before sound _ _ burst.0 after c.step.new.line c.step.new.own c.step.new.out _ event octets
+    burst.0 after c.step.new.self.line c.step.new.self.own c.step.new.out c.loop-action.invariant.5.1 adds asked_for
+    burst.1
+    (step-of before sound _ _ burst.0 after c.step.new.self.line c.step.new.self.own c.step.new.out _ event octets
     (c.in_err-action.ensures.step burst.0 burst.1)))

@@ -1,4 +1,4 @@
-use Rattle.std.proofs.Common.{rules, arith, [], refl, sym}
+use Rattle.std.proofs.Common.{◌≡◌, rules, arith, [], false, refl, sym}
 use Rattle.std.proofs.lemmas.Result.{err_from_is_err_and}
 use Rattle.t1_core.specs.CardViews.{card_held}
 use Rattle.session_laws.specs.Serving.{placed, all_made, ended, no_more}
@@ -9,15 +9,16 @@ use Rattle.session_laws.proofs.serving.serve_events.Goals as goal
 pub loop-left-init : goal.loop-left-init
 unfolding begun-ran
 loop-left-init g c = (
-  c.requires.fit,
+  rw c.serve-action.ensures.card c.requires.fit,
   search rules,
   c.requires.room,
+  search rules,
   (
     [],
     begun-ran (g.D.TimedDevice.heard c.args.device.now) (g.H.Host.served c.args.host.now) _ _ _ record {
       burst = c.requires.burst.0;
       heard = c.requires.burst.1;
-      card_is = refl;
+      card_is = rw c.serve-action.ensures.card refl;
       begun = c.serve-action.ensures.line _ c.requires.burst.1;
     },
     none-counted _,
@@ -26,76 +27,84 @@ loop-left-init g c = (
 
 pub reply_to-requires-clause-owes : goal.reply_to-requires-clause-owes
 reply_to-requires-clause-owes g c = owes-command _ _ _ c.in-Asked.field-0
-    (ran-at _ _ _ _ _ _ _ _ c.loop-left.invariant.3.1) c.in-Asked.is
+    (ran-at _ _ _ _ _ _ _ _ c.loop-left.invariant.4.1) c.in-Asked.is
 
 pub returns-in_err-action-clause-refused : goal.returns-in_err-action-clause-refused
 returns-in_err-action-clause-refused g c =
-    let at = ran-at _ _ _ _ _ _ _ _ c.loop-left.invariant.3.1 in
+    let at = ran-at _ _ _ _ _ _ _ _ c.loop-left.invariant.4.1 in
     let replied = c.in_err-action.ensures.replied in
     let p = err_from_is_err_and c.from_residual.result c.from_residual.ensures.1 in
     rw (p.1, p.2) (host-stopped (g.D.TimedDevice.heard c.args.device.now) (g.D.TimedDevice.heard c.loop-left.device)
     (g.H.Host.served c.args.host.now) (g.H.Host.served c.loop-left.host) (g.H.Host.served c.reply_to.new.host) _ _ _ _ _
-    _ replied.0 _ _ _ _ _ c.loop-left.invariant.3.1 (omega (arith, c.loop-left.invariant.3.2)) replied.1
+    _ replied.0 _ _ _ _ _ c.loop-left.invariant.4.1 (omega (arith, c.loop-left.invariant.4.2)) replied.1
     (replied.2 at.burst.0 at.burst.1))
 
 pub loop-left-preserved-in-Asked : goal.loop-left-preserved-in-Asked
 unfolding host-ran
 loop-left-preserved-in-Asked g c =
-    let at = ran-at _ _ _ _ _ _ _ _ c.loop-left.invariant.3.1 in
+    let at = ran-at _ _ _ _ _ _ _ _ c.loop-left.invariant.4.1 in
     let replied = c.in_ok-action.ensures.replied in (
       c.reply_to.ensures.fit,
       search rules,
       c.loop-left.invariant.2,
+      search rules,
       (
         _,
         host-ran (g.D.TimedDevice.heard c.args.device.now) (g.D.TimedDevice.heard c.loop-left.device)
             (g.H.Host.served c.args.host.now) (g.H.Host.served c.loop-left.host) (g.H.Host.served c.reply_to.new.host)
-            _ _ _ _ _ replied.0 _ c.loop-left.invariant.3.1 replied.1 record {
+            _ _ _ _ _ replied.0 _ c.loop-left.invariant.4.1 replied.1 record {
               count = c.in-Asked.field-0;
               asked_for = c.in-Asked.is;
               owes = owes-command _ _ _ c.in-Asked.field-0 at c.in-Asked.is;
               burst = at.burst.0;
               heard = at.burst.1;
-              granted_is = refl;
+              granted_is = c.reply_to.ensures.host.0;
               replied = replied.2 at.burst.0 at.burst.1;
             },
-        host-counted c.loop-left.invariant.3.1.sounds c.loop-left.invariant.3.1.acts _ _ _
-            (omega (arith, c.loop-left.invariant.3.2)),
+        host-counted c.loop-left.invariant.4.1.sounds c.loop-left.invariant.4.1.acts _ _ _
+            (omega (arith, c.loop-left.invariant.4.2)),
       ),
     )
 
 pub returns-in_err-action-2 : goal.returns-in_err-action-2
 returns-in_err-action-2 g c =
-    let at = ran-at _ _ _ _ _ _ _ _ c.loop-left.invariant.3.1 in
+    let at = ran-at _ _ _ _ _ _ _ _ c.loop-left.invariant.4.1 in
     let (sound, adds, asked_for, event, octets) = c.done-event.ensures.called in
-    let before = placed (card_held c.loop-left.«end» c.loop-left.command c.loop-left.reply) c.loop-left.line
-    c.loop-left.granted c.loop-left.own c.loop-left.out c.loop-left.action in
-    let after = card_held c.step.new.«end» c.step.new.command c.step.new.reply in
+    let short : c.loop-left.session.takes_short ≡ false = c.loop-left.invariant.3 in
+    let before = placed (card_held c.loop-left.session.card c.loop-left.command c.loop-left.reply)
+    c.loop-left.session.line
+    c.loop-left.session.granted c.loop-left.session.own c.loop-left.out c.loop-left.action in
+    let after = card_held c.step.new.self.card c.step.new.command c.step.new.reply in
     let p = err_from_is_err_and c.from_residual-in_err-action-2.result c.from_residual-in_err-action-2.ensures.1 in
     rw (p.1, p.2) record {
       fit = c.step.ensures.fit;
       again = tt;
+      short = search rules;
       run = tt;
       refused = line-stopped (g.D.TimedDevice.heard c.args.device.now) (g.D.TimedDevice.heard c.loop-left.device)
           (g.D.TimedDevice.heard c.done-event.new.device) (g.H.Host.served c.args.host.now)
-          (g.H.Host.served c.loop-left.host) _ _ _ _ _ before sound at.burst.0 c.step.new.granted c.step.new.own
+          (g.H.Host.served c.loop-left.host) _ _ _ _ _ before sound at.burst.0 c.step.new.self.granted
+          c.step.new.self.own
           c.step.new.out
-          after c.step.new.line c.loop-left.invariant.3.1 (omega (arith, c.loop-left.invariant.3.2)) adds asked_for
+          after c.step.new.self.line c.loop-left.invariant.4.1 (omega (arith, c.loop-left.invariant.4.2)) adds asked_for
           at.burst.1
-          (step-of before sound _ _ at.burst.0 after c.step.new.line c.step.new.granted c.step.new.own c.step.new.out _
-          event
-          octets (c.in_err-action-2.ensures.step at.burst.0 at.burst.1));
+          (step-of before sound _ _ at.burst.0 after c.step.new.self.line c.step.new.self.granted c.step.new.self.own
+          c.step.new.out _ _
+          event octets short (c.in_err-action-2.ensures.step at.burst.0 at.burst.1));
     }
 
 pub loop-left-preserved : goal.loop-left-preserved
 unfolding line-ran
 loop-left-preserved g c =
-    let at = ran-at _ _ _ _ _ _ _ _ c.loop-left.invariant.3.1 in
+    let at = ran-at _ _ _ _ _ _ _ _ c.loop-left.invariant.4.1 in
     let (sound, adds, asked_for, event, octets) = c.done-event.ensures.called in
-    let before = placed (card_held c.loop-left.«end» c.loop-left.command c.loop-left.reply) c.loop-left.line
-    c.loop-left.granted c.loop-left.own c.loop-left.out c.loop-left.action in
-    let after = card_held c.step.new.«end» c.step.new.command c.step.new.reply in (
+    let short : c.loop-left.session.takes_short ≡ false = c.loop-left.invariant.3 in
+    let before = placed (card_held c.loop-left.session.card c.loop-left.command c.loop-left.reply)
+    c.loop-left.session.line
+    c.loop-left.session.granted c.loop-left.session.own c.loop-left.out c.loop-left.action in
+    let after = card_held c.step.new.self.card c.step.new.command c.step.new.reply in (
       c.step.ensures.fit,
+      search rules,
       search rules,
       search rules,
       (
@@ -103,29 +112,34 @@ loop-left-preserved g c =
         line-ran (g.D.TimedDevice.heard c.args.device.now) (g.D.TimedDevice.heard c.loop-left.device)
             (g.D.TimedDevice.heard c.done-event.new.device) (g.H.Host.served c.args.host.now)
             (g.H.Host.served c.loop-left.host) _ _ _ before sound
-            (placed after c.step.new.line c.step.new.granted c.step.new.own c.step.new.out c.in_ok-action-2.action)
-            c.loop-left.invariant.3.1 adds record {
+            (placed after c.step.new.self.line c.step.new.self.granted c.step.new.self.own c.step.new.out
+            c.in_ok-action-2.action)
+            c.loop-left.invariant.4.1 adds record {
               asked_for = asked_for;
               burst = at.burst.0;
               heard = at.burst.1;
-              stepped_so = step-of before sound _ _ at.burst.0 after c.step.new.line c.step.new.granted c.step.new.own
-                  c.step.new.out _ event octets (c.in_ok-action-2.ensures.step at.burst.0 at.burst.1);
+              stepped_so = step-of before sound _ _ at.burst.0 after c.step.new.self.line c.step.new.self.granted
+                  c.step.new.self.own
+                  c.step.new.out _ _ event octets short (c.in_ok-action-2.ensures.step at.burst.0 at.burst.1);
             },
-        line-counted c.loop-left.invariant.3.1.sounds sound c.loop-left.invariant.3.1.acts _ _
-            (omega (arith, c.loop-left.invariant.3.2)),
+        line-counted c.loop-left.invariant.4.1.sounds sound c.loop-left.invariant.4.1.acts _ _
+            (omega (arith, c.loop-left.invariant.4.2)),
       ),
     )
 
 pub returns-then-is_last : goal.returns-then-is_last
 unfolding line-ran
 returns-then-is_last g c =
-    let now = c.loop-left.invariant.3.1 in
+    let now = c.loop-left.invariant.4.1 in
     let at = ran-at _ _ _ _ _ _ _ _ now in
     let (sound, adds, asked_for, event, octets) = c.done-event.ensures.called in
-    let before = placed (card_held c.loop-left.«end» c.loop-left.command c.loop-left.reply) c.loop-left.line
-    c.loop-left.granted c.loop-left.own c.loop-left.out c.loop-left.action in
-    let after = card_held c.step.new.«end» c.step.new.command c.step.new.reply in
-    let last = placed after c.step.new.line c.step.new.granted c.step.new.own c.step.new.out c.in_ok-action-2.action in
+    let short : c.loop-left.session.takes_short ≡ false = c.loop-left.invariant.3 in
+    let before = placed (card_held c.loop-left.session.card c.loop-left.command c.loop-left.reply)
+    c.loop-left.session.line
+    c.loop-left.session.granted c.loop-left.session.own c.loop-left.out c.loop-left.action in
+    let after = card_held c.step.new.self.card c.step.new.command c.step.new.reply in
+    let last = placed after c.step.new.self.line c.step.new.self.granted c.step.new.self.own c.step.new.out
+    c.in_ok-action-2.action in
     let quiet = c.is_over-is_last.ensures c.if-is_last.true in
     let ran = line-ran (g.D.TimedDevice.heard c.args.device.now) (g.D.TimedDevice.heard c.loop-left.device)
     (g.D.TimedDevice.heard c.done-event.new.device) (g.H.Host.served c.args.host.now)
@@ -133,21 +147,21 @@ returns-then-is_last g c =
       asked_for = asked_for;
       burst = at.burst.0;
       heard = at.burst.1;
-      stepped_so = step-of before sound _ _ at.burst.0 after c.step.new.line c.step.new.granted c.step.new.own
-          c.step.new.out _ event octets (c.in_ok-action-2.ensures.step at.burst.0 at.burst.1);
+      stepped_so = step-of before sound _ _ at.burst.0 after c.step.new.self.line c.step.new.self.granted
+          c.step.new.self.own
+          c.step.new.out _ _ event octets short (c.in_ok-action-2.ensures.step at.burst.0 at.burst.1);
     } in
     let over = ran-at _ _ _ _ _ _ _ _ ran in
     let same = silent-of c.loop-left.action c.loop-left.out sound asked_for quiet.0 (rw (sym event) quiet.1) in
     record {
       fit = c.step.ensures.fit;
       again = over.burst;
+      short = search rules;
       run = (
-        c.step.new.granted,
-        c.step.new.own,
         c.step.new.out,
         _,
         ran,
-        no_more now.sounds (made-so-far now.sounds sound now.acts c.args.most _ c.loop-left.invariant.3.2
+        no_more now.sounds (made-so-far now.sounds sound now.acts c.args.most _ c.loop-left.invariant.4.2
             (search rules))
             (rw same refl),
         over.served,
@@ -156,13 +170,11 @@ returns-then-is_last g c =
     }
 
 pub returns-else-lives-clause-again : goal.returns-else-lives-clause-again
-returns-else-lives-clause-again g c = (ran-at _ _ _ _ _ _ _ _ c.loop-left.invariant.3.1).burst
+returns-else-lives-clause-again g c = (ran-at _ _ _ _ _ _ _ _ c.loop-left.invariant.4.1).burst
 
 pub returns-else-lives-clause-run : goal.returns-else-lives-clause-run
 returns-else-lives-clause-run g c =
-    let ran = c.loop-left.invariant.3 in (
-      c.loop-left.granted,
-      c.loop-left.own,
+    let ran = c.loop-left.invariant.4 in (
       c.loop-left.out,
       ran.0,
       ran.1,
@@ -171,13 +183,11 @@ returns-else-lives-clause-run g c =
     )
 
 pub returns-after-loop-left-clause-again : goal.returns-after-loop-left-clause-again
-returns-after-loop-left-clause-again g c = (ran-at _ _ _ _ _ _ _ _ c.loop-left.invariant.3.1).burst
+returns-after-loop-left-clause-again g c = (ran-at _ _ _ _ _ _ _ _ c.loop-left.invariant.4.1).burst
 
 pub returns-after-loop-left-clause-run : goal.returns-after-loop-left-clause-run
 returns-after-loop-left-clause-run g c =
-    let ran = c.loop-left.invariant.3 in (
-      c.loop-left.granted,
-      c.loop-left.own,
+    let ran = c.loop-left.invariant.4 in (
       c.loop-left.out,
       ran.0,
       ran.1,

@@ -1,4 +1,4 @@
-use Rattle.std.proofs.Common.{◌≡◌, ◌≤◌, ◌+◌, List, length}
+use Rattle.std.proofs.Common.{◌≡◌, ◌≤◌, ◌+◌, List, length, false}
 use Rattle.t1_core.specs.CardViews.{card_held, IsLentCard}
 use Rattle.line_core.specs.Service.{Event}
 use Rattle.session_laws.specs.Serving.{Ran, placed}
@@ -6,12 +6,14 @@ use Rattle.session_laws.proofs.serving.serve_events.Given as goal
 
 abbrev pub invariant-loop-left : goal.invariant-loop-left
 invariant-loop-left g l =
-    IsLentCard l.«end» (length l.command) (length l.reply)
+    IsLentCard l.session.card (length l.command) (length l.reply)
     × (length l.out ≡ 258)
     × (1 ≤ length l.room)
+    × (l.session.takes_short ≡ false)
     × ((events : List Event) × (ran : Ran (g.D.TimedDevice.heard l.fn.device) (g.D.TimedDevice.heard l.device)
-    (g.H.Host.served l.fn.host) (g.H.Host.served l.host) (card_held l.fn.«end» l.fn.command l.fn.reply) l.fn.line events
-    (placed (card_held l.«end» l.command l.reply) l.line l.granted l.own l.out l.action))
+    (g.H.Host.served l.fn.host) (g.H.Host.served l.host) (card_held l.fn.session.card l.fn.command l.fn.reply)
+    l.fn.session.line events
+    (placed (card_held l.session.card l.command l.reply) l.session.line l.session.granted l.session.own l.out l.action))
     × (length ran.sounds + length ran.acts + l.left ≡ l.most))
 
 abbrev pub decreases-loop-left : goal.decreases-loop-left
