@@ -89,12 +89,15 @@ pub always-patient : AlwaysTwoEnds → joined.AlwaysPatientCalls → AlwaysPatie
 always-patient two patient limits ifsc calls t c loops =
     patient limits ifsc calls (events_in calls ∷ []) t c (two limits limits ifsc calls t c loops)
 
-pub always-once : joined.AlwaysOnce → AlwaysOnce
-always-once once of_terminal of_card ifsc call command c size is exchanged listening =
-    let t = terminal_with of_terminal ifsc in
-    let served = has-served (card_with of_card ifsc) (events_of call.trips) c listening in
-    once of_terminal of_card ifsc command call.most call.trips call.ending call.left served.0 used_up c size
-    (subst IsCall is exchanged.input)
-    (subst (λ (input : TerminalInput). Runs call.most (next_of (turn_of (terminal_turn t input)))
-    (state_after t (terminal_turn t input)) (talks_of call.trips) call.ending call.left) is (run-of t call exchanged))
-    served.1
+pub always-once : AlwaysTwoEnds → joined.AlwaysOnce → AlwaysOnce
+always-once two once of_terminal of_card ifsc call command t c is loops =
+    let first : TerminalState = terminal_with of_terminal ifsc in
+    let ends = two of_terminal of_card ifsc (call ∷ []) t c loops in
+    let served = ends.served in
+    once of_terminal of_card ifsc command call.most call.trips call.ending call.left served.0 served.1 served.2
+    ends.size
+    (subst IsCall is ends.run.0)
+    (subst (λ (input : TerminalInput). Runs call.most (next_of (turn_of (terminal_turn first input)))
+    (state_after first (terminal_turn first input)) (talks_of call.trips) call.ending call.left) is ends.run.1)
+    (subst (λ (events : List Event). Serves served.0 hears (card_with of_card ifsc) events served.1 served.2)
+    (append-nil (events_of call.trips)) served.3)

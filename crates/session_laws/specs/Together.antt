@@ -93,7 +93,6 @@ AlwaysPatient = (limits : Limits) (ifsc : ℕ) (calls : List Call) (t : Terminal
 -- For one exchange: the host was passed this command at most once, and no other. If the exchange ended with an answer,
 -- the host was passed the command, and the answer is its reply.
 abbrev pub AlwaysOnce : Type 0
-AlwaysOnce = (of_terminal of_card : Limits) (ifsc : ℕ) (call : Call) (command : List ℕ) (c : CardState) → ifsc ≤ 254
-    → call.input ≡ transmit command → IsExchanged (terminal_with of_terminal ifsc) call
-    → IsListening (card_with of_card ifsc) (events_of call.trips) c
+AlwaysOnce = (of_terminal of_card : Limits) (ifsc : ℕ) (call : Call) (command : List ℕ) (t : TerminalState)
+    (c : CardState) → call.input ≡ transmit command → AreLoops of_terminal of_card ifsc (call ∷ []) t c
     → IsOnce command call.ending call.left.answered (services_of (events_of call.trips) [])

@@ -45,5 +45,6 @@ pub fn patient()
 pub fn once()
     ensures { AlwaysOnce }
 {
+    two_ends();
     line_core::laws::once();
 }
