@@ -152,13 +152,13 @@ static void places(void)
     PLACE(scard_note, has_number, 36);
     PLACE(scard_lent_sender, repeats, 9);
     PLACE(scard_lent_sender, corrections, 10);
-    PLACE(scard_lent_sender, aborted, 14);
+    PLACE(scard_lent_sender, aborted, 15);
     PLACE(scard_lent_heard, octet, 4);
     PLACE(scard_lent_watched, sender, 8);
-    PLACE(scard_lent_watched, heard, 23);
-    PLACE(scard_lent_watched, doubt, 28);
-    PLACE(scard_lent_watched, last_len, 29);
-    PLACE(scard_lent_watched, last, 30);
+    PLACE(scard_lent_watched, heard, 24);
+    PLACE(scard_lent_watched, doubt, 29);
+    PLACE(scard_lent_watched, last_len, 30);
+    PLACE(scard_lent_watched, last, 31);
     PLACE(scard_lent_judge, card, 288);
     PLACE(scard_lent_judge, blocks, 576);
     PLACE(scard_lent_judge, nad, 585);

@@ -256,6 +256,11 @@ def unseen(row):
     return [] if row.is_block() and row.came is None else arrived(row)
 
 
+def missed(row):
+    """A line that says how the block arrived. A lost one of the terminal isn't seen."""
+    return [] if row.word == TERMINAL and row.came is None else informed(row)
+
+
 def late(rows):
     """Lines in which a lost block of the card is seen after the terminal's waiting time, too late for it."""
     lines, held = [], []
@@ -304,10 +309,10 @@ def each(way):
     return lambda rng, rows: [line for row in rows for line in way(row)]
 
 
-def begun_late(rng, rows):
+def begun_late(rng, rows, way=sent):
     """A trace that begins in the midst of a session, which its first line says."""
     place = rng.randrange(min(len(rows), 12))
-    return ["begins unknown", *(line for row in rows[place:] for line in sent(row))]
+    return ["begins unknown", *(line for row in rows[place:] for line in way(row))]
 
 
 def ended_early(rng, rows):
@@ -319,6 +324,7 @@ def ended_early(rng, rows):
 CLEAN, HARMED = Wishes(), Wishes(damage=0.06, loss=0.06)
 ROUGH, DAMAGED = Wishes(damage=0.25, loss=0.2), Wishes(damage=0.1)
 BUSY = Wishes(chain=0.6, request=0.3, refusal=0.1, damage=0.08, loss=0.05)
+REFUSED = Wishes(chain=0.7, request=0.05, refusal=0.7, damage=0.15, loss=0.2, anew=0.0)
 # the classes of legal traces: what the ends do, and what the tap sees of it
 CLASSES = {
     "clean": (CLEAN, each(sent)),
@@ -340,6 +346,8 @@ CLASSES = {
     "rough, unseen": (ROUGH, each(unseen)),
     "late": (HARMED, lambda rng, rows: late(rows)),
     "begun late": (HARMED, begun_late),
+    "refused, terminal unseen": (REFUSED, each(missed)),
+    "refused, begun late": (REFUSED, functools.partial(begun_late, way=informed)),
 }
 # the classes in which the terminal has two logical connections, and those in which the card has one of several
 TWO, ONE = "two connections, ", "one of several, "

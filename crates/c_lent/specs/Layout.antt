@@ -35,7 +35,7 @@ size_of_struct number =
     else if number == 23 then 272
     else if number == 24 then 264
     else if number == 25 then 40
-    else if number == 26 then 15
+    else if number == 26 then 16
     else if number == 27 then 5
     else if number == 28 then 288
     else if number == 29 then 592

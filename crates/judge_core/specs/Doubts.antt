@@ -105,11 +105,12 @@ sized e (Perhaps pcb octet) = sized_by e pcb octet
 sized e Broken = e
 sized e Nothing = e
 
--- The end as if it took the I-block or the request that it heard. If it sends an I-block next, it did.
+-- The end as if it took the I-block or the request that it heard. If it sends an I-block next, it did, except after an
+-- ABORT: then an R-block lets it begin a message (rule 9).
 abbrev pub presumed : End → Heard → End
 presumed e Beginning = e
-presumed e (Whole pcb octet) = sized_by (hears_unknown e pcb).«end» pcb octet
-presumed e (Perhaps pcb octet) = sized_by (hears_unknown e pcb).«end» pcb octet
+presumed e (Whole pcb octet) = record (sized_by (hears_unknown e pcb).«end» pcb octet) { aborted = e.aborted }
+presumed e (Perhaps pcb octet) = record (sized_by (hears_unknown e pcb).«end» pcb octet) { aborted = e.aborted }
 presumed e Broken = e
 presumed e Nothing = e
 
@@ -142,6 +143,23 @@ refused_doubt Open = Open
 
 abbrev pub corrected : Watched → Bool → Watched
 corrected w refused = if refused then record w { doubt = refused_doubt w.doubt } else w
+
+-- Octets that came to the terminal and are no block: it sends next. A terminal waits only after a block of its own, so if
+-- its waiting time ends next, it sent one that the tap didn't see.
+abbrev pub is_noise : Heard → Bool
+is_noise Beginning = false
+is_noise (Whole pcb octet) = false
+is_noise (Perhaps pcb octet) = false
+is_noise Broken = true
+is_noise Nothing = false
+
+abbrev pub turned : Doubt → Doubt
+turned Clear = Refusable
+turned Refusable = Refusable
+turned Open = Open
+
+abbrev pub given_turn : Bool → Watched → Watched
+given_turn came w = if came && is_noise w.heard then record w { doubt = turned w.doubt } else w
 
 -- What an end heard of a block that breaks a rule, whatever the trace says of its arrival: the end may take it or refuse
 -- it.

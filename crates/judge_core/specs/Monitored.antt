@@ -40,7 +40,7 @@ use Rattle.judge_core.specs.Connections.{gone_on, gone_quiet, is_asked, is_away,
 use Rattle.judge_core.specs.Ends.{new_end, widest}
 use Rattle.judge_core.specs.Followed.{last_after}
 use Rattle.judge_core.specs.Courses.{got_whole, got_none, first_course, is_sure}
-use Rattle.judge_core.specs.Doubts.{corrected, doubt_after, doubted_by, in_doubt, is_open, is_turn, judged_of, passed_over, presumed, tried_after, unknown_end, waited}
+use Rattle.judge_core.specs.Doubts.{corrected, doubt_after, doubted_by, given_turn, in_doubt, is_open, is_turn, judged_of, passed_over, presumed, tried_after, unknown_end, waited}
 
 -- the most octets that a field can have (11.3.2.3)
 abbrev pub most_size : ℕ
@@ -409,9 +409,9 @@ here_after m Terminal seen reaching = record {
   blocks = number_after m.blocks;
 }
 here_after m Card seen reaching = record {
-  terminal = answers_terminal m.last (corrected m.terminal (is_refusing seen)) (doubted_by (card_after m seen).doubt
-      (heard_of Terminal (addressed_by Card m.nad seen)
-      (came_by Card (nad_after Card m.nad seen) reaching) seen reaching));
+  terminal = given_turn (not (is_lost reaching)) (answers_terminal m.last (corrected m.terminal (is_refusing seen))
+      (doubted_by (card_after m seen).doubt (heard_of Terminal (addressed_by Card m.nad seen)
+      (came_by Card (nad_after Card m.nad seen) reaching) seen reaching)));
   card = card_after m seen;
   nad = nad_after Card m.nad seen;
   pairs = m.pairs;

@@ -2,7 +2,7 @@
 
 ghost use Rattle.std.specs.Prelude.{◌≡◌, ◌&&◌, true};
 ghost use Rattle.judge_core.specs.Courses.{judges};
-ghost use Rattle.judge_core.specs.Doubts.{corrected, doubt_after, doubted_by, in_doubt, is_open, is_turn, judged_of, only_openly, overlooked, passed_over, presumed, refused_doubt, sent_openly, sized, sized_by, still_open, tried_after, unknown_end, waited, waited_doubt};
+ghost use Rattle.judge_core.specs.Doubts.{corrected, doubt_after, doubted_by, given_turn, in_doubt, is_noise, is_open, is_turn, judged_of, only_openly, overlooked, passed_over, presumed, refused_doubt, sent_openly, sized, sized_by, still_open, tried_after, turned, unknown_end, waited, waited_doubt};
 
 use crate::courses::{Heard, Judged, Verdict};
 use crate::end::{End, Owed};
@@ -16,7 +16,8 @@ use t1_core::MOST_REPEATS;
 pub enum Doubt {
     /// It sent no other.
     Clear,
-    /// Its block broke a rule, and the other end may refuse it. Or a terminal's waiting time ended once since then.
+    /// Its block broke a rule, and the other end may refuse it. Or a terminal's waiting time ended once since its block,
+    /// or octets that are no block came to it.
     Refusable,
     /// It may have sent one that wasn't seen, or may correct its own. So any block may come next.
     Open,
@@ -29,9 +30,12 @@ impl Watched {
     {
         let last = self.last.as_slice();
         let judged = self.end.judges(self.heard, last, block.pcb(), block.inf());
+        if !is_open(self.doubt) {
+            return judged;
+        }
         let sent = self.sent_openly(block);
         match sent {
-            Ok(end) if is_open(self.doubt) && only_openly(judged.verdict, sent) => Judged {
+            Ok(end) if only_openly(judged.verdict, sent) => Judged {
                 verdict: Verdict::Permitted,
                 end,
             },
@@ -85,15 +89,45 @@ impl Watched {
             self.doubt = refused_doubt(self.doubt);
         }
     }
+
+    /// Takes what came to a terminal, if anything did. If it isn't a block, the terminal has to send.
+    pub(crate) fn take_turn(&mut self, came: bool)
+        ensures { self.new ≡ given_turn came self.old }
+    {
+        if came && is_noise(self.heard) {
+            self.doubt = turned(self.doubt);
+        }
+    }
 }
 
-/// Returns the end as if it took the I-block or the request that it heard. If it sends an I-block next, it did.
+/// Whether an end heard octets that aren't a block, or nothing.
+fn is_noise(heard: Heard) -> bool
+    ensures { result ≡ is_noise heard }
+{
+    matches!(heard, Heard::Broken)
+}
+
+/// Returns what is doubtful about a terminal that has to send after such octets: its next waiting time isn't its first.
+fn turned(doubt: Doubt) -> Doubt
+    ensures { result ≡ turned doubt }
+{
+    match doubt {
+        Doubt::Clear | Doubt::Refusable => Doubt::Refusable,
+        Doubt::Open => Doubt::Open,
+    }
+}
+
+/// Returns the end as if it took the I-block or the request that it heard. If it sends an I-block next, it did, except
+/// after an ABORT.
 pub(crate) fn presumed(end: End, heard: Heard) -> End
     ensures { result ≡ presumed end heard }
 {
     match heard {
         Heard::Whole(pcb, octet) | Heard::Perhaps(pcb, octet) => {
-            sized_by(end.hears_unknown(pcb).end, pcb, octet)
+            End {
+                aborted: end.aborted,
+                ..sized_by(end.hears_unknown(pcb).end, pcb, octet)
+            }
         }
         Heard::Beginning | Heard::Broken | Heard::Nothing => end,
     }

@@ -16,8 +16,8 @@ use crate::courses::{Heard, Verdict, first_course};
 use crate::doubt::{Doubt, doubt_after, doubted_by, presumed, tried_after, unknown_end};
 use crate::end::{After, End};
 use crate::reach::{
-    Reached, after_silence, came_by, heard_in_time, heard_of, is_refusing, opened_on_arrival,
-    reached_by, silence_of,
+    Reached, after_silence, came_by, heard_in_time, heard_of, is_lost, is_refusing,
+    opened_on_arrival, reached_by, silence_of,
 };
 use crate::rule::Rule;
 use arrayvec::ArrayVec;
@@ -276,6 +276,7 @@ impl Monitor {
                 self.terminal.correct(is_refusing(class));
                 let heard = doubted_by(self.card.doubt, heard);
                 self.terminal.takes_answer(self.last, heard);
+                self.terminal.take_turn(!is_lost(reached));
                 self.last = self.last.settled();
                 Report {
                     silence: Silence::No,
