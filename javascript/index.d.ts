@@ -5,17 +5,13 @@ export type Octets = ArrayBuffer | SharedArrayBuffer | ArrayBufferView;
 /** A whole number, or Infinity for a time without a limit. */
 export type Whole = number | bigint;
 
-// ---- enums: numbers of the library by their names ----
+// ---- numbers of the library by their names, made by tools/release/names ----
 
 export declare const Codec: {
     readonly ATR: 1; readonly BLOCK: 2; readonly CHAIN: 3; readonly COMMAND: 4; readonly RESPONSE: 5; readonly TLV: 6;
     readonly DOL: 7; readonly HEX: 8;
 };
 export declare const T1Fault: { readonly USABLE: 0; readonly NO_T1: 1; readonly RESERVED_IFSC: 2; readonly CRC: 3 };
-export declare const Kind: {
-    readonly I: 'I-block'; readonly R: 'R-block'; readonly REQUEST: 'S-block, request';
-    readonly RESPONSE: 'S-block, response';
-};
 export declare const Fault: { readonly FREE: 0; readonly REDUNDANCY: 1; readonly OTHER: 2 };
 export declare const About: { readonly RESYNCH: 0; readonly IFS: 1; readonly ABORT: 2; readonly WTX: 3 };
 export declare const Shape: {
@@ -65,6 +61,14 @@ export declare const Owed: {
 };
 export declare const Asked: {
     readonly NOTHING: 0; readonly IFS: 1; readonly WTX: 2; readonly ABORT: 3; readonly RESYNCH: 4;
+};
+
+// ---- names ----
+
+/** What a block is. */
+export declare const Kind: {
+    readonly I: 'I-block'; readonly R: 'R-block'; readonly REQUEST: 'S-block, request';
+    readonly RESPONSE: 'S-block, response';
 };
 /** The name of a number in an enum, or the number as text. */
 export declare function nameOf(names: Readonly<Record<string, number | string>>, number: number): string;

@@ -58,6 +58,8 @@ class Reasons(OfTool):
         self.assertIn("all 0 |\n| `Unheard` | an octet that nobody sends |\n| `TagLong` |", page)
         rows = '    REASON(TLV, TOO_LONG, "TooLong");\n    REASON(TLV, UNHEARD, "Unheard");\n'
         self.assertIn(rows, self.text("tests/c/names.c"))
+        rows = "TooLong = SCARD_TLV_TOO_LONG,\n        Unheard = SCARD_TLV_UNHEARD\n    });\n"
+        self.assertIn(rows, self.text("rust/scard/src/error.rs"))
         said = '"an octet that nobody sends"'
         self.assertIn(f"            TlvReason::Unheard => {said},\n", self.text("crates/explainer/src/reason.rt"))
         self.assertIn(f"tlv_sentence tlv.Unheard = codes {said}\n", self.text("crates/explainer/specs/Sentences.antt"))
@@ -94,6 +96,7 @@ class Reasons(OfTool):
             ("crates/explainer/specs/Sentences.antt", "tlv_sentence tlv.TooDeep", "tlv_sentence tlv.Deep"),
             ("docs/PROTOCOL.md", "| 2 | `OverIfs` |", "| 2 | `BadIfs` |"),
             ("docs/PROTOCOL.md", "`Trailing`", "`Late`"),
+            ("rust/scard/src/error.rs", "TagLong = SCARD_TLV_TAG_LONG", "TagLong = SCARD_TLV_TAG_SECOND"),
         ]
         for file, old, new in changes:
             self.change(file, old, new)
