@@ -1658,6 +1658,7 @@ struct scard_lent_sender {
     uint8_t corrections;
     uint8_t room;
     uint8_t first_room;
+    uint8_t largest_room;
     uint8_t known;
     uint8_t aborted;
 };

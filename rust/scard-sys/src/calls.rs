@@ -663,10 +663,11 @@ pub struct scard_lent_sender {
     pub corrections: u8,
     pub room: u8,
     pub first_room: u8,
+    pub largest_room: u8,
     pub known: u8,
     pub aborted: u8,
 }
-const _: () = assert!(size_of::<scard_lent_sender>() == 15);
+const _: () = assert!(size_of::<scard_lent_sender>() == 16);
 const _: () = assert!(align_of::<scard_lent_sender>() == 1);
 #[repr(C)]
 #[derive(Clone, Copy)]
