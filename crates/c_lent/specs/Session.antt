@@ -13,7 +13,7 @@ use Rattle.session_core.specs.declared.progress.Rules.{Rules}
 use Rattle.session_core.specs.declared.setup.Setup.{Setup}
 use Rattle.session_core.specs.declared.lines.Line.{Line}
 use Rattle.session_core.specs.declared.lines.Start.TheVariants.{Exchange, Clear}
-use Rattle.session_core.specs.Wire.{ruled, seen, fresh, forever, serves}
+use Rattle.session_core.specs.Wire.{Step, ruled, seen, fresh, forever, serves}
 use Rattle.session_core.specs.Lines.{stepped, first_of}
 use Rattle.session_core.specs.Setup.{t1_of, rules_of, limits_of, no_limits}
 use Rattle.session_core.specs.Terminals.{TurnsTo, IsStepped, asking_resynch, IsSent}
@@ -87,21 +87,24 @@ pub record SessionCalled (input : TerminalInput) (now : ℕ) (old new : Lent CSe
   pub called : 258 ≤ length out → (t : TerminalState) → IsEnd old t → (burst : List ℕ)
       → HasHeard old.state.line.framer burst → Turns t input now burst old new out out_after next
 
--- this happened on the line, and the session does what its table says
-pub record Happens (t : TerminalState) (event : ℕ) (octets : List ℕ) (now : ℕ) (burst : List ℕ)
-    (old new : Lent CSession) (out out_after : List ℕ) (next : CSessionNext) : Type 0 where
+-- the line of a session came here by this step of its table, and the session does what the line says next
+pub record Proceeds (t : TerminalState) (step : Step) (rules : Rules) (now : ℕ) (old new : Lent CSession)
+    (out out_after : List ℕ) (next : CSessionNext) : Type 0 where
   pub t_after : TerminalState
   pub result : Result Action TerminalFault
   pub end : IsEnd new t_after
-  pub step : IsStepped
-      (stepped event (ruled old.state.line.rules) (seen old.state.line.progress) burst octets now
-      (take old.state.own out)).next
-      (stepped event (ruled old.state.line.rules) (seen old.state.line.progress) burst octets now
-      (take old.state.own out))
-      old.state.line.rules t now t_after new.state.line old.state.own new.state.own out out_after result
+  pub stepped_so : IsStepped step.next step rules t now t_after new.state.line old.state.own new.state.own out out_after
+      result
   pub next_is : next ≡ terminal_told result
   pub most_time : new.state.most_time ≡ old.state.most_time
   pub most_blocks : new.state.most_blocks ≡ old.state.most_blocks
+
+-- this happened on the line, and the session does what its table says
+abbrev pub Happens : TerminalState → ℕ → List ℕ → ℕ → List ℕ → Lent CSession → Lent CSession → List ℕ → List ℕ
+    → CSessionNext → Type 0
+Happens t event octets now burst old new out out_after next =
+    Proceeds t (stepped event (ruled old.state.line.rules) (seen old.state.line.progress) burst octets now
+    (take old.state.own out)) old.state.line.rules now old new out out_after next
 
 -- a step of a terminal's session
 pub record SessionStepped (event : ℕ) (octets : List ℕ) (now : ℕ) (old new : Lent CSession) (out out_after : List ℕ)
@@ -185,20 +188,21 @@ pub record CardSessionCalled (input : CardInput) (now : ℕ) (old new : Lent CCa
       → HasHeard old.state.line.framer burst → CardTurns c input now burst old new out out_after next
   pub blank : IsBlankEnd old → IsBlankEnd new
 
-pub record CardHappens (c : CardState) (event : ℕ) (octets : List ℕ) (now : ℕ) (burst : List ℕ)
-    (old new : Lent CCardSession) (out out_after : List ℕ) (next : CSessionNext) : Type 0 where
+pub record CardProceeds (c : CardState) (step : Step) (rules : Rules) (now : ℕ) (old new : Lent CCardSession)
+    (out out_after : List ℕ) (next : CSessionNext) : Type 0 where
   pub c_after : CardState
   pub result : Result Action CardFault
   pub end : IsCardEnd new c_after
-  pub step : cards.IsStepped
-      (stepped event (ruled old.state.line.rules) (seen old.state.line.progress) burst octets now
-      (take old.state.own out)).next
-      (stepped event (ruled old.state.line.rules) (seen old.state.line.progress) burst octets now
-      (take old.state.own out))
-      old.state.line.rules c (not (old.state.host_takes_short == 0)) old.state.granted new.state.granted now c_after
-      new.state.line old.state.own new.state.own out out_after result
+  pub stepped_so : cards.IsStepped step.next step rules c (not (old.state.host_takes_short == 0)) old.state.granted
+      new.state.granted now c_after new.state.line old.state.own new.state.own out out_after result
   pub next_is : next ≡ card_told result
   pub takes_short : new.state.host_takes_short ≡ old.state.host_takes_short
+
+abbrev pub CardHappens : CardState → ℕ → List ℕ → ℕ → List ℕ → Lent CCardSession → Lent CCardSession → List ℕ
+    → List ℕ → CSessionNext → Type 0
+CardHappens c event octets now burst old new out out_after next =
+    CardProceeds c (stepped event (ruled old.state.line.rules) (seen old.state.line.progress) burst octets now
+    (take old.state.own out)) old.state.line.rules now old new out out_after next
 
 pub record CardSessionStepped (event : ℕ) (octets : List ℕ) (now : ℕ) (old new : Lent CCardSession)
     (out out_after : List ℕ) (next : CSessionNext) : Type 0 where

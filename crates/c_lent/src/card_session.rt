@@ -1,20 +1,24 @@
 //! The session of a card as steps, over a state and buffers that the caller owns (ISO/IEC 7816-3, clause 11).
 
-ghost use Rattle.std.specs.Prelude.{◌≡◌, ◌≤◌, List, ℕ, length, IfErr};
-ghost use Rattle.t1_core.specs.Card.{replies, more_time, ask_ifs};
+ghost use Rattle.std.specs.Prelude.{◌≡◌, ◌≤◌, List, ℕ, length, IfErr, Some};
+ghost use Rattle.t1_core.specs.declared.lent.LentCard.{LentCard};
+ghost use Rattle.t1_core.specs.Card.{CardState, replies, more_time, ask_ifs};
 ghost use Rattle.t1_core.specs.CardViews.{card_held, IsLentCard, IsBlank};
 ghost use Rattle.line_core.specs.Bursts.{HasHeard};
 ghost use Rattle.session_core.specs.declared.lines.Start.TheVariants.{Exchange};
-ghost use Rattle.session_core.specs.Wire.{seen};
+ghost use Rattle.session_core.specs.declared.progress.Rules.{Rules};
+ghost use Rattle.session_core.specs.Wire.{Step, seen};
+ghost use Rattle.session_core.specs.Lines.{GoesTo};
 ghost use Rattle.session_core.specs.Cards.{TurnsTo};
+ghost use Rattle.c_lent.specs.Kept.{card_of};
 ghost use Rattle.c_lent.specs.Lent.{lent};
-ghost use Rattle.c_lent.specs.Session.{CardSessionBegun, CardSessionServes, CardSessionCalled, CardSessionStepped, host_input};
+ghost use Rattle.c_lent.specs.Session.{CardProceeds, CardSessionBegun, CardSessionServes, CardSessionCalled, CardSessionStepped, IsBlankEnd, IsCardEnd, host_input};
 
 use crate::kept::CCard;
 use crate::session_next::CSessionNext;
 use crate::verdict::Verdict;
 use block_core::LONGEST_BLOCK;
-use session_core::{Action, Line, Setup, card};
+use session_core::{Action, Line, Next, Setup, card, own_block};
 use t1_core::{CardFault, LentCard};
 
 /// A mark of [`Rules`](session_core::Rules): the end is a card.
@@ -197,7 +201,8 @@ fn host_turn(
     }
 }
 
-/// Reports what happened on the line, by its number, and returns what to do next.
+/// Reports what happened on the line, by its number, and returns what to do next. The state of the card is read only if
+/// a burst has ended or none came.
 pub fn card_session_step(
     session: &mut CCardSession,
     command: &mut [u8],
@@ -213,23 +218,51 @@ pub fn card_session_step(
     if out.len() < LONGEST_BLOCK {
         return CSessionNext::no_room();
     }
-    let Some(mut end) = session.card.fitting(command.len(), reply.len()) else {
+    if !session.card.is_fitting(command.len(), reply.len()) {
+        return CSessionNext::no_end();
+    }
+    let own = session.own;
+    let next = session.line.happen(event, octets, now, own_block(out, own));
+    if next.is_for_end() {
+        card_session_proceed(session, command, reply, next, now, out)
+    } else {
+        CSessionNext::acts(Action::of(next, own))
+    }
+}
+
+/// Passes what the line says next to the card.
+#[inline(never)]
+fn card_session_proceed(
+    session: &mut CCardSession,
+    command: &mut [u8],
+    reply: &mut [u8],
+    next: Next,
+    now: u64,
+    out: &mut [u8],
+) -> CSessionNext
+    requires room { 258 ≤ length out.old }
+    requires end { (end : LentCard) × (card_of session.old.card ≡ Some end)
+        × IsLentCard end (length command.old) (length reply.old) }
+    ensures step { (c : CardState) → IsCardEnd (lent session.old command.old reply.old) c
+        → (step : Step) (rules : Rules) → GoesTo step rules session.old.line next
+        → CardProceeds c step rules now (lent session.old command.old reply.old)
+        (lent session.new command.new reply.new) out.old out.new result }
+    ensures blank { IsBlankEnd (lent session.old command.old reply.old)
+        → IsBlankEnd (lent session.new command.new reply.new) }
+{
+    let Some(mut end) = session.card.spelled() else {
         return CSessionNext::no_end();
     };
     let takes_short = session.host_takes_short != 0;
-    let line = &mut session.line;
-    let own = &mut session.own;
-    let granted = &mut session.granted;
-    let acted = card::step(
+    let acted = card::proceed(
         &mut end,
-        line,
-        own,
-        granted,
+        &mut session.line,
+        &mut session.own,
+        &mut session.granted,
         takes_short,
         command,
         reply,
-        event,
-        octets,
+        next,
         now,
         out,
     );

@@ -1,6 +1,6 @@
 //! The states of both ends, which the caller keeps. Nothing is allocated.
 
-ghost use Rattle.std.specs.Prelude.{◌≡◌, IfSome, IfNone, None, Some};
+ghost use Rattle.std.specs.Prelude.{◌≡◌, true, false, IfSome, IfNone, None, Some};
 ghost use Rattle.t1_core.specs.declared.lent.LentTerminal.{LentTerminal};
 ghost use Rattle.t1_core.specs.declared.lent.LentCard.{LentCard};
 ghost use Rattle.t1_core.specs.Views.{IsLentTerminal};
@@ -193,7 +193,7 @@ impl CTerminal {
     }
 
     /// Returns the terminal that the fields spell, if any.
-    fn spelled(&self) -> Option<LentTerminal>
+    pub(crate) fn spelled(&self) -> Option<LentTerminal>
         ensures { result ≡ terminal_of self.now }
     {
         Some(LentTerminal {
@@ -210,6 +210,19 @@ impl CTerminal {
             command_len: self.command_len,
             answer_len: self.answer_len,
         })
+    }
+
+    /// Whether the fields spell a terminal that fits buffers of these sizes.
+    pub(crate) fn is_fitting(&self, command: usize, answer: usize) -> bool
+        ensures some { result ≡ true → (end : LentTerminal)
+            × (terminal_of self.now ≡ Some end) × IsLentTerminal end command answer }
+        ensures none { result ≡ false → (end : LentTerminal) → terminal_of self.now ≡ Some end
+            → IsLentTerminal end command answer → ⊥ }
+    {
+        match self.spelled() {
+            Some(end) => end.fits(command, answer),
+            None => false,
+        }
     }
 
     /// Returns the terminal that the fields spell, if it fits buffers of these sizes.
@@ -260,7 +273,7 @@ impl CCard {
     }
 
     /// Returns the card that the fields spell, if any.
-    fn spelled(&self) -> Option<LentCard>
+    pub(crate) fn spelled(&self) -> Option<LentCard>
         ensures card { result ≡ card_of self.now }
         ensures command { IfSome result (λ end. end.command_len ≡ self.now.command_len) }
     {
@@ -281,6 +294,19 @@ impl CCard {
             command_len: self.command_len,
             reply_len: self.reply_len,
         })
+    }
+
+    /// Whether the fields spell a card that fits buffers of these sizes.
+    pub(crate) fn is_fitting(&self, command: usize, reply: usize) -> bool
+        ensures some { result ≡ true → (end : LentCard)
+            × (card_of self.now ≡ Some end) × IsLentCard end command reply }
+        ensures none { result ≡ false → (end : LentCard) → card_of self.now ≡ Some end
+            → IsLentCard end command reply → ⊥ }
+    {
+        match self.spelled() {
+            Some(end) => end.fits(command, reply),
+            None => false,
+        }
     }
 
     /// Returns the card that the fields spell, if it fits buffers of these sizes.

@@ -1,20 +1,24 @@
 //! The session of a terminal as steps, over a state and buffers that the caller owns (ISO/IEC 7816-3, clause 11).
 
-ghost use Rattle.std.specs.Prelude.{◌≡◌, ◌≤◌, List, ℕ, length, IfErr};
-ghost use Rattle.t1_core.specs.Terminal.{transmit, ask_ifs};
+ghost use Rattle.std.specs.Prelude.{◌≡◌, ◌≤◌, List, ℕ, length, IfErr, Some};
+ghost use Rattle.t1_core.specs.declared.lent.LentTerminal.{LentTerminal};
+ghost use Rattle.t1_core.specs.Terminal.{TerminalState, transmit, ask_ifs};
 ghost use Rattle.t1_core.specs.Views.{terminal_held, IsLentTerminal};
 ghost use Rattle.line_core.specs.Bursts.{HasHeard};
 ghost use Rattle.session_core.specs.declared.lines.Start.TheVariants.{Exchange};
-ghost use Rattle.session_core.specs.Wire.{seen};
+ghost use Rattle.session_core.specs.declared.progress.Rules.{Rules};
+ghost use Rattle.session_core.specs.Wire.{Step, seen};
+ghost use Rattle.session_core.specs.Lines.{GoesTo};
 ghost use Rattle.session_core.specs.Terminals.{TurnsTo};
+ghost use Rattle.c_lent.specs.Kept.{terminal_of};
 ghost use Rattle.c_lent.specs.Lent.{lent};
-ghost use Rattle.c_lent.specs.Session.{SessionBegun, SessionCalled, SessionStepped, SessionResynched, input_of};
+ghost use Rattle.c_lent.specs.Session.{IsEnd, Proceeds, SessionBegun, SessionCalled, SessionStepped, SessionResynched, input_of};
 
 use crate::kept::CTerminal;
 use crate::session_next::CSessionNext;
 use crate::verdict::Verdict;
 use block_core::LONGEST_BLOCK;
-use session_core::{Action, Limits, Line, Setup, terminal};
+use session_core::{Action, Limits, Line, Next, Setup, own_block, terminal};
 use t1_core::{LentTerminal, TerminalFault};
 
 /// A mark of [`Rules`](session_core::Rules): the end is a terminal.
@@ -202,7 +206,8 @@ pub fn session_resync(
     CSessionNext::of_terminal(acted)
 }
 
-/// Reports what happened on the line, by its number, and returns what to do next.
+/// Reports what happened on the line, by its number, and returns what to do next. The state of the terminal is read only
+/// if a burst has ended or none came.
 pub fn session_step(
     session: &mut CSession,
     command: &mut [u8],
@@ -218,14 +223,42 @@ pub fn session_step(
     if out.len() < LONGEST_BLOCK {
         return CSessionNext::no_room();
     }
-    let Some(mut end) = session.terminal.fitting(command.len(), answer.len()) else {
+    if !session.terminal.is_fitting(command.len(), answer.len()) {
+        return CSessionNext::no_end();
+    }
+    let own = session.own;
+    let next = session.line.happen(event, octets, now, own_block(out, own));
+    if next.is_for_end() {
+        session_proceed(session, command, answer, next, now, out)
+    } else {
+        CSessionNext::acts(Action::of(next, own))
+    }
+}
+
+/// Passes what the line says next to the terminal.
+#[inline(never)]
+fn session_proceed(
+    session: &mut CSession,
+    command: &[u8],
+    answer: &mut [u8],
+    next: Next,
+    now: u64,
+    out: &mut [u8],
+) -> CSessionNext
+    requires room { 258 ≤ length out.old }
+    requires end { (end : LentTerminal) × (terminal_of session.old.terminal ≡ Some end)
+        × IsLentTerminal end (length command.now) (length answer.old) }
+    ensures { (t : TerminalState) → IsEnd (lent session.old command.now answer.old) t
+        → (step : Step) (rules : Rules) → GoesTo step rules session.old.line next
+        → Proceeds t step rules now (lent session.old command.now answer.old)
+        (lent session.new command.now answer.new) out.old out.new result }
+{
+    let Some(mut end) = session.terminal.spelled() else {
         return CSessionNext::no_end();
     };
     let line = &mut session.line;
     let own = &mut session.own;
-    let acted = terminal::step(
-        &mut end, line, own, command, answer, event, octets, now, out,
-    );
+    let acted = terminal::proceed(&mut end, line, own, command, answer, next, now, out);
     session.terminal = CTerminal::of(&end);
     CSessionNext::of_terminal(acted)
 }

@@ -1,9 +1,15 @@
 -- What a session does next. The clauses are those of ISO/IEC 7816-4.
-use Rattle.std.specs.Prelude.{ℕ, List, length, nat_lt, if◌then◌else◌, Option, Some, None}
+use Rattle.std.specs.Prelude.{ℕ, List, length, nat_lt, if◌then◌else◌, Bool, true, false, Option, Some, None}
 use Rattle.session_core.specs.declared.event.Next.{Next}
 use Rattle.session_core.specs.declared.event.Next.TheVariants as next
 use Rattle.session_core.specs.declared.action.Action.{Action}
 use Rattle.session_core.specs.declared.action.Action.TheVariants.{Send, Wait, Answered, NoStatus, Failed, UsedUp, Echo, Order}
+
+-- the end of the session goes on: it takes a burst, or that none came
+abbrev pub is_for_end : Next → Bool
+is_for_end next.Heard = true
+is_for_end next.Quiet = true
+is_for_end told = false
 
 -- what the line says, for an end whose own block has so many octets
 abbrev pub action_of : Next → ℕ → Action

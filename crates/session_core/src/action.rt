@@ -40,7 +40,7 @@ const STATUS_OCTETS: usize = 2;
 
 impl Action {
     /// Returns the action for what the line says next, if the session's own block has so many octets.
-    pub(crate) fn of(next: Next, own: usize) -> Action
+    pub fn of(next: Next, own: usize) -> Action
         ensures { result ≡ action_of next own }
     {
         match next {
@@ -66,7 +66,7 @@ impl Action {
 }
 
 /// Returns the session's own block: so many octets at the front of `out`, or all of it if it has fewer.
-pub(crate) fn own_block(out: &[u8], own: usize) -> &[u8]
+pub fn own_block(out: &[u8], own: usize) -> &[u8]
     ensures { result.now ≡ take own out.now }
 {
     &out[..own.min(out.len())]

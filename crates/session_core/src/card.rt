@@ -10,8 +10,9 @@ ghost use Rattle.t1_core.specs.Card.{replies, more_time, ask_ifs};
 ghost use Rattle.t1_core.specs.CardViews.{card_held, IsLentCard, IsBlank};
 ghost use Rattle.line_core.specs.Bursts.{HasHeard};
 ghost use Rattle.session_core.specs.declared.lines.Start.TheVariants.{Exchange};
-ghost use Rattle.session_core.specs.Wire.{ruled, seen, forever, serves};
-ghost use Rattle.session_core.specs.Lines.{stepped, first_of};
+ghost use Rattle.session_core.specs.declared.progress.Rules.{Rules};
+ghost use Rattle.session_core.specs.Wire.{Step, ruled, seen, forever, serves};
+ghost use Rattle.session_core.specs.Lines.{GoesTo, stepped, first_of};
 ghost use Rattle.session_core.specs.Terminals.{IsSent};
 ghost use Rattle.session_core.specs.Cards.{IsTurned, TurnsTo, Asks, Hears, IsStepped, answering, is_asking, granted_after, is_for_host, asked_about};
 
@@ -217,7 +218,43 @@ pub fn step(
         (card_held end.new command.new reply.new) line.new own.old own.new out.old out.new result }
     ensures blank { IsBlank end.old command.old → IsBlank end.new command.new }
 {
-    match line.happen(event, octets, now, own_block(out, *own)) {
+    let next = line.happen(event, octets, now, own_block(out, *own));
+    proceed(
+        end,
+        line,
+        own,
+        granted,
+        takes_short,
+        command,
+        reply,
+        next,
+        now,
+        out,
+    )
+}
+
+/// Does what the line says next, after [`Line::happen`].
+pub fn proceed(
+    end: &mut LentCard,
+    line: &mut Line,
+    own: &mut usize,
+    granted: &mut usize,
+    takes_short: bool,
+    command: &mut [u8],
+    reply: &mut [u8],
+    next: Next,
+    now: u64,
+    out: &mut [u8],
+) -> Result<Action, CardFault>
+    requires room { 258 ≤ length out.old }
+    requires fit { IsLentCard end.old (length command.old) (length reply.old) }
+    ensures fit { IsLentCard end.new (length command.new) (length reply.new) }
+    ensures step { (step : Step) (rules : Rules) → GoesTo step rules line.old next
+        → IsStepped step.next step rules (card_held end.old command.old reply.old) takes_short granted.old granted.new
+        now (card_held end.new command.new reply.new) line.new own.old own.new out.old out.new result }
+    ensures blank { IsBlank end.old command.old → IsBlank end.new command.new }
+{
+    match next {
         Next::Heard => {
             heard(
                 end,
@@ -232,7 +269,7 @@ pub fn step(
             )
         }
         Next::Quiet => Ok(Action::of(line.listen(now), *own)),
-        next => Ok(Action::of(next, *own)),
+        _ => Ok(Action::of(next, *own)),
     }
 }
 

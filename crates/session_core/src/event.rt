@@ -1,5 +1,8 @@
 //! What happens on a line, and what to do next.
 
+ghost use Rattle.std.specs.Prelude.{◌≡◌};
+ghost use Rattle.session_core.specs.Actions.{is_for_end};
+
 /// What happened on the line.
 #[derive(Clone, Copy)]
 pub enum Event<'a> {
@@ -34,4 +37,13 @@ pub enum Next {
     Echo,
     /// The event doesn't fit what the end is doing. Nothing changes.
     Order,
+}
+
+impl Next {
+    /// Whether the end of the session goes on: it takes a burst, or that none came. The line does the rest alone.
+    pub fn is_for_end(self) -> bool
+        ensures { result ≡ is_for_end self }
+    {
+        matches!(self, Next::Heard | Next::Quiet)
+    }
 }

@@ -31,7 +31,7 @@ pub mod stepping;
 pub mod terminal;
 pub mod terminal_session;
 
-pub use action::Action;
+pub use action::{Action, own_block};
 pub use card_session::CardSession;
 pub use event::{Event, Next};
 pub use lines::{Line, LineNext, Start};

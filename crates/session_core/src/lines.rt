@@ -186,7 +186,7 @@ impl Line {
     }
 
     /// Takes what happened on the line, by its number.
-    pub(crate) fn happen(&mut self, event: u8, octets: &[u8], now: u64, block: &[u8]) -> Next
+    pub fn happen(&mut self, event: u8, octets: &[u8], now: u64, block: &[u8]) -> Next
         ensures { (burst : List ℕ) → HasHeard self.old.framer burst
             → GoesTo (stepped event (ruled self.old.rules) (seen self.old.progress) burst octets.now now
             block.now) self.old.rules self.new result }

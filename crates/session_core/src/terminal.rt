@@ -10,8 +10,9 @@ ghost use Rattle.t1_core.specs.Terminal.{transmit, ask_ifs, takes};
 ghost use Rattle.t1_core.specs.Views.{terminal_held, IsLentTerminal};
 ghost use Rattle.line_core.specs.Bursts.{HasHeard, handed};
 ghost use Rattle.session_core.specs.declared.lines.Start.TheVariants.{Clear, Exchange, Talk};
-ghost use Rattle.session_core.specs.Wire.{ruled, seen};
-ghost use Rattle.session_core.specs.Lines.{stepped};
+ghost use Rattle.session_core.specs.declared.progress.Rules.{Rules};
+ghost use Rattle.session_core.specs.Wire.{Step, ruled, seen};
+ghost use Rattle.session_core.specs.Lines.{GoesTo, stepped};
 ghost use Rattle.session_core.specs.Actions.{count_of};
 ghost use Rattle.session_core.specs.Setup.{no_limits};
 ghost use Rattle.session_core.specs.Terminals.{IsTurned, IsSent, TurnsTo, IsStepped, asking_resynch, limits_in, limited, sending};
@@ -206,10 +207,32 @@ pub fn step(
         line.old.rules (terminal_held end.old command.now answer.old) now
         (terminal_held end.new command.now answer.new) line.new own.old own.new out.old out.new result }
 {
-    match line.happen(event, octets, now, own_block(out, *own)) {
+    let next = line.happen(event, octets, now, own_block(out, *own));
+    proceed(end, line, own, command, answer, next, now, out)
+}
+
+/// Does what the line says next, after [`Line::happen`].
+pub fn proceed(
+    end: &mut LentTerminal,
+    line: &mut Line,
+    own: &mut usize,
+    command: &[u8],
+    answer: &mut [u8],
+    next: Next,
+    now: u64,
+    out: &mut [u8],
+) -> Result<Action, TerminalFault>
+    requires room { 258 ≤ length out.old }
+    requires fit { IsLentTerminal end.old (length command.now) (length answer.old) }
+    ensures fit { IsLentTerminal end.new (length command.now) (length answer.new) }
+    ensures step { (step : Step) (rules : Rules) → GoesTo step rules line.old next
+        → IsStepped step.next step rules (terminal_held end.old command.now answer.old) now
+        (terminal_held end.new command.now answer.new) line.new own.old own.new out.old out.new result }
+{
+    match next {
         Next::Heard => heard(end, line, own, command, answer, now, out),
         Next::Quiet => unheard(end, line, own, command, answer, now, out),
-        next => Ok(Action::of(next, *own)),
+        _ => Ok(Action::of(next, *own)),
     }
 }
 
