@@ -1,7 +1,8 @@
 //! Calls of the loops over steps, on a line on which each block may be harmed: one octet is changed, octets are
 //! missing at its end or follow it, or all of it is lost.
 //!
-//! No answer may be wrong. The card may act only on commands that were sent, and on each of them at most once.
+//! No answer may be wrong. The card may act only on commands that were sent, and on each of them at most once, also if
+//! it asks for time or a size before it replies.
 
 ghost use Rattle.std.specs.Prelude.{◌≡◌, false, IfSome};
 ghost use Rattle.session_core.specs.Wire.{is_set};
@@ -9,10 +10,10 @@ ghost use Rattle.session_laws.specs.Ending.{HasBurst};
 
 use crate::queue::{Queue, ROOM, arriving, harmed};
 use atr_core::T1Params;
-use line_core::{Host, TimedDevice};
+use line_core::TimedDevice;
 use rand_pcg::Pcg32;
 use session_core::{Action, CardSession, FOREVER, Limits, Rules, TerminalSession};
-use session_laws::{ask_ifs_ends, exchange_ends, resynch_ends, serve_events};
+use session_laws::{AskingHost, HostTurn, ask_ifs_ends, exchange_ends, resynch_ends, serve_events};
 use std::alloc::Global;
 use std::io;
 use test_support::{Case, Fault, Share};
@@ -69,24 +70,64 @@ fn reply_of(number: u8) -> [u8; REPLY] {
 struct Application {
     /// The least number that the next command may have.
     next: u8,
-    /// How many commands nobody sent, or were acted on before.
+    /// How many turns were about commands that nobody sent, or that were acted on before, or about nothing granted.
     wrong: u32,
+    /// How many requests about the present command are still to come.
+    requests: u8,
+    /// Whether the last turn was a request.
+    has_asked: bool,
     reply: [u8; REPLY],
 }
 
-impl Host for Application {
+impl Application {
+    fn new() -> Application {
+        Application {
+            next: 0,
+            wrong: 0,
+            requests: 0,
+            has_asked: false,
+            reply: [0; REPLY],
+        }
+    }
+
+    /// Asks for a size and for time in turn, and then replies.
+    fn turn(&mut self) -> HostTurn {
+        self.has_asked = self.requests > 0;
+        if self.requests == 0 {
+            return HostTurn::Reply;
+        }
+        self.requests -= 1;
+        if self.requests == 1 {
+            HostTurn::AskIfs(self.next.saturating_add(1))
+        } else {
+            HostTurn::MoreTime(self.next)
+        }
+    }
+}
+
+impl AskingHost for Application {
     ghost served = { λ _ _ _. Unit {0} };
 
     ghost reply = { λ host. host.reply };
 
-    fn act(&mut self, command: &[u8]) {
+    fn act(&mut self, command: &[u8]) -> HostTurn {
         match number_of(command) {
             Some(number) if number >= self.next => {
                 self.next = number.saturating_add(1);
+                self.requests = number % 4;
                 self.reply = reply_of(number);
             }
             _ => self.wrong = self.wrong.saturating_add(1),
         }
+        self.turn()
+    }
+
+    fn go_on(&mut self, command: &[u8]) -> HostTurn {
+        match number_of(command) {
+            Some(number) if number.saturating_add(1) == self.next && self.has_asked => {}
+            _ => self.wrong = self.wrong.saturating_add(1),
+        }
+        self.turn()
     }
 
     fn reply(&self) -> &[u8] {
@@ -151,11 +192,7 @@ impl Chip {
             session: CardSession::new(params, &rules_of(1), false, &mut command, &mut reply),
             command,
             reply,
-            application: Application {
-                next: 0,
-                wrong: 0,
-                reply: [0; REPLY],
-            },
+            application: Application::new(),
         }
     }
 

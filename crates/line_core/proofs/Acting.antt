@@ -1,9 +1,9 @@
 -- What a card does over calls of `serve`, one after another.
 use Rattle.std.proofs.Common.{◌≡◌, ℕ, ◌-◌, List, [], ◌∷◌, ◌++◌, subst}
 use Rattle.block_core.specs.Block.{spelling}
-use Rattle.t1_core.specs.Card.{CardState, replies, card_turn, turn_of, state_after}
+use Rattle.t1_core.specs.Card.{CardState, replies, card_turn, state_after}
 use Rattle.line_core.specs.Line.{block, nothing, failure}
-use Rattle.line_core.specs.Service.{Event, came, asked, sent, unsent, Ending, over, line_failed, Doing, hears, says, asks, ends, doing_of, doing_after, left_after, Serves}
+use Rattle.line_core.specs.Service.{Event, came, asked, requested, sent, unsent, Ending, over, line_failed, Doing, hears, says, asks, ends, doing_by, doing_after, left_after, input_of, Serves}
 use Rattle.line_core.specs.Joined.{HaveServed, joined}
 
 -- The card is in this state and about to do this: then these events happen, after the end of one call in the next, and
@@ -19,8 +19,10 @@ Acts (ends how) c (came (block octets) ∷ events) last =
     Acts (doing_after c (block octets)) (left_after c (block octets)) events last
 Acts (ends how) c (came nothing ∷ events) last = Acts hears c events last
 Acts (ends how) c (came (failure fault) ∷ events) last = Acts hears c events last
-Acts asks c (asked command reply ∷ events) last = (command ≡ c.command)
-    × Acts (doing_of (turn_of (card_turn c (replies reply)))) (state_after c (card_turn c (replies reply))) events last
+Acts (asks new) c (asked is command reply ∷ events) last = (is ≡ new) × (command ≡ c.command)
+    × Acts (doing_by c (replies reply)) (state_after c (card_turn c (replies reply))) events last
+Acts (asks new) c (requested is command request ∷ events) last = (is ≡ new) × (command ≡ c.command)
+    × Acts (doing_by c (input_of request)) (state_after c (card_turn c (input_of request))) events last
 Acts (says parts) c (sent octets ∷ events) last = (octets ≡ spelling parts) × Acts hears c events last
 Acts (says parts) c (unsent octets fault ∷ events) last = (octets ≡ spelling parts) × Acts hears c events last
 Acts doing c events last = ⊥
@@ -32,7 +34,8 @@ hears-next how c last [] h = h
 hears-next how c last (came (block octets) ∷ events) h = h
 hears-next how c last (came nothing ∷ events) h = h
 hears-next how c last (came (failure fault) ∷ events) h = h
-hears-next how c last (asked command reply ∷ events) h = absurd h
+hears-next how c last (asked is command reply ∷ events) h = absurd h
+hears-next how c last (requested is command request ∷ events) h = absurd h
 hears-next how c last (sent octets ∷ events) h = absurd h
 hears-next how c last (unsent octets fault ∷ events) h = absurd h
 
@@ -42,7 +45,8 @@ hears-again how c last [] h = h
 hears-again how c last (came (block octets) ∷ events) h = h
 hears-again how c last (came nothing ∷ events) h = h
 hears-again how c last (came (failure fault) ∷ events) h = h
-hears-again how c last (asked command reply ∷ events) h = absurd h
+hears-again how c last (asked is command reply ∷ events) h = absurd h
+hears-again how c last (requested is command request ∷ events) h = absurd h
 hears-again how c last (sent octets ∷ events) h = absurd h
 hears-again how c last (unsent octets fault ∷ events) h = absurd h
 
@@ -53,7 +57,7 @@ acts : (events : List Event) (most : ℕ) (doing : Doing) (c next : CardState) (
 acts [] most hears c next ending more last (none, is, e) h = subst (λ (s : CardState). Acts hears s more last) e h
 acts [] most (ends how) c next ending more last (is, e) h =
     hears-next how c last more (subst (λ (s : CardState). Acts hears s more last) e h)
-acts [] most asks c next ending more last never h = absurd never
+acts [] most (asks new) c next ending more last never h = absurd never
 acts [] most (says parts) c next ending more last never h = absurd never
 acts (came (block octets) ∷ events) most hears c next ending more last (some, run) h =
     acts events (most - 1) (doing_after c (block octets)) (left_after c (block octets)) next ending more last run h
@@ -62,24 +66,29 @@ acts (came nothing ∷ events) most hears c next ending more last (some, run) h 
 acts (came (failure fault) ∷ events) most hears c next ending more last (some, run) h =
     hears-again (line_failed fault) c last (events ++ more)
     (acts events (most - 1) (ends (line_failed fault)) c next ending more last run h)
-acts (came arrival ∷ events) most asks c next ending more last never h = absurd never
+acts (came arrival ∷ events) most (asks new) c next ending more last never h = absurd never
 acts (came arrival ∷ events) most (says parts) c next ending more last never h = absurd never
 acts (came arrival ∷ events) most (ends how) c next ending more last never h = absurd never
-acts (asked command reply ∷ events) most asks c next ending more last (is, short, run) h =
-    (is, acts events most _ (state_after c (card_turn c (replies reply))) next ending more last run h)
-acts (asked command reply ∷ events) most hears c next ending more last never h = absurd never
-acts (asked command reply ∷ events) most (says parts) c next ending more last never h = absurd never
-acts (asked command reply ∷ events) most (ends how) c next ending more last never h = absurd never
+acts (asked is command reply ∷ events) most (asks new) c next ending more last (same, about, short, run) h =
+    (same, about, acts events most _ (state_after c (card_turn c (replies reply))) next ending more last run h)
+acts (asked is command reply ∷ events) most hears c next ending more last never h = absurd never
+acts (asked is command reply ∷ events) most (says parts) c next ending more last never h = absurd never
+acts (asked is command reply ∷ events) most (ends how) c next ending more last never h = absurd never
+acts (requested is command request ∷ events) most (asks new) c next ending more last (same, about, long, run) h =
+    (same, about, acts events most _ (state_after c (card_turn c (input_of request))) next ending more last run h)
+acts (requested is command request ∷ events) most hears c next ending more last never h = absurd never
+acts (requested is command request ∷ events) most (says parts) c next ending more last never h = absurd never
+acts (requested is command request ∷ events) most (ends how) c next ending more last never h = absurd never
 acts (sent octets ∷ events) most (says parts) c next ending more last (is, run) h =
     (is, acts events most hears c next ending more last run h)
 acts (sent octets ∷ events) most hears c next ending more last never h = absurd never
-acts (sent octets ∷ events) most asks c next ending more last never h = absurd never
+acts (sent octets ∷ events) most (asks new) c next ending more last never h = absurd never
 acts (sent octets ∷ events) most (ends how) c next ending more last never h = absurd never
 acts (unsent octets fault ∷ []) most (says parts) c next ending more last (is, how, e) h =
     (is, subst (λ (s : CardState). Acts hears s more last) e h)
 acts (unsent octets fault ∷ (event ∷ events)) most (says parts) c next ending more last never h = absurd never
 acts (unsent octets fault ∷ events) most hears c next ending more last never h = absurd never
-acts (unsent octets fault ∷ events) most asks c next ending more last never h = absurd never
+acts (unsent octets fault ∷ events) most (asks new) c next ending more last never h = absurd never
 acts (unsent octets fault ∷ events) most (ends how) c next ending more last never h = absurd never
 
 -- all calls

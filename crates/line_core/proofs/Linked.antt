@@ -13,23 +13,22 @@ use Rattle.block_core.specs.declared.pcb.Pcb.{Pcb}
 use Rattle.block_core.specs.declared.pcb.Pcb.TheVariants.{Info, Ready, Request, Response}
 use Rattle.t1_core.specs.declared.turns.TerminalTurn.{TerminalTurn}
 use Rattle.t1_core.specs.declared.turns.TerminalTurn.TheVariants.{Send, Answered, IfsSet, GivenUp, Dead}
-use Rattle.t1_core.specs.declared.turns.CardTurn.{CardTurn}
 use Rattle.t1_core.specs.declared.turns.CardTurn.TheVariants.{Send as Sends, Asked}
 use Rattle.t1_core.specs.declared.turns.TerminalFault.{TerminalFault}
 use Rattle.t1_core.specs.declared.turns.TerminalFault.TheVariants.{Dead as IsDead, Idle}
 use Rattle.t1_core.specs.Came.{Came, got, damaged, invalid, quiet, IsClass, class_of}
 use Rattle.t1_core.specs.Terminal.{TerminalState, TerminalStep, TerminalInput, Mark, Waits, idle, ack, answer, more, ifs, resynch, dead, takes, transmit, ask_ifs, terminal_came, terminal_turn, turn_of, state_after, Limits, terminal_with}
-use Rattle.t1_core.specs.Card.{CardState, CardStep, Waits as CardWaits, command, host, reply, asking, takes as card_takes, replies, card_turn, turn_of as card_turn_of, state_after as card_state_after}
-use Rattle.t1_core.specs.Link.{Link, UnderWay, nothing, to_card, to_terminal, Exchange, answered, unanswered, with_reply, tables, run, link_with, happens, Event, delivers, damages, spoils, loses, transmits, asks_ifsd, host_replies, terminal_makes, card_makes, lost, exchanges_after, services_after}
+use Rattle.t1_core.specs.Card.{CardState, CardStep, CardRequest, size as of_size, time as of_time, Waits as CardWaits, command, host, reply, asking, takes as card_takes, replies, card_turn, turn_of as card_turn_of, state_after as card_state_after}
+use Rattle.t1_core.specs.Link.{Link, UnderWay, nothing, to_card, to_terminal, Exchange, unanswered, with_reply, tables, run, link_with, happens, Event, delivers, damages, spoils, loses, transmits, asks_ifsd, host_replies, host_asks_time, host_asks_ifsc, terminal_makes, card_makes, lost, exchanges_after, services_after}
 use Rattle.t1_core.specs.Promises.{HandsOctets, AllHandOctets, AlwaysTaken, IsTaken, Matches, AlwaysMatches, NoneGivenUp, Serves as InOrder, ServesInOrder, PatientWhereAlike, IsPatient}
 use Rattle.line_core.specs.Line.{Arrival, Talk}
 use Rattle.line_core.specs.Line as line
 use Rattle.line_core.specs.Exchange.{Ending, done, given_up, dead as is_dead, line_failed, used_up, refused, sends, ends, next_of, next_after, left_after, Runs}
-use Rattle.line_core.specs.Service.{Doing, hears, says, asks, doing_of}
+use Rattle.line_core.specs.Service.{Doing, hears, says, asks, doing_of, is_new, input_of}
 use Rattle.line_core.specs.Service as at_card
 use Rattle.line_core.specs.Bursts.{IsNoBlock}
-use Rattle.line_core.specs.Joined.{Passes, Returns, IsSaid, IsAnswered, IsLost, IsTrip, Trip, talks_of, events_of, Call, IsCall, HaveRun, events_in, joined, begun, ended, exchanges_of, is_about_size, answer_unless, services_of, IsLink, TwoEnds, AlwaysLinked, AlwaysMatched, AlwaysInOrder, AlwaysPatientCalls, passing_faults, returning_faults, said_faults, answering_faults, losing_faults, trip_faults, faults_of, faults_before, IsPatientEnd, ArePatient}
-use Rattle.line_core.proofs.Steps.{IsAbout, IsRest, Keeps, came-kept, transmit-kept, transmit-sends, ask-kept, ask-sends, about-now, dead-rests, IsServing, CardKeeps, card-came-kept, replies-kept}
+use Rattle.line_core.specs.Joined.{Passes, Returns, IsSaid, IsOctet, IsAnswered, IsLost, IsTrip, Trip, talks_of, events_of, Call, IsCall, HaveRun, events_in, joined, begun, ended, exchanges_of, is_about_size, answer_unless, given, services_of, IsLink, TwoEnds, AlwaysLinked, AlwaysMatched, AlwaysInOrder, AlwaysPatientCalls, passing_faults, returning_faults, said_faults, answering_faults, losing_faults, trip_faults, faults_of, faults_before, IsPatientEnd, ArePatient}
+use Rattle.line_core.proofs.Steps.{IsAbout, IsRest, Keeps, came-kept, transmit-kept, transmit-sends, ask-kept, ask-sends, about-now, dead-rests, IsSmallCard, CardKeeps, card-came-kept, replies-kept, request-kept}
 use Rattle.line_core.proofs.Acting.{Acts, all-act}
 
 -- the law by which a class is computed
@@ -102,18 +101,13 @@ octets-on (x ∷ es) e h k = (h.0, octets-on es e h.1 k)
 
 -- what holds of both ends
 record Steady (t : TerminalState) (c : CardState) : Type 0 where
-  size : c.ifsc ≤ 254
-  first : c.first_ifsc ≤ 254
-  serves : IsServing c.waits
+  small : IsSmallCard c
   taken : t.ifsd ≤ 254
   about : (q : Bool) × IsAbout q t.waits
 
-card-steady : (t : TerminalState) (c : CardState) (turn : CardTurn) (next : CardState) → CardKeeps c (Ok (turn, next))
-    → Steady t c → Steady t next
-card-steady t c turn next k s = record {
-  size = elim k.1 [ inl e ↦ omega (arith, e, s.size) | inr e ↦ omega (arith, e, s.first) ];
-  first = omega (arith, k.2, s.first);
-  serves = k.0;
+card-steady : (t : TerminalState) (c next : CardState) → IsSmallCard next → Steady t c → Steady t next
+card-steady t c next k s = record {
+  small = k;
   taken = s.taken;
   about = s.about;
 }
@@ -122,25 +116,24 @@ terminal-steady : (q : Bool) (t : TerminalState) (c : CardState) (turn : Termina
     Mark)
     → Keeps q t (Ok (turn, next, mark)) → Steady t c → Steady next c
 terminal-steady q t c turn next mark k s = record {
-  size = s.size;
-  first = s.first;
-  serves = s.serves;
+  small = s.small;
   taken = elim k.1 [ inl e ↦ omega (arith, e, s.taken) | inr small ↦ small ];
   about = (q, k.0);
 }
 
-served-after : (w : CardWaits) (c : CardState) (hs : List Exchange) → IsServing w
-    → services_after Asked w c hs ≡ unanswered c.command ∷ hs
-served-after (command joined) c hs h = refl
-served-after host c hs h = refl
-served-after (reply field rest) c hs h = refl
-served-after (asking asked) c hs h = absurd h
+served-after : (w : CardWaits) (c : CardState) (hs : List Exchange)
+    → services_after Asked w c hs ≡ given (is_new w) c.command hs
+served-after (command joined) c hs = refl
+served-after host c hs = refl
+served-after (reply field rest) c hs = refl
+served-after (asking asked) c hs = refl
 
 services-append : (a b : List at_card.Event) (hs : List Exchange)
     → services_of (a ++ b) hs ≡ services_of b (services_of a hs)
 services-append [] b hs = refl
 services-append (at_card.came arrival ∷ a) b hs = services-append a b hs
-services-append (at_card.asked m r ∷ a) b hs = services-append a b (answered m r ∷ hs)
+services-append (at_card.asked is m r ∷ a) b hs = services-append a b (with_reply (given is m hs) r)
+services-append (at_card.requested is m request ∷ a) b hs = services-append a b (given is m hs)
 services-append (at_card.sent octets ∷ a) b hs = services-append a b hs
 services-append (at_card.unsent octets fault ∷ a) b hs = services-append a b hs
 
@@ -335,59 +328,77 @@ module _ (taken : AlwaysTaken tables) (classed : Computes) (alike : PatientWhere
   said l b (at_card.sent octets ∷ (event ∷ events)) hs count back others last r s u served h few on = absurd h
   said l b (at_card.unsent octets fault ∷ (event ∷ events)) hs count back others last r s u served h few on = absurd h
   said l b (at_card.came arrival ∷ events) hs count back others last r s u served h few on = absurd h
-  said l b (at_card.asked m a ∷ events) hs count back others last r s u served h few on = absurd h
+  said l b (at_card.asked is m a ∷ events) hs count back others last r s u served h few on = absurd h
+  said l b (at_card.requested is m request ∷ events) hs count back others last r s u served h few on = absurd h
 
-  -- its host replied
-  replied : (l : Link) (m a : List ℕ) (older : List Exchange) (step : CardStep) (rest : List at_card.Event) (count : ℕ)
-      (back : Arrival) (others : List at_card.Event) (last : CardState) → l.services ≡ unanswered m ∷ older
-      → Reached (card_makes l (record l { services = with_reply l.services a }) step) → Steady l.terminal l.card
-      → CardKeeps l.card step → (h : IsSaid rest back) → l.disturbed + said_faults rest back h ≤ count
-      → Acts (doing_of (card_turn_of step)) (card_state_after l.card step) (rest ++ others) last
-      → Met l.terminal l.exchanges (services_of rest (answered m a ∷ older)) count back others last
-  replied l m a older (Ok (Sends b, next)) rest count back others last served r s k h few on =
-      said _ b rest (answered m a ∷ older) count back others last r
-      (card-steady l.terminal l.card (Sends b) next k s) refl (ap (λ (x : List Exchange). with_reply x a) served) h few
-      on
-  replied l m a older (Ok (Asked, next)) (at_card.sent octets ∷ rest) count back others last served r s k h few on =
+  -- its host called it, and has these services
+  host-called : (l : Link) (hs : List Exchange) (step : CardStep) (rest : List at_card.Event) (count : ℕ)
+      (back : Arrival) (others : List at_card.Event) (last : CardState)
+      → Reached (card_makes l (record l { services = hs }) step) → Steady l.terminal l.card
+      → CardKeeps step → (h : IsSaid rest back) → l.disturbed + said_faults rest back h ≤ count
+      → Acts (doing_of l.card.waits (card_turn_of step)) (card_state_after l.card step) (rest ++ others) last
+      → Met l.terminal l.exchanges (services_of rest hs) count back others last
+  host-called l hs (Ok (Sends b, next)) rest count back others last r s k h few on =
+      said _ b rest hs count back others last r (card-steady l.terminal l.card next k s) refl refl h few on
+  host-called l hs (Ok (Asked, next)) (at_card.sent octets ∷ rest) count back others last r s k h few on = absurd on
+  host-called l hs (Ok (Asked, next)) (at_card.unsent octets fault ∷ rest) count back others last r s k h few on =
       absurd on
-  replied l m a older (Ok (Asked, next)) (at_card.unsent octets fault ∷ rest) count back others last served r s k h few
-      on =
-      absurd on
-  replied l m a older (Ok (Asked, next)) [] count back others last served r s k h few on = absurd h
-  replied l m a older (Ok (Asked, next)) (at_card.came arrival ∷ rest) count back others last served r s k h few on =
-      absurd h
-  replied l m a older (Ok (Asked, next)) (at_card.asked n o ∷ rest) count back others last served r s k h few on =
-      absurd h
-  replied l m a older (Err fault) (at_card.sent octets ∷ rest) count back others last served r s k h few on = absurd on
-  replied l m a older (Err fault) (at_card.unsent octets inner ∷ rest) count back others last served r s k h few on =
-      absurd on
-  replied l m a older (Err fault) [] count back others last served r s k h few on = absurd h
-  replied l m a older (Err fault) (at_card.came arrival ∷ rest) count back others last served r s k h few on = absurd h
-  replied l m a older (Err fault) (at_card.asked n o ∷ rest) count back others last served r s k h few on = absurd h
+  host-called l hs (Ok (Asked, next)) [] count back others last r s k h few on = absurd h
+  host-called l hs (Ok (Asked, next)) (at_card.came arrival ∷ rest) count back others last r s k h few on = absurd h
+  host-called l hs (Ok (Asked, next)) (at_card.asked is m a ∷ rest) count back others last r s k h few on = absurd h
+  host-called l hs (Ok (Asked, next)) (at_card.requested is m q ∷ rest) count back others last r s k h few on = absurd h
+  host-called l hs (Err fault) (at_card.sent octets ∷ rest) count back others last r s k h few on = absurd on
+  host-called l hs (Err fault) (at_card.unsent octets inner ∷ rest) count back others last r s k h few on = absurd on
+  host-called l hs (Err fault) [] count back others last r s k h few on = absurd h
+  host-called l hs (Err fault) (at_card.came arrival ∷ rest) count back others last r s k h few on = absurd h
+  host-called l hs (Err fault) (at_card.asked is m a ∷ rest) count back others last r s k h few on = absurd h
+  host-called l hs (Err fault) (at_card.requested is m q ∷ rest) count back others last r s k h few on = absurd h
+
+  -- what it asks the terminal for is an event of the link
+  request-event : (l : Link) (request : CardRequest) → IsOctet request → Reached l
+      → Reached (card_makes l l (card_turn l.card (input_of request)))
+  request-event l (of_size n) h r = reach l _ (host_asks_ifsc n) h refl r
+  request-event l (of_time n) h r = reach l _ (host_asks_time n) h refl r
+
+  -- the services of a card that asks its host
+  host-asked : (is : Bool) (m : List ℕ) (w : CardWaits) (next : CardState) (hs : List Exchange) → is ≡ is_new w
+      → m ≡ next.command → services_after Asked w next hs ≡ given is m hs
+  host-asked is m w next hs same about = rw (same, about) (served-after w next hs)
 
   -- the card took the block
   taken-by-card : (l : Link) (d : ℕ) (step : CardStep) (rest : List at_card.Event) (count : ℕ) (back : Arrival)
       (others : List at_card.Event) (last : CardState) → Reached (card_makes l (record l { disturbed = d }) step)
-      → Steady l.terminal l.card → CardKeeps l.card step → (h : IsAnswered rest back)
+      → Steady l.terminal l.card → CardKeeps step → (h : IsAnswered rest back)
       → d + answering_faults rest back h ≤ count
-      → Acts (doing_of (card_turn_of step)) (card_state_after l.card step) (rest ++ others) last
+      → Acts (doing_of l.card.waits (card_turn_of step)) (card_state_after l.card step) (rest ++ others) last
       → Met l.terminal l.exchanges (services_of rest l.services) count back others last
   taken-by-card l d (Ok (Sends b, next)) (at_card.sent octets ∷ rest) count back others last r s k h few on =
       said _ b (at_card.sent octets ∷ rest) l.services count back others last r
-      (card-steady l.terminal l.card (Sends b) next k s) refl refl h few on
+      (card-steady l.terminal l.card next k s) refl refl h few on
   taken-by-card l d (Ok (Sends b, next)) (at_card.unsent octets fault ∷ rest) count back others last r s k h few on =
       said _ b (at_card.unsent octets fault ∷ rest) l.services count back others last r
-      (card-steady l.terminal l.card (Sends b) next k s) refl refl h few on
-  taken-by-card l d (Ok (Sends b, next)) (at_card.asked m a ∷ rest) count back others last r s k h few on = absurd on
+      (card-steady l.terminal l.card next k s) refl refl h few on
+  taken-by-card l d (Ok (Sends b, next)) (at_card.asked is m a ∷ rest) count back others last r s k h few on = absurd on
+  taken-by-card l d (Ok (Sends b, next)) (at_card.requested is m q ∷ rest) count back others last r s k h few on =
+      absurd on
   taken-by-card l d (Ok (Sends b, next)) [] count back others last r s k h few on = absurd h
   taken-by-card l d (Ok (Sends b, next)) (at_card.came arrival ∷ rest) count back others last r s k h few on = absurd h
-  taken-by-card l d (Ok (Asked, next)) (at_card.asked m a ∷ rest) count back others last r s k h few (e, on) =
+  taken-by-card l d (Ok (Asked, next)) (at_card.asked is m a ∷ rest) count back others last r s k h few
+      (same, about, on) =
       let now : Link = card_makes l (record l { disturbed = d }) (Ok (Asked, next)) in
-      let served : now.services ≡ unanswered m ∷ l.services = served-after l.card.waits next l.services s.serves
-      ∙ ap (λ (x : List ℕ). unanswered x ∷ l.services) (sym e) in
-      replied now m a l.services (card_turn next (replies a)) rest count back others last served
-      (reach now _ (host_replies a) h.0 refl r) (card-steady l.terminal l.card Asked next k s) (replies-kept next a) h.1
-      few on
+      let served : now.services ≡ given is m l.services = host-asked is m l.card.waits next l.services same about in
+      subst (λ (x : List Exchange). Met l.terminal l.exchanges (services_of rest (with_reply x a)) count back others
+      last) served
+      (host-called now (with_reply now.services a) (card_turn next (replies a)) rest count back others last
+      (reach now _ (host_replies a) h.0 refl r) (card-steady l.terminal l.card next k s) (replies-kept next a k) h.1
+      few on)
+  taken-by-card l d (Ok (Asked, next)) (at_card.requested is m q ∷ rest) count back others last r s k h few
+      (same, about, on) =
+      let now : Link = card_makes l (record l { disturbed = d }) (Ok (Asked, next)) in
+      let served : now.services ≡ given is m l.services = host-asked is m l.card.waits next l.services same about in
+      subst (λ (x : List Exchange). Met l.terminal l.exchanges (services_of rest x) count back others last) served
+      (host-called now now.services (card_turn next (input_of q)) rest count back others last
+      (request-event now q h.0 r) (card-steady l.terminal l.card next k s) (request-kept next q h.0 k) h.1 few on)
   taken-by-card l d (Ok (Asked, next)) [] count back others last r s k h few on = absurd h
   taken-by-card l d (Ok (Asked, next)) (at_card.came arrival ∷ rest) count back others last r s k h few on = absurd h
   taken-by-card l d (Ok (Asked, next)) (at_card.sent octets ∷ rest) count back others last r s k h few on = absurd on
@@ -395,7 +406,8 @@ module _ (taken : AlwaysTaken tables) (classed : Computes) (alike : PatientWhere
       absurd on
   taken-by-card l d (Err fault) [] count back others last r s k h few on = absurd h
   taken-by-card l d (Err fault) (at_card.came arrival ∷ rest) count back others last r s k h few on = absurd h
-  taken-by-card l d (Err fault) (at_card.asked m a ∷ rest) count back others last r s k h few on = absurd on
+  taken-by-card l d (Err fault) (at_card.asked is m a ∷ rest) count back others last r s k h few on = absurd on
+  taken-by-card l d (Err fault) (at_card.requested is m q ∷ rest) count back others last r s k h few on = absurd on
   taken-by-card l d (Err fault) (at_card.sent octets ∷ rest) count back others last r s k h few on = absurd on
   taken-by-card l d (Err fault) (at_card.unsent octets inner ∷ rest) count back others last r s k h few on = absurd on
 
@@ -417,14 +429,15 @@ module _ (taken : AlwaysTaken tables) (classed : Computes) (alike : PatientWhere
   meets l b talk (at_card.came (line.failure fault) ∷ events) others last r s u is h on =
       meets l b talk events others last r s u is h on
   meets l b talk (at_card.came (line.block here) ∷ events) others last r s u is h on =
-      let whole = class-whole classed l.card.ifsc b s.size (way-taken l (to_card b) u r) in
+      let whole = class-whole classed l.card.ifsc b s.small.0 (way-taken l (to_card b) u r) in
       let went = card-event l b talk.sent here u is whole h.0 r in
       let few : went.0 + answering_faults events talk.arrival h.1
       ≤ l.disturbed + (passing_faults talk.sent here h.0 + answering_faults events talk.arrival h.1) =
       omega (arith, went.1) in
       inr (taken-by-card l went.0 _ events _ talk.arrival others last went.2 s
-      (card-came-kept l.card l.card.waits (class_of l.card.ifsc here) s.serves s.serves) h.1 few on)
-  meets l b talk (at_card.asked m a ∷ events) others last r s u is h on = absurd h
+      (card-came-kept l.card l.card.waits (class_of l.card.ifsc here) s.small s.small.2) h.1 few on)
+  meets l b talk (at_card.asked is_new m a ∷ events) others last r s u is h on = absurd h
+  meets l b talk (at_card.requested is_new m q ∷ events) others last r s u is h on = absurd h
   meets l b talk (at_card.sent octets ∷ events) others last r s u is h on = absurd h
   meets l b talk (at_card.unsent octets fault ∷ events) others last r s u is h on = absurd h
 
@@ -780,9 +793,7 @@ begins : (taken : AlwaysTaken tables) (classed : Computes) (alike : PatientWhere
 begins taken classed alike kt kc ifsc calls servings t c both =
     let start : Link = link_with kt kc ifsc in
     let steady : Steady start.terminal start.card = record {
-      size = both.size;
-      first = both.size;
-      serves = tt;
+      small = (both.size, both.size, tt);
       taken = omega arith;
       about = (false, tt);
     } in

@@ -3,7 +3,7 @@ use Rattle.std.proofs.Common.{◌≡◌, ◌≤◌, ℕ, ◌-◌, List, [], ◌�
 use Rattle.std.proofs.lemmas.List.{append-nil}
 use Rattle.std.specs.declared.io.Error.{Error}
 use Rattle.block_core.specs.Block.{Parts}
-use Rattle.t1_core.specs.Card.{CardState, CardStep, card_turn, replies, turn_of, state_after}
+use Rattle.t1_core.specs.Card.{CardState, CardStep, Waits, card_turn, replies, turn_of, state_after}
 use Rattle.t1_core.specs.declared.turns.CardTurn.{CardTurn}
 use Rattle.t1_core.specs.declared.turns.CardTurn.TheVariants.{Send, Asked}
 use Rattle.t1_core.specs.declared.turns.EncodedCardTurn.TheVariants as put
@@ -11,14 +11,15 @@ use Rattle.t1_core.specs.declared.turns.CardFault.{CardFault}
 use Rattle.line_core.specs.declared.serving.ServeFault.{ServeFault}
 use Rattle.line_core.specs.declared.serving.ServeFault.TheVariants.{Line, Refused}
 use Rattle.line_core.specs.Line.{Arrival, block, nothing, failure}
-use Rattle.line_core.specs.Service.{Event, came, asked, sent, unsent, on_line, at_host, is_short, IsReplyTo, Happens, Ending, over, line_failed, used_up, refused, ending_of, Doing, hears, says, doing_of, doing_after, left_after, Serves, IsAnswer, IsReply, IsRound}
+use Rattle.line_core.specs.Service.{Event, came, asked, requested, sent, unsent, on_line, at_host, is_short, IsReplyTo, Happens, Ending, over, line_failed, used_up, refused, ending_of, Doing, hears, says, doing_of, is_new, doing_after, left_after, Serves, IsAnswer, IsReply, IsRound}
 use Rattle.line_core.proofs.Replying.{IsGiven}
 
 -- events and more of them have on the line those of the first and then those of the others
 pub on_line-append : (a b : List Event) → on_line (a ++ b) ≡ on_line a ++ on_line b
 on_line-append [] b = refl
 on_line-append (came arrival ∷ a) b = ap (λ l. came arrival ∷ l) (on_line-append a b)
-on_line-append (asked command reply ∷ a) b = on_line-append a b
+on_line-append (asked is command reply ∷ a) b = on_line-append a b
+on_line-append (requested is command request ∷ a) b = on_line-append a b
 on_line-append (sent octets ∷ a) b = ap (λ l. sent octets ∷ l) (on_line-append a b)
 on_line-append (unsent octets fault ∷ a) b = ap (λ l. unsent octets fault ∷ l) (on_line-append a b)
 
@@ -31,8 +32,10 @@ host-first false event all a b same = ap (λ l. event ∷ l) same
 pub at_host-append : (a b : List Event) → at_host (a ++ b) ≡ at_host a ++ at_host b
 at_host-append [] b = refl
 at_host-append (came arrival ∷ a) b = at_host-append a b
-at_host-append (asked command reply ∷ a) b =
-    host-first (is_short command) (asked command reply) (at_host (a ++ b)) (at_host a) (at_host b) (at_host-append a b)
+at_host-append (asked is command reply ∷ a) b =
+    host-first (is_short command) (asked true command reply) (at_host (a ++ b)) (at_host a) (at_host b)
+    (at_host-append a b)
+at_host-append (requested is command request ∷ a) b = at_host-append a b
 at_host-append (sent octets ∷ a) b = at_host-append a b
 at_host-append (unsent octets fault ∷ a) b = at_host-append a b
 
@@ -177,75 +180,81 @@ runs-out l0 l h0 h most left start c none s =
 -- ---- the answer to a block
 
 -- the card refuses the block: its host isn't asked, and the fault is the answer
-pub answers-refused : {B : Type 0} (h : B → List Event → Type 0) (turn : Result CardTurn CardFault) (c c' : CardState)
+pub answers-refused : {B : Type 0} (h : B → List Event → Type 0) (w : Waits)
+    (turn : Result CardTurn CardFault) (c c' : CardState)
     (out : List ℕ) (inner : CardFault) → IsGiven turn out (Err inner) → c' ≡ c
-    → Answers h h (doing_of turn) c out (Err (Refused inner)) c'
-answers-refused h turn c c' out inner is e = ([], refl, none-happen h, λ most. rw is (refl, e))
+    → Answers h h (doing_of w turn) c out (Err (Refused inner)) c'
+answers-refused h w turn c c' out inner is e = ([], refl, none-happen h, λ most. rw is (refl, e))
 
 -- the card sends a block of its own: its host isn't asked
-pub answers-sent : {B : Type 0} (h : B → List Event → Type 0) (turn : Result CardTurn CardFault) (c c' : CardState)
+pub answers-sent : {B : Type 0} (h : B → List Event → Type 0) (w : Waits)
+    (turn : Result CardTurn CardFault) (c c' : CardState)
     (out : List ℕ) (count : ℕ) → IsGiven turn out (Ok (put.Send count)) → c' ≡ c
-    → Answers h h (doing_of turn) c out (Ok count) c'
-answers-sent h turn c c' out count (parts, is, spells) e =
+    → Answers h h (doing_of w turn) c out (Ok count) c'
+answers-sent h w turn c c' out count (parts, is, spells) e =
     ([], refl, none-happen h, (parts, spells, λ most more ending left run. rw (is, ← e) run))
 
 sent-on : (step : CardStep) (c c' : CardState) (parts : Parts) (most : ℕ) (more : List Event) (ending : Ending)
     (left : CardState) → turn_of step ≡ Ok (Send parts) → c' ≡ state_after c step
     → Serves most (says parts) c' more ending left
-    → Serves most (doing_of (turn_of step)) (state_after c step) more ending left
+    → Serves most (doing_of c.waits (turn_of step)) (state_after c step) more ending left
 sent-on step c c' parts most more ending left is e run = rw (is, ← e) run
 
 refused-on : (step : CardStep) (c c' : CardState) (inner : CardFault) (most : ℕ) → turn_of step ≡ Err inner
-    → c' ≡ state_after c step → Serves most (doing_of (turn_of step)) (state_after c step) [] (refused inner) c'
+    → c' ≡ state_after c step → Serves most (doing_of c.waits (turn_of step)) (state_after c step) [] (refused inner) c'
 refused-on step c c' inner most is e = rw is (refl, e)
 
 -- what the host's reply comes to
 abbrev pub Replied : {B : Type 0} → (B → List Event → Type 0) → (B → List Event → Type 0) → CardState → List ℕ
     → Result ℕ CardFault → CardState → Type 0
 Replied h h' c out result c' = (reply : List ℕ) × IsReplyTo c.command reply
-    × Happens h h' (at_host (asked c.command reply ∷ [])) × IsReply (turn_of (card_turn c (replies reply))) out result
+    × Happens h h' (at_host (asked true c.command reply ∷ []))
+    × IsReply (turn_of (card_turn c (replies reply))) out result
     × (c' ≡ state_after c (card_turn c (replies reply)))
 
-replied-here : {B : Type 0} (h h' : B → List Event → Type 0) (turn : Result CardTurn CardFault) (c c' : CardState)
+replied-here : {B : Type 0} (h h' : B → List Event → Type 0) (w : Waits)
+    (turn : Result CardTurn CardFault) (c c' : CardState)
     (out : List ℕ) (count : ℕ) → turn ≡ Ok Asked → Replied h h' c out (Ok count) c'
-    → Answers h h' (doing_of turn) c out (Ok count) c'
-replied-here h h' turn c c' out count is (reply, short, served, (parts, sends, spells), e) = (
-  asked c.command reply ∷ [],
+    → Answers h h' (doing_of w turn) c out (Ok count) c'
+replied-here h h' w turn c c' out count is (reply, short, served, (parts, sends, spells), e) = (
+  asked (is_new w) c.command reply ∷ [],
   refl,
   served,
   (
     parts,
     spells,
     λ most more ending left run.
-        rw is (refl, short, sent-on (card_turn c (replies reply)) c c' parts most more ending left sends e run),
+        rw is (refl, refl, short, sent-on (card_turn c (replies reply)) c c' parts most more ending left sends e run),
   ),
 )
 
 -- the card asks its host, and sends a block of the reply
-pub answers-replied : {B : Type 0} (h h' : B → List Event → Type 0) (turn : Result CardTurn CardFault)
-    (c here c' : CardState) (out : List ℕ) (count : ℕ) → turn ≡ Ok Asked → here ≡ c
-    → Replied h h' here out (Ok count) c' → Answers h h' (doing_of turn) c out (Ok count) c'
-answers-replied h h' turn c here c' out count is e replied =
-    let P : CardState → Type 0 = λ s. Answers h h' (doing_of turn) s out (Ok count) c' in
-    subst P e (replied-here h h' turn here c' out count is replied)
+pub answers-replied : {B : Type 0} (h h' : B → List Event → Type 0) (w : Waits)
+    (turn : Result CardTurn CardFault) (c here c' : CardState) (out : List ℕ) (count : ℕ) → turn ≡ Ok Asked → here ≡ c
+    → Replied h h' here out (Ok count) c' → Answers h h' (doing_of w turn) c out (Ok count) c'
+answers-replied h h' w turn c here c' out count is e replied =
+    let P : CardState → Type 0 = λ s. Answers h h' (doing_of w turn) s out (Ok count) c' in
+    subst P e (replied-here h h' w turn here c' out count is replied)
 
-refused-here : {B : Type 0} (h h' : B → List Event → Type 0) (turn : Result CardTurn CardFault) (c c' : CardState)
+refused-here : {B : Type 0} (h h' : B → List Event → Type 0) (w : Waits)
+    (turn : Result CardTurn CardFault) (c c' : CardState)
     (out : List ℕ) (inner : CardFault) → turn ≡ Ok Asked → Replied h h' c out (Err inner) c'
-    → Answers h h' (doing_of turn) c out (Err (Refused inner)) c'
-refused-here h h' turn c c' out inner is (reply, short, served, refuses-it, e) = (
-  asked c.command reply ∷ [],
+    → Answers h h' (doing_of w turn) c out (Err (Refused inner)) c'
+refused-here h h' w turn c c' out inner is (reply, short, served, refuses-it, e) = (
+  asked (is_new w) c.command reply ∷ [],
   refl,
   served,
-  λ most. rw is (refl, short, refused-on (card_turn c (replies reply)) c c' inner most refuses-it e),
+  λ most. rw is (refl, refl, short, refused-on (card_turn c (replies reply)) c c' inner most refuses-it e),
 )
 
 -- the card asks its host, and refuses the reply
-pub answers-refused-reply : {B : Type 0} (h h' : B → List Event → Type 0) (turn : Result CardTurn CardFault)
-    (c here c' : CardState) (out : List ℕ) (inner : CardFault) → turn ≡ Ok Asked → here ≡ c
-    → Replied h h' here out (Err inner) c' → Answers h h' (doing_of turn) c out (Err (Refused inner)) c'
-answers-refused-reply h h' turn c here c' out inner is e replied =
-    let P : CardState → Type 0 = λ s. Answers h h' (doing_of turn) s out (Err (Refused inner)) c' in
-    subst P e (refused-here h h' turn here c' out inner is replied)
+pub answers-refused-reply : {B : Type 0} (h h' : B → List Event → Type 0) (w : Waits)
+    (turn : Result CardTurn CardFault) (c here c' : CardState) (out : List ℕ) (inner : CardFault) → turn ≡ Ok Asked
+    → here ≡ c
+    → Replied h h' here out (Err inner) c' → Answers h h' (doing_of w turn) c out (Err (Refused inner)) c'
+answers-refused-reply h h' w turn c here c' out inner is e replied =
+    let P : CardState → Type 0 = λ s. Answers h h' (doing_of w turn) s out (Err (Refused inner)) c' in
+    subst P e (refused-here h h' w turn here c' out inner is replied)
 
 -- ---- a round that ends
 

@@ -1,4 +1,4 @@
--- What a step of a terminal, and of a card that only serves, keeps.
+-- What a step of a terminal, and of a card, keeps.
 use Rattle.std.proofs.Common.{IsSome, ◌≡◌, ◌≤◌, ◌<◌, ◌⊎◌, ℕ, ◌+◌, List, [], ◌∷◌, ◌++◌, length, Bool, true, false, Ok, Err, Option, Some, None, refl, inl, inr, arith, if◌then◌else◌, ◌&&◌, nat_lt, nat_le}
 use Rattle.std.specs.Prelude.{◌==◌}
 use Rattle.std.proofs.lemmas.Bool.Decides.{nat_tests}
@@ -11,8 +11,9 @@ use Rattle.t1_core.specs.declared.turns.TerminalFault.TheVariants.{TooLong, Rese
 use Rattle.t1_core.specs.Promises.{IsDead}
 use Rattle.t1_core.specs.Came.{Came, got, damaged, invalid, quiet, same, carried, request}
 use Rattle.t1_core.specs.Terminal.{TerminalState, TerminalStep, Waits, idle, ack, answer, more, ifs, resynch, dead, fails, joins, waiting, in_exchange, in_ack, in_answer, in_more, in_resynch, in_ifs, terminal_came, if_idle, is_reserved, no_failure, sends_next, transmit, ask_ifs, takes, terminal_turn, turn_of}
-use Rattle.line_core.specs.Joined.{is_about_size}
-use Rattle.t1_core.specs.Card.{CardState, CardStep, Waits as CardWaits, command, host, reply, asking, in_either, sends_saved, joins as card_joins, card_came, card_turn, if_host, replies, waiting as card_waiting}
+use Rattle.line_core.specs.Service.{input_of}
+use Rattle.line_core.specs.Joined.{is_about_size, IsOctet}
+use Rattle.t1_core.specs.Card.{CardState, CardStep, CardRequest, size as of_size, time as of_time, Waits as CardWaits, command, host, reply, asking, in_either, in_command, in_reply, in_asking, sends_saved, joins as card_joins, card_came, card_turn, if_host, replies, waiting as card_waiting}
 
 -- What is under way is about a size, which any end may ask for, or isn't.
 abbrev pub IsAbout : Bool → Waits → Type 0
@@ -234,84 +235,95 @@ about-now dead q h = tt
 
 -- ---- the card
 
--- it has asked for nothing on its host's behalf
-abbrev pub IsServing : CardWaits → Type 0
-IsServing (command joined) = Unit {0}
-IsServing host = Unit {0}
-IsServing (reply field rest) = Unit {0}
-IsServing (asking asked) = ⊥
+-- a size that it asks for is one of a field
+abbrev pub IsSmallRequest : CardWaits → Type 0
+IsSmallRequest (command joined) = Unit {0}
+IsSmallRequest host = Unit {0}
+IsSmallRequest (reply field rest) = Unit {0}
+IsSmallRequest (asking (of_size n)) = n ≤ 254
+IsSmallRequest (asking (of_time n)) = Unit {0}
 
--- the size that the card takes stays, or is the first one again, which stays
-abbrev pub CardKeeps : CardState → CardStep → Type 0
-CardKeeps c (Ok step) = IsServing step.1.waits × ((step.1.ifsc ≡ c.ifsc) ⊎ (step.1.ifsc ≡ c.first_ifsc))
-    × (step.1.first_ifsc ≡ c.first_ifsc)
-CardKeeps c (Err fault) = Unit {0}
+-- and so is each size that it holds
+abbrev pub IsSmallCard : CardState → Type 0
+IsSmallCard c = (c.ifsc ≤ 254) × (c.first_ifsc ≤ 254) × IsSmallRequest c.waits
 
-either_way : (c : CardState) (came : Came) → IsServing c.waits → CardKeeps c (in_either c came)
-either_way c (got (Request Ifs) inf) h = (h, inl refl, refl)
-either_way c (got (Request Resynch) inf) h = (h, inl refl, refl)
-either_way c (got (Request Abort) inf) h = (h, inl refl, refl)
-either_way c (got (Request Wtx) inf) h = (h, inl refl, refl)
-either_way c (got (Info number goes_on) inf) h = (h, inl refl, refl)
-either_way c (got (Ready number fault) inf) h = (h, inl refl, refl)
-either_way c (got (Response kind) inf) h = (h, inl refl, refl)
-either_way c invalid h = (h, inl refl, refl)
-either_way c quiet h = (h, inl refl, refl)
-either_way c damaged h = (h, inl refl, refl)
+abbrev pub CardKeeps : CardStep → Type 0
+CardKeeps (Ok step) = IsSmallCard step.1
+CardKeeps (Err fault) = Unit {0}
 
-card-joins-kept : (c : CardState) (joined : List ℕ) (goes_on : Bool) → CardKeeps c (card_joins c joined goes_on)
-card-joins-kept c joined true = (tt, inl refl, refl)
-card-joins-kept c joined false = (tt, inl refl, refl)
+either_way : (c : CardState) (came : Came) → IsSmallCard c → CardKeeps (in_either c came)
+either_way c (got (Request Ifs) inf) h = h
+either_way c (got (Request Resynch) inf) h = h
+either_way c (got (Request Abort) inf) h = h
+either_way c (got (Request Wtx) inf) h = h
+either_way c (got (Info number goes_on) inf) h = h
+either_way c (got (Ready number fault) inf) h = h
+either_way c (got (Response kind) inf) h = h
+either_way c invalid h = h
+either_way c quiet h = h
+either_way c damaged h = h
 
-card-waits-kept : (field rest : List ℕ) → IsServing (card_waiting field rest)
+card-joins-kept : (c : CardState) (joined : List ℕ) (goes_on : Bool) → IsSmallCard c
+    → CardKeeps (card_joins c joined goes_on)
+card-joins-kept c joined true h = (h.0, h.1, tt)
+card-joins-kept c joined false h = (h.0, h.1, tt)
+
+card-waits-kept : (field rest : List ℕ) → IsSmallRequest (card_waiting field rest)
 card-waits-kept field [] = tt
 card-waits-kept field (octet ∷ rest) = tt
 
-saved-kept : (c : CardState) (saved : Option (List ℕ)) (is_own : Bool) → IsServing c.waits
-    → CardKeeps c (sends_saved c saved is_own)
-saved-kept c None true h = (h, inl refl, refl)
-saved-kept c None false h = (h, inl refl, refl)
-saved-kept c (Some field) true h = (h, inl refl, refl)
-saved-kept c (Some field) false h = (h, inl refl, refl)
+saved-kept : (c : CardState) (saved : Option (List ℕ)) (is_own : Bool) → IsSmallCard c
+    → CardKeeps (sends_saved c saved is_own)
+saved-kept c None true h = h
+saved-kept c None false h = h
+saved-kept c (Some field) true h = h
+saved-kept c (Some field) false h = h
 
--- what came is taken by a card that only serves
-pub card-came-kept : (c : CardState) (waits : CardWaits) (came : Came) → IsServing c.waits → IsServing waits
-    → CardKeeps c (card_came c waits came)
+-- the terminal granted its request, or the card asks again
+asking-kept : (c : CardState) (asked : CardRequest) (came : Came) → IsSmallCard c → IsSmallRequest (asking asked)
+    → CardKeeps (in_asking c asked came)
+asking-kept c (of_size n) (got (Response Ifs) inf) h k = either CardKeeps (carried inf == n) _ _ (k, h.1, tt) h
+asking-kept c (of_time n) (got (Response Wtx) inf) h k = either CardKeeps (carried inf == n) _ _ (h.0, h.1, tt) h
+asking-kept c asked came h k = h
+
+command-kept : (c : CardState) (joined : List ℕ) (came : Came) → IsSmallCard c → CardKeeps (in_command c joined came)
+command-kept c joined (got (Info number goes_on) inf) h =
+    either CardKeeps (same number c.expected && nat_le (length joined + length inf) c.limits.command) _ _
+    (card-joins-kept c (joined ++ inf) goes_on h) (either_way c (got (Info number goes_on) inf) h)
+command-kept c joined (got (Ready number fault) inf) h = saved-kept c c.saved (same number c.number) h
+command-kept c joined came h = either_way c came h
+
+reply-kept : (c : CardState) (field rest : List ℕ) (came : Came) → IsSmallCard c
+    → CardKeeps (in_reply c field rest came)
+reply-kept c field rest (got (Ready number fault) inf) h =
+    either CardKeeps (same number c.number) _ _ h (h.0, h.1, card-waits-kept _ _)
+reply-kept c field rest came h = either_way c came h
+
+-- what came is taken
+pub card-came-kept : (c : CardState) (waits : CardWaits) (came : Came) → IsSmallCard c → IsSmallRequest waits
+    → CardKeeps (card_came c waits came)
 card-came-kept c host came h k = tt
-card-came-kept c (command joined) (got (Request Resynch) inf) h k = (tt, inr refl, refl)
-card-came-kept c (reply field rest) (got (Request Resynch) inf) h k = (tt, inr refl, refl)
-card-came-kept c (asking asked) came h k = absurd k
-card-came-kept c (command joined) (got (Info number goes_on) inf) h k =
-    either (CardKeeps c) (same number c.expected && nat_le (length joined + length inf) c.limits.command) _ _
-    (card-joins-kept c (joined ++ inf) goes_on) (either_way c (got (Info number goes_on) inf) h)
-card-came-kept c (command joined) (got (Ready number fault) inf) h k =
-    saved-kept c c.saved (same number c.number) h
-card-came-kept c (reply field rest) (got (Ready number fault) inf) h k =
-    either (CardKeeps c) (same number c.number) _ _ (h, inl refl, refl) (card-waits-kept _ _, inl refl, refl)
-card-came-kept c (reply field rest) (got (Info number goes_on) inf) h k = either_way c (got (Info number goes_on) inf) h
-card-came-kept c (command joined) (got (Request Ifs) inf) h k = either_way c (got (Request Ifs) inf) h
-card-came-kept c (command joined) (got (Request Abort) inf) h k = either_way c (got (Request Abort) inf) h
-card-came-kept c (command joined) (got (Request Wtx) inf) h k = either_way c (got (Request Wtx) inf) h
-card-came-kept c (command joined) (got (Response kind) inf) h k = either_way c (got (Response kind) inf) h
-card-came-kept c (command joined) damaged h k = either_way c damaged h
-card-came-kept c (command joined) invalid h k = either_way c invalid h
-card-came-kept c (command joined) quiet h k = either_way c quiet h
-card-came-kept c (reply field rest) (got (Request Ifs) inf) h k = either_way c (got (Request Ifs) inf) h
-card-came-kept c (reply field rest) (got (Request Abort) inf) h k = either_way c (got (Request Abort) inf) h
-card-came-kept c (reply field rest) (got (Request Wtx) inf) h k = either_way c (got (Request Wtx) inf) h
-card-came-kept c (reply field rest) (got (Response kind) inf) h k = either_way c (got (Response kind) inf) h
-card-came-kept c (reply field rest) damaged h k = either_way c damaged h
-card-came-kept c (reply field rest) invalid h k = either_way c invalid h
-card-came-kept c (reply field rest) quiet h k = either_way c quiet h
+card-came-kept c (command joined) (got (Request Resynch) inf) h k = (h.1, h.1, tt)
+card-came-kept c (reply field rest) (got (Request Resynch) inf) h k = (h.1, h.1, tt)
+card-came-kept c (asking asked) (got (Request Resynch) inf) h k = (h.1, h.1, tt)
+card-came-kept c (command joined) came h k = command-kept c joined came h
+card-came-kept c (reply field rest) came h k = reply-kept c field rest came h
+card-came-kept c (asking asked) came h k = asking-kept c asked came h k
 
-if_host-kept : (c : CardState) (waits : CardWaits) (step : CardStep) → CardKeeps c step
-    → CardKeeps c (if_host waits step)
-if_host-kept c host step h = h
-if_host-kept c (command joined) step h = tt
-if_host-kept c (reply field rest) step h = tt
-if_host-kept c (asking asked) step h = tt
+if_host-kept : (waits : CardWaits) (step : CardStep) → CardKeeps step → CardKeeps (if_host waits step)
+if_host-kept host step h = h
+if_host-kept (command joined) step h = tt
+if_host-kept (reply field rest) step h = tt
+if_host-kept (asking asked) step h = tt
 
--- and its host replies
-pub replies-kept : (c : CardState) (octets : List ℕ) → CardKeeps c (card_turn c (replies octets))
-replies-kept c octets = if_host-kept c c.waits _
-    (either (CardKeeps c) (nat_le (length octets) c.limits.answer) _ _ (card-waits-kept _ _, inl refl, refl) tt)
+-- its host replies
+pub replies-kept : (c : CardState) (octets : List ℕ) → IsSmallCard c → CardKeeps (card_turn c (replies octets))
+replies-kept c octets h = if_host-kept c.waits _
+    (either CardKeeps (nat_le (length octets) c.limits.answer) _ _ (h.0, h.1, card-waits-kept _ _) tt)
+
+-- or it asks for something
+pub request-kept : (c : CardState) (request : CardRequest) → IsOctet request → IsSmallCard c
+    → CardKeeps (card_turn c (input_of request))
+request-kept c (of_size n) octet h = if_host-kept c.waits _
+    (with-test CardKeeps (is_reserved n) _ _ tt (λ e. (h.0, h.1, size-small n octet e)))
+request-kept c (of_time n) octet h = if_host-kept c.waits _ (h.0, h.1, tt)

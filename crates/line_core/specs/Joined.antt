@@ -6,14 +6,14 @@ use Rattle.octet_core.specs.Octets.{AreOctets}
 use Rattle.block_core.specs.Block.{Parts, IsProper, spelling}
 use Rattle.t1_core.specs.Came.{got, damaged, invalid, quiet, class_of}
 use Rattle.t1_core.specs.Terminal.{TerminalState, TerminalStep, TerminalInput, Waits, idle, ack, answer as for_answer, more as for_more, ifs, resynch, dead as found_dead, transmit, ask_ifs, takes, terminal_turn, turn_of, state_after, Limits, terminal_with}
-use Rattle.t1_core.specs.Card.{CardState, card_with}
+use Rattle.t1_core.specs.Card.{CardState, CardRequest, size as of_size, time as of_time, card_with}
 use Rattle.t1_core.specs.Link.{Link, Exchange, answered, unanswered, command_of, with_reply, without_answer, tables, run, link_with}
 use Rattle.t1_core.specs.Link as link
 use Rattle.t1_core.specs.Promises.{AllHandOctets, Matches, NoneGivenUp, Serves as InOrder}
 use Rattle.line_core.specs.Bursts.{IsNoBlock, IsHarmed, handed}
 use Rattle.line_core.specs.Line.{Arrival, block, nothing, failure, Talk}
 use Rattle.line_core.specs.Exchange.{Ending, done, given_up, dead, line_failed, used_up, refused, Runs, next_of}
-use Rattle.line_core.specs.Service.{Event, came, asked, sent, unsent, hears, Serves}
+use Rattle.line_core.specs.Service.{Event, came, asked, requested, sent, unsent, hears, Serves}
 use Rattle.line_core.specs.Service as at_card
 
 -- These octets came for those that were sent: the same octets, or octets that no end takes for a block, whatever size
@@ -41,13 +41,20 @@ IsSaid (unsent octets fault ∷ []) back = Returns octets back
 IsSaid (sent octets ∷ (event ∷ events)) back = ⊥
 IsSaid (unsent octets fault ∷ (event ∷ events)) back = ⊥
 IsSaid (came arrival ∷ events) back = ⊥
-IsSaid (asked command reply ∷ events) back = ⊥
+IsSaid (asked is_new command reply ∷ events) back = ⊥
+IsSaid (requested is_new command request ∷ events) back = ⊥
 
--- The card's host may be asked before that. A card that refuses a block, or its host's reply, sends nothing: the laws
--- don't cover calls in which a card did so.
+-- a size or a multiple that a host passes to its card is an octet
+abbrev pub IsOctet : CardRequest → Type 0
+IsOctet (of_size n) = n < 256
+IsOctet (of_time n) = n < 256
+
+-- The card's host may be asked before that, and replies, or asks for time or a size. A card that refuses a block, or a
+-- call of its host, sends nothing: the laws don't cover calls in which a card did so.
 abbrev pub IsAnswered : List Event → Arrival → Type 0
 IsAnswered [] back = ⊥
-IsAnswered (asked command reply ∷ events) back = AreOctets reply × IsSaid events back
+IsAnswered (asked is_new command reply ∷ events) back = AreOctets reply × IsSaid events back
+IsAnswered (requested is_new command request ∷ events) back = IsOctet request × IsSaid events back
 IsAnswered (sent octets ∷ events) back = IsSaid (sent octets ∷ events) back
 IsAnswered (unsent octets fault ∷ events) back = IsSaid (unsent octets fault ∷ events) back
 IsAnswered (came arrival ∷ events) back = ⊥
@@ -65,7 +72,8 @@ IsTrip talk [] = IsLost talk.arrival
 IsTrip talk (came (block octets) ∷ events) = Passes talk.sent octets × IsAnswered events talk.arrival
 IsTrip talk (came nothing ∷ events) = IsTrip talk events
 IsTrip talk (came (failure fault) ∷ events) = IsTrip talk events
-IsTrip talk (asked command reply ∷ events) = ⊥
+IsTrip talk (asked is_new command reply ∷ events) = ⊥
+IsTrip talk (requested is_new command request ∷ events) = ⊥
 IsTrip talk (sent octets ∷ events) = ⊥
 IsTrip talk (unsent octets fault ∷ events) = ⊥
 
@@ -99,11 +107,13 @@ said_faults (unsent octets fault ∷ []) back passed = returning_faults octets b
 said_faults (sent octets ∷ (event ∷ events)) back never = 0
 said_faults (unsent octets fault ∷ (event ∷ events)) back never = 0
 said_faults (came arrival ∷ events) back never = 0
-said_faults (asked command reply ∷ events) back never = 0
+said_faults (asked is_new command reply ∷ events) back never = 0
+said_faults (requested is_new command request ∷ events) back never = 0
 
 abbrev pub answering_faults : (events : List Event) (back : Arrival) → IsAnswered events back → ℕ
 answering_faults [] back never = 0
-answering_faults (asked command reply ∷ events) back passed = said_faults events back passed.1
+answering_faults (asked is_new command reply ∷ events) back passed = said_faults events back passed.1
+answering_faults (requested is_new command request ∷ events) back passed = said_faults events back passed.1
 answering_faults (sent octets ∷ events) back passed = said_faults (sent octets ∷ events) back passed
 answering_faults (unsent octets fault ∷ events) back passed = said_faults (unsent octets fault ∷ events) back passed
 answering_faults (came arrival ∷ events) back never = 0
@@ -119,7 +129,8 @@ trip_faults talk (came (block octets) ∷ events) passed =
     passing_faults talk.sent octets passed.0 + answering_faults events talk.arrival passed.1
 trip_faults talk (came nothing ∷ events) passed = trip_faults talk events passed
 trip_faults talk (came (failure fault) ∷ events) passed = trip_faults talk events passed
-trip_faults talk (asked command reply ∷ events) never = 0
+trip_faults talk (asked is_new command reply ∷ events) never = 0
+trip_faults talk (requested is_new command request ∷ events) never = 0
 trip_faults talk (sent octets ∷ events) never = 0
 trip_faults talk (unsent octets fault ∷ events) never = 0
 
@@ -205,10 +216,18 @@ exchanges_of t (call ∷ calls) older = exchanges_of call.left calls
     (ended call.ending (answer_unless (is_about_size call.input t.waits) call.left.answered)
     (begun call.input (terminal_turn t call.input) older))
 
--- The commands that the card's host was passed, each with its reply; the newest first.
+-- the services once the host owes the reply to a command, which is new to it or not
+abbrev pub given : Bool → List ℕ → List Exchange → List Exchange
+given true command older = unanswered command ∷ older
+given false command older = older
+
+-- The commands that the card's host was passed, each with its reply; the newest first. A command about which the host
+-- asked for time or a size first is there once, without a reply until it replied.
 abbrev pub services_of : List Event → List Exchange → List Exchange
 services_of [] older = older
-services_of (asked command reply ∷ events) older = services_of events (answered command reply ∷ older)
+services_of (asked is_new command reply ∷ events) older =
+    services_of events (with_reply (given is_new command older) reply)
+services_of (requested is_new command request ∷ events) older = services_of events (given is_new command older)
 services_of (came arrival ∷ events) older = services_of events older
 services_of (sent octets ∷ events) older = services_of events older
 services_of (unsent octets fault ∷ events) older = services_of events older

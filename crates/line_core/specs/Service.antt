@@ -3,7 +3,7 @@ use Rattle.std.specs.Prelude.{◌≡◌, ◌≤◌, ℕ, ◌-◌, List, [], ◌�
 use Rattle.std.specs.declared.io.Error.{Error}
 use Rattle.block_core.specs.Block.{Parts, spelling}
 use Rattle.t1_core.specs.Came.{class_of}
-use Rattle.t1_core.specs.Card.{CardState, replies, takes, card_turn, turn_of, state_after}
+use Rattle.t1_core.specs.Card.{CardState, CardInput, CardRequest, size, time, Waits, asking, replies, more_time, ask_ifs, takes, card_turn, turn_of, state_after}
 use Rattle.t1_core.specs.declared.turns.CardTurn.{CardTurn}
 use Rattle.t1_core.specs.declared.turns.CardTurn.TheVariants.{Send, Asked}
 use Rattle.t1_core.specs.declared.turns.CardFault.{CardFault}
@@ -11,11 +11,13 @@ use Rattle.line_core.specs.declared.serving.ServeFault.{ServeFault}
 use Rattle.line_core.specs.declared.serving.ServeFault.TheVariants.{Line, UsedUp, Refused}
 use Rattle.line_core.specs.Line.{Arrival, block, nothing, failure}
 
--- What happens at the card: something came, or the line said that no more comes; a command is complete, and this is the
--- host's reply, or the reply for the host; a block was sent, or the line failed to send it, with this error.
+-- What happens at the card. Something came, or the line said that no more comes. The host owes the reply to a command,
+-- which is new to it, or about which the terminal granted its request: this is its reply, or the reply for it, or what
+-- it asks the terminal for first. A block was sent, or the line failed to send it, with this error.
 pub data Event : Type 0 where
   came : (arrival : Arrival) → Event
-  asked : (command reply : List ℕ) → Event
+  asked : (is_new : Bool) (command reply : List ℕ) → Event
+  requested : (is_new : Bool) (command : List ℕ) (request : CardRequest) → Event
   sent : (octets : List ℕ) → Event
   unsent : (octets : List ℕ) (fault : Error) → Event
 
@@ -38,16 +40,18 @@ IsReplyTo command reply = is_short command ≡ true → reply ≡ wrong_length
 -- the events on the line
 abbrev pub on_line : List Event → List Event
 on_line [] = []
-on_line (asked command reply ∷ events) = on_line events
+on_line (asked is_new command reply ∷ events) = on_line events
+on_line (requested is_new command request ∷ events) = on_line events
 on_line (came arrival ∷ events) = came arrival ∷ on_line events
 on_line (sent octets ∷ events) = sent octets ∷ on_line events
 on_line (unsent octets fault ∷ events) = unsent octets fault ∷ on_line events
 
--- the events at the host: it isn't asked about a message that is too short for a command
+-- the events at a host that only replies: it acts on each command, and never on a message that is too short for one
 abbrev pub at_host : List Event → List Event
 at_host [] = []
-at_host (asked command reply ∷ events) =
-    if is_short command then at_host events else (asked command reply ∷ at_host events)
+at_host (asked is_new command reply ∷ events) =
+    if is_short command then at_host events else (asked true command reply ∷ at_host events)
+at_host (requested is_new command request ∷ events) = at_host events
 at_host (came arrival ∷ events) = at_host events
 at_host (sent octets ∷ events) = at_host events
 at_host (unsent octets fault ∷ events) = at_host events
@@ -75,20 +79,36 @@ ending_of (Err (Line inner)) = line_failed inner
 ending_of (Err UsedUp) = used_up
 ending_of (Err (Refused inner)) = refused inner
 
--- What the card does next: it waits for a block, it sends one, it asks its host, or serving ends.
+-- What the card does next: it waits for a block, it sends one, it asks its host about a command that is new to it or
+-- not, or serving ends.
 pub data Doing : Type 0 where
   hears : Doing
   says : (block : Parts) → Doing
-  asks : Doing
+  asks : (is_new : Bool) → Doing
   ends : (ending : Ending) → Doing
 
-abbrev pub doing_of : Result CardTurn CardFault → Doing
-doing_of (Ok (Send parts)) = says parts
-doing_of (Ok Asked) = asks
-doing_of (Err inner) = ends (refused inner)
+-- the host that is asked next gets a new command, unless the terminal granted its request
+abbrev pub is_new : Waits → Bool
+is_new (asking request) = false
+is_new waits = true
+
+-- what a card that waited for this does after a turn
+abbrev pub doing_of : Waits → Result CardTurn CardFault → Doing
+doing_of waits (Ok (Send parts)) = says parts
+doing_of waits (Ok Asked) = asks (is_new waits)
+doing_of waits (Err inner) = ends (refused inner)
+
+-- what an input leads to
+abbrev pub doing_by : CardState → CardInput → Doing
+doing_by c input = doing_of c.waits (turn_of (card_turn c input))
+
+-- the call by which the host asks for this
+abbrev pub input_of : CardRequest → CardInput
+input_of (size n) = ask_ifs n
+input_of (time n) = more_time n
 
 abbrev pub doing_after : CardState → Arrival → Doing
-doing_after c (block octets) = doing_of (turn_of (card_turn c (takes (class_of c.ifsc octets))))
+doing_after c (block octets) = doing_by c (takes (class_of c.ifsc octets))
 doing_after c nothing = ends over
 doing_after c (failure fault) = ends (line_failed fault)
 
@@ -103,9 +123,12 @@ abbrev pub Serves : ℕ → Doing → CardState → List Event → Ending → Ca
 Serves most hears c (came arrival ∷ events) ending left =
     (1 ≤ most) × Serves (most - 1) (doing_after c arrival) (left_after c arrival) events ending left
 Serves most hears c [] ending left = (most ≡ 0) × (ending ≡ used_up) × (left ≡ c)
-Serves most asks c (asked command reply ∷ events) ending left =
-    (command ≡ c.command) × IsReplyTo command reply × Serves most (doing_of (turn_of (card_turn c (replies reply))))
+Serves most (asks new) c (asked is command reply ∷ events) ending left =
+    (is ≡ new) × (command ≡ c.command) × IsReplyTo command reply × Serves most (doing_by c (replies reply))
     (state_after c (card_turn c (replies reply))) events ending left
+Serves most (asks new) c (requested is command request ∷ events) ending left =
+    (is ≡ new) × (command ≡ c.command) × (is_short command ≡ false) × Serves most (doing_by c (input_of request))
+    (state_after c (card_turn c (input_of request))) events ending left
 Serves most (says parts) c (sent octets ∷ events) ending left =
     (octets ≡ spelling parts) × Serves most hears c events ending left
 Serves most (says parts) c (unsent octets fault ∷ []) ending left =

@@ -122,7 +122,8 @@ Moves old (at_card.unsent octets fault) new = (new.left ≡ old.left)
     × ((count : ℕ) × (count < length octets) × Appends old.written new.written (take count octets))
     × (new.not_read ≡ old.not_read) × (new.not_written ≡ next_count old.not_written)
     × (error_kind fault ≡ WriteZero)
-Moves old (at_card.asked command reply) new = ⊥
+Moves old (at_card.asked is_new command reply) new = ⊥
+Moves old (at_card.requested is_new command request) new = ⊥
 
 -- the events happen one after another
 abbrev pub HasServed : Wire → List Event → Wire → Type 0

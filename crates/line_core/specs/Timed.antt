@@ -1,5 +1,5 @@
 -- A device with a time limit: what it heard and said, call by call.
-use Rattle.std.specs.Prelude.{ℕ, List, ◌∷◌, ◌++◌, take, Result, Ok, Err}
+use Rattle.std.specs.Prelude.{ℕ, List, ◌++◌, take, Result, Ok, Err}
 use Rattle.std.specs.declared.io.Error.{Error}
 
 -- One call of the device: these octets came within so many microseconds, or none did; or it failed. Or the end sent

@@ -1,8 +1,8 @@
 //! Laws of both ends of a line, as contracts.
 //!
 //! `specs/Joined.antt` has the statements. They are about calls of `exchange`, `ask_ifs` and `resume` at one end, and
-//! of `serve` at the other. The line between them passes what one end sent to the other, except what it loses or
-//! damages.
+//! of `serve` at the other, whose host may also ask for time or a size before it replies. The line between them passes
+//! what one end sent to the other, except what it loses or damages.
 
 ghost use Rattle.line_core.specs.Bursts.{AlwaysNoBlock};
 ghost use Rattle.line_core.specs.Joined.{AlwaysPasses, AlwaysLinked, AlwaysMatched, AlwaysInOrder, AlwaysPatientCalls, AlwaysOnce};

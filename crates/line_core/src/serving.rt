@@ -1,11 +1,11 @@
 //! A card that serves what comes over a line.
 
-ghost use Rattle.std.specs.Prelude.{◌≡◌, ◌≤◌, ℕ, List, [], ◌∷◌, length, IfOk};
+ghost use Rattle.std.specs.Prelude.{◌≡◌, ◌≤◌, ℕ, List, [], ◌∷◌, length, true, IfOk};
 ghost use Rattle.t1_core.specs.Came.{class_of};
 ghost use Rattle.t1_core.specs.Card.{takes, replies, host as owes, card_turn, turn_of, state_after};
 ghost use Rattle.line_core.specs.declared.serving.ServeFault.TheVariants.{Refused};
 ghost use Rattle.line_core.specs.Line.{FitsRoom, arrival_of};
-ghost use Rattle.line_core.specs.Service.{Event, came, asked, sending, on_line, at_host, is_short, reply_by, IsReplyTo, Happens, hears, Serves, IsRound, IsAnswer, IsReply, ending_of, doing_of};
+ghost use Rattle.line_core.specs.Service.{Event, came, asked, sending, on_line, at_host, is_short, reply_by, IsReplyTo, Happens, hears, Serves, IsRound, IsAnswer, IsReply, ending_of, doing_by};
 
 use crate::exchanging::LONGEST_ARRIVAL;
 use crate::line::Received;
@@ -56,7 +56,7 @@ pub trait Host {
     /// Acts on a command.
     fn act(&mut self, command: &[u8])
         ensures { Happens (served self.old) (served self.new)
-            (asked command.now (reply self.new) ∷ []) };
+            (asked true command.now (reply self.new) ∷ []) };
 
     /// Returns the reply to the last command, with its status bytes: at most 65,538 octets.
     fn reply(&self) -> &[u8]
@@ -106,6 +106,9 @@ impl From<CardFault> for ServeFault {
 /// of fewer than four octets is no command: the call replies 6700 to it for the host. A host that takes such messages
 /// drives a [`Card`] itself. At most `most_blocks` blocks are waited for. After `UsedUp` each of them is answered, and a
 /// further call continues.
+///
+/// The host replies at once. If the caller asked the terminal for time or a size before this call, by
+/// [`Card::more_time`] or [`Card::ask_ifs`], the host acts on the command once the terminal granted that.
 ///
 /// The error is `Line` if the line fails while it waits or sends. A block that wasn't sent is sent again if the
 /// terminal asks for it. The error is `Refused(TooLong)` for a reply of more than 65,538 octets. Then the card waits
@@ -170,8 +173,7 @@ fn answer_block<H: Host>(
     ensures fits { IfOk result (λ count. count ≤ 258) }
     ensures answer { (events : List Event) × (on_line events ≡ [])
         × Happens (H.served host.old) (H.served host.new) (at_host events)
-        × IsAnswer (doing_of (turn_of
-        (card_turn card.old (takes (class_of card.old.ifsc octets.now)))))
+        × IsAnswer (doing_by card.old (takes (class_of card.old.ifsc octets.now)))
         (state_after card.old (card_turn card.old (takes (class_of card.old.ifsc octets.now))))
         events out.new result card.new }
 {
@@ -188,7 +190,7 @@ fn reply_to<H: Host>(card: &mut Card, host: &mut H, out: &mut [u8]) -> Result<us
     requires waits { card.old.waits ≡ owes }
     ensures fits { IfOk result (λ count. count ≤ 258) }
     ensures reply { (reply : List ℕ) × IsReplyTo card.old.command reply
-        × Happens (H.served host.old) (H.served host.new) (at_host (asked card.old.command reply ∷ []))
+        × Happens (H.served host.old) (H.served host.new) (at_host (asked true card.old.command reply ∷ []))
         × IsReply (turn_of (card_turn card.old (replies reply))) out.new result
         × (card.new ≡ state_after card.old (card_turn card.old (replies reply))) }
 {
@@ -203,7 +205,7 @@ fn reply_to<H: Host>(card: &mut Card, host: &mut H, out: &mut [u8]) -> Result<us
 fn ask<H: Host>(host: &mut H, command: &[u8]) -> bool
     ensures short { result ≡ is_short command.now }
     ensures asked { Happens (H.served host.old) (H.served host.new)
-        (at_host (asked command.now (reply_by (is_short command.now) (H.reply host.new)) ∷ [])) }
+        (at_host (asked true command.now (reply_by (is_short command.now) (H.reply host.new)) ∷ [])) }
 {
     if command.len() < SHORTEST_COMMAND {
         return true;

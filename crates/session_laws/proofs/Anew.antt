@@ -20,7 +20,7 @@ use Rattle.t1_core.specs.declared.turns.CardFault.TheVariants.{Order}
 use Rattle.line_core.specs.Bursts.{IsNoBlock}
 use Rattle.line_core.specs.Line.{Arrival, block, nothing, failure, Talk}
 use Rattle.line_core.specs.Exchange.{Ending, done, given_up, dead as is_dead, line_failed, used_up as is_used_up, refused as is_refused, Next, sends, ends, next_of, next_after, left_after, Runs}
-use Rattle.line_core.specs.Service.{Event, came, asked, sent, unsent, Doing, hears, says, asks, doing_of, Serves}
+use Rattle.line_core.specs.Service.{Event, came, asked, requested, sent, unsent, Doing, hears, says, asks, doing_of, Serves}
 use Rattle.line_core.specs.Service as at_card
 use Rattle.line_core.specs.Joined.{IsSaid, IsAnswered, IsLost, IsTrip, Trip, Returns, talks_of, events_of}
 
@@ -198,13 +198,15 @@ said-one most parts c (unsent octets fault ∷ []) more last arrival said s =
 said-one most parts c (sent octets ∷ (event ∷ events)) more last arrival said s = absurd said
 said-one most parts c (unsent octets fault ∷ (event ∷ events)) more last arrival said s = absurd said
 said-one most parts c (came arrived ∷ events) more last arrival said s = absurd said
-said-one most parts c (asked command reply ∷ events) more last arrival said s = absurd said
+said-one most parts c (asked is command reply ∷ events) more last arrival said s = absurd said
+said-one most parts c (requested is command wish ∷ events) more last arrival said s = absurd said
 
 answered-one : (most : ℕ) (parts : Parts) (c : CardState) (events more : List Event) (last : CardState)
     (arrival : Arrival) → IsAnswered events arrival
     → Serves most (says parts) c (events ++ more) at_card.used_up last → Said most parts c more last arrival
 answered-one most parts c [] more last arrival answered s = absurd answered
-answered-one most parts c (asked command reply ∷ events) more last arrival answered s = absurd s
+answered-one most parts c (asked is command reply ∷ events) more last arrival answered s = absurd s
+answered-one most parts c (requested is command wish ∷ events) more last arrival answered s = absurd s
 answered-one most parts c (sent octets ∷ events) more last arrival answered s =
     said-one most parts c (sent octets ∷ events) more last arrival answered s
 answered-one most parts c (unsent octets fault ∷ events) more last arrival answered s =
@@ -229,14 +231,14 @@ never-new (failure fault) octets parts c other are returns = tt
 
 harmed : (most : ℕ) (c : CardState) (step : CardStep) (events more : List Event) (last : CardState)
     (arrival : Arrival) → IsAnswered events arrival → Took c step
-    → Serves most (doing_of (card_turn_of step)) (card_state_after c step) (events ++ more) at_card.used_up last
+    → Serves most (doing_of c.waits (card_turn_of step)) (card_state_after c step) (events ++ more) at_card.used_up last
     → Passed c more last arrival
 harmed most c step events more last arrival answered (refuses is) s = absurd (never-ends most (at_card.refused Order)
-    c (events ++ more) last (λ h. h) (subst (λ (st : CardStep). Serves most (doing_of (card_turn_of st))
+    c (events ++ more) last (λ h. h) (subst (λ (st : CardStep). Serves most (doing_of c.waits (card_turn_of st))
     (card_state_after c st) (events ++ more) at_card.used_up last) is s))
 harmed most c step events more last arrival answered (answers parts other is) s =
     let said = answered-one most parts c events more last arrival answered
-    (subst (λ (st : CardStep). Serves most (doing_of (card_turn_of st)) (card_state_after c st) (events ++ more)
+    (subst (λ (st : CardStep). Serves most (doing_of c.waits (card_turn_of st)) (card_state_after c st) (events ++ more)
     at_card.used_up last) is s) in record {
       least = most;
       card = c;
@@ -248,15 +250,15 @@ harmed most c step events more last arrival answered (answers parts other is) s 
 
 whole : (most : ℕ) (c : CardState) (step : CardStep) (events more : List Event) (last : CardState)
     (arrival : Arrival) → IsAnswered events arrival → TookAnew c step
-    → Serves most (doing_of (card_turn_of step)) (card_state_after c step) (events ++ more) at_card.used_up last
+    → Serves most (doing_of c.waits (card_turn_of step)) (card_state_after c step) (events ++ more) at_card.used_up last
     → Passed c more last arrival
 whole most c step events more last arrival answered (never is) s = absurd (never-ends most (at_card.refused Order)
-    c (events ++ more) last (λ h. h) (subst (λ (st : CardStep). Serves most (doing_of (card_turn_of st))
+    c (events ++ more) last (λ h. h) (subst (λ (st : CardStep). Serves most (doing_of c.waits (card_turn_of st))
     (card_state_after c st) (events ++ more) at_card.used_up last) is s))
 whole most c step events more last arrival answered (begins is) s =
     let said = answered-one most (response Resynch []) (card_with c.limits c.first_ifsc) events more last arrival
     answered
-    (subst (λ (st : CardStep). Serves most (doing_of (card_turn_of st)) (card_state_after c st) (events ++ more)
+    (subst (λ (st : CardStep). Serves most (doing_of c.waits (card_turn_of st)) (card_state_after c st) (events ++ more)
     at_card.used_up last) is s) in record {
       least = most;
       card = card_with c.limits c.first_ifsc;
@@ -293,7 +295,8 @@ one-trip talk (came (block here) ∷ events) trip is most c more last s = elim t
   | inr none ↦ harmed (most - 1) c (card_came c c.waits (class_of c.ifsc here)) events more last talk.arrival trip.1
       (took-none c c.waits (class_of c.ifsc here) (none c.ifsc)) s.1
 ]
-one-trip talk (asked command reply ∷ events) trip is most c more last s = absurd trip
+one-trip talk (asked new command reply ∷ events) trip is most c more last s = absurd trip
+one-trip talk (requested new command wish ∷ events) trip is most c more last s = absurd trip
 one-trip talk (sent octets ∷ events) trip is most c more last s = absurd trip
 one-trip talk (unsent octets fault ∷ events) trip is most c more last s = absurd trip
 

@@ -1,7 +1,7 @@
 -- The turns of a card's loop, from what its calls ensure.
 use Rattle.std.proofs.Common.{◌≡◌, ◌<◌, ◌≤◌, ◌+◌, ℕ, List, [], ◌∷◌, ◌++◌, length, take, Bool, false, Some, Result, Ok, Err, refl, sym, subst, arith, length-append}
 use Rattle.std.proofs.lemmas.List.{append-nil, append_assoc}
-use Rattle.t1_core.specs.Card.{CardState, replies, card_turn, turn_of}
+use Rattle.t1_core.specs.Card.{CardState, card_turn, turn_of}
 use Rattle.t1_core.specs.CardViews.{owed}
 use Rattle.t1_core.specs.Put.{IsCardPut}
 use Rattle.t1_core.specs.declared.turns.CardTurn.{CardTurn}
@@ -10,7 +10,7 @@ use Rattle.t1_core.specs.declared.turns.EncodedCardTurn.{EncodedCardTurn}
 use Rattle.t1_core.specs.declared.turns.CardFault.{CardFault}
 use Rattle.line_core.specs.Bursts.{HasHeard}
 use Rattle.line_core.specs.Timed.{Sound, Sounds, came, deaf, said, unsaid}
-use Rattle.line_core.specs.Service.{Event, asked, Happens}
+use Rattle.line_core.specs.Service.{Event, Happens}
 use Rattle.session_core.specs.declared.progress.Rules.{Rules}
 use Rattle.session_core.specs.declared.lines.Line.{Line}
 use Rattle.session_core.specs.declared.lines.Start.TheVariants.{Exchange}
@@ -20,8 +20,10 @@ use Rattle.session_core.specs.Wire.{ruled, seen, forever}
 use Rattle.session_core.specs.Wire as wire
 use Rattle.session_core.specs.Lines.{stepped}
 use Rattle.session_core.specs.Cards.{TurnsTo, AfterTurn, IsStepped}
+use Rattle.session_laws.specs.declared.host.HostTurn.{HostTurn}
+use Rattle.session_laws.specs.Hosts.{input_by, event_at, is_first}
 use Rattle.session_laws.specs.Running.{IsAsked, event_of, octets_of}
-use Rattle.session_laws.specs.Serving.{Placed, events_by, IsLineTurn, IsHostTurn, none, by_line, by_host, IsBegun, Ran, IsDoing, burst_refused, reply_refused, Stopped}
+use Rattle.session_laws.specs.Serving.{Placed, events_by, IsLineTurn, IsHostTurn, none, by_line, by_host, IsBegun, Ran, IsDoing, burst_refused, turn_refused, Stopped}
 use Rattle.session_laws.proofs.Runs.{no-sounds, then-sounds}
 use Rattle.session_laws.proofs.Services.{IsAt}
 
@@ -84,19 +86,22 @@ line-ran old now new before_host host card line events before sound after ran ad
 
 unfoldable pub host-ran : {A B : Type 0} (old new : A → List Sound → Type 0)
     (before_host host after_host : B → List Event → Type 0) (card : CardState) (line : Line) (events : List Event)
-    (before : Placed) (command answer : List ℕ) (after : Placed)
+    (before : Placed) (command answer : List ℕ) (turn : HostTurn) (after : Placed)
     → Ran old new before_host host card line events before
-    → Happens host after_host (asked command answer ∷ []) → IsHostTurn before command answer after
-    → Ran old new before_host after_host card line (events ++ asked command answer ∷ []) after
-host-ran old new before_host host after_host card line events before command answer after ran acted turn = record {
-  first = ran.first;
-  begun = ran.begun;
-  sounds = ran.sounds;
-  adds = ran.adds;
-  acts = ran.acts ++ asked command answer ∷ [];
-  acted = then-acts before_host host after_host ran.acts (asked command answer ∷ []) ran.acted acted;
-  turns = by_host ran.sounds events ran.acts before command answer after ran.turns turn;
-}
+    → Happens host after_host (event_at (is_first before.granted) command answer turn ∷ [])
+    → IsHostTurn before command answer turn after
+    → Ran old new before_host after_host card line
+    (events ++ event_at (is_first before.granted) command answer turn ∷ []) after
+host-ran old new before_host host after_host card line events before command answer turn after ran acted called =
+    let act : Event = event_at (is_first before.granted) command answer turn in record {
+      first = ran.first;
+      begun = ran.begun;
+      sounds = ran.sounds;
+      adds = ran.adds;
+      acts = ran.acts ++ act ∷ [];
+      acted = then-acts before_host host after_host ran.acts (act ∷ []) ran.acted acted;
+      turns = by_host ran.sounds events ran.acts before command answer turn after ran.turns called;
+    }
 
 -- ---- how many turns the loop made, and how many are left
 
@@ -186,14 +191,18 @@ refused-by (Err inner) acted command rules p burst out out_after line own own_af
 
 pub host-stopped : {A B : Type 0} (old new : A → List Sound → Type 0)
     (before_host host after_host : B → List Event → Type 0) (card : CardState) (line : Line) (most : ℕ)
-    (fault : CardFault) (events : List Event) (before : Placed) (answer burst : List ℕ) (own : ℕ) (out : List ℕ)
-    (card_after : CardState) (line_after : Line) → (ran : Ran old new before_host host card line events before)
-    → length ran.sounds + length ran.acts < most → Happens host after_host (asked before.card.command answer ∷ [])
-    → TurnsTo before.card (replies answer) Exchange before.line.rules (seen before.line.progress) burst 0 card_after
+    (fault : CardFault) (events : List Event) (before : Placed) (answer : List ℕ) (turn : HostTurn) (burst : List ℕ)
+    (own : ℕ) (out : List ℕ) (card_after : CardState) (line_after : Line)
+    → (ran : Ran old new before_host host card line events before)
+    → length ran.sounds + length ran.acts < most → Happens host after_host
+    (event_at (is_first before.granted) before.card.command answer turn ∷ [])
+    → TurnsTo before.card (input_by answer turn) Exchange before.line.rules (seen before.line.progress) burst 0
+    card_after
     line_after before.own own before.out out (Err fault)
     → Stopped old new before_host after_host card line most fault
-host-stopped old new before_host host after_host card line most fault events before answer burst own out card_after
-    line_after ran few acted turns = record {
+host-stopped old new before_host host after_host card line most fault events before answer turn burst own out
+    card_after line_after ran few acted turns = let act : Event =
+    event_at (is_first before.granted) before.card.command answer turn in record {
       first = ran.first;
       begun = ran.begun;
       sounds = ran.sounds;
@@ -203,10 +212,11 @@ host-stopped old new before_host host after_host card line most fault events bef
       turns = ran.turns;
       few = few;
       last_sounds = [];
-      last_acts = asked before.card.command answer ∷ [];
-      refused = reply_refused answer
-          (refused-by (turn_of (card_turn before.card (replies answer))) turns.acted _ _ _ _ _ _ _ _ _ fault turns.put
+      last_acts = act ∷ [];
+      refused = turn_refused answer turn
+          (refused-by (turn_of (card_turn before.card (input_by answer turn))) turns.acted _ _ _ _ _ _ _ _ _ fault
+          turns.put
           turns.after);
       adds = subst (λ (sounds : List Sound). Sounds old new sounds) (sym (append-nil ran.sounds)) ran.adds;
-      acted = then-acts before_host host after_host ran.acts (asked before.card.command answer ∷ []) ran.acted acted;
+      acted = then-acts before_host host after_host ran.acts (act ∷ []) ran.acted acted;
     }

@@ -2,7 +2,7 @@
 use Rattle.std.proofs.Common.{◌≡◌, ℕ, ◌+◌, ◌-◌, List, [], ◌∷◌, ◌++◌, take, Bool, true, false, if◌then◌else◌, Some, Result, Ok, Err, refl, sym, ap, subst, ◌∙◌, arith}
 use Rattle.std.proofs.lemmas.List.{append-nil, append_assoc}
 use Rattle.block_core.specs.Block.{Parts, spelling}
-use Rattle.t1_core.specs.Card.{CardState, Waits, host, asking, replies, card_turn, turn_of, state_after, if_host, sends_next}
+use Rattle.t1_core.specs.Card.{CardState, Waits, host, asking, replies, card_turn, turn_of, state_after, if_host, sends_next, request_block, size as of_size, time as of_time}
 use Rattle.t1_core.specs.CardViews.{owed}
 use Rattle.t1_core.specs.Put.{IsCardPut}
 use Rattle.t1_core.specs.declared.turns.CardTurn.{CardTurn}
@@ -10,11 +10,11 @@ use Rattle.t1_core.specs.declared.turns.CardTurn.TheVariants as own_turn
 use Rattle.t1_core.specs.declared.turns.EncodedCardTurn.{EncodedCardTurn}
 use Rattle.t1_core.specs.declared.turns.EncodedCardTurn.TheVariants as put
 use Rattle.t1_core.specs.declared.turns.CardFault.{CardFault}
-use Rattle.t1_core.specs.declared.turns.CardFault.TheVariants.{TooLong}
+use Rattle.t1_core.specs.declared.turns.CardFault.TheVariants.{TooLong, Reserved}
 use Rattle.line_core.specs.Bursts.{handed}
 use Rattle.line_core.specs.Line.{block as arrived}
 use Rattle.line_core.specs.Timed.{Sound, came as piece, deaf, said, unsaid}
-use Rattle.line_core.specs.Service.{Event, came, asked, sent, is_short, wrong_length, IsReplyTo, Doing, hears, says, asks, Ending, Serves, doing_of, doing_after, left_after}
+use Rattle.line_core.specs.Service.{Event, came, asked, sent, is_short, is_new, wrong_length, IsReplyTo, Doing, hears, says, asks, Ending, Serves, doing_of, doing_by, doing_after, left_after}
 use Rattle.session_core.specs.declared.event.Next.{Next}
 use Rattle.session_core.specs.declared.event.Next.TheVariants.{Send, Wait, Heard, Quiet}
 use Rattle.session_core.specs.declared.progress.Phase.{Phase}
@@ -28,8 +28,11 @@ use Rattle.session_core.specs.Wire.{Step, ruled, seen, handed_over}
 use Rattle.session_core.specs.Wire as wire
 use Rattle.session_core.specs.Lines.{IsMoved}
 use Rattle.session_core.specs.Actions.{action_of, count_of}
-use Rattle.session_core.specs.Cards.{TurnsTo, AfterTurn, Asks, IsHeard, IsStepped, is_for_host, asked_about}
+use Rattle.session_core.specs.Cards.{TurnsTo, AfterTurn, Asks, IsHeard, IsStepped, is_asking, granted_after, is_for_host, asked_about}
+use Rattle.session_laws.specs.declared.host.HostTurn.{HostTurn}
+use Rattle.session_laws.specs.declared.host.HostTurn.TheVariants.{Reply, MoreTime, AskIfs}
 use Rattle.session_laws.specs.Ending.{HasBurst}
+use Rattle.session_laws.specs.Hosts.{input_by, event_at, is_first}
 use Rattle.session_laws.specs.Running.{IsAsked}
 use Rattle.session_laws.specs.Serving.{Placed, step_by, replied_for, stepped_as, events_by, IsLineTurn, IsHostTurn, Turns, none, by_line, by_host, IsBegun, Ran, is_unsent, IsToHear, IsDoing, Begins, IsServed}
 use Rattle.session_laws.proofs.Links.{front}
@@ -74,13 +77,26 @@ then-came c0 events c octets begins =
       ),
     ))
 
-pub then-asked : (c0 : CardState) (events : List Event) (c : CardState) (octets answer : List ℕ)
-    → octets ≡ c.command → IsReplyTo octets answer → Begins c0 events asks c
-    → Begins c0 (events ++ asked octets answer ∷ []) (doing_of (turn_of (card_turn c (replies answer))))
+-- the host replies, or another replies for it
+pub then-asked : (c0 : CardState) (events : List Event) (new : Bool) (c : CardState) (octets answer : List ℕ)
+    → octets ≡ c.command → IsReplyTo octets answer → Begins c0 events (asks new) c
+    → Begins c0 (events ++ asked new octets answer ∷ []) (doing_by c (replies answer))
     (state_after c (card_turn c (replies answer)))
-then-asked c0 events c octets answer e fits begins =
-    then-event c0 events asks c (asked octets answer) _ _ begins
-    (λ most more ending left run. (most, (e, fits, run)))
+then-asked c0 events new c octets answer e fits begins =
+    then-event c0 events (asks new) c (asked new octets answer) _ _ begins
+    (λ most more ending left run. (most, (refl, e, fits, run)))
+
+-- the host takes its turn
+pub then-turned : (c0 : CardState) (events : List Event) (new : Bool) (c : CardState) (octets answer : List ℕ)
+    (turn : HostTurn) → octets ≡ c.command → is_short octets ≡ false → Begins c0 events (asks new) c
+    → Begins c0 (events ++ event_at new octets answer turn ∷ []) (doing_by c (input_by answer turn))
+    (state_after c (card_turn c (input_by answer turn)))
+then-turned c0 events new c octets answer Reply e long begins =
+    then-asked c0 events new c octets answer e (λ short. let bad : true ≡ false = sym short ∙ long in cc) begins
+then-turned c0 events new c octets answer (MoreTime n) e long begins =
+    then-event c0 events (asks new) c _ _ _ begins (λ most more ending left run. (most, (refl, e, long, run)))
+then-turned c0 events new c octets answer (AskIfs n) e long begins =
+    then-event c0 events (asks new) c _ _ _ begins (λ most more ending left run. (most, (refl, e, long, run)))
 
 -- ---- where the session stands
 
@@ -169,12 +185,34 @@ for-host c host e = some-short c.command e
 for-host c (asking request) e = some-short c.command e
 for-host c w e = cc
 
--- a reply is never followed by the host's turn
-pub never-asked : (w : Waits) (b : Bool) (c : CardState) (octets : List ℕ)
+-- a call of the host is never followed by its turn
+never-replied : (w : Waits) (b : Bool) (c : CardState) (octets : List ℕ)
     → turn_of (if_host w (if b then sends_next c octets else Err TooLong)) ≡ Ok own_turn.Asked → ⊥
-never-asked host true c octets e = cc
-never-asked host false c octets e = cc
-never-asked w b c octets e = cc
+never-replied host true c octets e = cc
+never-replied host false c octets e = cc
+never-replied w b c octets e = cc
+
+never-granted : (w : Waits) (c : CardState) (told : Parts)
+    → turn_of (if_host w (Ok (own_turn.Send told, c))) ≡ Ok own_turn.Asked → ⊥
+never-granted host c told e = cc
+never-granted w c told e = cc
+
+never-set : (w : Waits) (b : Bool) (c : CardState) (told : Parts)
+    → turn_of (if_host w (if b then Err Reserved else Ok (own_turn.Send told, c))) ≡ Ok own_turn.Asked → ⊥
+never-set host true c told e = cc
+never-set host false c told e = cc
+never-set w b c told e = cc
+
+pub never-asked : (c : CardState) (answer : List ℕ) (turn : HostTurn)
+    → turn_of (card_turn c (input_by answer turn)) ≡ Ok own_turn.Asked → ⊥
+never-asked c answer Reply e = never-replied c.waits _ c answer e
+never-asked c answer (MoreTime n) e = never-granted c.waits _ (request_block (of_time n)) e
+never-asked c answer (AskIfs n) e = never-set c.waits _ _ (request_block (of_size n)) e
+
+-- the session counts no requests about a new command
+first-granted : (w : Waits) (granted : ℕ) → is_first (granted_after (is_asking w) granted) ≡ is_new w
+first-granted (asking request) granted = grind arith
+first-granted w granted = refl
 
 abbrev pub after-as : (acted wanted : Result EncodedCardTurn CardFault) (owing : ℕ) (start : Start) (rules : Rules)
     (p : wire.Doing) (burst : List ℕ) (own : ℕ) (s : Placed) → acted ≡ wanted
@@ -184,85 +222,90 @@ after-as acted wanted owing start rules p burst own s e after =
     subst (λ (x : Result EncodedCardTurn CardFault).
     AfterTurn x owing start rules p burst 0 s.line own s.own (Ok s.next)) e after
 
-pub turned-at : (turn : Result CardTurn CardFault) (acted : Result EncodedCardTurn CardFault) (c0 : CardState)
-    (events : List Event) (owing own : ℕ) (rules : Rules) (p : wire.Doing) (burst out : List ℕ) (s : Placed)
-    → (turn ≡ Ok own_turn.Asked → ⊥) → Begins c0 events (doing_of turn) s.card → IsCardPut turn out s.out acted
+pub turned-at : (w : Waits) (turn : Result CardTurn CardFault) (acted : Result EncodedCardTurn CardFault)
+    (c0 : CardState) (events : List Event) (owing own : ℕ) (rules : Rules) (p : wire.Doing) (burst out : List ℕ)
+    (s : Placed)
+    → (turn ≡ Ok own_turn.Asked → ⊥) → Begins c0 events (doing_of w turn) s.card → IsCardPut turn out s.out acted
     → AfterTurn acted owing Exchange rules p burst 0 s.line own s.own (Ok s.next) → IsAt c0 events s
-turned-at (Ok (own_turn.Send told)) acted c0 events owing own rules p burst out s never begins (count, is, placed)
+turned-at w (Ok (own_turn.Send told)) acted c0 events owing own rules p burst out s never begins (count, is, placed)
     after =
     let now_after : AfterTurn (Ok (put.Send count)) owing Exchange rules p burst 0 s.line own s.own (Ok s.next) =
     after-as acted _ owing Exchange rules p burst own s is after in
     sent-at _ rules count c0 events told s (begins-unsent (ruled rules) _ burst 0) now_after.2.1.moved
     (same-ok s.next now_after.0 (Ok s.next) refl now_after.1 ∙ now_after.2.1.action_is) (sym now_after.2.0)
     (ap (λ (n : ℕ). take n s.out) now_after.2.0 ∙ front told out s.out count placed) begins
-turned-at (Ok own_turn.Asked) acted c0 events owing own rules p burst out s never begins put after =
+turned-at w (Ok own_turn.Asked) acted c0 events owing own rules p burst out s never begins put after =
     absurd (never refl)
-turned-at (Err fault) acted c0 events owing own rules p burst out s never begins (is, kept) after =
+turned-at w (Err fault) acted c0 events owing own rules p burst out s never begins (is, kept) after =
     let now_after : AfterTurn (Err fault) owing Exchange rules p burst 0 s.line own s.own (Ok s.next) =
     after-as acted _ owing Exchange rules p burst own s is after in
     absurd (ok-or-not s.next fault (Ok s.next) refl now_after.0)
 
-pub replied-at : (c0 : CardState) (events : List Event) (c : CardState) (answer : List ℕ) (rules : Rules)
-    (p : wire.Doing) (burst : List ℕ) (own : ℕ) (out : List ℕ) (s : Placed)
-    → Begins c0 events (doing_of (turn_of (card_turn c (replies answer))))
-    (state_after c (card_turn c (replies answer)))
-    → TurnsTo c (replies answer) Exchange rules p burst 0 s.card s.line own s.own out s.out (Ok s.next)
+pub called-at : (c0 : CardState) (events : List Event) (c : CardState) (answer : List ℕ) (turn : HostTurn)
+    (rules : Rules) (p : wire.Doing) (burst : List ℕ) (own : ℕ) (out : List ℕ) (s : Placed)
+    → Begins c0 events (doing_by c (input_by answer turn)) (state_after c (card_turn c (input_by answer turn)))
+    → TurnsTo c (input_by answer turn) Exchange rules p burst 0 s.card s.line own s.own out s.out (Ok s.next)
     → IsAt c0 events s
-replied-at c0 events c answer rules p burst own out s begins turns =
-    turned-at (turn_of (card_turn c (replies answer))) turns.acted c0 events _ own rules p burst out s
-    (never-asked c.waits _ c answer)
-    (subst (λ (left : CardState). Begins c0 events (doing_of (turn_of (card_turn c (replies answer)))) left)
+called-at c0 events c answer turn rules p burst own out s begins turns =
+    turned-at c.waits (turn_of (card_turn c (input_by answer turn))) turns.acted c0 events _ own rules p burst out s
+    (never-asked c answer turn)
+    (subst (λ (left : CardState). Begins c0 events (doing_by c (input_by answer turn)) left)
     (sym turns.state) begins) turns.put turns.after
 
 -- ---- a burst
 
-pub asked-at : (b : Bool) (c0 : CardState) (events : List Event) (c : CardState) (rules : Rules) (p : wire.Doing)
-    (burst : List ℕ) (own : ℕ) (out : List ℕ) (s : Placed) → is_for_host false (asked_about c) ≡ b
-    → Begins c0 events asks c
+pub asked-at : (b new : Bool) (c0 : CardState) (events : List Event) (c : CardState) (rules : Rules)
+    (p : wire.Doing) (burst : List ℕ) (own : ℕ) (out : List ℕ) (s : Placed) → is_for_host false (asked_about c) ≡ b
+    → is_first s.granted ≡ new → Begins c0 events (asks new) c
     → Asks b c rules p burst 0 s.card s.line own s.own out s.out (Ok s.next)
-    → IsAt c0 (events ++ (if b then [] else (asked c.command wrong_length ∷ []))) s
-asked-at true c0 events c rules p burst own out s e begins (same, still, own_is, out_is, is) =
+    → IsAt c0 (events ++ (if b then [] else (asked new c.command wrong_length ∷ []))) s
+asked-at true new c0 events c rules p burst own out s e first begins (same, still, own_is, out_is, is) =
     subst (λ (all_of : List Event). IsAt c0 all_of s) (sym (append-nil events)) (record {
       served = record {
-        doing = asks;
-        is = subst (λ (a : Action). IsDoing a s asks)
+        doing = asks new;
+        is = subst (λ (a : Action). IsDoing a s (asks new))
             (sym (same-ok s.next (action.Asked (asked_about c)) (Ok s.next) refl is))
-            (subst (λ (left : CardState). (asks ≡ asks) × (owed left left.waits ≡ Some left.command)
-            × (is_short left.command ≡ false)) (sym same) (refl, for-owed c c.waits e, for-host c c.waits e));
-        begins = subst (λ (left : CardState). Begins c0 events asks left) (sym same) begins;
+            (subst (λ (left : CardState). (asks new ≡ asks (is_first s.granted))
+            × (owed left left.waits ≡ Some left.command) × (is_short left.command ≡ false)) (sym same)
+            (ap asks (sym first), for-owed c c.waits e, for-host c c.waits e));
+        begins = subst (λ (left : CardState). Begins c0 events (asks new) left) (sym same) begins;
       };
       burst = moved-burst _ rules s.line still;
     })
-asked-at false c0 events c rules p burst own out s e begins turns =
-    replied-at c0 _ c wrong_length rules p burst own out s
-    (then-asked c0 events c c.command wrong_length refl (λ short. refl) begins) turns
+asked-at false new c0 events c rules p burst own out s e first begins turns =
+    called-at c0 _ c wrong_length Reply rules p burst own out s
+    (then-asked c0 events new c c.command wrong_length refl (λ short. refl) begins) turns
 
-pub taken-at : (turn : Result CardTurn CardFault) (acted : Result EncodedCardTurn CardFault) (c0 : CardState)
-    (events : List Event) (c : CardState) (was_asking : Bool) (granted : ℕ) (rules : Rules) (p : wire.Doing)
-    (burst : List ℕ) (own : ℕ) (out between : List ℕ) (s : Placed) → Begins c0 events (doing_of turn) c
+pub taken-at : (w : Waits) (turn : Result CardTurn CardFault) (acted : Result EncodedCardTurn CardFault)
+    (c0 : CardState) (events : List Event) (c : CardState) (granted : ℕ) (rules : Rules) (p : wire.Doing)
+    (burst : List ℕ) (own : ℕ) (out between : List ℕ) (s : Placed) → Begins c0 events (doing_of w turn) c
     → IsCardPut turn out between acted
-    → IsHeard acted c was_asking false granted s.granted rules p burst 0 s.card s.line own s.own between s.out
+    → IsHeard acted c (is_asking w) false granted s.granted rules p burst 0 s.card s.line own s.own between s.out
     (Ok s.next)
-    → IsAt c0 (events ++ replied_for turn c) s
-taken-at (Ok (own_turn.Send told)) acted c0 events c was_asking granted rules p burst own out between s begins
+    → IsAt c0 (events ++ replied_for w turn c) s
+taken-at w (Ok (own_turn.Send told)) acted c0 events c granted rules p burst own out between s begins
     (count, is, placed) heard =
     let (same, kept, out_is, own_is, a, a_is, sent_so) = subst (λ (x : Result EncodedCardTurn CardFault).
-    IsHeard x c was_asking false granted s.granted rules p burst 0 s.card s.line own s.own between s.out (Ok s.next)) is
+    IsHeard x c (is_asking w) false granted s.granted rules p burst 0 s.card s.line own s.own between s.out (Ok s.next))
+    is
     heard in
     subst (λ (all_of : List Event). IsAt c0 all_of s) (sym (append-nil events))
     (sent-at _ rules count c0 events told s (talks-unsent (ruled rules) _ burst 0) sent_so.moved
     (same-ok s.next a (Ok s.next) refl a_is ∙ sent_so.action_is) (sym own_is)
     (ap (λ (n : ℕ). take n s.out) own_is ∙ ap (take count) out_is ∙ front told out between count placed)
     (subst (λ (left : CardState). Begins c0 events (says told) left) (sym same) begins))
-taken-at (Ok own_turn.Asked) acted c0 events c was_asking granted rules p burst own out between s begins (is, kept)
+taken-at w (Ok own_turn.Asked) acted c0 events c granted rules p burst own out between s begins (is, kept)
     heard =
     let now_heard = subst (λ (x : Result EncodedCardTurn CardFault).
-    IsHeard x c was_asking false granted s.granted rules p burst 0 s.card s.line own s.own between s.out (Ok s.next)) is
+    IsHeard x c (is_asking w) false granted s.granted rules p burst 0 s.card s.line own s.own between s.out (Ok s.next))
+    is
     heard in
-    asked-at (is_for_host false (asked_about c)) c0 events c rules p burst own between s refl begins now_heard.1
-taken-at (Err fault) acted c0 events c was_asking granted rules p burst own out between s begins (is, kept) heard =
+    asked-at (is_for_host false (asked_about c)) (is_new w) c0 events c rules p burst own between s refl
+    (ap is_first now_heard.0 ∙ first-granted w granted) begins now_heard.1
+taken-at w (Err fault) acted c0 events c granted rules p burst own out between s begins (is, kept) heard =
     let (same, granted_is, out_is, still, own_is, bad) = subst (λ (x : Result EncodedCardTurn CardFault).
-    IsHeard x c was_asking false granted s.granted rules p burst 0 s.card s.line own s.own between s.out (Ok s.next)) is
+    IsHeard x c (is_asking w) false granted s.granted rules p burst 0 s.card s.line own s.own between s.out (Ok s.next))
+    is
     heard in
     absurd (ok-or-not s.next fault (Ok s.next) refl bad)
 
@@ -277,7 +320,7 @@ pub hearing-at : (next : Next) (step : Step) (c0 : CardState) (events : List Eve
 hearing-at Heard step c0 events before after begins e stays hears_so =
     subst (λ (all_of : List Event). IsAt c0 all_of after)
     (append_assoc events (came (arrived (take handed (handed_over step.progress.is_spoiled step.burst))) ∷ []) _)
-    (taken-at _ hears_so.acted c0 _ _ _ _ _ _ _ _ _ _ after
+    (taken-at before.card.waits _ hears_so.acted c0 _ _ _ _ _ _ _ _ _ after
     (then-came c0 events before.card (take handed (handed_over step.progress.is_spoiled step.burst)) begins)
     hears_so.put hears_so.after)
 hearing-at Quiet step c0 events before after begins e stays (same, kept, own_is, out_is, a, a_is, sent_so) =
@@ -357,17 +400,16 @@ line-turn (action.Wait time) (deaf limit fault) c0 events doing before after tur
     (λ e. on-failed-unsent _ _ turn.burst) (λ e. on-failed-hearing _ _ turn.burst) begins turn.stepped_so
 line-turn next sound c0 events doing before after turn asked_for is begins = absurd asked_for
 
-pub host-turn : (c0 : CardState) (events : List Event) (octets answer : List ℕ) (before after : Placed)
-    → IsHostTurn before octets answer after → IsAt c0 events before
-    → IsAt c0 (events ++ asked octets answer ∷ []) after
-host-turn c0 events octets answer before after turn at =
-    let is : IsDoing (action.Asked turn.count) before at.served.doing =
-    subst (λ (a : Action). IsDoing a before at.served.doing) turn.asked_for at.served.is in
-    let same : octets ≡ before.card.command = owed-command before.card before.card.waits octets turn.owes in
-    replied-at c0 _ before.card answer _ _ turn.burst before.own before.out after
-    (then-asked c0 events before.card octets answer same
-    (λ short. let bad : true ≡ false = sym short ∙ ap is_short same ∙ is.2 in cc)
-    (subst (λ (d : Doing). Begins c0 events d before.card) is.0 at.served.begins)) turn.replied
+pub host-turn : (c0 : CardState) (events : List Event) (octets answer : List ℕ) (turn : HostTurn)
+    (before after : Placed) → IsHostTurn before octets answer turn after → IsAt c0 events before
+    → IsAt c0 (events ++ event_at (is_first before.granted) octets answer turn ∷ []) after
+host-turn c0 events octets answer turn before after called at =
+    let is : IsDoing (action.Asked called.count) before at.served.doing =
+    subst (λ (a : Action). IsDoing a before at.served.doing) called.asked_for at.served.is in
+    let same : octets ≡ before.card.command = owed-command before.card before.card.waits octets called.owes in
+    called-at c0 _ before.card answer turn _ _ called.burst before.own before.out after
+    (then-turned c0 events (is_first before.granted) before.card octets answer turn same (ap is_short same ∙ is.2)
+    (subst (λ (d : Doing). Begins c0 events d before.card) is.0 at.served.begins)) called.called
 
 -- ---- all turns
 
@@ -384,8 +426,8 @@ all-at c0 first sounds events acts last at (by_line heard before_events before_a
     let now_at = all-at c0 first heard before_events before_acts before at turns in
     line-turn before.next sound c0 before_events now_at.served.doing before after turn turn.asked_for now_at.served.is
     now_at.served.begins
-all-at c0 first sounds events acts last at (by_host heard before_events before_acts before octets answer after turns
-    turn) = host-turn c0 before_events octets answer before after turn
+all-at c0 first sounds events acts last at (by_host heard before_events before_acts before octets answer turn after
+    turns called) = host-turn c0 before_events octets answer turn before after called
     (all-at c0 first heard before_events before_acts before at turns)
 
 pub ran-at : {A B : Type 0} (old new : A → List Sound → Type 0) (old_host new_host : B → List Event → Type 0)

@@ -1,4 +1,5 @@
 pub mod Ending
+pub mod Hosts
 pub mod Running
 pub mod Talking
 pub mod Serving

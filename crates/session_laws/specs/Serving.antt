@@ -2,7 +2,7 @@
 -- events of its card are those of a card that serves over a line (line_core), so the laws of such a card hold of it.
 use Rattle.std.specs.Prelude.{◌≡◌, ◌≤◌, ◌<◌, ◌+◌, ℕ, List, [], ◌∷◌, ◌++◌, length, take, Bool, true, false, if◌then◌else◌, Some, Result, Ok, Err}
 use Rattle.block_core.specs.Block.{Parts, spelling}
-use Rattle.t1_core.specs.Card.{CardState, replies, card_turn, turn_of, state_after}
+use Rattle.t1_core.specs.Card.{CardState, Waits, card_turn, turn_of, state_after}
 use Rattle.t1_core.specs.CardViews.{owed}
 use Rattle.t1_core.specs.declared.turns.CardTurn.{CardTurn}
 use Rattle.t1_core.specs.declared.turns.CardTurn.TheVariants as own_turn
@@ -11,7 +11,7 @@ use Rattle.line_core.specs.Bursts.{HasHeard, handed}
 use Rattle.line_core.specs.Line.{block}
 use Rattle.line_core.specs.Timed.{Sound, Sounds, said}
 use Rattle.line_core.specs.Timed as timed
-use Rattle.line_core.specs.Service.{Event, came, asked, sent, is_short, wrong_length, Happens, Doing, hears, says, asks, Ending, Serves}
+use Rattle.line_core.specs.Service.{Event, came, asked, sent, is_short, is_new, wrong_length, Happens, Doing, hears, says, asks, Ending, Serves}
 use Rattle.session_core.specs.declared.event.Next.{Next}
 use Rattle.session_core.specs.declared.event.Next.TheVariants.{Heard}
 use Rattle.session_core.specs.declared.progress.Phase.{Phase}
@@ -24,6 +24,8 @@ use Rattle.session_core.specs.Wire.{Step, ruled, seen, serves, handed_over, fore
 use Rattle.session_core.specs.Lines.{stepped, first_of}
 use Rattle.session_core.specs.Terminals.{IsSent}
 use Rattle.session_core.specs.Cards.{TurnsTo, IsStepped, heard_in, is_for_host, asked_about}
+use Rattle.session_laws.specs.declared.host.HostTurn.{HostTurn}
+use Rattle.session_laws.specs.Hosts.{input_by, event_at, is_first}
 use Rattle.session_laws.specs.Running.{IsAsked, event_of, octets_of}
 
 -- a card's session before its next action
@@ -54,15 +56,15 @@ step_by before sound burst = stepped (event_of sound) (ruled before.line.rules) 
 -- ---- the events of a step
 
 -- the session replies 6700 for its host to a message that is too short for a command
-abbrev pub replied_for : Result CardTurn CardFault → CardState → List Event
-replied_for (Ok own_turn.Asked) c =
-    if is_for_host false (asked_about c) then [] else (asked c.command wrong_length ∷ [])
-replied_for turn c = []
+abbrev pub replied_for : Waits → Result CardTurn CardFault → CardState → List Event
+replied_for waits (Ok own_turn.Asked) c =
+    if is_for_host false (asked_about c) then [] else (asked (is_new waits) c.command wrong_length ∷ [])
+replied_for waits turn c = []
 
 -- the card takes a burst
 abbrev pub heard_as : CardState → List ℕ → List Event
 heard_as c burst = came (block (take handed burst))
-    ∷ replied_for (turn_of (card_turn c (heard_in c burst))) (state_after c (card_turn c (heard_in c burst)))
+    ∷ replied_for c.waits (turn_of (card_turn c (heard_in c burst))) (state_after c (card_turn c (heard_in c burst)))
 
 abbrev pub stepped_as : Next → Step → CardState → List Event
 stepped_as Heard step c = heard_as c (handed_over step.progress.is_spoiled step.burst)
@@ -88,15 +90,15 @@ pub record IsLineTurn (before : Placed) (sound : Sound) (after : Placed) : Type 
       before.card false before.granted after.granted 0 after.card after.line before.own after.own before.out after.out
       (Ok after.next)
 
--- the host acts on its command, and replies
-pub record IsHostTurn (before : Placed) (command reply : List ℕ) (after : Placed) : Type 0 where
+-- the host acts on its command, or goes on with it, and this is its turn, with this reply if it replies
+pub record IsHostTurn (before : Placed) (command reply : List ℕ) (turn : HostTurn) (after : Placed) : Type 0 where
   pub count : ℕ
   pub asked_for : before.next ≡ action.Asked count
   pub owes : owed before.card before.card.waits ≡ Some command
   pub burst : List ℕ
   pub heard : HasHeard before.line.framer burst
   pub granted_is : after.granted ≡ before.granted
-  pub replied : TurnsTo before.card (replies reply) Exchange before.line.rules (seen before.line.progress) burst 0
+  pub called : TurnsTo before.card (input_by reply turn) Exchange before.line.rules (seen before.line.progress) burst 0
       after.card after.line before.own after.own before.out after.out (Ok after.next)
 
 -- The turns since the loop began, with the calls of the device, the events of the card, and those of its host, in their
@@ -107,8 +109,10 @@ pub data Turns (first : Placed) : List Sound → List Event → List Event → P
       → Turns first sounds events acts before → (turn : IsLineTurn before sound after)
       → Turns first (sounds ++ sound ∷ []) (events ++ events_by before sound turn.burst) acts after
   by_host : (sounds : List Sound) (events acts : List Event) (before : Placed) (command reply : List ℕ)
-      (after : Placed) → Turns first sounds events acts before → IsHostTurn before command reply after
-      → Turns first sounds (events ++ asked command reply ∷ []) (acts ++ asked command reply ∷ []) after
+      (turn : HostTurn) (after : Placed) → Turns first sounds events acts before
+      → IsHostTurn before command reply turn after
+      → Turns first sounds (events ++ event_at (is_first before.granted) command reply turn ∷ [])
+      (acts ++ event_at (is_first before.granted) command reply turn ∷ []) after
 
 -- the card began to listen
 pub record IsBegun (card : CardState) (line : Line) (first : Placed) : Type 0 where
@@ -129,8 +133,8 @@ pub record Ran {A B : Type 0} (old new : A → List Sound → Type 0) (old_host 
   pub acted : Happens old_host new_host acts
   pub turns : Turns first sounds events acts last
 
--- Why the loop made no more turns, each of which is a call of the device or an act of the host. It made as many as it may,
--- or the last action ends the session, or nothing came in the last call, a wait without a limit.
+-- Why the loop made no more turns, each of which is a call of the device or a turn of the host. It made as many as it
+-- may, or the last action ends the session, or nothing came in the last call, a wait without a limit.
 pub data IsOver (most : ℕ) (sounds : List Sound) (acts : List Event) (last : Action) : Type 0 where
   all_made : length sounds + length acts ≡ most → IsOver most sounds acts last
   ended : length sounds + length acts ≤ most → lives last ≡ false → IsOver most sounds acts last
@@ -156,11 +160,12 @@ IsToHear true octets doing = IsToSend octets doing
 IsToHear false octets doing = doing ≡ hears
 
 -- What the card has to do before this action. A host that is asked owes the reply to a command, never to a message that
--- is too short for one.
+-- is too short for one. The session knows whether the command is new to it.
 abbrev pub IsDoing : Action → Placed → Doing → Type 0
 IsDoing (action.Send count) s doing = (count ≡ s.own) × IsToSend (take s.own s.out) doing
 IsDoing (action.Wait time) s doing = IsToHear (is_unsent (seen s.line.progress).phase) (take s.own s.out) doing
-IsDoing (action.Asked count) s doing = (doing ≡ asks) × (owed s.card s.card.waits ≡ Some s.card.command)
+IsDoing (action.Asked count) s doing = (doing ≡ asks (is_first s.granted))
+    × (owed s.card s.card.waits ≡ Some s.card.command)
     × (is_short s.card.command ≡ false)
 IsDoing other s doing = Unit {0}
 
@@ -179,15 +184,15 @@ pub record IsServed (c0 : CardState) (events : List Event) (s : Placed) : Type 0
 
 -- ---- a refusal
 
--- The card refused a burst, after this last call of the device, or the reply of its host, after this last act of it.
+-- The card refused a burst, after this last call of the device, or the call of its host in this last turn of it.
 pub data IsRefused (before : Placed) (fault : CardFault) : List Sound → List Event → Type 0 where
   burst_refused : (sound : Sound) (burst : List ℕ) (granted own : ℕ) (out : List ℕ) (card : CardState) (line : Line)
       → IsAsked before.next before.out sound → HasHeard before.line.framer burst
       → IsStepped (step_by before sound burst).next (step_by before sound burst) before.line.rules before.card false
       before.granted granted 0 card line before.own own before.out out (Err fault)
       → IsRefused before fault (sound ∷ []) []
-  reply_refused : (reply : List ℕ) → turn_of (card_turn before.card (replies reply)) ≡ Err fault
-      → IsRefused before fault [] (asked before.card.command reply ∷ [])
+  turn_refused : (reply : List ℕ) (turn : HostTurn) → turn_of (card_turn before.card (input_by reply turn)) ≡ Err fault
+      → IsRefused before fault [] (event_at (is_first before.granted) before.card.command reply turn ∷ [])
 
 -- What the loop has done, if the card refused something after these turns, which are fewer than it may make.
 pub record Stopped {A B : Type 0} (old new : A → List Sound → Type 0) (old_host new_host : B → List Event → Type 0)

@@ -1,9 +1,9 @@
 //! Laws of both loops over one line, as contracts.
 //!
 //! `specs/Together.antt` has the statements. They are about a new terminal whose exchanges are calls of `exchange_ends`,
-//! and a new card that `serve_events` serves. The terminal may also begin with `resynch_ends`, to which the card answers:
-//! then the card may have been in any state. The line between them passes what one end sent to the other, except what it
-//! loses or damages.
+//! and a new card that `serve_events` serves, whose host may ask for time or a size before it replies. The terminal may
+//! also begin with `resynch_ends`, to which the card answers: then the card may have been in any state. The line between
+//! them passes what one end sent to the other, except what it loses or damages.
 
 ghost use Rattle.session_laws.specs.Together.{AlwaysTwoEnds, AlwaysMatched, AlwaysInOrder, AlwaysPatient, AlwaysOnce};
 

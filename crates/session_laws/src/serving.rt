@@ -1,19 +1,21 @@
 //! The loop of a card.
 
 ghost use Rattle.std.specs.Prelude.{◌≡◌, ◌≤◌, ℕ, List, [], ◌∷◌, length, true, false, IfOk, IfErr, Some};
-ghost use Rattle.t1_core.specs.Card.{replies};
 ghost use Rattle.t1_core.specs.CardViews.{card_held, IsLentCard, owed};
-ghost use Rattle.line_core.specs.Service.{Event, asked, Happens};
+ghost use Rattle.line_core.specs.Service.{Event, Happens};
 ghost use Rattle.line_core.specs.Bursts.{HasHeard};
 ghost use Rattle.session_core.specs.declared.lines.Start.TheVariants.{Exchange};
 ghost use Rattle.session_core.specs.declared.action.Action.TheVariants.{Wait};
 ghost use Rattle.session_core.specs.Wire.{seen, forever};
 ghost use Rattle.session_core.specs.Cards.{TurnsTo};
+ghost use Rattle.session_laws.specs.declared.host.HostTurn.{HostTurn};
 ghost use Rattle.session_laws.specs.Ending.{HasBurst};
+ghost use Rattle.session_laws.specs.Hosts.{input_by, event_at, is_first};
 ghost use Rattle.session_laws.specs.Serving.{placed, lives, Ran, IsOver, IsServed, Stopped};
 
 use crate::device::{LONGEST_BLOCK, SILENT, done};
-use line_core::{Host, TimedDevice};
+use crate::host::{AskingHost, HostTurn};
+use line_core::TimedDevice;
 use session_core::{Action, CardSession};
 use t1_core::CardFault;
 
@@ -35,12 +37,16 @@ fn is_over(action: &Action, event: u8) -> bool
 }
 
 /// Serves what comes over a device to a card: does what each action says, and passes the result to the session. The host
-/// acts on each command. It gets no message of fewer than four octets, so `takes_short` of the session isn't set.
+/// acts on each command once. It replies, or first asks the terminal for time or a size, and goes on once the terminal
+/// granted it. It gets no message of fewer than four octets, so `takes_short` of the session isn't set.
 ///
-/// This returns after `most` turns, each a call of the device or of the host. It returns earlier only if the last action
-/// ends the session, as after a failure of the line, or if nothing came in a wait without a limit. What comes is put
-/// into `room` first.
-pub fn serve_events<D: TimedDevice, H: Host>(
+/// This returns after `most` turns, each a call of the device or a turn of the host. It returns earlier only if the last
+/// action ends the session, as after a failure of the line, or if nothing came in a wait without a limit. What comes is
+/// put into `room` first.
+///
+/// The call is refused if the card refuses what came, or the call of its host: as `TooLong` a reply of more octets than
+/// the card has room for, and as `Reserved` the sizes 0 and 255.
+pub fn serve_events<D: TimedDevice, H: AskingHost>(
     session: &mut CardSession,
     command: &mut [u8],
     reply: &mut [u8],
@@ -75,7 +81,7 @@ pub fn serve_events<D: TimedDevice, H: Host>(
     while left > 0 && lives(&action) {
         left -= 1;
         if let Action::Asked(_) = action {
-            action = reply_to(session, command, reply, host, &mut out)?;
+            action = host_turn(session, command, reply, host, &mut out)?;
         } else {
             let (event, count) = done(&action, device, &out, room);
             let is_last = is_over(&action, event);
@@ -88,8 +94,8 @@ pub fn serve_events<D: TimedDevice, H: Host>(
     Ok(action)
 }
 
-/// Lets the host act on its command, and replies for it.
-fn reply_to<H: Host>(
+/// Lets the host take its turn, and makes its call of the card.
+fn host_turn<H: AskingHost>(
     session: &mut CardSession,
     command: &[u8],
     reply: &mut [u8],
@@ -104,14 +110,32 @@ fn reply_to<H: Host>(
     ensures fit { IsLentCard session.new.card (length command.now) (length reply.new) }
     ensures host { (session.new.granted ≡ session.old.granted)
         × (session.new.takes_short ≡ session.old.takes_short) }
-    ensures replied { (answer : List ℕ)
+    ensures called { (answer : List ℕ) × (turn : HostTurn)
         × Happens (H.served host.old) (H.served host.new)
-        (asked (card_held session.old.card command.now reply.old).command answer ∷ [])
+        (event_at (is_first session.old.granted)
+        (card_held session.old.card command.now reply.old).command answer turn ∷ [])
         × ((burst : List ℕ) → HasHeard session.old.line.framer burst
-        → TurnsTo (card_held session.old.card command.now reply.old) (replies answer) Exchange session.old.line.rules
-        (seen session.old.line.progress) burst 0 (card_held session.new.card command.now reply.new) session.new.line
-        session.old.own session.new.own out.old out.new result) }
+        → TurnsTo (card_held session.old.card command.now reply.old) (input_by answer turn) Exchange
+        session.old.line.rules (seen session.old.line.progress) burst 0
+        (card_held session.new.card command.now reply.new) session.new.line session.old.own session.new.own out.old
+        out.new result) }
 {
-    host.act(session.card.command(command).unwrap_or(&[]));
-    session.reply(command, reply, host.reply(), 0, out)
+    let octets = session.card.command(command).unwrap_or(&[]);
+    match turn_of(host, octets, session.granted == 0) {
+        HostTurn::Reply => session.reply(command, reply, host.reply(), 0, out),
+        HostTurn::MoreTime(multiple) => session.more_time(command, reply, multiple, 0, out),
+        HostTurn::AskIfs(size) => session.ask_ifs(command, reply, size, 0, out),
+    }
+}
+
+/// Lets the host act on a command that is new to it, or go on with one. Returns what it does.
+fn turn_of<H: AskingHost>(host: &mut H, command: &[u8], is_new: bool) -> HostTurn
+    ensures { Happens (H.served host.old) (H.served host.new)
+        (event_at is_new command.now (H.reply host.new) result ∷ []) }
+{
+    if is_new {
+        host.act(command)
+    } else {
+        host.go_on(command)
+    }
 }

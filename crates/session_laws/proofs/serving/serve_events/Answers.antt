@@ -15,7 +15,7 @@ loop-left-init g c = (
   search rules,
   (
     [],
-    begun-ran (g.D.TimedDevice.heard c.args.device.now) (g.H.Host.served c.args.host.now) _ _ _ record {
+    begun-ran (g.D.TimedDevice.heard c.args.device.now) (g.H.AskingHost.served c.args.host.now) _ _ _ record {
       burst = c.requires.burst.0;
       heard = c.requires.burst.1;
       card_is = rw c.serve-action.ensures.card refl;
@@ -25,41 +25,43 @@ loop-left-init g c = (
   ),
 )
 
-pub reply_to-requires-clause-owes : goal.reply_to-requires-clause-owes
-reply_to-requires-clause-owes g c = owes-command _ _ _ c.in-Asked.field-0
+pub host_turn-requires-clause-owes : goal.host_turn-requires-clause-owes
+host_turn-requires-clause-owes g c = owes-command _ _ _ c.in-Asked.field-0
     (ran-at _ _ _ _ _ _ _ _ c.loop-left.invariant.4.1) c.in-Asked.is
 
 pub returns-in_err-action-clause-refused : goal.returns-in_err-action-clause-refused
 returns-in_err-action-clause-refused g c =
     let at = ran-at _ _ _ _ _ _ _ _ c.loop-left.invariant.4.1 in
-    let replied = c.in_err-action.ensures.replied in
+    let called = c.in_err-action.ensures.called in
     let p = err_from_is_err_and c.from_residual.result c.from_residual.ensures.1 in
     rw (p.1, p.2) (host-stopped (g.D.TimedDevice.heard c.args.device.now) (g.D.TimedDevice.heard c.loop-left.device)
-    (g.H.Host.served c.args.host.now) (g.H.Host.served c.loop-left.host) (g.H.Host.served c.reply_to.new.host) _ _ _ _ _
-    _ replied.0 _ _ _ _ _ c.loop-left.invariant.4.1 (omega (arith, c.loop-left.invariant.4.2)) replied.1
-    (replied.2 at.burst.0 at.burst.1))
+    (g.H.AskingHost.served c.args.host.now) (g.H.AskingHost.served c.loop-left.host)
+    (g.H.AskingHost.served c.host_turn.new.host) _ _ _ _ _
+    _ called.0 called.1 _ _ _ _ _ c.loop-left.invariant.4.1 (omega (arith, c.loop-left.invariant.4.2)) called.2
+    (called.3 at.burst.0 at.burst.1))
 
 pub loop-left-preserved-in-Asked : goal.loop-left-preserved-in-Asked
 unfolding host-ran
 loop-left-preserved-in-Asked g c =
     let at = ran-at _ _ _ _ _ _ _ _ c.loop-left.invariant.4.1 in
-    let replied = c.in_ok-action.ensures.replied in (
-      c.reply_to.ensures.fit,
+    let called = c.in_ok-action.ensures.called in (
+      c.host_turn.ensures.fit,
       search rules,
       c.loop-left.invariant.2,
       search rules,
       (
         _,
         host-ran (g.D.TimedDevice.heard c.args.device.now) (g.D.TimedDevice.heard c.loop-left.device)
-            (g.H.Host.served c.args.host.now) (g.H.Host.served c.loop-left.host) (g.H.Host.served c.reply_to.new.host)
-            _ _ _ _ _ replied.0 _ c.loop-left.invariant.4.1 replied.1 record {
+            (g.H.AskingHost.served c.args.host.now) (g.H.AskingHost.served c.loop-left.host)
+            (g.H.AskingHost.served c.host_turn.new.host)
+            _ _ _ _ _ called.0 called.1 _ c.loop-left.invariant.4.1 called.2 record {
               count = c.in-Asked.field-0;
               asked_for = c.in-Asked.is;
               owes = owes-command _ _ _ c.in-Asked.field-0 at c.in-Asked.is;
               burst = at.burst.0;
               heard = at.burst.1;
-              granted_is = c.reply_to.ensures.host.0;
-              replied = replied.2 at.burst.0 at.burst.1;
+              granted_is = c.host_turn.ensures.host.0;
+              called = called.3 at.burst.0 at.burst.1;
             },
         host-counted c.loop-left.invariant.4.1.sounds c.loop-left.invariant.4.1.acts _ _ _
             (omega (arith, c.loop-left.invariant.4.2)),
@@ -82,8 +84,8 @@ returns-in_err-action-2 g c =
       short = search rules;
       run = tt;
       refused = line-stopped (g.D.TimedDevice.heard c.args.device.now) (g.D.TimedDevice.heard c.loop-left.device)
-          (g.D.TimedDevice.heard c.done-event.new.device) (g.H.Host.served c.args.host.now)
-          (g.H.Host.served c.loop-left.host) _ _ _ _ _ before sound at.burst.0 c.step.new.self.granted
+          (g.D.TimedDevice.heard c.done-event.new.device) (g.H.AskingHost.served c.args.host.now)
+          (g.H.AskingHost.served c.loop-left.host) _ _ _ _ _ before sound at.burst.0 c.step.new.self.granted
           c.step.new.self.own
           c.step.new.out
           after c.step.new.self.line c.loop-left.invariant.4.1 (omega (arith, c.loop-left.invariant.4.2)) adds asked_for
@@ -110,8 +112,8 @@ loop-left-preserved g c =
       (
         _,
         line-ran (g.D.TimedDevice.heard c.args.device.now) (g.D.TimedDevice.heard c.loop-left.device)
-            (g.D.TimedDevice.heard c.done-event.new.device) (g.H.Host.served c.args.host.now)
-            (g.H.Host.served c.loop-left.host) _ _ _ before sound
+            (g.D.TimedDevice.heard c.done-event.new.device) (g.H.AskingHost.served c.args.host.now)
+            (g.H.AskingHost.served c.loop-left.host) _ _ _ before sound
             (placed after c.step.new.self.line c.step.new.self.granted c.step.new.self.own c.step.new.out
             c.in_ok-action-2.action)
             c.loop-left.invariant.4.1 adds record {
@@ -142,8 +144,8 @@ returns-then-is_last g c =
     c.in_ok-action-2.action in
     let quiet = c.is_over-is_last.ensures c.if-is_last.true in
     let ran = line-ran (g.D.TimedDevice.heard c.args.device.now) (g.D.TimedDevice.heard c.loop-left.device)
-    (g.D.TimedDevice.heard c.done-event.new.device) (g.H.Host.served c.args.host.now)
-    (g.H.Host.served c.loop-left.host) _ _ _ before sound last now adds record {
+    (g.D.TimedDevice.heard c.done-event.new.device) (g.H.AskingHost.served c.args.host.now)
+    (g.H.AskingHost.served c.loop-left.host) _ _ _ before sound last now adds record {
       asked_for = asked_for;
       burst = at.burst.0;
       heard = at.burst.1;

@@ -11,7 +11,8 @@ invariant-loop-left g l =
     × (1 ≤ length l.room)
     × (l.session.takes_short ≡ false)
     × ((events : List Event) × (ran : Ran (g.D.TimedDevice.heard l.fn.device) (g.D.TimedDevice.heard l.device)
-    (g.H.Host.served l.fn.host) (g.H.Host.served l.host) (card_held l.fn.session.card l.fn.command l.fn.reply)
+    (g.H.AskingHost.served l.fn.host) (g.H.AskingHost.served l.host)
+    (card_held l.fn.session.card l.fn.command l.fn.reply)
     l.fn.session.line events
     (placed (card_held l.session.card l.command l.reply) l.session.line l.session.granted l.session.own l.out l.action))
     × (length ran.sounds + length ran.acts + l.left ≡ l.most))
