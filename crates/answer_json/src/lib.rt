@@ -1,8 +1,8 @@
 //! Lines that the program prints, as JSON.
 //!
 //! [`json_line`] returns the line of a refusal or a fault as an object. `specs/Forms.antt` states which line has which
-//! members. [`line_strings`] returns the lines of any text as the strings of an array, and [`note_items`] those with
-//! notes as objects.
+//! members. [`line_strings`] returns the lines of any text as the strings of an array, and [`push_note`] appends a line
+//! and its note as an object.
 #![tactic(auto)]
 
 mod forms;
@@ -12,5 +12,5 @@ pub mod strings;
 mod words;
 
 pub use line::json_line;
-pub use notes::note_items;
+pub use notes::push_note;
 pub use strings::{json_string, line_strings};

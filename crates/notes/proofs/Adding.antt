@@ -1,13 +1,7 @@
 -- Texts with notes in a row.
-use Rattle.std.proofs.Common.{◌≡◌, ◌∙◌, ◌++◌, ℕ, List, [], ◌∷◌, Option, ap, append_assoc, refl}
+use Rattle.std.proofs.Common.{◌∙◌, ◌++◌, ℕ, List, [], ◌∷◌, ap, append_assoc, refl}
 use Rattle.notes.specs.Noted.{IsAdded, IsNoted}
-use Rattle.notes.specs.Says.{NoteText, note_of, said, words_marked}
 use Rattle.notes.proofs.Cutting.{noted-by-none}
-
--- the note of words and a number is that of what they are
-pub as-said : (before : List ℕ) (number : Option ℕ) (after : List ℕ) (says : NoteText) → said before number after ≡ says
-    → words_marked before number after ≡ note_of says
-as-said before number after says is = ap note_of is
 
 -- two texts with notes in a row are one
 noted-append : (a b s t : List ℕ) → IsNoted a s → IsNoted b t → IsNoted (a ++ b) (s ++ t)

@@ -1,7 +1,6 @@
 -- No note has a line end, so each comes before the end of its line.
-use Rattle.std.proofs.Common.{◌≡◌, ◌≢◌, ◌==◌, ◌&&◌, ◌||◌, ◌<◌, ◌-◌, ◌/◌, ◌%◌, ◌*◌, ◌++◌, ℕ, nat_le, List, [], ◌∷◌, Bool, true, false, if◌then◌else◌, not, Option, Some, None, Result, Ok, Err, ◌∙◌, ap, arith, codes, drop, length, refl, slice_index, subst, sym, take}
+use Rattle.std.proofs.Common.{◌≡◌, ◌≢◌, ◌==◌, ◌&&◌, ◌||◌, ◌<◌, ◌-◌, ◌/◌, ◌%◌, ◌*◌, ◌++◌, ℕ, nat_le, List, [], ◌∷◌, Bool, true, false, if◌then◌else◌, not, Option, Some, None, Result, Ok, Err, ◌∙◌, ap, arith, codes, drop, length, refl, slice_index, take}
 use Rattle.std.specs.List.{All, list_all}
-use Rattle.std.specs.Fmt.{decimal}
 use Rattle.std.specs.Str.{IsUtf8}
 use Rattle.std.proofs.lemmas.Bool.Decides.{nat_tests}
 use Rattle.std.proofs.lemmas.List.{length-append}
@@ -14,10 +13,9 @@ use Rattle.atr_core.specs.declared.atr.Indicated.{Indicated}
 use Rattle.atr_core.specs.declared.params.ParamFault.{ParamFault}
 use Rattle.tlv_core.specs.Flat.{PartValue}
 use Rattle.tlv_core.specs.Tag.{constructed_bit}
-use Rattle.notes.specs.Noted.{IsAdded, kept, mark, marked, note, noted_line, nothing}
-use Rattle.notes.specs.Says.{NoteText, asked_from, chained, class_says, count_note, counted, header_note, header_place, instruction_says, is_printable, is_standard, is_text, le_says, list_note, lrc_says, nad_says, name_then, named, note_of, note_text, object_note, part_note, pcb_says, quoted, said, secured, status_says, supervisory_says, t1_says, ta_says, tag_says, target, tck_says, td_says, text_note, there, value_note, value_quoted, words, words_marked}
+use Rattle.notes.specs.Noted.{IsAdded, kept, marked, note, noted_line, nothing}
+use Rattle.notes.specs.Says.{NoteText, asked_from, chained, class_says, count_note, counted, header_note, header_place, instruction_says, is_printable, is_standard, is_text, le_says, list_note, lrc_says, nad_says, name_then, named, note_of, note_text, object_note, part_note, pcb_says, quoted, said, secured, status_says, supervisory_says, t1_says, ta_says, tag_says, target, tck_says, td_says, text_note, there, value_note, value_quoted, words}
 use Rattle.notes.specs.Tables.{instructions, statuses}
-use Rattle.notes.proofs.Adding.{HasNotes, end-then, same, same-then}
 use Rattle.notes.proofs.Lacking.{both-true, decimal-lacks, either, lacks, more, number-then, one-more, passed}
 
 low : 10 < 48
@@ -37,27 +35,14 @@ choice : (t : Bool) (s u : NoteText) → Fits s → Fits u → Fits (if t then s
 choice true s u h g = h
 choice false s u h g = g
 
-marked-added : (said : List ℕ) → lacks 10 said ≡ true → IsAdded 10 (mark ++ said)
-marked-added said h = note said refl (passed 10 said h) refl
-
-added-of : (before : List ℕ) (number : Option ℕ) (after : List ℕ) → lacks 10 before ≡ true → lacks 10 after ≡ true
-    → IsAdded 10 (words_marked before number after)
-added-of [] None after h g = nothing refl
-added-of (x ∷ before) None after h g = marked-added (x ∷ before) h
-added-of before (Some number) after h g =
-    marked-added (before ++ (decimal number ++ after)) (more 10 before _ h (number-then 10 number after low g))
-
-added : (s : NoteText) → Fits s → IsAdded 10 (note_of s)
-added s h = added-of s.before s.number s.after h.before h.after
-
-text-lacks : (before : List ℕ) (number : Option ℕ) (after : List ℕ) → lacks 10 before ≡ true → lacks 10 after ≡ true
+said-lacks : (before : List ℕ) (number : Option ℕ) (after : List ℕ) → lacks 10 before ≡ true → lacks 10 after ≡ true
     → lacks 10 (note_text before number after) ≡ true
-text-lacks before None after h g = h
-text-lacks before (Some number) after h g = more 10 before _ h (number-then 10 number after low g)
+said-lacks before None after h g = h
+said-lacks before (Some number) after h g = more 10 before _ h (number-then 10 number after low g)
 
-added-choice : (t : Bool) (a b : List ℕ) → IsAdded 10 a → IsAdded 10 b → IsAdded 10 (if t then a else b)
-added-choice true a b h g = h
-added-choice false a b h g = g
+fits-lacks : (s : NoteText) → Fits s → lacks 10 (note_of s) ≡ true
+unfolding note_of
+fits-lacks s h = said-lacks s.before s.number s.after h.before h.after
 
 -- ---- names in tables
 
@@ -84,8 +69,8 @@ target-lacks a =
     (either 10 (a == 3) _ _ refl (either 10 (a == 4) _ _ refl (either 10 (a == 5) _ _ refl
     (either 10 (a == 6) _ _ refl refl))))))
 
-pub nad-added : (nad : ℕ) → IsAdded 10 (note_of (nad_says nad))
-nad-added nad = added (nad_says nad)
+pub nad-lacks : (nad : ℕ) → lacks 10 (note_of (nad_says nad)) ≡ true
+nad-lacks nad = fits-lacks (nad_says nad)
     (choice (nad == 0) _ _ (fits _ _ _ refl refl) (fits _ _ _ refl (target-lacks (nad / 16 % 8))))
 
 supervisory-fits : (pcb first : ℕ) → Fits (supervisory_says pcb first)
@@ -96,33 +81,35 @@ supervisory-fits pcb first =
     (choice (pcb == 0xE2) _ _ (fits _ _ _ refl refl) (choice (pcb == 0xE3) _ _ (fits _ _ _ refl refl)
     (fits _ _ _ refl refl))))))))
 
-pub pcb-added : (pcb first : ℕ) → IsAdded 10 (note_of (pcb_says pcb first))
-pcb-added pcb first = added (pcb_says pcb first)
+pub pcb-lacks : (pcb first : ℕ) → lacks 10 (note_of (pcb_says pcb first)) ≡ true
+pcb-lacks pcb first = fits-lacks (pcb_says pcb first)
     (choice (pcb == 0x00 || pcb == 0x40) _ _ (fits _ _ _ refl refl)
     (choice (pcb == 0x20 || pcb == 0x60) _ _ (fits _ _ _ refl refl)
     (choice (pcb == 0x80 || pcb == 0x90) _ _ (fits _ _ _ refl refl)
     (choice (pcb == 0x81 || pcb == 0x91) _ _ (fits _ _ _ refl refl)
     (choice (pcb == 0x82 || pcb == 0x92) _ _ (fits _ _ _ refl refl) (supervisory-fits pcb first))))))
 
-pub lrc-added : IsAdded 10 (note_of lrc_says)
-lrc-added = added lrc_says (fits _ _ _ refl refl)
+pub lrc-lacks : lacks 10 (note_of lrc_says) ≡ true
+lrc-lacks = fits-lacks lrc_says (fits _ _ _ refl refl)
 
 -- ---- answers to reset
 
-pub td-added : (protocol : ℕ) → IsAdded 10 (note_of (td_says protocol))
-td-added protocol = added (td_says protocol) (choice (protocol == 15) _ _ (fits _ _ _ refl refl) (fits _ _ _ refl refl))
+pub td-lacks : (protocol : ℕ) → lacks 10 (note_of (td_says protocol)) ≡ true
+td-lacks protocol = fits-lacks (td_says protocol)
+    (choice (protocol == 15) _ _ (fits _ _ _ refl refl) (fits _ _ _ refl refl))
 
-pub ta-added : (number ta : ℕ) → IsAdded 10 (note_of (ta_says number ta))
-ta-added number ta = added (ta_says number ta) (choice (number == 2) _ _ (fits _ _ _ refl refl) (fits _ _ _ refl refl))
+pub ta-lacks : (number ta : ℕ) → lacks 10 (note_of (ta_says number ta)) ≡ true
+ta-lacks number ta = fits-lacks (ta_says number ta)
+    (choice (number == 2) _ _ (fits _ _ _ refl refl) (fits _ _ _ refl refl))
 
-pub tck-added : (tck : Option ℕ) → IsAdded 10 (note_of (tck_says tck))
-tck-added None = nothing refl
-tck-added (Some tck) = added (tck_says (Some tck)) (fits _ _ _ refl refl)
+pub tck-lacks : (tck : Option ℕ) → lacks 10 (note_of (tck_says tck)) ≡ true
+tck-lacks None = fits-lacks (tck_says None) (fits _ _ _ refl refl)
+tck-lacks (Some tck) = fits-lacks (tck_says (Some tck)) (fits _ _ _ refl refl)
 
-pub t1-added : (params : Result T1Values ParamFault) (indicated : List Indicated)
-    → IsAdded 10 (note_of (t1_says params indicated))
-t1-added (Ok values) indicated = added (t1_says (Ok values) indicated) (fits _ _ _ refl refl)
-t1-added (Err fault) indicated = added (t1_says (Err fault) indicated)
+pub t1-lacks : (params : Result T1Values ParamFault) (indicated : List Indicated)
+    → lacks 10 (note_of (t1_says params indicated)) ≡ true
+t1-lacks (Ok values) indicated = fits-lacks (t1_says (Ok values) indicated) (fits _ _ _ refl refl)
+t1-lacks (Err fault) indicated = fits-lacks (t1_says (Err fault) indicated)
     (choice (length indicated == 0) _ _ (fits _ _ _ refl refl) (fits _ _ _ refl refl))
 
 -- ---- numbers of octets
@@ -130,12 +117,11 @@ t1-added (Err fault) indicated = added (t1_says (Err fault) indicated)
 counted-lacks : (n : ℕ) → lacks 10 (counted n) ≡ true
 counted-lacks n = either 10 (n == 1) _ _ refl (number-then 10 n (codes " octets") low refl)
 
-pub count-added : (n : ℕ) → IsAdded 10 (count_note n)
-count-added n = added-choice (n == 0) _ _ (nothing refl) (marked-added (counted n) (counted-lacks n))
+pub count-lacks : (n : ℕ) → lacks 10 (count_note n) ≡ true
+count-lacks n = either 10 (n == 0) _ _ refl (counted-lacks n)
 
-pub list-added : (entries : List (List ℕ × ℕ)) → IsAdded 10 (list_note entries)
-list-added entries = marked-added (codes "asks for " ++ counted (asked_from 0 entries))
-    (counted-lacks (asked_from 0 entries))
+pub list-lacks : (entries : List (List ℕ × ℕ)) → lacks 10 (list_note entries) ≡ true
+list-lacks entries = counted-lacks (asked_from 0 entries)
 
 -- ---- commands and responses
 
@@ -164,28 +150,25 @@ name-then-lacks : (name : List ℕ) → lacks 10 name ≡ true → lacks 10 (nam
 name-then-lacks [] h = refl
 name-then-lacks (x ∷ name) h = more 10 (x ∷ name) (codes ", ") h refl
 
-pub header-added : (class instruction : ℕ) → IsAdded 10 (header_note class instruction)
-header-added class instruction =
-    let says = class_says class in
-    let fit = class-fits class in
-    marked-added _ (more 10 (name_then (instruction_says class instruction)) _
+pub header-lacks : (class instruction : ℕ) → lacks 10 (header_note class instruction) ≡ true
+header-lacks class instruction =
+    more 10 (name_then (instruction_says class instruction)) _
     (name-then-lacks (instruction_says class instruction) (instruction-lacks class instruction))
-    (text-lacks says.before says.number says.after fit.before fit.after))
+    (fits-lacks (class_says class) (class-fits class))
 
-pub part-added : (len : ℕ) → IsAdded 10 (part_note len)
-part-added len = added-choice (len == 0) _ _ (nothing refl) (marked-added (codes "Lc " ++ decimal len)
-    (decimal-lacks 10 len low))
+pub part-lacks : (len : ℕ) → lacks 10 (part_note len) ≡ true
+part-lacks len = either 10 (len == 0) _ _ refl (decimal-lacks 10 len low)
 
-pub le-added : (le : Option ℕ) → IsAdded 10 (note_of (le_says le))
-le-added None = nothing refl
-le-added (Some le) = added (le_says (Some le)) (choice (le == 1) _ _ (fits _ _ _ refl refl) (fits _ _ _ refl refl))
+pub le-lacks : (le : Option ℕ) → lacks 10 (note_of (le_says le)) ≡ true
+le-lacks None = fits-lacks (le_says None) (fits _ _ _ refl refl)
+le-lacks (Some le) = fits-lacks (le_says (Some le)) (choice (le == 1) _ _ (fits _ _ _ refl refl) (fits _ _ _ refl refl))
 
 there-fits : (before : List ℕ) (sw2 : ℕ) (one others : List ℕ) → lacks 10 before ≡ true → lacks 10 one ≡ true
     → lacks 10 others ≡ true → Fits (there before sw2 one others)
 there-fits before sw2 one others h f g = fits _ _ _ h (either 10 (sw2 == 1) one others f g)
 
-pub status-added : (sw1 sw2 : ℕ) → IsAdded 10 (note_of (status_says sw1 sw2))
-status-added sw1 sw2 = added (status_says sw1 sw2)
+pub status-lacks : (sw1 sw2 : ℕ) → lacks 10 (note_of (status_says sw1 sw2)) ≡ true
+status-lacks sw1 sw2 = fits-lacks (status_says sw1 sw2)
     (choice (sw1 == 0x61) _ _ (there-fits _ sw2 _ _ refl refl refl)
     (choice (sw1 == 0x6C) _ _ (there-fits _ sw2 _ _ refl refl refl)
     (choice ((sw1 == 0x62 || sw1 == 0x64) && (nat_le 0x02 sw2 && nat_le sw2 0x80)) _ _ (fits _ _ _ refl refl)
@@ -219,12 +202,12 @@ text-utf8 octets h =
 quoted-lacks : (octets : List ℕ) → is_text octets ≡ true → lacks 10 (quoted octets) ≡ true
 quoted-lacks octets h = more 10 octets (codes "\"") (printable-lack octets (all-printable octets h)).0 refl
 
-pub text-added : (octets : List ℕ) → IsAdded 10 (text_note octets)
-text-added octets = go (is_text octets) refl
+pub text-lacks : (octets : List ℕ) → lacks 10 (text_note octets) ≡ true
+text-lacks octets = go (is_text octets) refl
   where
-    go : (t : Bool) → is_text octets ≡ t → IsAdded 10 (if t then mark ++ quoted octets else [])
-    go true e = marked-added (quoted octets) (quoted-lacks octets e)
-    go false e = nothing refl
+    go : (t : Bool) → is_text octets ≡ t → lacks 10 (if t then quoted octets else []) ≡ true
+    go true e = quoted-lacks octets e
+    go false e = refl
 
 -- ---- data objects
 
@@ -239,33 +222,31 @@ value-lacks p = either 10 (constructed_bit p.tag == 1) _ _ refl (go (is_text p.v
     go true e = quoted-lacks p.value e
     go false e = refl
 
-pub object-added : (p : PartValue) → IsAdded 10 (object_note p)
-object-added p =
+pub object-lacks : (p : PartValue) → lacks 10 (object_note p) ≡ true
+object-lacks p =
     let value : lacks 10 (value_note p) ≡ true =
     more 10 (counted (length p.value)) _ (counted-lacks (length p.value))
     (more 10 (tag_says (slice_index p.tag 0)) _ (tag-lacks (slice_index p.tag 0)) (value-lacks p)) in
-    marked-added _ (number-then 10 (header_place p) _ low (number-then 10 p.place _ low value))
+    number-then 10 (header_place p) _ low (number-then 10 p.place _ low value)
 
 -- ---- a line with words
 
-kept-all : (words : List ℕ) → list_all (λ x. not (x == 10)) words ≡ true → All (λ x. x ≢ 10) words
-kept-all [] h = All-nil (λ x. x ≢ 10)
+kept-all : (words : List ℕ) → list_all (λ x. not (x == 10)) words ≡ true → lacks 10 words ≡ true
+kept-all [] h = refl
 kept-all (x ∷ words) h =
     let both = both-true (not (x == 10)) (list_all (λ x. not (x == 10)) words) h in
-    All-cons (λ x. x ≢ 10) x words (λ is. grind (arith, nat_tests)) (kept-all words both.1)
+    one-more 10 x words (λ is. grind (arith, nat_tests)) (kept-all words both.1)
 
-kept-added : (words : List ℕ) → IsAdded 10 (marked (kept words))
-kept-added words = go (list_all (λ x. not (x == 10)) words) refl
+pub kept-lacks : (words : List ℕ) → lacks 10 (kept words) ≡ true
+kept-lacks words = go (list_all (λ x. not (x == 10)) words) refl
   where
-    some : (all : List ℕ) → All (λ x. x ≢ 10) all → IsAdded 10 (marked all)
-    some [] h = nothing refl
-    some (x ∷ all) h = note (x ∷ all) refl h refl
+    go : (t : Bool) → list_all (λ x. not (x == 10)) words ≡ t → lacks 10 (if t then words else []) ≡ true
+    go true e = kept-all words e
+    go false e = refl
 
-    go : (t : Bool) → list_all (λ x. not (x == 10)) words ≡ t → IsAdded 10 (marked (if t then words else []))
-    go true e = some words (kept-all words e)
-    go false e = nothing refl
-
-pub line-noted : (front words : List ℕ) → HasNotes (front ++ (10 ∷ [])) (noted_line (front ++ (10 ∷ [])) words)
+-- words come before the line end
+pub line-noted : (front words : List ℕ) → noted_line (front ++ (10 ∷ [])) words
+    ≡ front ++ (marked (kept words) ++ (10 ∷ []))
 line-noted front words =
     let line : List ℕ = front ++ (10 ∷ []) in
     let place : length line - 1 ≡ length front = omega (arith, length-append front (10 ∷ [])) in
@@ -273,9 +254,10 @@ line-noted front words =
     ap (λ (k : ℕ). take k line) place ∙ take-append_seam front (10 ∷ []) in
     let last : drop (length line - 1) line ≡ 10 ∷ [] =
     ap (λ (k : ℕ). drop k line) place ∙ drop-append_seam front (10 ∷ []) in
-    let whole : noted_line line words ≡ front ++ (marked (kept words) ++ (10 ∷ [])) =
     ap (λ (l : List ℕ). l ++ (marked (kept words) ++ drop (length line - 1) line)) first
-    ∙ ap (λ (l : List ℕ). front ++ (marked (kept words) ++ l)) last in
-    subst (HasNotes line) (sym whole)
-    (same-then front (10 ∷ []) (marked (kept words) ++ (10 ∷ []))
-    (end-then (marked (kept words)) [] [] (kept-added words) (same [])))
+    ∙ ap (λ (l : List ℕ). front ++ (marked (kept words) ++ l)) last
+
+-- words that are marked come between a line and its end
+pub marked-added : (words : List ℕ) → lacks 10 words ≡ true → IsAdded 10 (marked words)
+marked-added [] h = nothing refl
+marked-added (x ∷ words) h = note (x ∷ words) refl (passed 10 (x ∷ words) h) refl

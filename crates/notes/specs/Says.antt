@@ -6,7 +6,6 @@ use Rattle.atr_core.specs.declared.atr.Indicated.{Indicated}
 use Rattle.atr_core.specs.declared.params.ParamFault.{ParamFault}
 use Rattle.tlv_core.specs.Flat.{PartValue}
 use Rattle.tlv_core.specs.Tag.{constructed_bit, length_field}
-use Rattle.notes.specs.Noted.{mark, marked}
 use Rattle.notes.specs.Tables.{instructions, statuses}
 
 -- words, a number after them, if there is one, and the words after that
@@ -23,13 +22,9 @@ abbrev pub note_text : List ℕ → Option ℕ → List ℕ → List ℕ
 note_text before None after = before
 note_text before (Some number) after = before ++ (decimal number ++ after)
 
--- the note of words and a number: none if there are no words and no number
-abbrev pub words_marked : List ℕ → Option ℕ → List ℕ → List ℕ
-words_marked before None after = marked before
-words_marked before (Some number) after = mark ++ (before ++ (decimal number ++ after))
-
-abbrev pub note_of : NoteText → List ℕ
-note_of said = words_marked said.before said.number said.after
+-- the note of words and a number
+unfoldable pub note_of : NoteText → List ℕ
+note_of said = note_text said.before said.number said.after
 
 -- words alone
 abbrev pub words : List ℕ → NoteText
@@ -82,12 +77,11 @@ name_then [] = []
 name_then (x ∷ name) = (x ∷ name) ++ codes ", "
 
 abbrev pub header_note : ℕ → ℕ → List ℕ
-header_note class instruction = mark ++ (name_then (instruction_says class instruction)
-    ++ note_text (class_says class).before (class_says class).number (class_says class).after)
+header_note class instruction = name_then (instruction_says class instruction) ++ note_of (class_says class)
 
 -- a data field of this many octets
 abbrev pub part_note : ℕ → List ℕ
-part_note len = if len == 0 then [] else mark ++ (codes "Lc " ++ decimal len)
+part_note len = if len == 0 then [] else codes "Lc " ++ decimal len
 
 -- Le
 abbrev pub le_says : Option ℕ → NoteText
@@ -192,7 +186,7 @@ counted n = if n == 1 then codes "1 octet" else decimal n ++ codes " octets"
 
 -- the note on a number of octets: none on 0
 abbrev pub count_note : ℕ → List ℕ
-count_note n = if n == 0 then [] else mark ++ counted n
+count_note n = if n == 0 then [] else counted n
 
 -- how many octets the entries of a list request, at most 2 ^ 64 - 1; those before them request this many
 abbrev pub asked_from : ℕ → List (List ℕ × ℕ) → ℕ
@@ -201,7 +195,7 @@ asked_from before (entry ∷ entries) =
     asked_from (min (before + entry.1) (2 ^ 64 - 1)) entries
 
 abbrev pub list_note : List (List ℕ × ℕ) → List ℕ
-list_note entries = mark ++ (codes "asks for " ++ counted (asked_from 0 entries))
+list_note entries = codes "asks for " ++ counted (asked_from 0 entries)
 
 -- ---- data objects (ISO/IEC 7816-4:2005, 5.2.2.1)
 
@@ -227,7 +221,7 @@ quoted octets = codes "\"" ++ (octets ++ codes "\"")
 
 -- the note on octets that are text
 abbrev pub text_note : List ℕ → List ℕ
-text_note octets = if is_text octets then mark ++ quoted octets else []
+text_note octets = if is_text octets then quoted octets else []
 
 -- ---- objects of a forest
 
@@ -245,5 +239,5 @@ abbrev pub value_note : PartValue → List ℕ
 value_note p = counted (length p.value) ++ (codes ", " ++ (tag_says (slice_index p.tag 0) ++ value_quoted p))
 
 abbrev pub object_note : PartValue → List ℕ
-object_note p = mark ++ (codes "at " ++ (decimal (header_place p) ++ (codes ", value at "
-    ++ (decimal p.place ++ (codes ", " ++ value_note p)))))
+object_note p = codes "at " ++ (decimal (header_place p) ++ (codes ", value at "
+    ++ (decimal p.place ++ (codes ", " ++ value_note p))))

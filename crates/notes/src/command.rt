@@ -1,11 +1,9 @@
 //! Notes on commands.
 
 ghost use Rattle.std.specs.Prelude.{◌≡◌, ◌==◌, ◌++◌, OnOk, string_bytes};
-ghost use Rattle.notes.specs.Noted.{where_noted};
-ghost use Rattle.notes.specs.Says.{chained, class_says, header_note, instruction_says, le_says, name_then, named, note_text, part_note, said, secured};
+ghost use Rattle.notes.specs.Says.{chained, class_says, header_note, instruction_says, le_says, name_then, named, part_note, said, secured};
 ghost use Rattle.notes.specs.Tables.{instructions};
 
-use crate::joining::MARK;
 use crate::note::{Note, push_text};
 use std::alloc::AllocError;
 
@@ -64,23 +62,13 @@ const INSTRUCTIONS: [(u8, &str); 51] = [
     (0xFE, "TERMINATE CARD USAGE"),
 ];
 
-/// Appends the note on a header, if it is `noted`: the name of the instruction, if it has one in this class, and the
-/// class in words.
-pub fn push_header_note(
-    text: &mut String,
-    noted: bool,
-    class: u8,
-    instruction: u8,
-) -> Result<(), AllocError>
+/// Appends the note on a header: the name of the instruction, if it has one in this class, and the class in words.
+pub(crate) fn push_header(text: &mut String, class: u8, instruction: u8) -> Result<(), AllocError>
     ensures { OnOk result (string_bytes text.new ≡ string_bytes text.old
-        ++ where_noted noted (header_note class instruction)) }
+        ++ header_note class instruction) }
 {
-    if !noted {
-        return Ok(());
-    }
-    text.push_str(MARK)?;
     push_name(text, instruction_name(class, instruction))?;
-    push_class(text, class)
+    push_text(text, class_note(class))
 }
 
 /// Appends a name and a separator.
@@ -92,14 +80,6 @@ fn push_name(text: &mut String, name: &str) -> Result<(), AllocError>
     }
     text.push_str(name)?;
     text.push_str(", ")
-}
-
-/// Appends a class in words.
-fn push_class(text: &mut String, class: u8) -> Result<(), AllocError>
-    ensures { OnOk result (string_bytes text.new ≡ string_bytes text.old
-        ++ note_text (class_says class).before (class_says class).number (class_says class).after) }
-{
-    push_text(text, class_note(class))
 }
 
 /// Returns the note on a class (ISO/IEC 7816-4:2005, 5.1.1, tables 2 and 3): its secure messaging, its channel, and
@@ -174,17 +154,13 @@ fn named(rows: &'static [(u8, &'static str)], instruction: u8) -> &'static str
     ""
 }
 
-/// Appends the note on a data field, if it is `noted` and has octets: how many there are.
-pub fn push_part_note(text: &mut String, noted: bool, len: usize) -> Result<(), AllocError>
-    ensures { OnOk result (string_bytes text.new ≡ string_bytes text.old
-        ++ where_noted noted (part_note len)) }
+/// Appends the note on a data field of so many octets, if there are some: Lc.
+pub(crate) fn push_lc(text: &mut String, len: usize) -> Result<(), AllocError>
+    ensures { OnOk result (string_bytes text.new ≡ string_bytes text.old ++ part_note len) }
 {
-    if !noted {
-        return Ok(());
-    }
     match len {
         0 => Ok(()),
-        _ => write!(text, "  # Lc {len}"),
+        _ => write!(text, "Lc {len}"),
     }
 }
 

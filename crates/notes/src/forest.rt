@@ -3,25 +3,21 @@
 ghost use Rattle.std.specs.Prelude.{◌≡◌, ℕ, ◌-◌, ◌+◌, ◌++◌, OnOk, length, string_bytes};
 ghost use Rattle.tlv_core.specs.Flat.{part_seen};
 ghost use Rattle.tlv_core.specs.Tag.{length_field};
-ghost use Rattle.notes.specs.Noted.{where_noted};
 ghost use Rattle.notes.specs.Says.{object_note, tag_says, value_note, value_quoted};
 
 use crate::text::{as_text, push_counted};
 use std::alloc::AllocError;
 use tlv_core::{Form, Part, Tag};
 
-/// Appends the note on a data object, if it is `noted`: the places of its header and of its value, the length of the
-/// value, its class, and its value as text if it is text (ISO/IEC 7816-4:2005, 5.2.2).
-pub fn push_object_note(text: &mut String, noted: bool, part: &Part<'_>) -> Result<(), AllocError>
+/// Appends the note on a data object: the places of its header and of its value, the length of the value, its class,
+/// and its value as text if it is text (ISO/IEC 7816-4:2005, 5.2.2).
+pub(crate) fn push_object(text: &mut String, part: &Part<'_>) -> Result<(), AllocError>
     ensures { OnOk result (string_bytes text.new ≡ string_bytes text.old
-        ++ where_noted noted (object_note (part_seen part.now))) }
+        ++ object_note (part_seen part.now)) }
 {
-    if !noted {
-        return Ok(());
-    }
     let place = part.place;
     let header = header_at(part.tag, part.form, place);
-    write!(text, "  # at {header}, value at {place}, ")?;
+    write!(text, "at {header}, value at {place}, ")?;
     push_value(text, part)
 }
 

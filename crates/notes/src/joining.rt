@@ -18,20 +18,16 @@ pub fn noted_line(alloc: Global, line: &[u8], words: &str) -> Result<Octets, All
     let end = line.len().saturating_sub(1);
     let mut text = Vec::new(alloc);
     text.extend_from_slice(&line[..end])?;
-    push_kept(&mut text, words.as_bytes())?;
+    push_octets(&mut text, kept(words).as_bytes())?;
     text.extend_from_slice(&line[end..])?;
     Ok(Octets::of(text))
 }
 
-/// Appends words as a note, if they have no line end.
-fn push_kept(text: &mut Vec<u8>, words: &[u8]) -> Result<(), AllocError>
-    ensures { OnOk result (text.new.items ≡ text.old.items ++ marked (kept words.now)) }
+/// Returns words if they have no line end, and none otherwise.
+pub fn kept(words: &str) -> &str
+    ensures { result.now ≡ kept words.now }
 {
-    if is_line(words) {
-        push_octets(text, words)
-    } else {
-        Ok(())
-    }
+    if is_line(words.as_bytes()) { words } else { "" }
 }
 
 /// Appends words as a note.

@@ -1,7 +1,6 @@
 //! Notes for people on the lines of a value.
 //!
-//! A function appends the note on a line to its text, before the line ends, or returns its words. `specs/Says.antt` has
-//! the text of each. If octets are refused, the line of the refusal has the only note: what could be read so far, and
+//! A [`LineNote`] is what the note on a line is about, and appends its text. `specs/Says.antt` has the text of each. If octets are refused, the line of the refusal has the only note: what could be read so far, and
 //! what is missing. [`noted_line`] adds it. `specs/Noted.antt` defines how notes are cut off, and [`laws::cut_again`]
 //! proves that the lines are then as before. No clause says which words the note on a refusal has.
 #![tactic(auto)]
@@ -15,6 +14,7 @@ pub mod forest;
 pub mod forest_refusal;
 pub mod joining;
 pub mod laws;
+pub mod line_note;
 pub mod list;
 pub mod missing;
 pub mod note;
@@ -25,12 +25,12 @@ pub use atr::{mode_note, t1_note, ta_note, tck_note, td_note};
 pub use atr_refusal::{NextByte, atr_refusal_note, next_byte, tck_after};
 pub use block::{lrc_note, nad_note, pcb_note};
 pub use block_refusal::{block_refusal_note, chain_refusal_note, field_left};
-pub use command::{class_note, instruction_name, le_note, push_header_note, push_part_note};
-pub use forest::{class_name, push_object_note};
+pub use command::{class_note, instruction_name, le_note};
+pub use forest::class_name;
 pub use forest_refusal::{forest_refusal_note, wanted_of};
-pub use joining::{MARK, noted_line};
-pub use list::push_list_note;
+pub use joining::{MARK, kept, noted_line};
+pub use line_note::{CountNote, HeaderNote, LcNote, LineNote, ListNote, NoNote, TextNote};
 pub use missing::wanting_note;
-pub use note::{Note, push_note};
-pub use response::{push_status_note, status_note};
-pub use text::{is_text, push_count_note, push_text_note};
+pub use note::Note;
+pub use response::status_note;
+pub use text::is_text;

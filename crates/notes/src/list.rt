@@ -1,26 +1,18 @@
 //! Notes on data object lists.
 
 ghost use Rattle.std.specs.Prelude.{◌≡◌, ◌++◌, OnOk, string_bytes};
-ghost use Rattle.notes.specs.Noted.{where_noted};
 ghost use Rattle.notes.specs.Says.{asked_from, list_note};
 
 use crate::text::push_counted;
 use std::alloc::AllocError;
 use tlv_core::Tag;
 
-/// Appends the note on a data object list, if it is `noted`: how many octets its entries request.
-pub fn push_list_note(
-    text: &mut String,
-    noted: bool,
-    entries: &[(Tag, u8)],
-) -> Result<(), AllocError>
+/// Appends the note on a data object list: how many octets its entries request.
+pub(crate) fn push_asked(text: &mut String, entries: &[(Tag, u8)]) -> Result<(), AllocError>
     ensures { OnOk result (string_bytes text.new ≡ string_bytes text.old
-        ++ where_noted noted (list_note entries.now)) }
+        ++ list_note entries.now) }
 {
-    if !noted {
-        return Ok(());
-    }
-    text.push_str("  # asks for ")?;
+    text.push_str("asks for ")?;
     push_counted(text, asked(entries))
 }
 

@@ -1,10 +1,8 @@
 //! Words with a number between them.
 
-ghost use Rattle.std.specs.Prelude.{◌≡◌, ◌++◌, Some, OnOk, decimal, string_bytes};
-ghost use Rattle.notes.specs.Noted.{mark, marked, where_noted};
-ghost use Rattle.notes.specs.Says.{note_text, said, words, words_marked};
+ghost use Rattle.std.specs.Prelude.{◌≡◌, ◌++◌, Some, OnOk, string_bytes};
+ghost use Rattle.notes.specs.Says.{note_of, said, words};
 
-use crate::joining::MARK;
 use std::alloc::AllocError;
 
 /// A note on octets: `before`, then the number in decimal digits, if there is one, then `after`.
@@ -43,49 +41,11 @@ impl Note {
     }
 }
 
-/// Appends a note to its line, if it is `noted` and the note isn't empty.
-pub fn push_note(text: &mut String, noted: bool, note: Note) -> Result<(), AllocError>
-    ensures { OnOk result (string_bytes text.new ≡ string_bytes text.old
-        ++ where_noted noted (words_marked note.before.now note.number note.after.now)) }
-{
-    if !noted {
-        return Ok(());
-    }
-    match note.number {
-        Some(number) => push_numbered(text, note.before, number, note.after),
-        None => push_marked(text, note.before),
-    }
-}
-
-/// Appends a number between words as a note.
-fn push_numbered(
-    text: &mut String,
-    before: &str,
-    number: u32,
-    after: &str,
-) -> Result<(), AllocError>
-    ensures { OnOk result (string_bytes text.new ≡ string_bytes text.old
-        ++ (mark ++ (before.now ++ (decimal number ++ after.now)))) }
-{
-    text.push_str(MARK)?;
-    write!(text, "{before}{number}{after}")
-}
-
-/// Appends words as a note, if there are any.
-fn push_marked(text: &mut String, words: &str) -> Result<(), AllocError>
-    ensures { OnOk result (string_bytes text.new ≡ string_bytes text.old ++ marked words.now) }
-{
-    if words.is_empty() {
-        return Ok(());
-    }
-    text.push_str(MARK)?;
-    text.push_str(words)
-}
-
 /// Appends the text of a note.
+#[tactic(auto, unfolding(crate::specs::Says::note_of))]
 pub(crate) fn push_text(text: &mut String, note: Note) -> Result<(), AllocError>
     ensures { OnOk result (string_bytes text.new ≡ string_bytes text.old
-        ++ note_text note.before.now note.number note.after.now) }
+        ++ note_of (said note.before.now note.number note.after.now)) }
 {
     match note.number {
         Some(number) => write!(text, "{}{number}{}", note.before, note.after),

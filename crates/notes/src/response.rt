@@ -1,12 +1,10 @@
 //! Notes on responses.
 
-ghost use Rattle.std.specs.Prelude.{◌≡◌, ◌==◌, ◌&&◌, ◌++◌, OnOk, string_bytes};
-ghost use Rattle.notes.specs.Noted.{where_noted};
-ghost use Rattle.notes.specs.Says.{named, note_of, said, status_says, there};
+ghost use Rattle.std.specs.Prelude.{◌≡◌, ◌==◌, ◌&&◌};
+ghost use Rattle.notes.specs.Says.{named, said, status_says, there};
 ghost use Rattle.notes.specs.Tables.{statuses};
 
-use crate::note::{Note, push_note};
-use std::alloc::AllocError;
+use crate::note::Note;
 
 /// The meaning of status bytes (ISO/IEC 7816-4:2005, 5.1.3, tables 5 and 6), except those that have a number in SW2.
 const STATUSES: [(u8, u8, &str); 46] = [
@@ -57,17 +55,6 @@ const STATUSES: [(u8, u8, &str); 46] = [
     (0x6E, 0x00, "class not supported"),
     (0x6F, 0x00, "no precise diagnosis"),
 ];
-
-/// Appends the note on status bytes, if it is `noted`: what they mean.
-pub fn push_status_note(text: &mut String, noted: bool, sw1: u8, sw2: u8) -> Result<(), AllocError>
-    ensures { OnOk result (string_bytes text.new ≡ string_bytes text.old
-        ++ where_noted noted (note_of (status_says sw1 sw2))) }
-{
-    if !noted {
-        return Ok(());
-    }
-    push_note(text, noted, status_note(sw1, sw2))
-}
 
 /// Returns the meaning of status bytes (ISO/IEC 7816-4:2005, 5.1.3, tables 5 and 6). Empty if they have no name.
 pub fn status_note(sw1: u8, sw2: u8) -> Note

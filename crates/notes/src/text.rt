@@ -2,25 +2,20 @@
 
 ghost use Rattle.std.specs.Prelude.{◌≡◌, ◌++◌, true, false, IfOk, MatchOption, OnOk, string_bytes};
 ghost use Rattle.std.specs.List.{list_all};
-ghost use Rattle.notes.specs.Noted.{mark, where_noted};
 ghost use Rattle.notes.specs.Says.{count_note, counted, is_printable, is_text, text_note};
 
-use crate::joining::MARK;
 use std::alloc::{AllocError, Global};
 
 /// The most characters of a value that a note shows.
 const LONGEST_TEXT: usize = 40;
 
-/// Appends octets that are text as a note between quotation marks, if it is `noted`.
-pub fn push_text_note(text: &mut String, noted: bool, octets: &[u8]) -> Result<(), AllocError>
+/// Appends octets between quotation marks, if they are text.
+pub(crate) fn push_quoted(text: &mut String, octets: &[u8]) -> Result<(), AllocError>
     ensures { OnOk result (string_bytes text.new ≡ string_bytes text.old
-        ++ where_noted noted (text_note octets.now)) }
+        ++ text_note octets.now) }
 {
-    if !noted {
-        return Ok(());
-    }
     match as_text(octets) {
-        Some(words) => write!(text, "  # \"{words}\""),
+        Some(words) => write!(text, "\"{words}\""),
         None => Ok(()),
     }
 }
@@ -49,26 +44,14 @@ pub(crate) fn push_counted(text: &mut String, count: usize) -> Result<(), AllocE
     }
 }
 
-/// Appends a number of octets as a note, if it is `noted` and the number isn't 0.
-pub fn push_count_note(text: &mut String, noted: bool, count: usize) -> Result<(), AllocError>
-    ensures { OnOk result (string_bytes text.new ≡ string_bytes text.old
-        ++ where_noted noted (count_note count)) }
+/// Appends a number of octets in words, if it isn't 0.
+pub(crate) fn push_count(text: &mut String, count: usize) -> Result<(), AllocError>
+    ensures { OnOk result (string_bytes text.new ≡ string_bytes text.old ++ count_note count) }
 {
-    if !noted {
-        return Ok(());
-    }
     match count {
         0 => Ok(()),
-        _ => push_marked_count(text, count),
+        _ => push_counted(text, count),
     }
-}
-
-fn push_marked_count(text: &mut String, count: usize) -> Result<(), AllocError>
-    ensures { OnOk result (string_bytes text.new ≡ string_bytes text.old
-        ++ (mark ++ counted count)) }
-{
-    text.push_str(MARK)?;
-    push_counted(text, count)
 }
 
 /// Returns a number of octets in words.

@@ -1,35 +1,55 @@
 -- That a value or a refusal has notes which are cut off again.
-use Rattle.std.proofs.Common.{◌≡◌, ◌∙◌, ◌++◌, ◌-◌, [], true, false, List, ℕ, Result, Ok, Err, ap, append_assoc, arith, codes, length, length-append, refl, subst, sym, take}
-use Rattle.std.proofs.Math.Seq.{take-append_seam}
+use Rattle.std.proofs.Common.{◌≡◌, ◌∙◌, ◌++◌, ◌-◌, [], ◌∷◌, true, false, List, ℕ, Result, Ok, Err, ap, append-nil, append_assoc, arith, codes, drop, length, length-append, refl, subst, sym, take}
+use Rattle.std.proofs.Math.Seq.{drop-append_seam, take-append_seam}
 use Rattle.octet_core.specs.declared.stop.Stop.{Stop}
-use Rattle.program_octets.proofs.NoSign.{no-sign}
-use Rattle.program_octets.proofs.Noting.{refusal-ends, value-lines}
+use Rattle.program_octets.proofs.NoSign.{no-sign, refusal-ends, value-lines}
 use Rattle.program_octets.specs.Codec.{Codec, IsVerdict, Stops, Takes}
 use Rattle.program_octets.specs.Json.{accepted_members, notes_member, object_head, object_line, with_member, with_notes}
 use Rattle.program_octets.specs.Places.{places_member}
+use Rattle.program_octets.specs.Rows.{Row, lines_of, notes_of, places_of}
 use Rattle.program_octets.specs.Texts.{refused_text}
 use Rattle.program_octets.specs.Verdicts.{Shows, ShowsWhere, accepted, codec_of, kind_name, refused, shown_in, status_of}
 use Rattle.program_octets.specs.declared.status.Status.{Status}
 use Rattle.program_octets.specs.declared.status.Status.TheVariants as status
 use Rattle.program.specs.Answers.{ShowsNoted, ShowsNotedObject}
-use Rattle.program.specs.Judged.{IsRefusalBy, IsRefusalLine}
+use Rattle.program.specs.Judged.{refusal_row, IsRefusalBy, IsRefusalLine}
 use Rattle.program_words.specs.declared.request.Expected.{Expected}
 use Rattle.layouts.specs.declared.layout.Layout.TheVariants.{Json, Lines}
 use Rattle.notes.proofs.Cutting.{cut-noted}
-use Rattle.notes.proofs.Ends.{line-noted}
-use Rattle.notes.specs.Noted.{IsNoted, noted_line}
+use Rattle.notes.proofs.Adding.{end-then, same, same-then}
+use Rattle.notes.proofs.Ends.{kept-lacks, line-noted, marked-added}
+use Rattle.notes.specs.Noted.{IsNoted, kept, marked, noted_line}
+
+-- ---- the line of a refusal
+
+-- a line with words is its row as a line
+row-line : (front line words : List ℕ) → line ≡ front ++ (10 ∷ [])
+    → lines_of true (refusal_row line words ∷ []) ≡ noted_line line words
+row-line front line words is =
+    let place : length line - 1 ≡ length front = omega (arith, ap length is, length-append front (10 ∷ [])) in
+    let last : drop (length line - 1) line ≡ 10 ∷ [] =
+    ap (λ (k : ℕ). drop k line) place ∙ ap (drop (length front)) is ∙ drop-append_seam front (10 ∷ []) in
+    let line_before : List ℕ = take (length line - 1) line in
+    append-nil (line_before ++ (marked (kept words) ++ (10 ∷ [])))
+    ∙ ap (λ (l : List ℕ). line_before ++ (marked (kept words) ++ l)) (sym last)
+
+words-noted : (front words : List ℕ) → IsNoted (front ++ (10 ∷ [])) (noted_line (front ++ (10 ∷ [])) words)
+words-noted front words =
+    subst (IsNoted (front ++ (10 ∷ []))) (sym (line-noted front words)) (same-then front (10 ∷ [])
+    (marked (kept words) ++ (10 ∷ [])) (end-then (marked (kept words)) [] []
+    (marked-added (kept words) (kept-lacks words)) (same []))).is
 
 module _ (expected : Expected) (b text : List ℕ) (ended : Status) where
   -- a value with notes
   of-value : (v : (codec_of expected.kind expected).Value) (n : ℕ)
       → Takes (codec_of expected.kind expected).codec b v n
-      → text ≡ (codec_of expected.kind expected).codec.lines true v → ended ≡ status.Accepted
+      → text ≡ lines_of true ((codec_of expected.kind expected).codec.rows v n) → ended ≡ status.Accepted
       → ShowsNoted expected.kind expected b text ended
   of-value v n h is e =
-      let plain : List ℕ = (codec_of expected.kind expected).codec.lines false v in
+      let plain : List ℕ = lines_of false ((codec_of expected.kind expected).codec.rows v n) in
       let shown : Shows Lines expected.kind expected b plain ended = accepted v n h refl e in
       let noted : IsNoted plain text =
-      subst (λ (l : List ℕ). IsNoted plain l) (sym is) (value-lines expected.kind expected v) in
+      subst (λ (l : List ℕ). IsNoted plain l) (sym is) (value-lines expected.kind expected v n) in
       record {
         words = [];
         has_notes = accepted v n h is e;
@@ -51,7 +71,7 @@ module _ (expected : Expected) (b text : List ℕ) (ended : Status) where
       let ends = refusal-ends (codec_of expected.kind expected).codec.name stop in
       let noted : IsNoted plain text =
       subst (λ (l : List ℕ). IsNoted plain l) (sym is) (subst (λ (l : List ℕ). IsNoted l (noted_line l words))
-      (sym ends.1) (line-noted ends.0 words).is) in
+      (sym ends.1) (words-noted ends.0 words)) in
       record {
         words = words;
         has_notes = refused stop h is e;
@@ -82,7 +102,7 @@ refused-noted expected b plain lent text words ended over (refused stop h is e) 
 pub some-noted : (expected : Expected) (b text : List ℕ) (ended : Status)
     → Shows Lines expected.kind expected b text ended → (t : List ℕ) × ShowsNoted expected.kind expected b t ended
 some-noted expected b text ended (accepted v n h is e) =
-    let noted : List ℕ = (codec_of expected.kind expected).codec.lines true v in
+    let noted : List ℕ = lines_of true ((codec_of expected.kind expected).codec.rows v n) in
     (noted, of-value expected b noted ended v n h refl e)
 some-noted expected b text ended (refused stop h is e) =
     let noted : List ℕ = noted_line (refused_text (codec_of expected.kind expected).codec.name stop) [] in
@@ -97,19 +117,19 @@ member-last front member =
     ap (λ (l : List ℕ). l ++ (member ++ codes "}\n"))
     (ap (λ (k : ℕ). take k (front ++ codes "}\n")) place ∙ take-append_seam front (codes "}\n"))
 
--- the object of a value with the notes on its lines is the one without, with a member more
-value-member : (about count members noted : List ℕ)
-    → object_line about (count ++ (members ++ notes_member noted))
-    ≡ with_notes (object_line about (count ++ members)) noted
-value-member about count members noted =
-    let front : List ℕ = object_head about ++ (count ++ members) in
-    let whole : object_line about (count ++ members) ≡ front ++ codes "}\n" =
+-- the object of a value with notes is the one without, with a member more
+value-member : (about count members places items : List ℕ)
+    → object_line about (count ++ (members ++ (places ++ notes_member items)))
+    ≡ with_notes (object_line about (count ++ (members ++ places))) items
+value-member about count members places items =
+    let front : List ℕ = object_head about ++ (count ++ (members ++ places)) in
+    let whole : object_line about (count ++ (members ++ places)) ≡ front ++ codes "}\n" =
     simp append_assoc refl in
-    let parts : object_line about (count ++ (members ++ notes_member noted))
-    ≡ front ++ (notes_member noted ++ codes "}\n") =
+    let parts : object_line about (count ++ (members ++ (places ++ notes_member items)))
+    ≡ front ++ (notes_member items ++ codes "}\n") =
     simp append_assoc refl in
-    parts ∙ sym (member-last front (notes_member noted))
-    ∙ ap (λ (object : List ℕ). with_member object (notes_member noted)) (sym whole)
+    parts ∙ sym (member-last front (notes_member items))
+    ∙ ap (λ (object : List ℕ). with_member object (notes_member items)) (sym whole)
 
 module _ (expected : Expected) (b text : List ℕ) (ended : Status) where
   -- a value with notes
@@ -119,28 +139,32 @@ module _ (expected : Expected) (b text : List ℕ) (ended : Status) where
       → ShowsNotedObject expected.kind expected b text ended
   object-of-value v n h is e =
       let c = (codec_of expected.kind expected).codec in
-      let noted : List ℕ = c.lines true v in
+      let rows : List Row = c.rows v n in
       record {
         object = shown_in false Json expected.kind c v n;
         is_shown = accepted v n h refl e;
-        noted = noted;
-        has_notes = of-value expected b noted ended v n h refl e;
-        is_text = is ∙ value-member (kind_name expected.kind) (accepted_members n)
-            (c.members v ++ places_member (c.places v n)) noted;
+        rows = rows;
+        has_notes = of-value expected b (lines_of true rows) ended v n h refl e;
+        is_text = is ∙ value-member (kind_name expected.kind) (accepted_members n) (c.members v)
+            (places_member (places_of rows)) (notes_of rows);
       }
 
   -- a refusal with words as a note on its line
-  object-of-refusal : (object line noted words : List ℕ) → Shows Json expected.kind expected b object ended
-      → IsRefusalLine expected.kind expected b line → ended ≡ status.Refused → noted ≡ noted_line line words
-      → text ≡ with_notes object noted → ShowsNotedObject expected.kind expected b text ended
-  object-of-refusal object line noted words shown refusal e adds is = record {
-    object = object;
-    is_shown = shown;
-    noted = noted;
-    has_notes = of-refusal expected b noted ended refusal.0 words refusal.1
-        (adds ∙ ap (λ (l : List ℕ). noted_line l words) refusal.2) e;
-    is_text = is;
-  }
+  object-of-refusal : (object line words : List ℕ) → Shows Json expected.kind expected b object ended
+      → IsRefusalLine expected.kind expected b line → ended ≡ status.Refused
+      → text ≡ with_notes object (notes_of (refusal_row line words ∷ []))
+      → ShowsNotedObject expected.kind expected b text ended
+  object-of-refusal object line words shown refusal e is =
+      let rows : List Row = refusal_row line words ∷ [] in
+      let ends = refusal-ends (codec_of expected.kind expected).codec.name refusal.0 in
+      record {
+        object = object;
+        is_shown = shown;
+        rows = rows;
+        has_notes = of-refusal expected b (lines_of true rows) ended refusal.0 words refusal.1
+            (row-line ends.0 line words (refusal.2 ∙ ends.1) ∙ ap (λ (l : List ℕ). noted_line l words) refusal.2) e;
+        is_text = is;
+      }
 
 -- a refusal as an object is the same with notes and without
 refusal-plain : (expected : Expected) (b text : List ℕ) (ended : Status) → ended ≡ status.Refused
@@ -157,15 +181,15 @@ accepted-object expected b text ended other (accepted v n h is e) = object-of-va
 accepted-object expected b text ended other (refused stop h is e) = absurd (other e)
 
 -- a refusal to whose object the notes are added
-pub refused-object : (expected : Expected) (b object line noted lent text words : List ℕ) (ended : Status)
+pub refused-object : (expected : Expected) (b object line lent text words : List ℕ) (ended : Status)
     → ended ≡ status.Refused → ShowsWhere true Json expected.kind expected b object ended
-    → IsRefusalLine expected.kind expected b line → noted ≡ noted_line line words → lent ≡ noted
+    → IsRefusalLine expected.kind expected b line → lent ≡ notes_of (refusal_row line words ∷ [])
     → text ≡ with_notes object lent → ShowsNotedObject expected.kind expected b text status.Refused
-refused-object expected b object line noted lent text words ended over shown refusal adds lends is =
-    object-of-refusal expected b text status.Refused object line noted words
+refused-object expected b object line lent text words ended over shown refusal lends is =
+    object-of-refusal expected b text status.Refused object line words
     (subst (λ (e : Status). Shows Json expected.kind expected b object e) over
     (refusal-plain expected b object ended over shown))
-    refusal refl adds (is ∙ ap (with_notes object) lends)
+    refusal refl (is ∙ ap (with_notes object) lends)
 
 -- what is told as an object without notes is told with them too
 pub some-object : (expected : Expected) (b text : List ℕ) (ended : Status)
@@ -177,12 +201,8 @@ some-object expected b text ended (accepted v n h is e) =
     (object, object-of-value expected b object ended v n h refl e)
 some-object expected b text ended (refused stop h is e) =
     let line : List ℕ = refused_text (codec_of expected.kind expected).codec.name stop in
-    let noted : List ℕ = noted_line line [] in
-    let object : List ℕ = with_notes text noted in (
-      object,
-      object-of-refusal expected b object ended text line noted [] (refused stop h is e) (stop, h, refl) e refl
-          refl,
-    )
+    let object : List ℕ = with_notes text (notes_of (refusal_row line [] ∷ [])) in
+    (object, object-of-refusal expected b object ended text line [] (refused stop h is e) (stop, h, refl) e refl)
 
 -- the line of a refusal by the verdict of which an answer is one
 pub refusal-by : {V R : Type 0} (c : Codec V R) (b line : List ℕ) (verdict : Result ℕ (Stop R)) (ended : Status)

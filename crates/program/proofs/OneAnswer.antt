@@ -13,6 +13,7 @@ use Rattle.program.proofs.Simulations.{simulated-once, lines-once}
 use Rattle.program.specs.SimulationTexts.{SimulatesLines}
 use Rattle.program.specs.Answers.{answer_text, in_objects, json_object, line_text, no_object, object_of, objects_noted, objects_plain, plain_aim, plain_asked, plain_request, plain_task, AreAlike, AreLinesTold, IsAnswerAsked, IsAnswerTo, IsLineTold, IsPlain, IsTold, IsToldOf, IsWithout, Tells}
 use Rattle.program_octets.specs.Json.{with_notes}
+use Rattle.program_octets.specs.Rows.{notes_of}
 use Rattle.program_octets.specs.Verdicts.{accepted, kind_name, refused, Shows, Tidies}
 use Rattle.program.proofs.Annotating.{some-noted, some-object}
 use Rattle.notes.proofs.Cutting.{cut-apart}
@@ -257,7 +258,7 @@ cut-told Note layout.Lines expected b text ended h = (h.plain, h.is_shown, sym h
 cut-told Note layout.Json expected b text ended h = (
   h.object,
   h.is_shown,
-  in_objects ((h.object, h.noted) ∷ []) (h.is_text ∙ sym (append-nil (with_notes h.object h.noted)))
+  in_objects ((h.object, notes_of h.rows) ∷ []) (h.is_text ∙ sym (append-nil (with_notes h.object (notes_of h.rows))))
       (sym (append-nil h.object)),
 )
 
@@ -325,14 +326,14 @@ cut-line Note layout.Lines expected (Err fault) told ended h = (
 cut-line Note layout.Json expected (Ok b) told ended h = (
   h.object,
   h.is_shown,
-  λ more rest c. object-first h.object h.noted _ _ more rest
+  λ more rest c. object-first h.object (notes_of h.rows) _ _ more rest
       (object-stays Note expected.kind expected b h.object ended h.is_shown told ∙ h.is_text)
       (object-stays Show expected.kind expected b h.object ended h.is_shown h.object) c,
 )
 cut-line Note layout.Json expected (Err fault) told ended h = (
   fault_text fault,
   (refl, h.1),
-  λ more rest c. object-first (json_object (kind_name expected.kind) (fault_text fault)) (fault_text fault) _ _ more
+  λ more rest c. object-first (json_object (kind_name expected.kind) (fault_text fault)) [] _ _ more
       rest
       (rw (h.1, h.0) refl) (rw h.1 refl) c,
 )

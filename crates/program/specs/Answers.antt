@@ -1,5 +1,5 @@
 -- What the program answers: one text and one status.
-use Rattle.std.specs.Prelude.{◌≡◌, ◌<◌, ◌++◌, ℕ, ◌⊎◌, List, [], ◌∷◌, codes, drop, length, take, Result, Err, MatchResult}
+use Rattle.std.specs.Prelude.{◌≡◌, ◌<◌, ◌++◌, ℕ, ◌⊎◌, List, [], ◌∷◌, codes, drop, length, take, true, Result, Err, MatchResult}
 use Rattle.std.specs.Io.KnownBytes.{Appends}
 use Rattle.octet_core.specs.Failures.{HasFailed}
 use Rattle.program_octets.specs.Verdicts.{Checks, NotesBy, Shows, Tidies, IsFilled, codec_of, kind_name}
@@ -14,6 +14,7 @@ use Rattle.program.specs.RecordTexts.{Records}
 use Rattle.program.specs.JudgeTexts.{JudgesTrace}
 use Rattle.answer_json.specs.Answers.{json_text}
 use Rattle.program_octets.specs.Json.{object_head, with_notes}
+use Rattle.program_octets.specs.Rows.{Row, lines_of, notes_of}
 use Rattle.program.specs.Pieces.{ReadsFor}
 use Rattle.program.specs.Lines.{all_lines, line_octets, AreTold}
 use Rattle.program_words.specs.Given.{octets_given}
@@ -54,13 +55,14 @@ pub record ShowsNoted (kind : Kind) (expected : Expected) (b text : List ℕ) (e
   pub is_cut : without_notes text ≡ plain
   pub unnoted : ended ≡ status.Fault → text ≡ plain
 
--- The object of the value or of the refusal, with the notes of the lines that have notes.
+-- The object of the value or of the refusal, with the notes of some rows. As lines they are the value or the refusal with
+-- notes.
 pub record ShowsNotedObject (kind : Kind) (expected : Expected) (b text : List ℕ) (ended : Status) : Type 0 where
   pub object : List ℕ
   pub is_shown : Shows layout.Json kind expected b object ended
-  pub noted : List ℕ
-  pub has_notes : ShowsNoted kind expected b noted ended
-  pub is_text : text ≡ with_notes object noted
+  pub rows : List Row
+  pub has_notes : ShowsNoted kind expected b (lines_of true rows) ended
+  pub is_text : text ≡ with_notes object (notes_of rows)
 
 -- the answer about octets
 abbrev pub Tells : Aim → Layout → Expected → List ℕ → List ℕ → Status → Type 0
@@ -76,17 +78,17 @@ IsTold task = Tells task.aim task.layout task.expected
 abbrev pub json_object : List ℕ → List ℕ → List ℕ
 json_object about lines = object_head about ++ drop 1 (json_text lines)
 
--- an object with the notes on these lines, if notes are asked for
-abbrev pub noted_as : Aim → List ℕ → List ℕ → List ℕ
-noted_as Check object lines = object
-noted_as Show object lines = object
-noted_as Note object lines = with_notes object lines
+-- an object without notes; if notes are asked for, it has an empty array of them
+abbrev pub noted_as : Aim → List ℕ → List ℕ
+noted_as Check object = object
+noted_as Show object = object
+noted_as Note object = with_notes object []
 
 -- an answer about octets as a JSON object: it is one already, unless it is the line of a fault, which has no note
 abbrev pub object_of : Aim → Kind → Status → List ℕ → List ℕ
 object_of aim kind status.Accepted told = told
 object_of aim kind status.Refused told = told
-object_of aim kind status.Fault told = noted_as aim (json_object (kind_name kind) told) told
+object_of aim kind status.Fault told = noted_as aim (json_object (kind_name kind) told)
 
 -- the lines that answer a line: a check has one, a value several and an empty one
 abbrev pub lines_text : Aim → List ℕ → List ℕ
@@ -151,7 +153,7 @@ abbrev pub plain_asked : Asked → Asked
 plain_asked (Once request) = Once (plain_request request)
 plain_asked (Lines task) = Lines (plain_task task)
 
--- objects in a row, each with the lines that its notes are on: without the notes, and with them
+-- objects in a row, each with the items of its notes: without the notes, and with them
 abbrev pub objects_plain : List (List ℕ × List ℕ) → List ℕ
 objects_plain [] = []
 objects_plain (one ∷ more) = one.0 ++ objects_plain more

@@ -1,5 +1,5 @@
 -- Answers with a note from the same verdict.
-use Rattle.std.specs.Prelude.{◌≡◌, ℕ, List, [], Bool, true, false, Option, None, Result, IfOk, string_bytes}
+use Rattle.std.specs.Prelude.{◌≡◌, ◌-◌, ℕ, List, [], length, take, Bool, true, false, Option, None, Result, IfOk, string_bytes}
 use Rattle.octet_core.specs.declared.stop.Stop.{Stop}
 use Rattle.program_words.specs.declared.request.Expected.{Expected}
 use Rattle.program_words.specs.declared.request.Kind.{Kind}
@@ -12,7 +12,9 @@ use Rattle.program_octets.specs.CommandTexts.{command_codec}
 use Rattle.program_octets.specs.ResponseTexts.{response_codec}
 use Rattle.program_octets.specs.ForestTexts.{forest_codec}
 use Rattle.program_octets.specs.ListTexts.{list_codec}
+use Rattle.program_octets.specs.Rows.{Row, row}
 use Rattle.program_octets.specs.Texts.{refused_text}
+use Rattle.notes.specs.Noted.{kept}
 use Rattle.program_octets.specs.Verdicts.{codec_of}
 use Rattle.program_octets.specs.declared.status.Status.{Status}
 use Rattle.program_octets.specs.declared.status.Status.TheVariants as status
@@ -59,6 +61,10 @@ AreOf Told Note made = Told made.answer.text made.answer.status × IfOk made.not
 -- the line of a refusal of octets
 abbrev pub IsRefusalBy : {V R : Type 0} → Codec V R → List ℕ → List ℕ → Type 0
 IsRefusalBy {V} {R} c b line = (stop : Stop R) × Stops c b stop × (line ≡ refused_text c.name stop)
+
+-- the row of a refusal with this line, and with words as its note; it is about no octets
+abbrev pub refusal_row : List ℕ → List ℕ → Row
+refusal_row line words = row (take (length line - 1) line) (kept words) []
 
 -- the line of a refusal of octets, by their kind
 abbrev pub IsRefusalLine : Kind → Expected → List ℕ → List ℕ → Type 0

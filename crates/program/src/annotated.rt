@@ -1,19 +1,21 @@
 //! Values and refusals with notes on their lines.
 
-ghost use Rattle.std.specs.Prelude.{◌≡◌, true, Err, List, ℕ, IfOk};
+ghost use Rattle.std.specs.Prelude.{◌≡◌, ◌∷◌, [], true, Err, List, ℕ, IfOk, string_bytes};
 ghost use Rattle.program_octets.specs.Verdicts.{ShowsWhere};
 ghost use Rattle.program_octets.specs.Texts.{refused_text};
+ghost use Rattle.program_octets.specs.Rows.{notes_of};
 ghost use Rattle.program_octets.specs.declared.status.Status.TheVariants as ended;
 ghost use Rattle.program.specs.Answers.{ShowsNoted, ShowsNotedObject};
-ghost use Rattle.program.specs.Judged.{IsRefusalLine};
+ghost use Rattle.program.specs.Judged.{refusal_row, IsRefusalLine};
 ghost use Rattle.program_words.specs.declared.request.Expected.{Expected as AnyExpected};
 ghost use Rattle.layouts.specs.declared.layout.Layout.TheVariants as layout;
 ghost use Rattle.octet_core.specs.declared.stop.Stop.{Stop as AnyStop};
 
 use crate::json::with_notes;
+use answer_json::push_note;
 use explainer::least_wanting;
 use layouts::Layout;
-use notes::{noted_line, wanting_note};
+use notes::{kept, noted_line, wanting_note};
 use octet_core::{Named, Octets, Stop};
 use program_octets::{Answer, Status, Verdict};
 use program_words::Kind;
@@ -54,8 +56,8 @@ pub(crate) fn annotated_object(
 {
     match object.status {
         Status::Refused => {
-            let noted = noted_line(alloc, line, words)?;
-            let text = with_notes(alloc, object.text, noted.get())?;
+            let items = note_items(alloc, line, words)?;
+            let text = with_notes(alloc, object.text, items.as_str())?;
             Ok(Answer {
                 text,
                 status: Status::Refused,
@@ -63,6 +65,18 @@ pub(crate) fn annotated_object(
         }
         _ => Ok(object),
     }
+}
+
+/// Returns a line without its end, and these words as its note, as the items of an array. There are none if the words
+/// are no note.
+fn note_items(alloc: Global, line: &[u8], words: &str) -> Result<String, AllocError>
+    ensures { IfOk result (λ items.
+        string_bytes items ≡ notes_of (refusal_row line.now words.now ∷ [])) }
+{
+    let end = line.len().saturating_sub(1);
+    let mut items = String::new(alloc);
+    push_note(alloc, &mut items, &line[..end], kept(words).as_bytes())?;
+    Ok(items)
 }
 
 /// Returns the line of a refusal that is printed as an object, if it is `noted`.

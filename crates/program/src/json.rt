@@ -154,11 +154,11 @@ fn explanation_member(alloc: Global, note: String) -> Result<String, AllocError>
     format!(in alloc; ",\"explanation\":{text}")
 }
 
-/// Appends the notes on these lines to an object as its last member.
-pub(crate) fn with_notes(alloc: Global, object: Octets, noted: &[u8]) -> Result<Octets, AllocError>
-    ensures { IfOk result (λ text. text ≡ with_notes object noted.now) }
+/// Appends these items to an object as its notes, in its last member.
+pub(crate) fn with_notes(alloc: Global, object: Octets, items: &str) -> Result<Octets, AllocError>
+    ensures { IfOk result (λ text. text ≡ with_notes object items.now) }
 {
-    let member = notes_member(alloc, noted)?;
+    let member = notes_member(alloc, items)?;
     with_member(object, member.as_bytes())
 }
 
@@ -264,12 +264,12 @@ pub(crate) fn object_told(
 /// Returns the line of a fault as an object. If notes are asked for, its array of notes is empty.
 fn fault_object(alloc: Global, task: Task, line: &[u8]) -> Result<Octets, AllocError>
     ensures { IfOk result (λ text.
-        text ≡ noted_as task.aim (json_object (kind_name task.expected.kind) line.now) line.now) }
+        text ≡ noted_as task.aim (json_object (kind_name task.expected.kind) line.now)) }
 {
     let object = object_of_lines(alloc, kind_name(task.expected.kind), line)?;
     match task.aim {
         Aim::Check | Aim::Show => Ok(object),
-        Aim::Note => with_notes(alloc, object, line),
+        Aim::Note => with_notes(alloc, object, ""),
     }
 }
 

@@ -5,8 +5,7 @@ pub mod Forests
 pub mod Duplicates
 pub mod OneVerdict
 pub mod NoSign
-pub mod Noting
 pub mod Tds
 pub mod Pushes
 pub mod Placing
-pub mod NotesApart
+pub mod Rendering

@@ -1,5 +1,5 @@
--- That no text of a value or of a refusal has a number sign.
-use Rattle.std.proofs.Common.{◌≡◌, ◌≢◌, ◌==◌, ◌<◌, ◌+◌, ◌-◌, ◌/◌, ◌%◌, ◌++◌, ℕ, zero, suc, List, [], ◌∷◌, Bool, true, false, if◌then◌else◌, Option, Some, None, Result, Ok, Err, codes, length, slice_index, refl, arith}
+-- That no line of a value or of a refusal has a number sign, and no note of a value a line end.
+use Rattle.std.proofs.Common.{◌≡◌, ◌≢◌, ◌==◌, ◌<◌, ◌+◌, ◌-◌, ◌/◌, ◌%◌, ◌++◌, ℕ, zero, suc, List, [], ◌∷◌, Bool, true, false, if◌then◌else◌, Option, Some, None, Result, Ok, Err, append_assoc, codes, length, slice_index, refl, arith}
 use Rattle.std.specs.List.{All, repeat}
 use Rattle.std.specs.Fmt.{decimal}
 use Rattle.hex.specs.Hex.{encode_upper, encode_with, upper_digits}
@@ -16,7 +16,7 @@ use Rattle.atr_core.specs.declared.params.ParamFault.{ParamFault}
 use Rattle.atr_core.specs.declared.params.ParamFault.TheVariants as param
 use Rattle.atr_core.specs.declared.reason.AtrReason.{AtrReason}
 use Rattle.atr_core.specs.declared.reason.AtrReason.TheVariants as atr
-use Rattle.block_core.specs.Block.{Parts, front_of, number_bit, fault_code}
+use Rattle.block_core.specs.Block.{Parts, front_of, number_bit, fault_code, pcb_octet}
 use Rattle.block_core.specs.declared.pcb.Pcb.{Pcb}
 use Rattle.block_core.specs.declared.pcb.Pcb.TheVariants.{Info, Ready, Request, Response}
 use Rattle.block_core.specs.declared.pcb.S.{S}
@@ -40,29 +40,36 @@ use Rattle.apdu_core.specs.declared.status.StatusClass.{StatusClass}
 use Rattle.apdu_core.specs.declared.status.StatusClass.TheVariants as status
 use Rattle.tlv_core.specs.Flat.{PartValue, parts_of}
 use Rattle.tlv_core.specs.Tag.{constructed_bit, length_field}
+use Rattle.tlv_core.specs.Dol.{place_after}
 use Rattle.tlv_core.specs.Tree.{Tree}
 use Rattle.tlv_core.specs.declared.reason.TlvReason.{TlvReason}
 use Rattle.tlv_core.specs.declared.reason.TlvReason.TheVariants as tlv
 use Rattle.tlv_core.specs.declared.reason.DolReason.{DolReason}
 use Rattle.tlv_core.specs.declared.reason.DolReason.TheVariants as dol
+use Rattle.notes.proofs.Adding.{HasNotes, end-then, in-row, same, same-then}
+use Rattle.notes.proofs.Cutting.{cut-noted}
+use Rattle.notes.proofs.Ends as ends
 use Rattle.notes.proofs.Lacking as lacking
+use Rattle.notes.specs.Noted.{IsNoted, marked, without_notes}
+use Rattle.notes.specs.Says.{note_of, ta_says, td_says}
 use Rattle.program_octets.specs.AtrTexts as atr_texts
-use Rattle.program_octets.specs.AtrTexts.{atr_codec, atr_text, byte_text, bytes_text, convention_text, interface_text, meaning_text, rate_or, t1_text, ta_text, tck_text, td_text, tds_text}
+use Rattle.program_octets.specs.AtrTexts.{after_byte, after_bytes, atr_codec, atr_rows, byte_rows, bytes_rows, convention_text, interface_rows, meaning_rows, rate_or, t1_text, ta_rows, tail_rows, tck_text, td_rows, tds_rows, value_row}
 use Rattle.program_octets.specs.BlockTexts as block_texts
-use Rattle.program_octets.specs.BlockTexts.{block_codec, block_text, more_number, pcb_text, supervisory_text}
+use Rattle.program_octets.specs.BlockTexts.{block_codec, block_rows, more_number, pcb_text, supervisory_text}
 use Rattle.program_octets.specs.ChainTexts as chain_texts
-use Rattle.program_octets.specs.ChainTexts.{chain_codec, chain_text}
+use Rattle.program_octets.specs.ChainTexts.{chain_codec, chain_rows}
 use Rattle.program_octets.specs.Codec.{Codec}
 use Rattle.program_octets.specs.CommandTexts as command_texts
-use Rattle.program_octets.specs.CommandTexts.{command_codec, command_text, le_or, shape_text}
+use Rattle.program_octets.specs.CommandTexts.{command_codec, command_rows, le_or, shape_text}
 use Rattle.program_octets.specs.ForestTexts as forest_texts
-use Rattle.program_octets.specs.ForestTexts.{forest_codec, forest_text, lines_text, part_text, value_text}
+use Rattle.program_octets.specs.ForestTexts.{forest_codec, forest_rows, object_rows, part_row, value_text}
 use Rattle.program_octets.specs.ListTexts as list_texts
-use Rattle.program_octets.specs.ListTexts.{dol_text, entries_text, list_codec}
+use Rattle.program_octets.specs.ListTexts.{dol_rows, entry_rows, list_codec}
 use Rattle.program_octets.specs.ResponseTexts as response_texts
-use Rattle.program_octets.specs.ResponseTexts.{class_text, name_of, response_codec, response_text}
+use Rattle.program_octets.specs.ResponseTexts.{name_of, response_codec, response_rows}
 use Rattle.program_octets.specs.Texts.{octets_text, refused_text}
-use Rattle.program_octets.specs.Verdicts.{Shows, Tells, accepted, refused}
+use Rattle.program_octets.specs.Rows.{Row, line_text, lines_of}
+use Rattle.program_octets.specs.Verdicts.{Shows, Tells, accepted, codec_of, refused}
 use Rattle.program_octets.specs.declared.status.Status.{Status}
 use Rattle.program_words.specs.declared.request.Expected.{Expected}
 use Rattle.layouts.specs.declared.layout.Layout.TheVariants.{Lines}
@@ -119,31 +126,71 @@ hex-then octets b h = more (encode_upper octets) b (hex-lacks octets) h
 octets-then : (octets b : List ℕ) → lacks b ≡ true → lacks (octets_text octets ++ b) ≡ true
 octets-then octets b h = more (octets_text octets) b (octets-lack octets) h
 
+-- ---- rows
+
+-- the line has no number sign, and the note has no line end
+record IsRow (r : Row) : Type 0 where
+  pub line : lacks r.line ≡ true
+  pub note : lacking.lacks 10 r.note ≡ true
+
+abbrev AreRows : List Row → Type 0
+AreRows [] = Unit {0}
+AreRows (r ∷ rows) = IsRow r × AreRows rows
+
+both : (rows others : List Row) → AreRows rows → AreRows others → AreRows (rows ++ others)
+both [] others h g = g
+both (r ∷ rows) others h g = (h.0, both rows others h.1 g)
+
+lines-lack : (rows : List Row) → AreRows rows → lacks (lines_of false rows) ≡ true
+lines-lack [] h = refl
+lines-lack (r ∷ rows) h = more (line_text r.line []) (lines_of false rows) (more r.line _ h.0.line refl)
+    (lines-lack rows h.1)
+
+-- the lines with notes are those without, with a note before some line ends
+lines-noted : (rows : List Row) → AreRows rows → HasNotes (lines_of false rows) (lines_of true rows)
+lines-noted [] h = same []
+lines-noted (r ∷ rows) h =
+    in-row (line_text r.line []) (lines_of false rows) (line_text r.line r.note) (lines_of true rows)
+    (same-then r.line (10 ∷ []) (marked r.note ++ (10 ∷ []))
+    (end-then (marked r.note) [] [] (ends.marked-added r.note h.0.note) (same []))) (lines-noted rows h.1)
+
 -- ---- answers to reset
 
-byte-lacks : (name : List ℕ) (number : ℕ) (byte : Option ℕ) → lacks name ≡ true
-    → lacks (byte_text name number byte) ≡ true
-byte-lacks name number None h = refl
-byte-lacks name number (Some byte) h = more name _ h (number-then number _ (hex-then (byte ∷ []) _ refl))
+value-is : (name : List ℕ) (number byte : ℕ) (note : List ℕ) (at : ℕ) → lacks name ≡ true
+    → lacking.lacks 10 note ≡ true → IsRow (value_row name number byte note at)
+value-is name number byte note at h g = record {
+  line = more name _ h (number-then number _ (hex-lacks (byte ∷ [])));
+  note = g;
+}
 
-ta-lacks : (number : ℕ) (ta : Option ℕ) → lacks (ta_text false number ta) ≡ true
-ta-lacks number None = refl
-ta-lacks number (Some ta) = byte-lacks (codes "TA") number (Some ta) refl
+byte-is : (name : List ℕ) (number : ℕ) (byte : Option ℕ) (at : ℕ) → lacks name ≡ true
+    → AreRows (byte_rows name number byte at)
+byte-is name number None at h = tt
+byte-is name number (Some byte) at h = (value-is name number byte [] at h refl, tt)
 
-bytes-lack : (number : ℕ) (bytes : Interface) → lacks (bytes_text false number bytes) ≡ true
-bytes-lack number bytes =
-    more (ta_text false number bytes.ta) _ (ta-lacks number bytes.ta)
-    (more (byte_text (codes "TB") number bytes.tb) _ (byte-lacks (codes "TB") number bytes.tb refl)
-    (byte-lacks (codes "TC") number bytes.tc refl))
+ta-is : (number : ℕ) (ta : Option ℕ) (at : ℕ) → AreRows (ta_rows number ta at)
+ta-is number None at = tt
+ta-is number (Some ta) at = (
+  value-is (codes "TA") number ta (note_of (ta_says number ta)) at refl
+      (ends.ta-lacks number ta),
+  tt,
+)
 
-tds-lack : (number : ℕ) (xs : List Indicated) → lacks (tds_text false number xs) ≡ true
-tds-lack number [] = refl
-tds-lack number (x ∷ xs) =
+bytes-are : (number : ℕ) (bytes : Interface) (at : ℕ) → AreRows (bytes_rows number bytes at)
+bytes-are number bytes at =
+    both (ta_rows number bytes.ta at) _ (ta-is number bytes.ta at)
+    (both (byte_rows (codes "TB") number bytes.tb (after_byte bytes.ta at)) _
+    (byte-is (codes "TB") number bytes.tb (after_byte bytes.ta at) refl)
+    (byte-is (codes "TC") number bytes.tc (after_byte bytes.tb (after_byte bytes.ta at)) refl))
+
+tds-are : (number : ℕ) (xs : List Indicated) (at : ℕ) → AreRows (tds_rows number xs at)
+tds-are number [] at = tt
+tds-are number (x ∷ xs) at =
     let octet : ℕ = announcing x.bytes (goes_on xs) x.protocol in
-    more (td_text false number x.bytes octet) (tds_text false (number + 1) xs)
-    (more (byte_text (codes "TD") number (Some octet)) (bytes_text false (number + 1) x.bytes)
-    (byte-lacks (codes "TD") number (Some octet) refl) (bytes-lack (number + 1) x.bytes))
-    (tds-lack (number + 1) xs)
+    both (td_rows number x.bytes octet at) (tds_rows (number + 1) xs (after_bytes x.bytes (at + 1))) (
+      value-is (codes "TD") number octet (note_of (td_says (octet % 16))) at refl (ends.td-lacks (octet % 16)),
+      bytes-are (number + 1) x.bytes (at + 1),
+    ) (tds-are (number + 1) xs (after_bytes x.bytes (at + 1)))
 
 convention-lacks : (convention : Convention) → lacks (convention_text convention) ≡ true
 convention-lacks Direct = refl
@@ -163,19 +210,28 @@ t1-lacks (Err param.NoT1) = refl
 t1-lacks (Err param.ReservedIfsc) = refl
 t1-lacks (Err param.Crc) = refl
 
-meaning-lacks : (a : AtrParts) → lacks (meaning_text false a) ≡ true
-meaning-lacks a =
-    more (rate_or (codes "reserved") (rates_of a).0) _ (rate-lacks (rates_of a).0)
-    (more (rate_or (codes "reserved") (rates_of a).1) _ (rate-lacks (rates_of a).1)
-    (more (t1_text (t1_params_of a)) _ (t1-lacks (t1_params_of a)) refl))
+meaning-are : (a : AtrParts) (n : ℕ) → AreRows (meaning_rows a n)
+meaning-are a n = (
+  record { line = rate-lacks (rates_of a).0; note = refl },
+  (
+    record { line = rate-lacks (rates_of a).1; note = refl },
+    (record { line = t1-lacks (t1_params_of a); note = ends.t1-lacks (t1_params_of a) a.indicated }, tt),
+  ),
+)
 
-atr-lacks : (a : AtrParts) → lacks (atr_text false a) ≡ true
-atr-lacks a =
-    let interface : lacks (interface_text false a) ≡ true =
-    more (bytes_text false 1 a.first) (tds_text false 1 a.indicated) (bytes-lack 1 a.first) (tds-lack 1 a.indicated) in
-    more (convention_text a.convention) _ (convention-lacks a.convention)
-    (more (interface_text false a) _ interface
-    (octets-then a.historical _ (more (tck_text (tck_of a)) _ (tck-lacks (tck_of a)) (meaning-lacks a))))
+tail-are : (a : AtrParts) (n : ℕ) → AreRows (tail_rows a n)
+tail-are a n = (
+  record { line = octets-lack a.historical; note = ends.text-lacks a.historical },
+  (record { line = tck-lacks (tck_of a); note = ends.tck-lacks (tck_of a) }, meaning-are a n),
+)
+
+atr-are : (a : AtrParts) (n : ℕ) → AreRows (atr_rows a n)
+atr-are a n = (
+  record { line = convention-lacks a.convention; note = refl },
+  both (interface_rows a) (tail_rows a n)
+      (both (bytes_rows 1 a.first 2) (tds_rows 1 a.indicated (after_bytes a.first 2)) (bytes-are 1 a.first 2)
+      (tds-are 1 a.indicated (after_bytes a.first 2))) (tail-are a n),
+)
 
 atr-reason : (reason : AtrReason) → lacks (atr_texts.reason_text reason) ≡ true
 atr-reason atr.BadTs = refl
@@ -196,9 +252,17 @@ pcb-lacks (Ready number fault) = number-then (number_bit number 1) _ (decimal-la
 pcb-lacks (Request said) = about-lacks said
 pcb-lacks (Response said) = about-lacks said
 
-block-lacks : (v : Parts) → lacks (block_text false v) ≡ true
-block-lacks v = hex-then (v.nad ∷ []) _ (more (pcb_text v.pcb) _ (pcb-lacks v.pcb)
-    (octets-then v.inf _ (hex-then (xor_of (front_of v) ∷ []) _ refl)))
+block-are : (v : Parts) (n : ℕ) → AreRows (block_rows v n)
+block-are v n = (
+  record { line = hex-lacks (v.nad ∷ []); note = ends.nad-lacks v.nad },
+  (
+    record { line = pcb-lacks v.pcb; note = ends.pcb-lacks (pcb_octet v.pcb) (slice_index v.inf 0) },
+    (
+      record { line = octets-lack v.inf; note = ends.count-lacks (length v.inf) },
+      (record { line = hex-lacks (xor_of (front_of v) ∷ []); note = ends.lrc-lacks }, tt),
+    ),
+  ),
+)
 
 block-reason : (reason : BlockReason) → lacks (block_texts.reason_text reason) ≡ true
 block-reason block.BadPcb = refl
@@ -207,8 +271,11 @@ block-reason block.OverIfs = refl
 block-reason block.BadIfs = refl
 block-reason block.BadLrc = refl
 
-chain-lacks : (fields : List (List ℕ)) → lacks (chain_text false fields) ≡ true
-chain-lacks fields = number-then (length fields) _ (octets-then (message_of fields) _ refl)
+chain-are : (fields : List (List ℕ)) (n : ℕ) → AreRows (chain_rows fields n)
+chain-are fields n = (
+  record { line = decimal-lacks (length fields); note = refl },
+  (record { line = octets-lack (message_of fields); note = ends.count-lacks (length (message_of fields)) }, tt),
+)
 
 chain-reason : (reason : ChainReason) → lacks (chain_texts.reason_text reason) ≡ true
 chain-reason chain.BadNad = refl
@@ -236,9 +303,18 @@ le-lacks : (le : Option ℕ) → lacks (le_or (codes "none") le) ≡ true
 le-lacks None = refl
 le-lacks (Some le) = decimal-lacks le
 
-command-lacks : (c : CommandParts) → lacks (command_text false c) ≡ true
-command-lacks c = more (shape_text (shape_of c.body)) _ (shape-lacks (shape_of c.body)) (hex-then c.header _
-    (octets-then (part_of c.body) _ (more (le_or (codes "none") (le_of c.body)) _ (le-lacks (le_of c.body)) refl)))
+command-are : (c : CommandParts) (n : ℕ) → AreRows (command_rows c n)
+command-are c n =
+    let header = ends.header-lacks (slice_index c.header 0) (slice_index c.header 1) in (
+      record { line = shape-lacks (shape_of c.body); note = refl },
+      (
+        record { line = hex-lacks c.header; note = header },
+        (
+          record { line = octets-lack (part_of c.body); note = ends.part-lacks (length (part_of c.body)) },
+          (record { line = le-lacks (le_of c.body); note = ends.le-lacks (le_of c.body) }, tt),
+        ),
+      ),
+    )
 
 command-reason : (reason : CommandReason) → lacks (command_texts.reason_text reason) ≡ true
 command-reason command.Trailing = refl
@@ -251,9 +327,12 @@ class-lacks status.Checking = refl
 class-lacks status.Proprietary = refl
 class-lacks status.Invalid = refl
 
-response-lacks : (r : ResponseParts) → lacks (response_text false r) ≡ true
-response-lacks r = octets-then r.part _ (hex-then (r.sw1 ∷ r.sw2 ∷ []) _
-    (more (class_text r.sw1 r.sw2) _ (class-lacks (class_of r.sw1 r.sw2)) refl))
+response-are : (r : ResponseParts) (n : ℕ) → AreRows (response_rows r n)
+response-are r n =
+    let line = hex-then (r.sw1 ∷ r.sw2 ∷ []) _ (class-lacks (class_of r.sw1 r.sw2)) in (
+      record { line = octets-lack r.part; note = refl },
+      (record { line = line; note = ends.status-lacks r.sw1 r.sw2 }, tt),
+    )
 
 response-reason : (reason : ResponseReason) → lacks (response_texts.reason_text reason) ≡ true
 response-reason response.TooLong = refl
@@ -268,17 +347,20 @@ value-lacks : (p : PartValue) → lacks (value_text p) ≡ true
 value-lacks p =
     either (constructed_bit p.tag == 1) (codes "constructed") (octets_text p.value) refl (octets-lack p.value)
 
-part-lacks : (p : PartValue) → lacks (part_text false p) ≡ true
-part-lacks p = more (repeat (p.depth - 1) (codes "  ")) _ (indent-lacks (p.depth - 1))
-    (hex-then p.tag _ (hex-then (length_field p.form (length p.value)) _
-    (more (value_text p) _ (value-lacks p) refl)))
+part-is : (p : PartValue) → IsRow (part_row p)
+part-is p = record {
+  line = more (repeat (p.depth - 1) (codes "  ")) _ (indent-lacks (p.depth - 1))
+      (hex-then p.tag _ (hex-then (length_field p.form (length p.value)) _ (value-lacks p)));
+  note = ends.object-lacks p;
+}
 
-lines-lack : (parts : List PartValue) → lacks (lines_text false parts) ≡ true
-lines-lack [] = refl
-lines-lack (p ∷ parts) = more (part_text false p) (lines_text false parts) (part-lacks p) (lines-lack parts)
+objects-are : (parts : List PartValue) → AreRows (object_rows parts)
+objects-are [] = tt
+objects-are (p ∷ parts) = (part-is p, objects-are parts)
 
-forest-lacks : (t : Tree) → lacks (forest_text false t) ≡ true
-forest-lacks t = number-then (length (parts_of 1 0 t)) _ (lines-lack (parts_of 1 0 t))
+forest-are : (t : Tree) (n : ℕ) → AreRows (forest_rows t n)
+forest-are t n =
+    (record { line = decimal-lacks (length (parts_of 1 0 t)); note = refl }, objects-are (parts_of 1 0 t))
 
 tlv-reason : (reason : TlvReason) → lacks (forest_texts.reason_text reason) ≡ true
 tlv-reason tlv.TooDeep = refl
@@ -288,13 +370,14 @@ tlv-reason tlv.LengthForm = refl
 tlv-reason tlv.Overrun = refl
 tlv-reason tlv.TooLong = refl
 
-entries-lack : (entries : List (List ℕ × ℕ)) → lacks (entries_text entries) ≡ true
-entries-lack [] = refl
-entries-lack (e ∷ entries) = more (encode_upper e.0 ++ (codes " " ++ (decimal e.1 ++ codes "\n"))) _
-    (hex-then e.0 _ (number-then e.1 _ refl)) (entries-lack entries)
+entries-are : (at : ℕ) (entries : List (List ℕ × ℕ)) → AreRows (entry_rows at entries)
+entries-are at [] = tt
+entries-are at (e ∷ entries) =
+    (record { line = hex-then e.0 _ (decimal-lacks e.1); note = refl }, entries-are (place_after at e) entries)
 
-dol-lacks : (entries : List (List ℕ × ℕ)) → lacks (dol_text false entries) ≡ true
-dol-lacks entries = number-then (length entries) _ (entries-lack entries)
+dol-are : (entries : List (List ℕ × ℕ)) (n : ℕ) → AreRows (dol_rows entries n)
+dol-are entries n =
+    (record { line = decimal-lacks (length entries); note = ends.list-lacks entries }, entries-are 0 entries)
 
 dol-reason : (reason : DolReason) → lacks (list_texts.reason_text reason) ≡ true
 dol-reason dol.TagZero = refl
@@ -308,26 +391,61 @@ refused-lacks : {R : Type 0} (name : R → List ℕ) (stop : Stop R) → ((reaso
 refused-lacks name (Short place) h = number-then place _ refl
 refused-lacks name (At place reason) h = number-then place _ (more (name reason) _ (h reason) refl)
 
-told-lacks : {V R : Type 0} (c : Codec V R) → ((v : V) → lacks (c.lines false v) ≡ true)
+told-lacks : {V R : Type 0} (c : Codec V R) → ((v : V) (n : ℕ) → AreRows (c.rows v n))
     → ((reason : R) → lacks (c.name reason) ≡ true) → (b text : List ℕ) (ended : Status)
-    → Tells c (λ v n. c.lines false v) b text ended → lacks text ≡ true
-told-lacks c lines names b text ended (accepted v n h is e) = rw is (lines v)
-told-lacks c lines names b text ended (refused stop h is e) = rw is (refused-lacks c.name stop names)
+    → Tells c (λ v n. lines_of false (c.rows v n)) b text ended → lacks text ≡ true
+told-lacks c rows names b text ended (accepted v n h is e) = rw is (lines-lack (c.rows v n) (rows v n))
+told-lacks c rows names b text ended (refused stop h is e) = rw is (refused-lacks c.name stop names)
 
 shown-lacks : (k : Kind) (expected : Expected) (b text : List ℕ) (ended : Status) → Shows Lines k expected b text ended
     → lacks text ≡ true
-shown-lacks kind.Atr expected b text ended h = told-lacks atr_codec atr-lacks atr-reason b text ended h
-shown-lacks kind.Block expected b text ended h = told-lacks (block_codec expected.ifs) block-lacks block-reason b text
+shown-lacks kind.Atr expected b text ended h = told-lacks atr_codec atr-are atr-reason b text ended h
+shown-lacks kind.Block expected b text ended h = told-lacks (block_codec expected.ifs) block-are block-reason b text
     ended h
-shown-lacks kind.Chain expected b text ended h = told-lacks (chain_codec expected.ifs expected.number) chain-lacks
+shown-lacks kind.Chain expected b text ended h = told-lacks (chain_codec expected.ifs expected.number) chain-are
     chain-reason b text ended h
-shown-lacks kind.Command expected b text ended h = told-lacks command_codec command-lacks command-reason b text ended h
-shown-lacks kind.Response expected b text ended h = told-lacks response_codec response-lacks response-reason b text
+shown-lacks kind.Command expected b text ended h = told-lacks command_codec command-are command-reason b text ended h
+shown-lacks kind.Response expected b text ended h = told-lacks response_codec response-are response-reason b text
     ended h
-shown-lacks kind.Tlv expected b text ended h = told-lacks forest_codec forest-lacks tlv-reason b text ended h
-shown-lacks kind.Dol expected b text ended h = told-lacks list_codec dol-lacks dol-reason b text ended h
+shown-lacks kind.Tlv expected b text ended h = told-lacks forest_codec forest-are tlv-reason b text ended h
+shown-lacks kind.Dol expected b text ended h = told-lacks list_codec dol-are dol-reason b text ended h
 
 -- no octet of the lines of `show` is a number sign
 pub no-sign : (k : Kind) (expected : Expected) (b text : List ℕ) (ended : Status) → Shows Lines k expected b text ended
     → All (λ x. x ≢ 35) text
 no-sign k expected b text ended h = lacking.passed 35 text (shown-lacks k expected b text ended h)
+
+-- ---- notes
+
+value-are : (k : Kind) (expected : Expected) (v : (codec_of k expected).Value) (n : ℕ)
+    → AreRows ((codec_of k expected).codec.rows v n)
+value-are kind.Atr expected v n = atr-are v n
+value-are kind.Block expected v n = block-are v n
+value-are kind.Chain expected v n = chain-are v n
+value-are kind.Command expected v n = command-are v n
+value-are kind.Response expected v n = response-are v n
+value-are kind.Tlv expected v n = forest-are v n
+value-are kind.Dol expected v n = dol-are v n
+
+-- the lines of a value with notes are those without, with notes
+pub value-lines : (k : Kind) (expected : Expected) (v : (codec_of k expected).Value) (n : ℕ)
+    → IsNoted (lines_of false ((codec_of k expected).codec.rows v n))
+    (lines_of true ((codec_of k expected).codec.rows v n))
+value-lines k expected v n = (lines-noted ((codec_of k expected).codec.rows v n) (value-are k expected v n)).is
+
+-- and cut at the notes they are those without
+pub value-cut : (k : Kind) (expected : Expected) (v : (codec_of k expected).Value) (n : ℕ)
+    → without_notes (lines_of true ((codec_of k expected).codec.rows v n))
+    ≡ lines_of false ((codec_of k expected).codec.rows v n)
+value-cut k expected v n =
+    let rows : List Row = (codec_of k expected).codec.rows v n in
+    cut-noted (lines_of false rows) (lines_of true rows)
+    (lacking.passed 35 (lines_of false rows) (lines-lack rows (value-are k expected v n)))
+    (value-lines k expected v n)
+
+-- the line of a refusal ends in a line end
+pub refusal-ends : {R : Type 0} (name : R → List ℕ) (stop : Stop R)
+    → (front : List ℕ) × (refused_text name stop ≡ front ++ (10 ∷ []))
+refusal-ends name (Short place) = (codes "short at " ++ decimal place, simp append_assoc refl)
+refusal-ends name (At place reason) =
+    (codes "refused at " ++ (decimal place ++ (codes ": " ++ name reason)), simp append_assoc refl)

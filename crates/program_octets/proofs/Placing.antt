@@ -10,23 +10,15 @@ use Rattle.block_core.specs.Block.{Parts, front_of, other, spelling}
 use Rattle.block_core.specs.declared.pcb.Number.{Number}
 use Rattle.chain_core.specs.Chain.{IsChain, chain_block, chain_blocks, message_of, octets_of}
 use Rattle.program_words.specs.declared.request.Kind.{Kind}
-use Rattle.layouts.specs.Items.{with_item}
 use Rattle.layouts.specs.declared.layout.Layout.{Layout}
 use Rattle.tlv_core.specs.Flat.{PartValue, parts_of}
 use Rattle.tlv_core.specs.Tree.{Tree}
-use Rattle.program_octets.specs.BlockTexts.{block_codec, block_lines, block_places, lrc_members}
-use Rattle.program_octets.specs.ChainTexts.{chain_codec, chain_members, chain_text, field_ranges, joined_members, joined_places, joined_text, longest_message, ranges_in}
+use Rattle.program_octets.specs.BlockTexts.{block_codec, lrc_members, lrc_rows}
+use Rattle.program_octets.specs.ChainTexts.{chain_codec, chain_members, field_ranges, joined_members, joined_rows, longest_message}
 use Rattle.program_octets.specs.Codec.{said_by}
-use Rattle.program_octets.specs.ForestTexts.{forest_codec, parts_members, parts_places, parts_text}
-use Rattle.program_octets.specs.Places.{each_octet, from_to, place_text, places_member, with_places, with_ranges}
+use Rattle.program_octets.specs.ForestTexts.{forest_codec, parts_members, parts_rows}
+use Rattle.program_octets.specs.Places.{ranges_in, with_ranges}
 use Rattle.program_octets.specs.Verdicts.{laid_out, shown_in}
-
--- the first of some octets in a row
-pub one-octet : (items new : List ℕ) (at end : ℕ) → at < end → new ≡ with_places items (from_to at (at + 1) ∷ [])
-    → with_places new (each_octet (at + 1) (end - (at + 1))) ≡ with_places items (each_octet at (end - at))
-one-octet items new at end inside is =
-    let left : end - at ≡ suc (end - (at + 1)) = omega arith in
-    rw (left, is) refl
 
 -- the field of the first of some blocks
 pub one-field : (ranges new b : List ℕ) (blocks counter at len : ℕ) → counter < blocks → len ≡ slice_index b (at + 2)
@@ -36,12 +28,6 @@ pub one-field : (ranges new b : List ℕ) (blocks counter at len : ℕ) → coun
 one-field ranges new b blocks counter at len inside third is =
     let left : blocks - counter ≡ suc (blocks - (counter + 1)) = omega arith in
     rw (left, is, third) refl
-
--- places after others
-pub places-append : (xs ys : List (List (ℕ × ℕ))) (items : List ℕ)
-    → with_places (with_places items xs) ys ≡ with_places items (xs ++ ys)
-places-append [] ys items = refl
-places-append (x ∷ xs) ys items = places-append xs ys (with_item items (place_text x))
 
 -- whether there is a TCK
 tck-there : (a : AtrParts) → is_some (tck_of a) ≡ needs_tck a.indicated
@@ -102,29 +88,27 @@ module _ (noted : Bool) (layout : Layout) (kind : Kind) where
   pub joined-shown : (ifs : ℕ) (number : Number) (fields : List (List ℕ)) (b : List ℕ) (n blocks : ℕ)
       (message octets text : List ℕ) → Accepts self_ended (IsChain ifs number longest_message) b fields n
       → blocks ≡ length fields → message ≡ message_of fields → octets ≡ b
-      → text ≡ laid_out layout kind (said_by layout noted (joined_text noted blocks message)
-      (joined_members blocks message ++ places_member (joined_places blocks octets n))) n
+      → text ≡ laid_out layout kind (said_by layout noted (joined_rows blocks message (ranges_in blocks 0 octets) n)
+      (joined_members blocks message)) n
       → text ≡ shown_in noted layout kind (chain_codec ifs number) fields n
   joined-shown ifs number fields b n blocks message octets text h count joined same said =
       let told : List (ℕ × ℕ) → List ℕ = λ ranges. laid_out layout kind (said_by layout noted
-      (chain_text noted fields) (chain_members fields ++ places_member (from_to 0 n ∷ ranges ∷ []))) n in
+      (joined_rows (length fields) (message_of fields) ranges n) (chain_members fields)) n in
       let made : text ≡ told (ranges_in (length fields) 0 b) = rw (count, joined, same) at said in
       made ∙ ap told (chain-ranges ifs number fields b n h)
 
   -- what shows a block with its LRC shows the block
   pub lrc-shown : (ifs : ℕ) (v : Parts) (n lrc : ℕ) (text : List ℕ) → lrc ≡ xor_of (front_of v)
-      → text ≡ laid_out layout kind (said_by layout noted (block_lines noted v lrc)
-      (lrc_members v lrc ++ places_member (block_places v n))) n
+      → text ≡ laid_out layout kind (said_by layout noted (lrc_rows v lrc n) (lrc_members v lrc)) n
       → text ≡ shown_in noted layout kind (block_codec ifs) v n
   lrc-shown ifs v n lrc text is said =
-      subst (λ (x : ℕ). text ≡ laid_out layout kind (said_by layout noted (block_lines noted v x)
-      (lrc_members v x ++ places_member (block_places v n))) n) is said
+      subst (λ (x : ℕ). text ≡ laid_out layout kind (said_by layout noted (lrc_rows v x n) (lrc_members v x)) n) is
+      said
 
   -- what shows the parts of a forest shows the forest
   pub parts-shown : (t : Tree) (n : ℕ) (parts : List PartValue) (text : List ℕ) → parts ≡ parts_of 1 0 t
-      → text ≡ laid_out layout kind (said_by layout noted (parts_text noted parts)
-      (parts_members parts ++ places_member (parts_places parts n))) n
+      → text ≡ laid_out layout kind (said_by layout noted (parts_rows parts n) (parts_members parts)) n
       → text ≡ shown_in noted layout kind forest_codec t n
   parts-shown t n parts text is said =
-      subst (λ (p : List PartValue). text ≡ laid_out layout kind (said_by layout noted (parts_text noted p)
-      (parts_members p ++ places_member (parts_places p n))) n) is said
+      subst (λ (p : List PartValue). text ≡ laid_out layout kind (said_by layout noted (parts_rows p n)
+      (parts_members p)) n) is said

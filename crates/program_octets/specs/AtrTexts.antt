@@ -1,5 +1,5 @@
 -- What the program prints about an answer to reset.
-use Rattle.std.specs.Prelude.{ℕ, ◌+◌, ◌-◌, ◌%◌, List, [], ◌∷◌, ◌++◌, codes, decimal, length, Bool, Option, Some, None, Result, Ok, Err}
+use Rattle.std.specs.Prelude.{ℕ, ◌+◌, ◌-◌, ◌%◌, List, [], ◌∷◌, ◌++◌, codes, decimal, length, Option, Some, None, Result, Ok, Err}
 use Rattle.hex.specs.Hex.{encode_upper}
 use Rattle.atr_core.specs.Atr.{AtrParts, IsAtr, IsReason, announcing, count_of, goes_on, needs_tck, tck_of}
 use Rattle.atr_core.specs.Rates.{rates_of}
@@ -11,9 +11,9 @@ use Rattle.atr_core.specs.declared.atr.Indicated.{Indicated}
 use Rattle.atr_core.specs.declared.params.ParamFault.{ParamFault}
 pub use Rattle.atr_core.specs.Names.{reason_name as reason_text}
 use Rattle.atr_core.specs.Names.{param_fault_name}
-use Rattle.notes.specs.Noted.{where_noted}
 use Rattle.notes.specs.Says.{note_of, t1_says, ta_says, tck_says, td_says, text_note}
-use Rattle.program_octets.specs.Places.{each_octet, from_to}
+use Rattle.program_octets.specs.Places.{from_to}
+use Rattle.program_octets.specs.Rows.{Row, row}
 use Rattle.program_octets.specs.Texts.{octets_text}
 use Rattle.layouts.specs.Items.{with_item}
 use Rattle.octet_core.specs.Grammar.{self_ended}
@@ -24,35 +24,44 @@ abbrev pub convention_text : Convention → List ℕ
 convention_text Direct = codes "direct"
 convention_text Inverse = codes "inverse"
 
--- an interface byte by its name, and the note on it
-abbrev pub value_text : List ℕ → ℕ → ℕ → List ℕ → List ℕ
-value_text name number byte note =
-    name ++ (decimal number ++ (codes " " ++ (encode_upper (byte ∷ []) ++ (note ++ codes "\n"))))
+-- an interface byte at this place, by its name
+abbrev pub value_row : List ℕ → ℕ → ℕ → List ℕ → ℕ → Row
+value_row name number byte note at =
+    row (name ++ (decimal number ++ (codes " " ++ encode_upper (byte ∷ [])))) note (from_to at (at + 1))
 
--- the line of an interface byte without a note, if it is present
-abbrev pub byte_text : List ℕ → ℕ → Option ℕ → List ℕ
-byte_text name number None = []
-byte_text name number (Some byte) = value_text name number byte []
+-- an interface byte without a note, if it is present
+abbrev pub byte_rows : List ℕ → ℕ → Option ℕ → ℕ → List Row
+byte_rows name number None at = []
+byte_rows name number (Some byte) at = value_row name number byte [] at ∷ []
 
--- the line of a TA, if it is present
-abbrev pub ta_text : Bool → ℕ → Option ℕ → List ℕ
-ta_text noted number None = []
-ta_text noted number (Some ta) = value_text (codes "TA") number ta (where_noted noted (note_of (ta_says number ta)))
+-- a TA, if it is present
+abbrev pub ta_rows : ℕ → Option ℕ → ℕ → List Row
+ta_rows number None at = []
+ta_rows number (Some ta) at = value_row (codes "TA") number ta (note_of (ta_says number ta)) at ∷ []
 
-abbrev pub bytes_text : Bool → ℕ → Interface → List ℕ
-bytes_text noted number bytes = ta_text noted number bytes.ta
-    ++ (byte_text (codes "TB") number bytes.tb ++ byte_text (codes "TC") number bytes.tc)
+-- the place after an interface byte, if it is present
+abbrev pub after_byte : Option ℕ → ℕ → ℕ
+after_byte None at = at
+after_byte (Some byte) at = at + 1
+
+-- the TA, the TB and the TC that are present, from this place on
+abbrev pub bytes_rows : ℕ → Interface → ℕ → List Row
+bytes_rows number bytes at = ta_rows number bytes.ta at
+    ++ (byte_rows (codes "TB") number bytes.tb (after_byte bytes.ta at)
+    ++ byte_rows (codes "TC") number bytes.tc (after_byte bytes.tb (after_byte bytes.ta at)))
+
+abbrev pub after_bytes : Interface → ℕ → ℕ
+after_bytes bytes at = after_byte bytes.tc (after_byte bytes.tb (after_byte bytes.ta at))
 
 -- a TD and the bytes that it announces
-abbrev pub td_text : Bool → ℕ → Interface → ℕ → List ℕ
-td_text noted number bytes octet =
-    value_text (codes "TD") number octet (where_noted noted (note_of (td_says (octet % 16))))
-    ++ bytes_text noted (number + 1) bytes
+abbrev pub td_rows : ℕ → Interface → ℕ → ℕ → List Row
+td_rows number bytes octet at = value_row (codes "TD") number octet (note_of (td_says (octet % 16))) at
+    ∷ bytes_rows (number + 1) bytes (at + 1)
 
-abbrev pub tds_text : Bool → ℕ → List Indicated → List ℕ
-tds_text noted number [] = []
-tds_text noted number (x ∷ xs) = td_text noted number x.bytes (announcing x.bytes (goes_on xs) x.protocol)
-    ++ tds_text noted (number + 1) xs
+abbrev pub tds_rows : ℕ → List Indicated → ℕ → List Row
+tds_rows number [] at = []
+tds_rows number (x ∷ xs) at = td_rows number x.bytes (announcing x.bytes (goes_on xs) x.protocol) at
+    ++ tds_rows (number + 1) xs (after_bytes x.bytes (at + 1))
 
 abbrev pub tck_text : Option ℕ → List ℕ
 tck_text None = codes "absent"
@@ -68,34 +77,49 @@ t1_text (Ok values) = codes "ifsc " ++ (decimal values.ifsc
     ++ (codes " bwi " ++ (decimal values.bwi ++ (codes " cwi " ++ decimal values.cwi))))
 t1_text (Err fault) = param_fault_name fault
 
--- each interface byte that is present, in its order
-abbrev pub interface_text : Bool → AtrParts → List ℕ
-interface_text noted a = bytes_text noted 1 a.first ++ tds_text noted 1 a.indicated
+-- the place after the historical bytes: TCK is the last octet, if it is present
+abbrev pub tck_place : AtrParts → ℕ → ℕ
+tck_place a n = n - count_of (needs_tck a.indicated)
+
+-- the place after the interface bytes
+abbrev pub historical_place : AtrParts → ℕ → ℕ
+historical_place a n = tck_place a n - length a.historical
+
+abbrev pub historical_row : List ℕ → List (ℕ × ℕ) → Row
+historical_row historical place = row (codes "historical " ++ octets_text historical) (text_note historical) place
+
+abbrev pub tck_row : Option ℕ → List (ℕ × ℕ) → Row
+tck_row tck place = row (codes "tck " ++ tck_text tck) (note_of (tck_says tck)) place
+
+-- F or D by its name; what the interface bytes mean has no octets of its own
+abbrev pub rate_row : List ℕ → Option ℕ → ℕ → Row
+rate_row name rate n = row (name ++ rate_or (codes "reserved") rate) [] (from_to n n)
 
 -- the parameters of T=1
-abbrev pub t1_line : Bool → AtrParts → List ℕ
-t1_line noted a = codes "\nt1 " ++ (t1_text (t1_params_of a)
-    ++ (where_noted noted (note_of (t1_says (t1_params_of a) a.indicated)) ++ codes "\n"))
+abbrev pub t1_row : AtrParts → ℕ → Row
+t1_row a n = row (codes "t1 " ++ t1_text (t1_params_of a)) (note_of (t1_says (t1_params_of a) a.indicated))
+    (from_to n n)
 
 -- the rates, and the parameters of T=1
-abbrev pub meaning_text : Bool → AtrParts → List ℕ
-meaning_text noted a = codes "\nF " ++ (rate_or (codes "reserved") (rates_of a).0
-    ++ (codes "\nD " ++ (rate_or (codes "reserved") (rates_of a).1 ++ t1_line noted a)))
+abbrev pub meaning_rows : AtrParts → ℕ → List Row
+meaning_rows a n = rate_row (codes "F ") (rates_of a).0 n ∷ rate_row (codes "D ") (rates_of a).1 n ∷ t1_row a n ∷ []
 
--- TCK, and the lines after it
-abbrev pub tck_lines : Bool → AtrParts → List ℕ
-tck_lines noted a = codes "\ntck " ++ (tck_text (tck_of a)
-    ++ (where_noted noted (note_of (tck_says (tck_of a))) ++ meaning_text noted a))
+-- the rows after those of the interface bytes
+abbrev pub tail_rows : AtrParts → ℕ → List Row
+tail_rows a n = historical_row a.historical (from_to (historical_place a n) (tck_place a n))
+    ∷ tck_row (tck_of a) (from_to (tck_place a n) n) ∷ meaning_rows a n
 
--- the lines after those of the interface bytes
-abbrev pub tail_text : Bool → AtrParts → List ℕ
-tail_text noted a = codes "historical " ++ (octets_text a.historical
-    ++ (where_noted noted (text_note a.historical) ++ tck_lines noted a))
+-- TS
+abbrev pub convention_row : Convention → Row
+convention_row convention = row (codes "convention " ++ convention_text convention) [] (from_to 0 1)
 
--- an answer to reset, line by line, with notes if it is noted
-abbrev pub atr_text : Bool → AtrParts → List ℕ
-atr_text noted a = codes "convention " ++ (convention_text a.convention
-    ++ (codes "\n" ++ (interface_text noted a ++ tail_text noted a)))
+-- each interface byte that is present, in its order; they are after T0
+abbrev pub interface_rows : AtrParts → List Row
+interface_rows a = bytes_rows 1 a.first 2 ++ tds_rows 1 a.indicated (after_bytes a.first 2)
+
+-- an answer to reset that takes n octets, row by row
+abbrev pub atr_rows : AtrParts → ℕ → List Row
+atr_rows a n = convention_row a.convention ∷ (interface_rows a ++ tail_rows a n)
 
 -- ---- as members of an object
 
@@ -151,32 +175,12 @@ abbrev pub atr_members : AtrParts → List ℕ
 atr_members a = codes ",\"convention\":\"" ++ (convention_text a.convention
     ++ (codes "\",\"interface\":[" ++ (interface_items a ++ tail_members a)))
 
--- ---- the octets of each line, if the answer takes n octets
-
--- the place after the historical bytes: TCK is the last octet, if it is present
-abbrev pub tck_place : AtrParts → ℕ → ℕ
-tck_place a n = n - count_of (needs_tck a.indicated)
-
--- the place after the interface bytes
-abbrev pub historical_place : AtrParts → ℕ → ℕ
-historical_place a n = tck_place a n - length a.historical
-
--- the historical bytes and TCK; what the interface bytes mean has no octets of its own
-abbrev pub tail_places : AtrParts → ℕ → List (List (ℕ × ℕ))
-tail_places a n = from_to (historical_place a n) (tck_place a n) ∷ from_to (tck_place a n) n ∷ from_to n n ∷ from_to n n
-    ∷ from_to n n ∷ []
-
--- TS, and the interface bytes after T0
-abbrev pub atr_places : AtrParts → ℕ → List (List (ℕ × ℕ))
-atr_places a n = from_to 0 1 ∷ (each_octet 2 (historical_place a n - 2) ++ tail_places a n)
-
 abbrev pub atr_codec : Codec AtrParts AtrReason
 atr_codec = record {
   ending = self_ended;
   Spells = IsAtr;
   IsReason = IsReason;
   name = reason_text;
-  lines = atr_text;
+  rows = atr_rows;
   members = atr_members;
-  places = atr_places;
 }

@@ -8,9 +8,9 @@ use Rattle.block_core.specs.declared.pcb.Pcb.TheVariants.{Info, Ready, Request, 
 use Rattle.block_core.specs.declared.pcb.S.{S}
 use Rattle.block_core.specs.declared.pcb.S.TheVariants.{Resynch, Ifs, Abort, Wtx}
 pub use Rattle.block_core.specs.Names.{reason_name as reason_text}
-use Rattle.notes.specs.Noted.{where_noted}
 use Rattle.notes.specs.Says.{count_note, lrc_says, nad_says, note_of, pcb_says}
 use Rattle.program_octets.specs.Places.{from_to}
+use Rattle.program_octets.specs.Rows.{Row, row}
 use Rattle.program_octets.specs.Texts.{octets_text}
 use Rattle.octet_core.specs.Grammar.{self_ended}
 use Rattle.block_core.specs.declared.reason.BlockReason.{BlockReason}
@@ -34,24 +34,27 @@ pcb_text (Ready number fault) = codes "R number "
 pcb_text (Request about) = codes "S request " ++ supervisory_text about
 pcb_text (Response about) = codes "S response " ++ supervisory_text about
 
--- the lines of this field and of this LRC, with notes if they are noted
-abbrev pub rest_lines : Bool → List ℕ → ℕ → List ℕ
-rest_lines noted inf lrc = codes "\ninf " ++ (octets_text inf ++ (where_noted noted (count_note (length inf))
-    ++ (codes "\nlrc " ++ (encode_upper (lrc ∷ []) ++ (where_noted noted (note_of lrc_says) ++ codes "\n")))))
+abbrev pub nad_row : ℕ → Row
+nad_row nad = row (codes "nad " ++ encode_upper (nad ∷ [])) (note_of (nad_says nad)) (from_to 0 1)
 
--- the line of a block's kind, and then those of its field and of its LRC
-abbrev pub field_lines : Bool → Parts → ℕ → List ℕ
-field_lines noted v lrc = codes "\npcb " ++ (pcb_text v.pcb
-    ++ (where_noted noted (note_of (pcb_says (pcb_octet v.pcb) (slice_index v.inf 0))) ++ rest_lines noted v.inf lrc))
+-- the row of a block's kind; the note is also about the first octet of its field
+abbrev pub pcb_row : Pcb → List ℕ → Row
+pcb_row pcb inf = row (codes "pcb " ++ pcb_text pcb) (note_of (pcb_says (pcb_octet pcb) (slice_index inf 0)))
+    (from_to 1 2)
 
--- a block with this LRC, line by line
-abbrev pub block_lines : Bool → Parts → ℕ → List ℕ
-block_lines noted v lrc = codes "nad " ++ (encode_upper (v.nad ∷ [])
-    ++ (where_noted noted (note_of (nad_says v.nad)) ++ field_lines noted v lrc))
+-- the row of a field up to this place; no row has LEN
+abbrev pub inf_row : List ℕ → ℕ → Row
+inf_row inf end = row (codes "inf " ++ octets_text inf) (count_note (length inf)) (from_to 3 end)
 
--- a block, line by line
-abbrev pub block_text : Bool → Parts → List ℕ
-block_text noted v = block_lines noted v (xor_of (front_of v))
+abbrev pub lrc_row : ℕ → List (ℕ × ℕ) → Row
+lrc_row lrc place = row (codes "lrc " ++ encode_upper (lrc ∷ [])) (note_of lrc_says) place
+
+-- a block with this LRC that takes n octets, row by row
+abbrev pub lrc_rows : Parts → ℕ → ℕ → List Row
+lrc_rows v lrc n = nad_row v.nad ∷ pcb_row v.pcb v.inf ∷ inf_row v.inf (n - 1) ∷ lrc_row lrc (from_to (n - 1) n) ∷ []
+
+abbrev pub block_rows : Parts → ℕ → List Row
+block_rows v n = lrc_rows v (xor_of (front_of v)) n
 
 -- a control octet as an object
 abbrev pub pcb_object : Pcb → List ℕ
@@ -73,10 +76,6 @@ lrc_members v lrc = codes ",\"nad\":\"" ++ (encode_upper (v.nad ∷ [])
 abbrev pub block_members : Parts → List ℕ
 block_members v = lrc_members v (xor_of (front_of v))
 
--- the octets of each line, if the block takes n octets; no line has LEN
-abbrev pub block_places : Parts → ℕ → List (List (ℕ × ℕ))
-block_places v n = from_to 0 1 ∷ from_to 1 2 ∷ from_to 3 (n - 1) ∷ from_to (n - 1) n ∷ []
-
 -- the codec for an information size
 abbrev pub block_codec : ℕ → Codec Parts BlockReason
 block_codec ifs = record {
@@ -85,7 +84,6 @@ block_codec ifs = record {
   IsReason = IsReason ifs;
   name =
       reason_text;
-  lines = block_text;
+  rows = block_rows;
   members = block_members;
-  places = block_places;
 }

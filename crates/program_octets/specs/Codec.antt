@@ -7,32 +7,31 @@ use Rattle.layouts.specs.declared.layout.Layout.{Layout}
 use Rattle.layouts.specs.declared.layout.Layout.TheVariants.{Lines, Json}
 use Rattle.program_octets.specs.Json.{notes_member}
 use Rattle.program_octets.specs.Places.{places_member}
+use Rattle.program_octets.specs.Rows.{Row, lines_of, notes_of, places_of}
 
--- where a value V ends, which octets spell it, why octets are refused, the names of these reasons R, the lines of a
--- value, with notes or without, its members of a JSON object, each after a comma, and the octets of each of its lines,
--- if the value takes so many octets
+-- where a value V ends, which octets spell it, why octets are refused, the names of these reasons R, the rows of a value,
+-- if it takes so many octets, and its members of a JSON object, each after a comma
 pub record Codec (V R : Type 0) : Type 1 where
   pub ending : Ending
   pub Spells : V → List ℕ → Type 0
   pub IsReason : R → List ℕ → Type 0
   pub name : R → List ℕ
-  pub lines : Bool → V → List ℕ
+  pub rows : V → ℕ → List Row
   pub members : V → List ℕ
-  pub places : V → ℕ → List (List (ℕ × ℕ))
 
--- members of an object; if it is noted, also the member for the notes on these lines
-abbrev pub members_by : Bool → List ℕ → List ℕ → List ℕ
-members_by true lines members = members ++ notes_member lines
-members_by false lines members = members
+-- the octets of each row as a member of an object; if they are noted, also their notes as one
+abbrev pub rows_members : Bool → List Row → List ℕ
+rows_members true rows = places_member (places_of rows) ++ notes_member (notes_of rows)
+rows_members false rows = places_member (places_of rows)
 
--- lines, or members of an object
-abbrev pub said_by : Layout → Bool → List ℕ → List ℕ → List ℕ
-said_by Lines noted lines members = lines
-said_by Json noted lines members = members_by noted lines members
+-- rows as lines, or members of an object and those of the rows
+abbrev pub said_by : Layout → Bool → List Row → List ℕ → List ℕ
+said_by Lines noted rows members = lines_of noted rows
+said_by Json noted rows members = members ++ rows_members noted rows
 
 -- a value of n octets as lines or as members of an object, with notes if it is noted
 abbrev pub said_in : {V R : Type 0} → Bool → Layout → Codec V R → V → ℕ → List ℕ
-said_in noted layout c v n = said_by layout noted (c.lines noted v) (c.members v ++ places_member (c.places v n))
+said_in noted layout c v n = said_by layout noted (c.rows v n) (c.members v)
 
 -- the first n octets of b spell v
 abbrev pub Takes : {V R : Type 0} → Codec V R → List ℕ → V → ℕ → Type 0

@@ -1,5 +1,5 @@
 -- What the program prints about a forest of data objects.
-use Rattle.std.specs.Prelude.{ℕ, List, [], ◌∷◌, ◌++◌, ◌+◌, ◌-◌, ◌==◌, length, Bool, codes, decimal, if◌then◌else◌}
+use Rattle.std.specs.Prelude.{ℕ, List, [], ◌∷◌, ◌++◌, ◌+◌, ◌-◌, ◌==◌, length, codes, decimal, if◌then◌else◌}
 use Rattle.std.specs.List.{repeat}
 use Rattle.hex.specs.Hex.{encode_upper}
 use Rattle.tlv_core.specs.Tag.{constructed_bit, length_field}
@@ -8,9 +8,9 @@ use Rattle.tlv_core.specs.Tree.{Tree}
 use Rattle.tlv_core.specs.Forest.{largest, spelling, IsForest}
 use Rattle.tlv_core.specs.Tidy.{tidy}
 pub use Rattle.tlv_core.specs.Names.{reason_name as reason_text}
-use Rattle.notes.specs.Noted.{where_noted}
 use Rattle.notes.specs.Says.{header_place, object_note}
 use Rattle.program_octets.specs.Places.{from_to}
+use Rattle.program_octets.specs.Rows.{Row, row}
 use Rattle.program_octets.specs.Texts.{octets_text}
 use Rattle.layouts.specs.Items.{with_item}
 use Rattle.octet_core.specs.Grammar.{whole}
@@ -26,19 +26,30 @@ tidied_text t = octets_text (spelling (tidy t)) ++ codes "\n"
 abbrev pub value_text : PartValue → List ℕ
 value_text p = if constructed_bit p.tag == 1 then codes "constructed" else octets_text p.value
 
--- an object, after two spaces for each depth above 1, with its note if it is noted
-abbrev pub part_text : Bool → PartValue → List ℕ
-part_text noted p = repeat (p.depth - 1) (codes "  ")
+-- an object, after two spaces for each depth above 1
+abbrev pub part_line : PartValue → List ℕ
+part_line p = repeat (p.depth - 1) (codes "  ")
     ++ (encode_upper p.tag ++ (codes " " ++ (encode_upper (length_field p.form (length p.value)) ++ (codes " "
-    ++ (value_text p ++ (where_noted noted (object_note p) ++ codes "\n"))))))
+    ++ value_text p))))
 
-abbrev pub lines_text : Bool → List PartValue → List ℕ
-lines_text noted [] = []
-lines_text noted (p ∷ parts) = part_text noted p ++ lines_text noted parts
+abbrev pub placed_row : PartValue → List (ℕ × ℕ) → Row
+placed_row p place = row (part_line p) (object_note p) place
+
+-- the same with its octets, from its tag to the end of its value
+abbrev pub part_row : PartValue → Row
+part_row p = placed_row p (from_to (header_place p) (p.place + length p.value))
+
+abbrev pub object_rows : List PartValue → List Row
+object_rows [] = []
+object_rows (p ∷ parts) = part_row p ∷ object_rows parts
+
+-- the number of objects that take n octets
+abbrev pub count_row : ℕ → ℕ → Row
+count_row count n = row (codes "objects " ++ decimal count) [] (from_to 0 n)
 
 -- the number of objects, and each of them
-abbrev pub parts_text : Bool → List PartValue → List ℕ
-parts_text noted parts = codes "objects " ++ (decimal (length parts) ++ (codes "\n" ++ lines_text noted parts))
+abbrev pub parts_rows : List PartValue → ℕ → List Row
+parts_rows parts n = count_row (length parts) n ∷ object_rows parts
 
 -- that an object is constructed, or the octets of its value
 abbrev pub value_member : PartValue → List ℕ
@@ -76,20 +87,8 @@ abbrev pub forest_members : Tree → List ℕ
 forest_members t = parts_members (parts_of 1 0 t)
 
 -- the objects of a forest, each before those inside it
-abbrev pub forest_text : Bool → Tree → List ℕ
-forest_text noted t = parts_text noted (parts_of 1 0 t)
-
--- the octets of each object, from its tag to the end of its value
-abbrev pub object_places : List PartValue → List (List (ℕ × ℕ))
-object_places [] = []
-object_places (p ∷ parts) = from_to (header_place p) (p.place + length p.value) ∷ object_places parts
-
--- the octets of each line, if the objects take n octets
-abbrev pub parts_places : List PartValue → ℕ → List (List (ℕ × ℕ))
-parts_places parts n = from_to 0 n ∷ object_places parts
-
-abbrev pub forest_places : Tree → ℕ → List (List (ℕ × ℕ))
-forest_places t n = parts_places (parts_of 1 0 t) n
+abbrev pub forest_rows : Tree → ℕ → List Row
+forest_rows t n = parts_rows (parts_of 1 0 t) n
 
 abbrev pub forest_codec : Codec Tree TlvReason
 forest_codec = record {
@@ -98,7 +97,6 @@ forest_codec = record {
   IsReason = IsReason largest;
   name =
       reason_text;
-  lines = forest_text;
+  rows = forest_rows;
   members = forest_members;
-  places = forest_places;
 }

@@ -1,7 +1,5 @@
 -- What the program prints about octets as a JSON object: its members, in their order, with a comma between two.
 use Rattle.std.specs.Prelude.{ℕ, ◌-◌, List, ◌++◌, codes, decimal, length, take}
-use Rattle.answer_json.specs.Notes.{note_items}
-use Rattle.notes.specs.Noted.{mark}
 use Rattle.octet_core.specs.declared.stop.Stop.{Stop}
 use Rattle.octet_core.specs.declared.stop.Stop.TheVariants.{Short, At}
 
@@ -34,14 +32,14 @@ object_head kind = codes "{\"version\":1,\"kind\":\"" ++ (kind ++ codes "\",")
 abbrev pub object_line : List ℕ → List ℕ → List ℕ
 object_line kind members = object_head kind ++ (members ++ codes "}\n")
 
--- the member with the notes on the lines of a text: each line that has a note, and the note
+-- the member with these items as notes
 abbrev pub notes_member : List ℕ → List ℕ
-notes_member noted = codes ",\"notes\":[" ++ (note_items mark noted ++ codes "]")
+notes_member items = codes ",\"notes\":[" ++ (items ++ codes "]")
 
 -- an object with one more member at its end
 abbrev pub with_member : List ℕ → List ℕ → List ℕ
 with_member object member = take (length object - 2) object ++ (member ++ codes "}\n")
 
--- an object with the notes on the lines of a text
+-- an object with these items as notes
 abbrev pub with_notes : List ℕ → List ℕ → List ℕ
-with_notes object noted = with_member object (notes_member noted)
+with_notes object items = with_member object (notes_member items)

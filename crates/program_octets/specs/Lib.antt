@@ -2,6 +2,7 @@ pub mod Statuses
 pub mod Texts
 pub mod Json
 pub mod Places
+pub mod Rows
 pub mod Codec
 pub mod AtrTexts
 pub mod ChainTexts

@@ -1,6 +1,8 @@
 -- The places of an answer's lines among the octets, as a member of its object.
-use Rattle.std.specs.Prelude.{ℕ, zero, suc, ◌+◌, List, [], ◌∷◌, ◌++◌, codes, decimal}
+use Rattle.std.specs.Prelude.{ℕ, zero, suc, ◌+◌, List, [], ◌∷◌, ◌++◌, codes, decimal, slice_index}
 use Rattle.layouts.specs.Items.{with_item}
+use Rattle.program_octets.specs.declared.places.Place.{Place}
+use Rattle.program_octets.specs.declared.places.Place.TheVariants.{Range, Fields}
 
 -- a place and another one: the octets from the first, and before the second
 abbrev pub range_text : ℕ × ℕ → List ℕ
@@ -28,7 +30,14 @@ places_member places = codes ",\"places\":[" ++ (with_places [] places ++ codes 
 abbrev pub from_to : ℕ → ℕ → List (ℕ × ℕ)
 from_to begin end = (begin, end) ∷ []
 
--- so many octets from a place on, each by itself
-abbrev pub each_octet : ℕ → ℕ → List (List (ℕ × ℕ))
-each_octet at zero = []
-each_octet at (suc count) = from_to at (at + 1) ∷ each_octet (at + 1) count
+-- the fields of so many blocks from this place of the octets b on, by the LEN of each: a field is after NAD, PCB and LEN,
+-- and before the LRC
+abbrev pub ranges_in : ℕ → ℕ → List ℕ → List (ℕ × ℕ)
+ranges_in zero at b = []
+ranges_in (suc blocks) at b = (at + 3, at + 3 + slice_index b (at + 2))
+    ∷ ranges_in blocks (at + 3 + slice_index b (at + 2) + 1) b
+
+-- the ranges of a place
+abbrev pub ranges_of : Place → List (ℕ × ℕ)
+ranges_of (Range begin end) = from_to begin end
+ranges_of (Fields blocks octets) = ranges_in blocks 0 octets.now

@@ -5,6 +5,7 @@ use Rattle.octet_core.specs.Grammar.{whole, Refuses}
 use Rattle.program_octets.specs.Texts.{accepted_text, duplicate_text, refused_text}
 use Rattle.program_octets.specs.Json.{accepted_members, object_line, refused_members}
 use Rattle.program_octets.specs.Codec.{Codec, said_in, Stops, Takes}
+use Rattle.program_octets.specs.Rows.{lines_of}
 use Rattle.program_octets.specs.AtrTexts.{atr_codec}
 use Rattle.program_octets.specs.BlockTexts.{block_codec}
 use Rattle.program_octets.specs.ChainTexts.{chain_codec}
@@ -41,23 +42,23 @@ abbrev pub Tells : {V R : Type 0} → Codec V R → (V → ℕ → List ℕ) →
 Tells c told b text ended = TellsBy c told (refused_text c.name) b text ended
 
 -- a codec with its types of values and reasons
-pub record Row : Type 1 where
+pub record Judging : Type 1 where
   pub Value : Type 0
   pub Reason : Type 0
   pub codec : Codec Value Reason
 
-abbrev row : {V R : Type 0} → Codec V R → Row
-row c = record { Value = _; Reason = _; codec = c }
+abbrev judging : {V R : Type 0} → Codec V R → Judging
+judging c = record { Value = _; Reason = _; codec = c }
 
 -- the codec of a kind
-abbrev pub codec_of : Kind → Expected → Row
-codec_of Atr expected = row atr_codec
-codec_of Block expected = row (block_codec expected.ifs)
-codec_of Chain expected = row (chain_codec expected.ifs expected.number)
-codec_of Command expected = row command_codec
-codec_of Response expected = row response_codec
-codec_of Tlv expected = row forest_codec
-codec_of Dol expected = row list_codec
+abbrev pub codec_of : Kind → Expected → Judging
+codec_of Atr expected = judging atr_codec
+codec_of Block expected = judging (block_codec expected.ifs)
+codec_of Chain expected = judging (chain_codec expected.ifs expected.number)
+codec_of Command expected = judging command_codec
+codec_of Response expected = judging response_codec
+codec_of Tlv expected = judging forest_codec
+codec_of Dol expected = judging list_codec
 
 -- ---- in each layout
 
@@ -104,7 +105,8 @@ ShowsBy noted layout kind c b = TellsBy c (shown_in noted layout kind c) (refuse
 
 -- the value as lines with notes, or a refusal with these words as a note
 abbrev pub NotesBy : {V R : Type 0} → Codec V R → List ℕ → List ℕ → List ℕ → Status → Type 0
-NotesBy c words b = TellsBy c (λ v n. c.lines true v) (λ stop. noted_line (refused_text c.name stop) words) b
+NotesBy c words b = TellsBy c (λ v n. lines_of true (c.rows v n)) (λ stop. noted_line (refused_text c.name stop) words)
+    b
 
 -- how many octets the value takes, and the value itself, by a kind
 abbrev pub Checks : Layout → Kind → Expected → List ℕ → List ℕ → Status → Type 0

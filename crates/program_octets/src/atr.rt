@@ -2,12 +2,12 @@
 
 ghost use Rattle.std.specs.Prelude.{◌≡◌, IfOk, refl};
 ghost use Rattle.atr_core.specs.Atr.{AtrParts};
-ghost use Rattle.program_octets.specs.AtrTexts.{atr_codec, atr_members, atr_places, atr_text, convention_text};
+ghost use Rattle.program_octets.specs.AtrTexts.{atr_codec, atr_members, atr_rows, convention_text};
 
-use crate::atr_lines::push_lines;
 use crate::atr_members::push_members;
-use crate::atr_places::push_places;
+use crate::atr_rows::push_rows;
 use crate::codec::{Codec, Outcome};
+use crate::rows::Rows;
 use crate::shown::{Showable, Shown};
 use atr_core::{Atr, AtrReason, Convention, check, decode};
 use layouts::Layout;
@@ -51,27 +51,16 @@ impl Codec for Atr {
 }
 
 impl Showable for Atr {
-    ghost lines = { atr_text };
+    ghost rows = { atr_rows };
 
     ghost members = { atr_members };
 
-    ghost places = { atr_places };
-
-    fn push_lines(&self, _alloc: Global, text: &mut String, noted: bool) -> Result<(), AllocError> {
-        push_lines(text, self, noted)
+    fn push_rows(&self, to: &mut Rows, line: &mut String, taken: usize) -> Result<(), AllocError> {
+        push_rows(to, line, self, taken)
     }
 
     fn push_members(&self, alloc: Global, text: &mut String) -> Result<(), AllocError> {
         push_members(alloc, text, self)
-    }
-
-    fn push_places(
-        &self,
-        _alloc: Global,
-        items: &mut String,
-        taken: usize,
-    ) -> Result<(), AllocError> {
-        push_places(items, self, taken)
     }
 }
 

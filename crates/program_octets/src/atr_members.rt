@@ -5,7 +5,7 @@ ghost use Rattle.std.specs.List.{AllByRecursion};
 ghost use Rattle.program_octets.specs.AtrTexts.{atr_members, byte_object, interface_items, meaning_members, t1_object, tail_members, tck_value, with_byte, with_bytes, with_td, with_tds};
 
 use crate::atr::convention_name;
-use crate::atr_lines::push_rate;
+use crate::atr_rows::push_rate;
 use crate::text::{push_hex, push_octet};
 use atr_core::{Atr, Indicated, Interface, ParamFault, T1Params, rates, t1_params};
 use layouts::push_separator;

@@ -1,19 +1,20 @@
 //! What the program prints about a block.
 
 ghost use Rattle.std.specs.Prelude.{◌≡◌, ◌++◌, OnOk, refl, slice_index, string_bytes};
-ghost use Rattle.block_core.specs.Block.{fault_code, front_of, number_bit, pcb_octet, spelling, Parts};
-ghost use Rattle.notes.specs.Noted.{where_noted};
-ghost use Rattle.notes.specs.Says.{note_of, pcb_says};
+ghost use Rattle.block_core.specs.Block.{fault_code, front_of, number_bit, spelling, Parts};
 ghost use Rattle.octet_core.specs.Octets.{xor_of};
-ghost use Rattle.program_octets.specs.BlockTexts.{block_codec, block_lines, block_places, field_lines, lrc_members, more_number, pcb_object, pcb_text, rest_lines, supervisory_text};
+ghost use Rattle.program_octets.specs.BlockTexts.{block_codec, lrc_members, lrc_row, lrc_rows, more_number, nad_row, pcb_object, pcb_row, pcb_text, supervisory_text};
+ghost use Rattle.program_octets.specs.Places.{ranges_of};
+ghost use Rattle.program_octets.specs.Rows.{with_row, with_rows};
 
 use crate::codec::{Codec, Outcome};
-use crate::places::push_place;
+use crate::places::Place;
+use crate::rows::{Rows, begin};
 use crate::shown::{Showable, Shown};
-use crate::text::{push_hex, push_octet, push_word};
+use crate::text::{push_hex, push_octet};
 use block_core::{Block, BlockReason, BlockRef, Fault, Number, Pcb, S};
 use layouts::Layout;
-use notes::{block_refusal_note, lrc_note, nad_note, pcb_note, push_count_note, push_note};
+use notes::{CountNote, block_refusal_note, lrc_note, nad_note, pcb_note};
 use octet_core::Stop;
 use program_words::{Expected, FieldSize};
 use std::alloc::{AllocError, Global};
@@ -63,31 +64,16 @@ struct Checked<'a> {
 }
 
 impl Showable for Checked<'_> {
-    ghost lines = { λ noted checked. block_lines noted checked.block checked.lrc };
+    ghost rows = { λ checked n. lrc_rows checked.block checked.lrc n };
 
     ghost members = { λ checked. lrc_members checked.block checked.lrc };
 
-    ghost places = { λ checked n. block_places checked.block n };
-
-    fn push_lines(&self, _alloc: Global, text: &mut String, noted: bool) -> Result<(), AllocError> {
-        push_lines(text, &self.block, self.lrc, noted)
+    fn push_rows(&self, to: &mut Rows, line: &mut String, taken: usize) -> Result<(), AllocError> {
+        push_block(to, line, &self.block, self.lrc, taken)
     }
 
     fn push_members(&self, _alloc: Global, text: &mut String) -> Result<(), AllocError> {
         push_members(text, &self.block, self.lrc)
-    }
-
-    fn push_places(
-        &self,
-        _alloc: Global,
-        items: &mut String,
-        taken: usize,
-    ) -> Result<(), AllocError> {
-        let lrc = taken.saturating_sub(1);
-        push_place(items, 0, 1)?;
-        push_place(items, 1, 2)?;
-        push_place(items, 3, lrc)?;
-        push_place(items, lrc, taken)
     }
 }
 
@@ -99,67 +85,52 @@ fn last(block: &BlockRef<'_>, octets: &[u8]) -> u8
     octets[octets.len() - 1]
 }
 
-/// Appends the lines of a block: its node address, its kind, its information field and its LRC. They have notes if it
-/// is `noted`.
-fn push_lines(
-    text: &mut String,
+/// Appends the rows of a block: its node address, its kind, its information field and its LRC.
+fn push_block(
+    to: &mut Rows,
+    line: &mut String,
     block: &BlockRef<'_>,
     lrc: u8,
-    noted: bool,
+    taken: usize,
 ) -> Result<(), AllocError>
-    ensures { OnOk result (string_bytes text.new
-        ≡ string_bytes text.old ++ block_lines noted block.now lrc) }
+    ensures { OnOk result (to.new ≡ with_rows to.old (lrc_rows block.now lrc taken)) }
 {
-    text.push_str("nad ")?;
-    push_octet(text, block.nad())?;
-    push_note(text, noted, nad_note(block.nad()))?;
-    push_field(text, block, lrc, noted)
+    let at = taken.saturating_sub(1);
+    push_nad(to, line, block.nad())?;
+    push_pcb_row(to, line, block.pcb(), block.inf())?;
+    let count = CountNote {
+        count: block.inf().len(),
+    };
+    to.push_word(line, "inf ", block.inf(), &count, &Place::Range(3, at))?;
+    push_lrc(to, line, lrc, &Place::Range(at, taken))
 }
 
-/// Appends the lines of a block's kind, of its information field and of its LRC.
-fn push_field(
-    text: &mut String,
-    block: &BlockRef<'_>,
-    lrc: u8,
-    noted: bool,
-) -> Result<(), AllocError>
-    ensures { OnOk result (string_bytes text.new
-        ≡ string_bytes text.old ++ field_lines noted block.now lrc) }
+/// Appends the row of a node address.
+fn push_nad(to: &mut Rows, line: &mut String, nad: u8) -> Result<(), AllocError>
+    ensures { OnOk result (to.new ≡ with_row to.old (nad_row nad)) }
 {
-    let inf = block.inf();
-    text.push_str("\npcb ")?;
-    push_pcb(text, block.pcb())?;
-    push_pcb_note(text, block, noted)?;
-    push_rest(text, inf, lrc, noted)
+    begin(line, "nad ")?;
+    push_octet(line, nad)?;
+    to.push(line.as_str(), &nad_note(nad), &Place::Range(0, 1))
 }
 
-/// Appends the note on a block's kind, if it is `noted`.
-fn push_pcb_note(text: &mut String, block: &BlockRef<'_>, noted: bool) -> Result<(), AllocError>
-    ensures { OnOk result (string_bytes text.new ≡ string_bytes text.old ++ where_noted noted
-        (note_of (pcb_says (pcb_octet block.now.pcb) (slice_index block.now.inf 0)))) }
+/// Appends the row of a block's kind, by its PCB and its information field.
+fn push_pcb_row(to: &mut Rows, line: &mut String, pcb: Pcb, inf: &[u8]) -> Result<(), AllocError>
+    ensures { OnOk result (to.new ≡ with_row to.old (pcb_row pcb inf.now)) }
 {
-    if !noted {
-        return Ok(());
-    }
-    push_note(
-        text,
-        noted,
-        pcb_note(block.pcb().octet(), first(block.inf())),
-    )
+    begin(line, "pcb ")?;
+    push_pcb(line, pcb)?;
+    let note = pcb_note(pcb.octet(), first(inf));
+    to.push(line.as_str(), &note, &Place::Range(1, 2))
 }
 
-/// Appends the lines of an information field and of an LRC.
-fn push_rest(text: &mut String, inf: &[u8], lrc: u8, noted: bool) -> Result<(), AllocError>
-    ensures { OnOk result (string_bytes text.new
-        ≡ string_bytes text.old ++ rest_lines noted inf.now lrc) }
+/// Appends the row of an LRC.
+fn push_lrc(to: &mut Rows, line: &mut String, lrc: u8, place: &Place<'_>) -> Result<(), AllocError>
+    ensures { OnOk result (to.new ≡ with_row to.old (lrc_row lrc (ranges_of place.now))) }
 {
-    text.push_str("\ninf ")?;
-    push_word(text, inf)?;
-    push_count_note(text, noted, inf.len())?;
-    text.push_str("\nlrc ")?;
-    push_octet(text, lrc)?;
-    push_note(text, noted, lrc_note())?;
-    text.push_str("\n")
+    begin(line, "lrc ")?;
+    push_octet(line, lrc)?;
+    to.push(line.as_str(), &lrc_note(), place)
 }
 
 /// Returns the first octet, or 0 if there are none.

@@ -1,22 +1,23 @@
 //! What the program prints about a chain.
 
-ghost use Rattle.std.specs.Prelude.{◌≡◌, ◌++◌, ◌<◌, ℕ, List, [], length, slice_index, true, None, refl, IfOk, IfErr, OnOk, string_bytes};
+ghost use Rattle.std.specs.Prelude.{◌≡◌, ◌++◌, ℕ, List, length, true, None, refl, IfOk, IfErr, OnOk, string_bytes};
 ghost use Rattle.octet_core.specs.Grammar.{self_ended, RefusesUnlessMemory};
 ghost use Rattle.chain_core.specs.Chain.{chain_blocks, message_of, IsChain, IsReason};
 ghost use Rattle.chain_core.specs.Cut.{cut_of};
 ghost use Rattle.hex.specs.Hex.{encode_upper};
 ghost use Rattle.block_core.specs.Block.{spelling};
-ghost use Rattle.program_octets.specs.Places.{with_ranges};
-ghost use Rattle.program_octets.specs.ChainTexts.{blocks_text, chain_codec, joined_members, joined_places, joined_text, longest_message, ranges_in, IsReceived};
+ghost use Rattle.program_octets.specs.Places.{ranges_in};
+ghost use Rattle.program_octets.specs.ChainTexts.{blocks_text, chain_codec, joined_members, joined_rows, longest_message, IsReceived};
 
 use crate::codec::{Codec, Outcome};
-use crate::places::{push_place, push_range};
+use crate::places::Place;
+use crate::rows::Rows;
 use crate::shown::{Showable, Shown};
-use crate::text::{push_hex, push_word};
+use crate::text::push_hex;
 use block_core::{Block, Number, encode};
 use chain_core::{ChainReason, LONGEST_MESSAGE, Receiver, cut};
-use layouts::{Layout, push_separator};
-use notes::{chain_refusal_note, push_count_note};
+use layouts::Layout;
+use notes::{CountNote, NoNote, chain_refusal_note};
 use octet_core::{Refused, Stop};
 use program_words::{Expected, FieldSize};
 use std::alloc::{AllocError, Global};
@@ -66,35 +67,25 @@ struct Joined<'a> {
 }
 
 impl Showable for Joined<'_> {
-    ghost lines = { λ noted joined. joined_text noted joined.blocks joined.message.now };
+    ghost rows = { λ joined n. joined_rows joined.blocks joined.message.now
+        (ranges_in joined.blocks 0 joined.octets.now) n };
 
     ghost members = { λ joined. joined_members joined.blocks joined.message.now };
 
-    ghost places = { λ joined n. joined_places joined.blocks joined.octets.now n };
-
-    fn push_lines(&self, _alloc: Global, text: &mut String, noted: bool) -> Result<(), AllocError> {
-        write!(text, "blocks {}\nmessage ", self.blocks)?;
-        push_word(text, self.message)?;
-        push_count_note(text, noted, self.message.len())?;
-        text.push_str("\n")
+    fn push_rows(&self, to: &mut Rows, line: &mut String, taken: usize) -> Result<(), AllocError> {
+        let blocks = self.blocks as usize;
+        let count = CountNote {
+            count: self.message.len(),
+        };
+        to.push_number(line, "blocks ", blocks, &NoNote, &Place::Range(0, taken))?;
+        let fields = Place::Fields(self.blocks, self.octets);
+        to.push_word(line, "message ", self.message, &count, &fields)
     }
 
     fn push_members(&self, _alloc: Global, text: &mut String) -> Result<(), AllocError> {
         write!(text, ",\"blocks\":{},\"message\":\"", self.blocks)?;
         push_hex(text, self.message)?;
         text.push_str("\"")
-    }
-
-    fn push_places(
-        &self,
-        alloc: Global,
-        items: &mut String,
-        taken: usize,
-    ) -> Result<(), AllocError> {
-        let fields = field_ranges(alloc, self.blocks, self.octets)?;
-        push_place(items, 0, taken)?;
-        push_separator(items)?;
-        write!(items, "[{fields}]")
     }
 }
 
@@ -113,29 +104,6 @@ impl<'a> Joined<'a> {
             octets,
         }
     }
-}
-
-/// Returns the octets of the fields of so many blocks at the front of the octets, as ranges.
-fn field_ranges(alloc: Global, blocks: u32, octets: &[u8]) -> Result<String, AllocError>
-    ensures { IfOk result (λ text. string_bytes text
-        ≡ with_ranges [] (ranges_in blocks 0 octets.now)) }
-{
-    let mut ranges = String::new(alloc);
-    let mut at = 0;
-    for _ in 0..blocks {
-        let end = at + 3 + octet_at(octets, at + 2);
-        push_range(&mut ranges, at + 3, end)?;
-        at = end + 1;
-    }
-    Ok(ranges)
-}
-
-/// Returns the octet at a place, or 0 if there is none.
-fn octet_at(octets: &[u8], place: usize) -> usize
-    ensures octet { result ≡ slice_index octets.now place }
-    ensures few { result < 256 }
-{
-    octets.get(place).copied().map_or(0, usize::from)
 }
 
 /// Returns a receiver that has taken the chain at the front of the octets, and the chain's length.

@@ -2,15 +2,18 @@
 
 ghost use Rattle.std.specs.Prelude.{◌≡◌, ◌++◌, OnOk, refl, string_bytes};
 ghost use Rattle.apdu_core.specs.Command.{CommandParts};
-ghost use Rattle.program_octets.specs.CommandTexts.{body_text, command_codec, command_members, command_places, command_text, le_or, le_size, shape_members, shape_text};
+ghost use Rattle.program_octets.specs.CommandTexts.{command_codec, command_members, command_rows, header_row, le_or, le_row, le_size, rows_by, shape_members, shape_text};
+ghost use Rattle.program_octets.specs.Places.{ranges_of};
+ghost use Rattle.program_octets.specs.Rows.{with_row, with_rows};
 
 use crate::codec::{Codec, Outcome};
-use crate::places::push_place;
+use crate::places::Place;
+use crate::rows::{Rows, begin};
 use crate::shown::{Showable, Shown};
-use crate::text::{push_hex, push_word};
+use crate::text::push_hex;
 use apdu_core::{Command, CommandReason, CommandRef, Shape};
 use layouts::Layout;
-use notes::{le_note, push_header_note, push_note, push_part_note};
+use notes::{HeaderNote, LcNote, NoNote, le_note};
 use octet_core::Stop;
 use program_words::{Expected, FieldSize};
 use std::alloc::{AllocError, Global};
@@ -51,60 +54,64 @@ impl Codec for Command {
 }
 
 impl Showable for CommandRef<'_> {
-    ghost lines = { command_text };
+    ghost rows = { command_rows };
 
     ghost members = { command_members };
 
-    ghost places = { command_places };
-
-    fn push_lines(&self, _alloc: Global, text: &mut String, noted: bool) -> Result<(), AllocError> {
-        push_lines(text, self, noted)
+    fn push_rows(&self, to: &mut Rows, line: &mut String, taken: usize) -> Result<(), AllocError> {
+        let le = taken.saturating_sub(le_size(self.shape()));
+        push_command(to, line, self, le, taken)
     }
 
     fn push_members(&self, _alloc: Global, text: &mut String) -> Result<(), AllocError> {
         push_members(text, self)
     }
-
-    fn push_places(
-        &self,
-        _alloc: Global,
-        items: &mut String,
-        taken: usize,
-    ) -> Result<(), AllocError> {
-        let le = taken.saturating_sub(le_size(self.shape()));
-        push_place(items, 0, taken)?;
-        push_place(items, 0, 4)?;
-        push_place(items, 4, le)?;
-        push_place(items, le, taken)
-    }
 }
 
-/// Appends the lines of a command: its case, its header, its data field and Le, with notes if it is `noted`.
-fn push_lines(text: &mut String, command: &CommandRef<'_>, noted: bool) -> Result<(), AllocError>
-    ensures { OnOk result (string_bytes text.new
-        ≡ string_bytes text.old ++ command_text noted command.now) }
+/// Appends the rows of a command: its case, its header, its data field and Le, which begins at `le`.
+fn push_command(
+    to: &mut Rows,
+    line: &mut String,
+    command: &CommandRef<'_>,
+    le: usize,
+    taken: usize,
+) -> Result<(), AllocError>
+    ensures { OnOk result (to.new ≡ with_rows to.old (rows_by command.now le taken)) }
 {
-    let header = command.header();
-    text.push_str(shape_name(command.shape()))?;
-    text.push_str("\nheader ")?;
-    push_hex(text, &header)?;
-    push_header_note(text, noted, header[0], header[1])?;
-    push_body(text, command, noted)
-}
-
-/// Appends the lines of the data field and of Le.
-fn push_body(text: &mut String, command: &CommandRef<'_>, noted: bool) -> Result<(), AllocError>
-    ensures { OnOk result (string_bytes text.new
-        ≡ string_bytes text.old ++ body_text noted command.now) }
-{
+    let shape = Place::Range(0, taken);
+    to.push(shape_name(command.shape()), &NoNote, &shape)?;
+    push_header(to, line, command.header())?;
     let part = command.part();
-    text.push_str("\npart ")?;
-    push_word(text, part)?;
-    push_part_note(text, noted, part.len())?;
-    text.push_str("\nle ")?;
-    push_le(text, command.le(), "none")?;
-    push_note(text, noted, le_note(command.le()))?;
-    text.push_str("\n")
+    let lc = LcNote { len: part.len() };
+    to.push_word(line, "part ", part, &lc, &Place::Range(4, le))?;
+    push_le_row(to, line, command.le(), &Place::Range(le, taken))
+}
+
+/// Appends the row of a header.
+fn push_header(to: &mut Rows, line: &mut String, header: [u8; 4]) -> Result<(), AllocError>
+    ensures { OnOk result (to.new ≡ with_row to.old (header_row header)) }
+{
+    begin(line, "header ")?;
+    push_hex(line, &header)?;
+    let note = HeaderNote {
+        class: header[0],
+        instruction: header[1],
+    };
+    to.push(line.as_str(), &note, &Place::Range(0, 4))
+}
+
+/// Appends the row of Le.
+fn push_le_row(
+    to: &mut Rows,
+    line: &mut String,
+    le: Option<u32>,
+    place: &Place<'_>,
+) -> Result<(), AllocError>
+    ensures { OnOk result (to.new ≡ with_row to.old (le_row le (ranges_of place.now))) }
+{
+    begin(line, "le ")?;
+    push_le(line, le, "none")?;
+    to.push(line.as_str(), &le_note(le), place)
 }
 
 /// Appends a command as members of an object.

@@ -8,18 +8,20 @@ ghost use Rattle.tlv_core.specs.Reasons.{IsReason};
 ghost use Rattle.tlv_core.specs.Flat.{part_seen};
 ghost use Rattle.program_octets.specs.Codec.{IsVerdict};
 ghost use Rattle.program_octets.specs.Verdicts.{Tells};
-ghost use Rattle.program_octets.specs.Places.{with_places};
-ghost use Rattle.program_octets.specs.ForestTexts.{forest_codec, header_members, lines_text, object_places, objects_head, part_object, part_text, parts_members, parts_places, parts_text, place_members, tidied_text, value_member, value_text, with_objects};
+ghost use Rattle.program_octets.specs.ForestTexts.{forest_codec, header_members, object_rows, objects_head, part_line, part_object, part_row, parts_members, parts_rows, place_members, placed_row, tidied_text, value_member, value_text, with_objects};
+ghost use Rattle.program_octets.specs.Places.{ranges_of};
+ghost use Rattle.program_octets.specs.Rows.{with_row, with_rows};
 ghost use Rattle.notes.specs.Says.{header_place};
 ghost use Rattle.layouts.specs.Items.{with_item};
 
 use crate::answer::Answer;
 use crate::codec::{CheckedAnswer, Codec, Outcome};
-use crate::places::push_place;
+use crate::places::Place;
+use crate::rows::{Rows, begin};
 use crate::shown::{Showable, Shown};
 use crate::text::{octets_word, push_hex, push_word};
 use layouts::{Layout, push_separator};
-use notes::{forest_refusal_note, push_object_note};
+use notes::{NoNote, forest_refusal_note};
 use octet_core::{Refused, Stop};
 use program_words::{Expected, FieldSize};
 use std::alloc::{AllocError, Global};
@@ -61,28 +63,16 @@ impl Codec for Forest {
 }
 
 impl Showable for FlatForest<'_> {
-    ghost lines = { parts_text };
+    ghost rows = { parts_rows };
 
     ghost members = { parts_members };
 
-    ghost places = { parts_places };
-
-    fn push_lines(&self, alloc: Global, text: &mut String, noted: bool) -> Result<(), AllocError> {
-        push_lines(alloc, text, self.parts(), noted)
+    fn push_rows(&self, to: &mut Rows, line: &mut String, taken: usize) -> Result<(), AllocError> {
+        push_forest(to, line, self.parts(), taken)
     }
 
     fn push_members(&self, alloc: Global, text: &mut String) -> Result<(), AllocError> {
         push_members(alloc, text, self.parts())
-    }
-
-    fn push_places(
-        &self,
-        _alloc: Global,
-        items: &mut String,
-        taken: usize,
-    ) -> Result<(), AllocError> {
-        push_place(items, 0, taken)?;
-        push_part_places(items, self.parts())
     }
 }
 
@@ -184,18 +174,6 @@ fn push_object(text: &mut String, part: &Part<'_>) -> Result<(), AllocError>
     text.push_str("}")
 }
 
-/// Appends the octets of each object, from its tag to the end of its value.
-fn push_part_places(items: &mut String, parts: &[Part<'_>]) -> Result<(), AllocError>
-    ensures { OnOk result (string_bytes items.new
-        ≡ with_places (string_bytes items.old) (object_places (map part_seen parts.now))) }
-{
-    for part in parts {
-        let end = part.place.checked_add(part.value.len()).ok_or(AllocError)?;
-        push_place(items, header_place(part), end)?;
-    }
-    Ok(())
-}
-
 /// Appends the tag and the length field of an object.
 fn push_header(text: &mut String, part: &Part<'_>) -> Result<(), AllocError>
     ensures { OnOk result (string_bytes text.new
@@ -241,54 +219,68 @@ fn push_value_member(text: &mut String, part: &Part<'_>) -> Result<(), AllocErro
     }
 }
 
-/// Appends the number of objects, and each object, with notes if they are `noted`.
-fn push_lines(
-    alloc: Global,
-    text: &mut String,
+/// Appends the rows of objects: their number, and each object.
+fn push_forest(
+    to: &mut Rows,
+    line: &mut String,
     parts: &[Part<'_>],
-    noted: bool,
+    taken: usize,
 ) -> Result<(), AllocError>
-    ensures { OnOk result (string_bytes text.new
-        ≡ string_bytes text.old ++ parts_text noted (map part_seen parts.now)) }
+    ensures { OnOk result (to.new
+        ≡ with_rows to.old (parts_rows (map part_seen parts.now) taken)) }
 {
-    write!(text, "objects {}\n", parts.len())?;
-    push_parts(alloc, text, parts, noted)
+    let place = Place::Range(0, taken);
+    to.push_number(line, "objects ", parts.len(), &NoNote, &place)?;
+    push_parts(to, line, parts)
 }
 
-fn push_parts(
-    alloc: Global,
-    text: &mut String,
-    parts: &[Part<'_>],
-    noted: bool,
-) -> Result<(), AllocError>
-    ensures { OnOk result (string_bytes text.new
-        ≡ string_bytes text.old ++ lines_text noted (map part_seen parts.now)) }
+/// Appends a row for each object.
+fn push_parts(to: &mut Rows, line: &mut String, parts: &[Part<'_>]) -> Result<(), AllocError>
+    ensures { OnOk result (to.new
+        ≡ with_rows to.old (object_rows (map part_seen parts.now))) }
 {
     for part in parts {
-        push_part(alloc, text, part, noted)?;
+        push_part(to, line, part)?;
     }
     Ok(())
 }
 
-/// Appends an object, after two spaces for each depth above 1: its tag, its length field and its value.
-fn push_part(
-    alloc: Global,
-    text: &mut String,
+/// Appends the row of an object, from its tag to the end of its value.
+fn push_part(to: &mut Rows, line: &mut String, part: &Part<'_>) -> Result<(), AllocError>
+    ensures { OnOk result (to.new ≡ with_row to.old (part_row (part_seen part.now))) }
+{
+    let end = part.place.checked_add(part.value.len()).ok_or(AllocError)?;
+    push_placed(to, line, part, &Place::Range(header_place(part), end))
+}
+
+/// Appends the row of an object at this place.
+fn push_placed(
+    to: &mut Rows,
+    line: &mut String,
     part: &Part<'_>,
-    noted: bool,
+    place: &Place<'_>,
 ) -> Result<(), AllocError>
-    ensures { OnOk result (string_bytes text.new
-        ≡ string_bytes text.old ++ part_text noted (part_seen part.now)) }
+    ensures { OnOk result (to.new ≡ with_row to.old (placed_row (part_seen part.now)
+        (ranges_of place.now))) }
+{
+    if !to.needs_lines() {
+        return to.push("", part, place);
+    }
+    fill(to.alloc(), line, part)?;
+    to.push(line.as_str(), part, place)
+}
+
+/// Fills a line with an object, after two spaces for each depth above 1: its tag, its length field and its value.
+fn fill(alloc: Global, line: &mut String, part: &Part<'_>) -> Result<(), AllocError>
+    ensures { OnOk result (string_bytes line.new ≡ part_line (part_seen part.now)) }
 {
     let indent = "  ".repeat(alloc, part.depth.saturating_sub(1))?;
-    text.push_str(indent.as_str())?;
-    push_hex(text, part.tag.octets())?;
-    text.push_str(" ")?;
-    push_hex(text, part.length_field().as_slice())?;
-    text.push_str(" ")?;
-    push_value(text, part)?;
-    push_object_note(text, noted, part)?;
-    text.push_str("\n")
+    begin(line, indent.as_str())?;
+    push_hex(line, part.tag.octets())?;
+    line.push_str(" ")?;
+    push_hex(line, part.length_field().as_slice())?;
+    line.push_str(" ")?;
+    push_value(line, part)
 }
 
 /// Appends the octets of a value, or that it is constructed.

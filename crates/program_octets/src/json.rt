@@ -1,11 +1,9 @@
 //! JSON objects with what the program prints about octets.
 
-ghost use Rattle.std.specs.Prelude.{◌≡◌, ◌++◌, IfOk, OnOk, string_bytes};
+ghost use Rattle.std.specs.Prelude.{◌≡◌, ◌++◌, IfOk, OnOk, codes, string_bytes};
 ghost use Rattle.program_octets.specs.Json.{accepted_members, notes_member, object_head, object_line, refused_at_members, refused_members, short_members};
 ghost use Rattle.program_octets.specs.Verdicts.{kind_name};
 
-use answer_json::note_items;
-use notes::MARK;
 use octet_core::{Named, Stop};
 use program_words::Kind;
 use std::alloc::{AllocError, Global};
@@ -49,12 +47,26 @@ pub(crate) fn push_accepted(text: &mut String, taken: usize) -> Result<(), Alloc
     write!(text, "\"verdict\":\"ok\",\"octets\":{taken}")
 }
 
-/// Returns the member with the notes on the lines of a text, which begins with a comma. It has each line that has a
-/// note, and the note.
-pub fn notes_member(alloc: Global, noted: &[u8]) -> Result<String, AllocError>
-    ensures { IfOk result (λ member. string_bytes member ≡ notes_member noted.now) }
+/// Appends the member with these items as places.
+pub(crate) fn push_places(text: &mut String, items: &str) -> Result<(), AllocError>
+    ensures { OnOk result (string_bytes text.new ≡ string_bytes text.old
+        ++ (codes ",\"places\":[" ++ (items.now ++ codes "]"))) }
 {
-    let items = note_items(alloc, MARK.as_bytes(), noted)?;
+    write!(text, ",\"places\":[{items}]")
+}
+
+/// Appends the member with these items as notes.
+pub(crate) fn push_notes(text: &mut String, items: &str) -> Result<(), AllocError>
+    ensures { OnOk result (string_bytes text.new ≡ string_bytes text.old
+        ++ notes_member items.now) }
+{
+    write!(text, ",\"notes\":[{items}]")
+}
+
+/// Returns the member with these items as notes, which begins with a comma.
+pub fn notes_member(alloc: Global, items: &str) -> Result<String, AllocError>
+    ensures { IfOk result (λ member. string_bytes member ≡ notes_member items.now) }
+{
     format!(in alloc; ",\"notes\":[{items}]")
 }
 

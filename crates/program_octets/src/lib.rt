@@ -11,9 +11,8 @@
 
 pub mod answer;
 mod atr;
-mod atr_lines;
 mod atr_members;
-mod atr_places;
+mod atr_rows;
 mod block;
 pub mod chain;
 pub mod codec;
@@ -24,6 +23,7 @@ pub mod laws;
 pub mod list;
 mod places;
 mod response;
+mod rows;
 pub mod shown;
 pub mod status;
 mod text;

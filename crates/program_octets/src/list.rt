@@ -4,17 +4,19 @@ ghost use Rattle.std.specs.Prelude.{◌≡◌, ◌++◌, [], List, ℕ, IfOk, On
 ghost use Rattle.tlv_core.specs.Fill.{filled, HasDuplicate};
 ghost use Rattle.program_octets.specs.Codec.{IsVerdict};
 ghost use Rattle.program_octets.specs.Verdicts.{IsFilled, IsFilledBy};
-ghost use Rattle.program_octets.specs.Places.{with_places};
-ghost use Rattle.program_octets.specs.ListTexts.{dol_members, dol_places, dol_text, entries_text, entry_object, entry_places, entry_text, filled_text, list_codec, with_entries};
+ghost use Rattle.program_octets.specs.ListTexts.{dol_members, dol_rows, entry_object, entry_row, entry_rows, filled_text, list_codec, with_entries};
+ghost use Rattle.program_octets.specs.Places.{ranges_of};
+ghost use Rattle.program_octets.specs.Rows.{with_row, with_rows};
 ghost use Rattle.layouts.specs.Items.{with_item};
 
 use crate::answer::Answer;
 use crate::codec::{CheckedAnswer, Codec, Outcome};
-use crate::places::push_place;
+use crate::places::Place;
+use crate::rows::Rows;
 use crate::shown::{Showable, Shown};
 use crate::text::{octets_word, push_hex};
 use layouts::{Layout, push_separator};
-use notes::push_list_note;
+use notes::{ListNote, NoNote};
 use octet_core::{Refused, Stop};
 use program_words::{Expected, Fault, FieldSize, Knowns};
 use std::alloc::{AllocError, Global};
@@ -56,29 +58,51 @@ impl Codec for Dol {
 }
 
 impl Showable for Dol {
-    ghost lines = { dol_text };
+    ghost rows = { dol_rows };
 
     ghost members = { dol_members };
 
-    ghost places = { dol_places };
-
-    fn push_lines(&self, _alloc: Global, text: &mut String, noted: bool) -> Result<(), AllocError> {
-        push_lines(text, self.entries(), noted)
+    fn push_rows(&self, to: &mut Rows, line: &mut String, taken: usize) -> Result<(), AllocError> {
+        let entries = self.entries();
+        let asked = ListNote { entries };
+        let place = Place::Range(0, taken);
+        to.push_number(line, "entries ", entries.len(), &asked, &place)?;
+        push_entries(to, line, entries)
     }
 
     fn push_members(&self, alloc: Global, text: &mut String) -> Result<(), AllocError> {
         push_members(alloc, text, self.entries())
     }
+}
 
-    fn push_places(
-        &self,
-        _alloc: Global,
-        items: &mut String,
-        taken: usize,
-    ) -> Result<(), AllocError> {
-        push_place(items, 0, taken)?;
-        push_entry_places(items, self.entries())
+/// Appends the rows of entries.
+fn push_entries(to: &mut Rows, line: &mut String, entries: &[(Tag, u8)]) -> Result<(), AllocError>
+    ensures { OnOk result (to.new ≡ with_rows to.old (entry_rows 0 entries.now)) }
+{
+    let mut at: usize = 0;
+    for (tag, length) in entries {
+        let end = at.checked_add(tag.octets().len() + 1).ok_or(AllocError)?;
+        push_entry(to, line, tag, *length, &Place::Range(at, end))?;
+        at = end;
     }
+    Ok(())
+}
+
+/// Appends the row of an entry: its tag and its length.
+fn push_entry(
+    to: &mut Rows,
+    line: &mut String,
+    tag: &Tag,
+    length: u8,
+    place: &Place<'_>,
+) -> Result<(), AllocError>
+    ensures { OnOk result (to.new ≡ with_row to.old
+        (entry_row (tag.now, length) (ranges_of place.now))) }
+{
+    line.clear();
+    push_hex(line, tag.octets())?;
+    write!(line, " {length}")?;
+    to.push(line.as_str(), &NoNote, place)
 }
 
 /// Returns the octets that a list requests from known values, and the verdict on the octets of the list. A fault of the
@@ -160,20 +184,6 @@ fn entry_items(alloc: Global, entries: &[(Tag, u8)]) -> Result<String, AllocErro
     Ok(items)
 }
 
-/// Appends the octets of each entry, its tag and its length.
-fn push_entry_places(items: &mut String, entries: &[(Tag, u8)]) -> Result<(), AllocError>
-    ensures { OnOk result (string_bytes items.new
-        ≡ with_places (string_bytes items.old) (entry_places 0 entries.now)) }
-{
-    let mut at: usize = 0;
-    for (tag, _) in entries {
-        let end = at.checked_add(tag.octets().len() + 1).ok_or(AllocError)?;
-        push_place(items, at, end)?;
-        at = end;
-    }
-    Ok(())
-}
-
 /// Appends an entry to the items of an array.
 fn push_entry_item(items: &mut String, tag: &Tag, length: u8) -> Result<(), AllocError>
     ensures { OnOk result (string_bytes items.new
@@ -191,34 +201,4 @@ fn push_object(text: &mut String, tag: &Tag, length: u8) -> Result<(), AllocErro
     text.push_str("{\"tag\":\"")?;
     push_hex(text, tag.octets())?;
     write!(text, "\",\"length\":{length}}}")
-}
-
-/// Appends the lines of a list: the number of its entries, with a note if it is `noted`, and the tag and the length of
-/// each entry.
-fn push_lines(text: &mut String, entries: &[(Tag, u8)], noted: bool) -> Result<(), AllocError>
-    ensures { OnOk result (string_bytes text.new
-        ≡ string_bytes text.old ++ dol_text noted entries.now) }
-{
-    write!(text, "entries {}", entries.len())?;
-    push_list_note(text, noted, entries)?;
-    text.push_str("\n")?;
-    push_entries(text, entries)
-}
-
-fn push_entries(text: &mut String, entries: &[(Tag, u8)]) -> Result<(), AllocError>
-    ensures { OnOk result (string_bytes text.new
-        ≡ string_bytes text.old ++ entries_text entries.now) }
-{
-    for (tag, length) in entries {
-        push_entry(text, tag, *length)?;
-    }
-    Ok(())
-}
-
-fn push_entry(text: &mut String, tag: &Tag, length: u8) -> Result<(), AllocError>
-    ensures { OnOk result (string_bytes text.new
-        ≡ string_bytes text.old ++ entry_text (tag.now, length)) }
-{
-    push_hex(text, tag.octets())?;
-    write!(text, " {length}\n")
 }

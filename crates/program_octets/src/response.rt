@@ -2,15 +2,18 @@
 
 ghost use Rattle.std.specs.Prelude.{◌≡◌, ◌++◌, OnOk, refl, string_bytes};
 ghost use Rattle.apdu_core.specs.Response.{ResponseParts};
-ghost use Rattle.program_octets.specs.ResponseTexts.{class_text, name_of, response_codec, response_members, response_places, response_text, status_members};
+ghost use Rattle.program_octets.specs.ResponseTexts.{class_text, name_of, response_codec, response_members, response_rows, status_members, status_row};
+ghost use Rattle.program_octets.specs.Places.{ranges_of};
+ghost use Rattle.program_octets.specs.Rows.{with_row};
 
 use crate::codec::{Codec, Outcome};
-use crate::places::push_place;
+use crate::places::Place;
+use crate::rows::{Rows, begin};
 use crate::shown::{Showable, Shown};
-use crate::text::{push_hex, push_word};
+use crate::text::push_hex;
 use apdu_core::{Response, ResponseReason, ResponseRef, StatusClass, status_class};
 use layouts::Layout;
-use notes::push_status_note;
+use notes::{NoNote, status_note};
 use octet_core::Stop;
 use program_words::{Expected, FieldSize};
 use std::alloc::{AllocError, Global};
@@ -51,47 +54,39 @@ impl Codec for Response {
 }
 
 impl Showable for ResponseRef<'_> {
-    ghost lines = { response_text };
+    ghost rows = { response_rows };
 
     ghost members = { response_members };
 
-    ghost places = { response_places };
-
-    fn push_lines(&self, _alloc: Global, text: &mut String, noted: bool) -> Result<(), AllocError> {
-        push_lines(text, self, noted)
+    fn push_rows(&self, to: &mut Rows, line: &mut String, taken: usize) -> Result<(), AllocError> {
+        let status = taken.saturating_sub(2);
+        let place = Place::Range(0, status);
+        to.push_word(line, "part ", self.part(), &NoNote, &place)?;
+        let place = Place::Range(status, taken);
+        push_status_row(to, line, self.sw1(), self.sw2(), &place)
     }
 
     fn push_members(&self, _alloc: Global, text: &mut String) -> Result<(), AllocError> {
         push_members(text, self)
     }
-
-    fn push_places(
-        &self,
-        _alloc: Global,
-        items: &mut String,
-        taken: usize,
-    ) -> Result<(), AllocError> {
-        let status = taken.saturating_sub(2);
-        push_place(items, 0, status)?;
-        push_place(items, status, taken)
-    }
 }
 
-/// Appends the lines of a response: its data field, its status bytes and their class, with a note if it is `noted`.
-fn push_lines(text: &mut String, response: &ResponseRef<'_>, noted: bool) -> Result<(), AllocError>
-    ensures { OnOk result (string_bytes text.new
-        ≡ string_bytes text.old ++ response_text noted response.now) }
+/// Appends the row of two status bytes and their class.
+fn push_status_row(
+    to: &mut Rows,
+    line: &mut String,
+    sw1: u8,
+    sw2: u8,
+    place: &Place<'_>,
+) -> Result<(), AllocError>
+    ensures { OnOk result (to.new ≡ with_row to.old (status_row sw1 sw2 (ranges_of place.now))) }
 {
-    let sw1 = response.sw1();
-    let sw2 = response.sw2();
-    text.push_str("part ")?;
-    push_word(text, response.part())?;
-    text.push_str("\nstatus ")?;
-    push_hex(text, &[sw1, sw2])?;
-    text.push_str(" ")?;
-    text.push_str(class_name(sw1, sw2))?;
-    push_status_note(text, noted, sw1, sw2)?;
-    text.push_str("\n")
+    begin(line, "status ")?;
+    push_hex(line, &[sw1, sw2])?;
+    line.push_str(" ")?;
+    line.push_str(class_name(sw1, sw2))?;
+    let note = status_note(sw1, sw2);
+    to.push(line.as_str(), &note, place)
 }
 
 /// Appends a response as members of an object.

@@ -1,12 +1,13 @@
 //! The texts of values, with the notes on their lines.
 
-ghost use Rattle.std.specs.Prelude.{◌≡◌, ◌++◌, ℕ, List, Bool, [], true, IfOk, OnOk, string_bytes};
-ghost use Rattle.program_octets.specs.Codec.{members_by, said_by};
-ghost use Rattle.program_octets.specs.Json.{accepted_members, notes_member, object_line};
-ghost use Rattle.program_octets.specs.Places.{places_member, with_places};
+ghost use Rattle.std.specs.Prelude.{◌≡◌, ◌++◌, ℕ, List, IfOk, OnOk, string_bytes};
+ghost use Rattle.program_octets.specs.Codec.{rows_members, said_by};
+ghost use Rattle.program_octets.specs.Json.{accepted_members, object_line};
+ghost use Rattle.program_octets.specs.Rows.{lines_of, with_rows, Row};
 ghost use Rattle.program_octets.specs.Verdicts.{kind_name, laid_out};
 
-use crate::json::{kind_name, notes_member, push_accepted, push_head};
+use crate::json::{kind_name, push_accepted, push_head, push_notes, push_places};
+use crate::rows::Rows;
 use layouts::Layout;
 use program_words::Kind;
 use std::alloc::{AllocError, Global};
@@ -23,31 +24,22 @@ pub struct Shown {
     pub taken: usize,
 }
 
-/// A value that can be shown as lines, or as members of a JSON object.
+/// A value that can be shown row by row, or as members of a JSON object.
 pub(crate) trait Showable {
-    /// The value's lines, with notes or without.
-    ghost lines: { Bool → Self → List ℕ };
+    /// The value's rows, if it takes so many octets.
+    ghost rows: { Self → ℕ → List Row };
 
     /// The value's members of a JSON object. Each begins with a comma.
     ghost members: { Self → List ℕ };
 
-    /// The octets of each of its lines, if it takes so many octets.
-    ghost places: { Self → ℕ → List (List (ℕ × ℕ)) };
-
-    /// Appends the value's lines to a text, with notes if it is `noted`.
-    fn push_lines(&self, alloc: Global, text: &mut String, noted: bool) -> Result<(), AllocError>
-        ensures { OnOk result (string_bytes text.new
-            ≡ string_bytes text.old ++ lines noted self.now) };
+    /// Appends the value's rows, if the value takes `taken` octets. Each line is made in the text `line`.
+    fn push_rows(&self, to: &mut Rows, line: &mut String, taken: usize) -> Result<(), AllocError>
+        ensures { OnOk result (to.new ≡ with_rows to.old (rows self.now taken)) };
 
     /// Appends the value's members to a text.
     fn push_members(&self, alloc: Global, text: &mut String) -> Result<(), AllocError>
         ensures { OnOk result (string_bytes text.new
             ≡ string_bytes text.old ++ members self.now) };
-
-    /// Appends the place of each of the value's lines to the items of an array, if the value takes `taken` octets.
-    fn push_places(&self, alloc: Global, items: &mut String, taken: usize) -> Result<(), AllocError>
-        ensures { OnOk result (string_bytes items.new
-            ≡ with_places (string_bytes items.old) (places self.now taken)) };
 }
 
 impl Shown {
@@ -61,58 +53,55 @@ impl Shown {
         noted: bool,
     ) -> Result<Shown, AllocError>
         ensures text { IfOk result (λ shown. string_bytes shown.text
-            ≡ laid_out layout kind (said_by layout noted (V.lines noted value.now)
-            (V.members value.now ++ places_member (V.places value.now taken))) taken) }
+            ≡ laid_out layout kind (said_by layout noted (V.rows value.now taken)
+            (V.members value.now)) taken) }
         ensures taken { IfOk result (λ shown. shown.taken ≡ taken) }
     {
-        let mut text = String::with_capacity(alloc, ROOM)?;
-        push_value(alloc, &mut text, value, taken, kind, layout, noted)?;
+        let text = match layout {
+            Layout::Lines => lines_of(alloc, value, taken, noted)?,
+            Layout::Json => object_of(alloc, value, taken, kind, noted)?,
+        };
         Ok(Shown { text, taken })
     }
 }
 
-/// Appends the lines of a value, or its object in one line.
-fn push_value<V: Showable>(
+/// Returns the lines of a value.
+fn lines_of<V: Showable>(
     alloc: Global,
-    text: &mut String,
     value: &V,
     taken: usize,
-    kind: Kind,
-    layout: Layout,
     noted: bool,
-) -> Result<(), AllocError>
-    ensures { OnOk result (string_bytes text.new ≡ string_bytes text.old ++ laid_out layout kind
-        (said_by layout noted (V.lines noted value.now)
-        (V.members value.now ++ places_member (V.places value.now taken))) taken) }
+) -> Result<String, AllocError>
+    ensures { IfOk result (λ text. string_bytes text ≡ lines_of noted (V.rows value.now taken)) }
 {
-    match layout {
-        Layout::Lines => value.push_lines(alloc, text, noted),
-        Layout::Json => push_object(alloc, text, value, taken, kind, noted),
-    }
+    let mut rows = Rows::new(alloc, Layout::Lines, noted)?;
+    value.push_rows(&mut rows, &mut String::new(alloc), taken)?;
+    Ok(rows.into_lines())
 }
 
-/// Appends the object of a value in one line.
-fn push_object<V: Showable>(
+/// Returns the object of a value in one line.
+fn object_of<V: Showable>(
     alloc: Global,
-    text: &mut String,
     value: &V,
     taken: usize,
     kind: Kind,
     noted: bool,
-) -> Result<(), AllocError>
-    ensures { OnOk result (string_bytes text.new ≡ string_bytes text.old
-        ++ object_line (kind_name kind) (accepted_members taken
-        ++ members_by noted (V.lines noted value.now)
-        (V.members value.now ++ places_member (V.places value.now taken)))) }
+) -> Result<String, AllocError>
+    ensures { IfOk result (λ text. string_bytes text ≡ object_line (kind_name kind)
+        (accepted_members taken
+        ++ (V.members value.now ++ rows_members noted (V.rows value.now taken)))) }
 {
-    push_head(text, kind_name(kind))?;
-    push_accepted(text, taken)?;
-    push_said(alloc, text, value, taken, noted)?;
-    text.push_str("}\n")
+    let mut text = String::with_capacity(alloc, ROOM)?;
+    push_head(&mut text, kind_name(kind))?;
+    push_accepted(&mut text, taken)?;
+    value.push_members(alloc, &mut text)?;
+    push_rows(alloc, &mut text, value, taken, noted)?;
+    text.push_str("}\n")?;
+    Ok(text)
 }
 
-/// Appends the members of a value, the places of its lines and, if it is `noted`, the notes on its lines.
-fn push_said<V: Showable>(
+/// Appends the octets of the rows of a value as a member and, if they are `noted`, their notes.
+fn push_rows<V: Showable>(
     alloc: Global,
     text: &mut String,
     value: &V,
@@ -120,51 +109,14 @@ fn push_said<V: Showable>(
     noted: bool,
 ) -> Result<(), AllocError>
     ensures { OnOk result (string_bytes text.new ≡ string_bytes text.old
-        ++ members_by noted (V.lines noted value.now)
-        (V.members value.now ++ places_member (V.places value.now taken))) }
+        ++ rows_members noted (V.rows value.now taken)) }
 {
-    value.push_members(alloc, text)?;
-    push_places(alloc, text, value, taken)?;
+    let mut rows = Rows::new(alloc, Layout::Json, noted)?;
+    value.push_rows(&mut rows, &mut String::new(alloc), taken)?;
+    push_places(text, rows.places())?;
     if noted {
-        push_notes(alloc, text, value)
+        push_notes(text, rows.notes())
     } else {
         Ok(())
     }
-}
-
-/// Appends the places of the lines of a value as a member.
-fn push_places<V: Showable>(
-    alloc: Global,
-    text: &mut String,
-    value: &V,
-    taken: usize,
-) -> Result<(), AllocError>
-    ensures { OnOk result (string_bytes text.new ≡ string_bytes text.old
-        ++ places_member (V.places value.now taken)) }
-{
-    let items = places_of(alloc, value, taken)?;
-    text.push_str(",\"places\":[")?;
-    text.push_str(items.as_str())?;
-    text.push_str("]")
-}
-
-/// Returns the places of the lines of a value as the items of an array.
-fn places_of<V: Showable>(alloc: Global, value: &V, taken: usize) -> Result<String, AllocError>
-    ensures { IfOk result (λ text. string_bytes text
-        ≡ with_places [] (V.places value.now taken)) }
-{
-    let mut items = String::with_capacity(alloc, ROOM)?;
-    value.push_places(alloc, &mut items, taken)?;
-    Ok(items)
-}
-
-/// Appends the notes on the lines of a value as a member.
-fn push_notes<V: Showable>(alloc: Global, text: &mut String, value: &V) -> Result<(), AllocError>
-    ensures { OnOk result (string_bytes text.new ≡ string_bytes text.old
-        ++ notes_member (V.lines true value.now)) }
-{
-    let mut lines = String::with_capacity(alloc, ROOM)?;
-    value.push_lines(alloc, &mut lines, true)?;
-    let member = notes_member(alloc, lines.as_bytes())?;
-    text.push_str(member.as_str())
 }
