@@ -11,3 +11,15 @@ pub mod Staked
 pub mod Places
 pub mod Breakable
 pub mod Missing
+pub mod SeenTerminals
+pub mod SeenCards
+pub mod SeenLinks
+pub mod Openly
+pub mod MissedTerminals
+pub mod OpenTerminals
+pub mod AnyTerminals
+pub mod MissedCards
+pub mod OpenCards
+pub mod AnyCards
+pub mod CardLinks
+pub mod Traces

@@ -9,6 +9,7 @@ use Rattle.t1_core.specs.Came.{Came, got, damaged, invalid, quiet}
 use Rattle.t1_core.specs.Terminal.{first_ifsd, idle, terminal_with, Limits, TerminalState, TerminalInput, TerminalStep, transmit, ask_ifs, takes, terminal_turn}
 use Rattle.t1_core.specs.Card.{card_with, command, CardState, CardInput, CardStep, replies, more_time, ask_ifs as card_ask_ifs, takes as card_takes, card_turn}
 use Rattle.t1_core.specs.Link.{tables, Link, link_with, UnderWay, nothing, to_card, to_terminal, Exchange, unanswered, with_reply, sent_by_terminal, sent_by_card, exchanges_after, services_after, counted, terminal_makes, card_makes, arrives, delivered, lost, happens, Event, delivers, damages, spoils, loses, transmits, asks_ifsd, host_replies, host_asks_time, host_asks_ifsc}
+use Rattle.block_core.specs.declared.pcb.Pcb.TheVariants.{Info, Ready, Request, Response}
 use Rattle.judge_core.specs.declared.end.Pending.TheVariants.{Settled}
 use Rattle.judge_core.specs.declared.end.Owed.TheVariants.{NewMessage}
 use Rattle.judge_core.specs.declared.courses.Verdict.{Verdict}
@@ -20,6 +21,7 @@ use Rattle.judge_core.specs.Followed.{IsCertain}
 use Rattle.judge_core.specs.Ends.{no_row}
 use Rattle.judge_core.specs.Watched.{AllPermitted, EndsArePermitted, Watch, Watched, arrival, at_card, at_terminal, by_card, by_terminal, card_hears, card_says, delivery, heard_of, loss, made, new_watch, terminal_hears, terminal_says, watch_all, watches}
 use Rattle.judge_core.proofs.Passes.{Doubts, Fine, NoAbort, PlainCame, certain}
+use Rattle.judge_core.proofs.Terminals.{from_start}
 use Rattle.judge_core.proofs.Terminals as terminals
 use Rattle.judge_core.proofs.Cards as cards
 
@@ -32,7 +34,7 @@ Plain (to_terminal block) = NoAbort block.pcb
 
 -- the watched ends go with the link, and every verdict permitted a block
 record Goes (l : Link) (w : Watch) : Type 0 where
-  terminal : terminals.Fits l.terminal l.terminal.waits w.terminal
+  terminal : terminals.Fits (Unit {0}) l.terminal l.terminal.waits w.terminal
   card : cards.Fits l.card l.card.waits w.card
   plain : Plain l.under_way
   terminal_knows : IsCertain w.terminal.heard
@@ -54,7 +56,7 @@ one_more heard (Deviates broken owed) vs h fine ok = absurd fine
 
 terminal_said : (turn : TerminalTurn) (next : TerminalState) (l : Link) (w : Watch) (t : Watched) (es : List Exchange)
     (d f : ℕ)
-    → IsCertain t.heard → terminals.Said t turn next → Goes l w
+    → IsCertain t.heard → terminals.Said (Unit {0}) (λ n. ⊥) t turn next → Goes l w
     → Goes (record l { terminal = next; under_way = sent_by_terminal turn; exchanges = es; disturbed = d; failed = f })
     (terminal_says (record w { terminal = t }) turn)
 terminal_said (Send b) next l w t es d f knows h goes = record {
@@ -99,7 +101,8 @@ terminal_said Dead next l w t es d f knows h goes = record {
 }
 
 terminal_step : (step : TerminalStep) (input : TerminalInput) (l : Link) (w : Watch) (es : List Exchange) (d f : ℕ)
-    → IsCertain (terminal_hears w.terminal input).heard → terminals.Outcome (terminal_hears w.terminal input) step
+    → IsCertain (terminal_hears w.terminal input).heard
+    → terminals.Outcome (Unit {0}) (λ n. ⊥) (terminal_hears w.terminal input) step
     → Goes l w
     → Goes (terminal_makes l (record l { exchanges = es; disturbed = d; failed = f }) step)
     (watches w (by_terminal input step))
@@ -109,7 +112,7 @@ terminal_step (Ok step) input l w es d f knows h goes =
     (exchanges_after step.0 step.1.answered es) d (counted step.2 f) knows h goes
 
 card_said : (turn : CardTurn) (next : CardState) (l : Link) (w : Watch) (c : Watched) (hs : List Exchange) (d : ℕ)
-    → IsCertain c.heard → cards.Said c turn next → Goes l w
+    → IsCertain c.heard → cards.Said (λ n. ⊥) (Unit {0}) (Unit {0}) c turn next → Goes l w
     → Goes (record l { card = next; under_way = sent_by_card turn; services = hs; disturbed = d })
     (card_says (record w { card = c }) turn)
 card_said (Sends b) next l w c hs d knows h goes = record {
@@ -130,7 +133,8 @@ card_said Asked next l w c hs d knows h goes = record {
 }
 
 card_step : (step : CardStep) (input : CardInput) (l : Link) (w : Watch) (hs : List Exchange) (d : ℕ)
-    → IsCertain (card_hears w.card input).heard → cards.Outcome (card_hears w.card input) step → Goes l w
+    → IsCertain (card_hears w.card input).heard
+    → cards.Outcome (λ n. ⊥) (Unit {0}) (Unit {0}) (card_hears w.card input) step → Goes l w
     → Goes (card_makes l (record l { services = hs; disturbed = d }) step) (watches w (by_card input step))
 card_step (Err fault) input l w hs d knows h goes = goes
 card_step (Ok step) input l w hs d knows h goes = card_said step.0 step.1 l w (card_hears w.card input)
@@ -142,18 +146,38 @@ knows_came damaged = tt
 knows_came invalid = tt
 knows_came quiet = tt
 
+surely : (came : Came) → PlainCame came → terminals.Plain (Unit {0}) certain came
+surely (got (Info number goes_on) inf) h = tt
+surely (got (Ready number fault) inf) h = tt
+surely (got (Request s) inf) h = h
+surely (got (Response s) inf) h = tt
+surely damaged h = tt
+surely invalid h = tt
+surely quiet h = tt
+
 terminal_takes : (came : Came) (l : Link) (w : Watch) (es : List Exchange) (d f : ℕ) → PlainCame came → Goes l w
     → Goes (terminal_makes l (record l { exchanges = es; disturbed = d; failed = f })
     (terminal_turn l.terminal (takes came)))
     (watches w (at_terminal tables l (takes came)))
 terminal_takes came l w es d f h goes = terminal_step (terminal_turn l.terminal (takes came)) (takes came) l w es d f
-    (knows_came came) (terminals.takes_well l.terminal w.terminal certain came goes.terminal h) goes
+    (knows_came came) (terminals.takes_well (Unit {0}) (λ n. ⊥) l.terminal w.terminal certain came goes.terminal
+    (surely came h)) goes
+
+taken : (came : Came) → PlainCame came → cards.Plain (Unit {0}) came
+taken (got (Info number goes_on) inf) h = tt
+taken (got (Ready number fault) inf) h = tt
+taken (got (Request s) inf) h = h
+taken (got (Response s) inf) h = tt
+taken damaged h = tt
+taken invalid h = tt
+taken quiet h = tt
 
 card_takes_block : (came : Came) (l : Link) (w : Watch) (hs : List Exchange) (d : ℕ) → PlainCame came → Goes l w
     → Goes (card_makes l (record l { services = hs; disturbed = d }) (card_turn l.card (card_takes came)))
     (watches w (at_card tables l (card_takes came)))
 card_takes_block came l w hs d h goes = card_step (card_turn l.card (card_takes came)) (card_takes came) l w hs d
-    (knows_came came) (cards.takes_well l.card w.card certain came goes.card h) goes
+    (knows_came came) (cards.takes_well (λ n. ⊥) (Unit {0}) (Unit {0}) l.card w.card certain came goes.card
+    (taken came h)) goes
 
 arriving : (u : UnderWay) (came : Came) (l : Link) (w : Watch) → PlainCame came → Goes l w
     → Goes (arrives tables l u came) (watches w (arrival tables l u came))
@@ -179,28 +203,30 @@ each_event spoils l w goes = arriving l.under_way invalid l w tt goes
 each_event loses l w goes = losing l.under_way l w goes
 each_event (transmits m) l w goes =
     terminal_step (terminal_turn l.terminal (transmit m)) (transmit m) l w (unanswered m ∷ l.exchanges) 0 0
-    goes.terminal_knows (terminals.calls_well l.terminal w.terminal (transmit m) tt goes.terminal) goes
+    goes.terminal_knows (terminals.calls_well (Unit {0}) (λ n. ⊥) l.terminal w.terminal (transmit m) tt goes.terminal)
+    goes
 each_event (asks_ifsd n) l w goes =
     terminal_step (terminal_turn l.terminal (ask_ifs n)) (ask_ifs n) l w l.exchanges 0 0
-    goes.terminal_knows (terminals.calls_well l.terminal w.terminal (ask_ifs n) tt goes.terminal) goes
+    goes.terminal_knows (terminals.calls_well (Unit {0}) (λ n. ⊥) l.terminal w.terminal (ask_ifs n) tt goes.terminal)
+    goes
 each_event (host_replies octets) l w goes =
     card_step (card_turn l.card (replies octets)) (replies octets) l w (with_reply l.services octets) l.disturbed
-    goes.card_knows (cards.calls_well l.card w.card (replies octets) tt goes.card) goes
+    goes.card_knows (cards.calls_well (λ n. ⊥) (Unit {0}) (Unit {0}) l.card w.card (replies octets) tt goes.card) goes
 each_event (host_asks_time n) l w goes =
     card_step (card_turn l.card (more_time n)) (more_time n) l w l.services l.disturbed
-    goes.card_knows (cards.calls_well l.card w.card (more_time n) tt goes.card) goes
+    goes.card_knows (cards.calls_well (λ n. ⊥) (Unit {0}) (Unit {0}) l.card w.card (more_time n) tt goes.card) goes
 each_event (host_asks_ifsc n) l w goes =
     card_step (card_turn l.card (card_ask_ifs n)) (card_ask_ifs n) l w l.services l.disturbed
-    goes.card_knows (cards.calls_well l.card w.card (card_ask_ifs n) tt goes.card) goes
+    goes.card_knows (cards.calls_well (λ n. ⊥) (Unit {0}) (Unit {0}) l.card w.card (card_ask_ifs n) tt goes.card) goes
 
 all_events : (events : List Event) (l : Link) (w : Watch) → Goes l w
     → AllPermitted (watch_all tables events l w).verdicts
 all_events [] l w goes = goes.verdicts
 all_events (e ∷ es) l w goes = all_events es (happens tables l e) (watches w (made tables l e)) (each_event e l w goes)
 
-pub terminal_starts : (ifsc : ℕ) (limits : Limits)
-    → terminals.Fits (terminal_with limits ifsc) idle (new_watch ifsc).terminal
-terminal_starts ifsc limits = record {
+pub terminal_starts : (P : Type 0) (ifsc : ℕ) (limits : Limits)
+    → terminals.Fits P (terminal_with limits ifsc) idle (new_watch ifsc).terminal
+terminal_starts P ifsc limits = record {
   spare = record {
     before = NewMessage;
     room = ifsc;
@@ -214,6 +240,8 @@ terminal_starts ifsc limits = record {
   row = no_row;
   aborted = false;
   owes = refl;
+  sizes = record { side = refl; room = omega arith; first = omega arith };
+  origin = from_start refl refl refl refl;
 }
 
 pub card_starts : (ifsc : ℕ) (limits : Limits) → cards.Fits (card_with limits ifsc) (command []) (new_watch ifsc).card
@@ -225,6 +253,8 @@ card_starts ifsc limits = (
       room = first_ifsd;
       first = first_ifsd;
       largest = first_ifsd;
+      tries = 0;
+      row = no_row;
       room_ok = omega arith;
       first_ok =
           omega arith;
@@ -236,7 +266,7 @@ card_starts ifsc limits = (
 pub ends_are_permitted : EndsArePermitted tables
 ends_are_permitted terminal_limits card_limits ifsc events =
     all_events events (link_with terminal_limits card_limits ifsc) (new_watch ifsc) (record {
-      terminal = terminal_starts ifsc terminal_limits;
+      terminal = terminal_starts (Unit {0}) ifsc terminal_limits;
       card = card_starts ifsc card_limits;
       plain = tt;
       terminal_knows = tt;

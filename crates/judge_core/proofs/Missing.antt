@@ -442,7 +442,7 @@ then-permitted judged s (e, is) = go judged.verdict
     go Unseen = tt
     go (Deviates broken owed) = rw is tt
 
-sent-within : (e : End) (last : List ℕ) (pcb : Pcb) (inf : List ℕ) → is_foreign e.side pcb ≡ false
+pub sent-within : (e : End) (last : List ℕ) (pcb : Pcb) (inf : List ℕ) → is_foreign e.side pcb ≡ false
     → IsWithin e.room pcb inf → (f : End) × (sends (unknown_end e) AnyBlock last pcb inf ≡ Ok f)
 sent-within e last (Info number more) inf own fits = (
   _,

@@ -5,6 +5,9 @@ use Rattle.t1_core.specs.Came.{got}
 use Rattle.t1_core.specs.Terminal.{TerminalInput, TerminalState, TerminalStep, longest, terminal_turn}
 use Rattle.t1_core.specs.Card.{CardInput, CardState, CardStep, card_turn, takes as card_takes}
 use Rattle.t1_core.specs.Link.{Tables, delivers, loses, transmits}
+use Rattle.judge_core.specs.Tapped.{NoTraceAccuses, Traced}
+use Rattle.t1_core.specs.Link.{Event}
+use Rattle.std.specs.Prelude.{false}
 use Rattle.judge_core.specs.Watched.{EndsArePermitted, NobodyIsAccused}
 
 -- The terminal sends longer fields than the card takes.
@@ -46,3 +49,11 @@ mistaken-refuted h = h longest longest 32 (transmits [] ∷ delivers ∷ [])
 
 pub mistaken-accused : NobodyIsAccused with_mistaken → ⊥
 mistaken-accused h = h longest longest 32 (transmits [] ∷ delivers ∷ [])
+
+-- The monitor of a trace accuses that card too.
+abbrev seen : Event → Traced
+seen event = record { event = event; missed = false }
+
+pub mistaken-accused-in-a-trace : NoTraceAccuses with_mistaken → ⊥
+mistaken-accused-in-a-trace h =
+    (h longest longest 32 (seen (transmits []) ∷ seen delivers ∷ seen delivers ∷ [])).1.0

@@ -9,6 +9,8 @@ use Rattle.t1_core.specs.Came.{Came, got, damaged, invalid, quiet, carried}
 use Rattle.t1_core.specs.Terminal.{Waits, TerminalState, TerminalInput, TerminalStep, transmit, ask_ifs, takes, terminal_turn}
 use Rattle.t1_core.specs.Card.{Waits as CardWaits, CardState, CardInput, CardStep, replies, more_time, ask_ifs as card_ask_ifs, takes as card_takes, card_turn}
 use Rattle.t1_core.specs.Link.{tables, Link, link_with, UnderWay, nothing, to_card, to_terminal, Exchange, unanswered, with_reply, sent_by_terminal, sent_by_card, exchanges_after, services_after, counted, terminal_makes, card_makes, arrives, delivered, lost, happens, Event, delivers, damages, spoils, loses, transmits, asks_ifsd, host_replies, host_asks_time, host_asks_ifsc}
+use Rattle.block_core.specs.declared.pcb.Pcb.{Pcb}
+use Rattle.block_core.specs.declared.pcb.Pcb.TheVariants.{Info, Ready, Request, Response}
 use Rattle.judge_core.specs.declared.courses.Verdict.{Verdict}
 use Rattle.judge_core.specs.declared.courses.Verdict.TheVariants.{Permitted}
 use Rattle.judge_core.specs.declared.courses.Heard.{Heard}
@@ -38,7 +40,7 @@ Seen (to_card block) w = (w.card.heard ≡ Perhaps block.pcb (carried block.inf)
 Seen (to_terminal block) w = w.terminal.heard ≡ Perhaps block.pcb (carried block.inf)
 
 record Goes (l : Link) (w : Watch) : Type 0 where
-  terminal : terminals.Fits l.terminal l.terminal.waits w.terminal
+  terminal : terminals.Fits ⊥ l.terminal l.terminal.waits w.terminal
   card : cards.Fits l.card l.card.waits w.card
   plain : Plain l.under_way
   turns : Turns l.under_way l.terminal.waits l.card.waits
@@ -65,7 +67,7 @@ one_more heard (Deviates broken owed) vs fine ok = absurd fine
 -- ---- an end makes a step
 
 terminal_said : (turn : TerminalTurn) (next : TerminalState) (l : Link) (w : Watch) (es : List Exchange) (d f : ℕ)
-    → cards.AwaitsBlock l.card.waits → terminals.Said w.terminal turn next → Goes l w
+    → cards.AwaitsBlock l.card.waits → terminals.Said ⊥ (λ n. ⊥) w.terminal turn next → Goes l w
     → Goes (record l { terminal = next; under_way = sent_by_terminal turn; exchanges = es; disturbed = d; failed = f })
     (terminal_sends w turn)
 terminal_said (Send b) next l w es d f awaits h goes = record {
@@ -110,7 +112,7 @@ terminal_said Dead next l w es d f awaits h goes = record {
 }
 
 terminal_step : (step : TerminalStep) (input : TerminalInput) (l : Link) (w : Watch) (es : List Exchange) (d f : ℕ)
-    → (terminals.IsOk step → cards.AwaitsBlock l.card.waits) → terminals.Outcome w.terminal step → Goes l w
+    → (terminals.IsOk step → cards.AwaitsBlock l.card.waits) → terminals.Outcome ⊥ (λ n. ⊥) w.terminal step → Goes l w
     → Goes (terminal_makes l (record l { exchanges = es; disturbed = d; failed = f }) step)
     (taps w (by_terminal input step))
 terminal_step (Err fault) input l w es d f awaits h goes = goes
@@ -118,10 +120,10 @@ terminal_step (Ok step) input l w es d f awaits h goes = terminal_said step.0 st
     (exchanges_after step.0 step.1.answered es) d (counted step.2 f) (awaits tt) h goes
 
 card_said : (turn : CardTurn) (next : CardState) (l : Link) (w : Watch) (hs : List Exchange) (d : ℕ)
-    → terminals.IsBusy l.terminal.waits → cards.Said w.card turn next → Goes l w
+    → terminals.IsBusy l.terminal.waits → cards.Said (λ n. ⊥) (Unit {0}) (Unit {0}) w.card turn next → Goes l w
     → Goes (record l { card = next; under_way = sent_by_card turn; services = hs; disturbed = d }) (card_sends w turn)
 card_said (Sends b) next l w hs d busy h goes = record {
-  terminal = terminals.fits_hearing l.terminal.waits l.terminal w.terminal (Perhaps b.pcb (carried b.inf)) busy
+  terminal = terminals.fits_hearing ⊥ l.terminal.waits l.terminal w.terminal (Perhaps b.pcb (carried b.inf)) busy
       goes.terminal;
   card = h.3;
   plain = h.1;
@@ -139,7 +141,8 @@ card_said Asked next l w hs d busy h goes = record {
 }
 
 card_step : (step : CardStep) (input : CardInput) (l : Link) (w : Watch) (hs : List Exchange) (d : ℕ)
-    → (cards.IsOk step → terminals.IsBusy l.terminal.waits) → cards.Outcome w.card step → Goes l w
+    → (cards.IsOk step → terminals.IsBusy l.terminal.waits) → cards.Outcome (λ n. ⊥) (Unit {0}) (Unit {0}) w.card step
+    → Goes l w
     → Goes (card_makes l (record l { services = hs; disturbed = d }) step) (taps w (by_card input step))
 card_step (Err fault) input l w hs d busy h goes = goes
 card_step (Ok step) input l w hs d busy h goes = card_said step.0 step.1 l w
@@ -148,14 +151,24 @@ card_step (Ok step) input l w hs d busy h goes = card_said step.0 step.1 l w
 -- ---- a block comes, or doesn't
 
 terminal_takes : (view : View) (came : Came) (l : Link) (w : Watch) (es : List Exchange) (d f : ℕ)
-    → w.terminal.heard ≡ heard_at view came → cards.AwaitsBlock l.card.waits → PlainCame came → Goes l w
+    → w.terminal.heard ≡ heard_at view came → cards.AwaitsBlock l.card.waits → terminals.Plain ⊥ view came → Goes l w
     → Goes (terminal_makes l (record l { exchanges = es; disturbed = d; failed = f })
     (terminal_turn l.terminal (takes came)))
     (taps w (at_terminal tables l (takes came)))
 terminal_takes view came l w es d f seen awaits h goes =
     terminal_step (terminal_turn l.terminal (takes came)) (takes came) l w es d f (λ ok. awaits)
-    (subst (λ heard. terminals.Outcome (hearing w.terminal heard) (terminal_turn l.terminal (takes came))) (sym seen)
-    (terminals.takes_well l.terminal w.terminal view came goes.terminal h)) goes
+    (subst (λ heard. terminals.Outcome ⊥ (λ n. ⊥) (hearing w.terminal heard) (terminal_turn l.terminal (takes came)))
+    (sym seen)
+    (terminals.takes_well ⊥ (λ n. ⊥) l.terminal w.terminal view came goes.terminal h)) goes
+
+taken : (came : Came) → PlainCame came → cards.Plain (Unit {0}) came
+taken (got (Info number goes_on) inf) h = tt
+taken (got (Ready number fault) inf) h = tt
+taken (got (Request s) inf) h = h
+taken (got (Response s) inf) h = tt
+taken damaged h = tt
+taken invalid h = tt
+taken quiet h = tt
 
 card_takes_block : (view : View) (came : Came) (l : Link) (w : Watch) (hs : List Exchange) (d : ℕ)
     → w.card.heard ≡ heard_at view came → terminals.IsBusy l.terminal.waits → PlainCame came → Goes l w
@@ -163,8 +176,16 @@ card_takes_block : (view : View) (came : Came) (l : Link) (w : Watch) (hs : List
     (taps w (at_card tables l (card_takes came)))
 card_takes_block view came l w hs d seen busy h goes =
     card_step (card_turn l.card (card_takes came)) (card_takes came) l w hs d (λ ok. busy)
-    (subst (λ heard. cards.Outcome (hearing w.card heard) (card_turn l.card (card_takes came))) (sym seen)
-    (cards.takes_well l.card w.card view came goes.card h)) goes
+    (subst (λ heard. cards.Outcome (λ n. ⊥) (Unit {0}) (Unit {0}) (hearing w.card heard)
+    (card_turn l.card (card_takes came))) (sym seen)
+    (cards.takes_well (λ n. ⊥) (Unit {0}) (Unit {0}) l.card w.card view came goes.card (taken came h))) goes
+
+perhaps : (pcb : Pcb) (inf : List ℕ) → NoAbort pcb
+    → terminals.Plain ⊥ (maybe pcb (carried inf)) (got pcb inf)
+perhaps (Info number goes_on) inf h = tt
+perhaps (Ready number fault) inf h = tt
+perhaps (Request s) inf h = h
+perhaps (Response s) inf h = tt
 
 delivering : (u : UnderWay) (l : Link) (w : Watch) → Plain u → Turns u l.terminal.waits l.card.waits → Seen u w
     → Goes l w
@@ -174,7 +195,7 @@ delivering (to_card b) l w h turns seen goes =
     card_takes_block (maybe b.pcb (carried b.inf)) (got b.pcb b.inf) l w l.services
     l.disturbed seen.0 turns.0 h goes
 delivering (to_terminal b) l w h turns seen goes = terminal_takes (maybe b.pcb (carried b.inf)) (got b.pcb b.inf) l w
-    l.exchanges l.disturbed l.failed seen turns.1 h goes
+    l.exchanges l.disturbed l.failed seen turns.1 (perhaps b.pcb b.inf h) goes
 
 damaging : (u : UnderWay) (l : Link) (w : Watch) → Turns u l.terminal.waits l.card.waits → Seen u w → Goes l w
     → Goes (arrives tables l u damaged) (taps w (arrival tables l u damaged))
@@ -209,14 +230,14 @@ terminal_calls : (input : TerminalInput) (l : Link) (w : Watch) (es : List Excha
 terminal_calls input l w es d f h goes = terminal_step (terminal_turn l.terminal input) input l w es d f
     (λ ok. at_rest_turn l.under_way l.terminal.waits l.card.waits goes.turns
     (terminals.calls_at_rest l.terminal input h ok))
-    (terminals.calls_well l.terminal w.terminal input h goes.terminal) goes
+    (terminals.calls_well ⊥ (λ n. ⊥) l.terminal w.terminal input h goes.terminal) goes
 
 card_calls : (input : CardInput) (l : Link) (w : Watch) (hs : List Exchange) (d : ℕ) → cards.IsCall input → Goes l w
     → Goes (card_makes l (record l { services = hs; disturbed = d }) (card_turn l.card input))
     (taps w (at_card tables l input))
 card_calls input l w hs d h goes = card_step (card_turn l.card input) input l w hs d
     (λ ok. host_turn l.under_way l.terminal.waits l.card.waits goes.turns (cards.calls_at_turn l.card input h ok))
-    (cards.calls_well l.card w.card input h goes.card) goes
+    (cards.calls_well (λ n. ⊥) (Unit {0}) (Unit {0}) l.card w.card input h goes.card) goes
 
 each_event : (e : Event) (l : Link) (w : Watch) → Goes l w → Goes (happens tables l e) (taps w (made tables l e))
 each_event delivers l w goes = delivering l.under_way l w goes.plain goes.turns goes.seen goes
@@ -237,7 +258,7 @@ all_events (e ∷ es) l w goes = all_events es (happens tables l e) (taps w (mad
 pub nobody_is_accused : NobodyIsAccused tables
 nobody_is_accused terminal_limits card_limits ifsc events =
     all_events events (link_with terminal_limits card_limits ifsc) (new_watch ifsc) (record {
-      terminal = terminal_starts ifsc terminal_limits;
+      terminal = terminal_starts ⊥ ifsc terminal_limits;
       card = card_starts ifsc card_limits;
       plain = tt;
       turns = inl ((λ b. b), tt);

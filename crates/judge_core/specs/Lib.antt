@@ -8,6 +8,7 @@ pub mod Doubts
 pub mod Connections
 pub mod Monitored
 pub mod Missed
+pub mod Tapped
 pub mod Rules
 pub mod States
 pub mod Stakes

@@ -1,6 +1,6 @@
 -- What a monitor keeps of a trace, and its report on each block: as the block was on the line, and as it reached the
 -- other end if the trace says so. The clauses are those of ISO/IEC 7816-3:2006.
-use Rattle.std.specs.Prelude.{◌≡◌, ◌≢◌, ◌⊎◌, ℕ, ◌+◌, ◌*◌, ◌/◌, ◌%◌, ◌==◌, ◌&&◌, ◌||◌, not, bit_and, bytes_eq, max, min, List, [], length, slice_index, Bool, true, false, if◌then◌else◌, Option, Some, None}
+use Rattle.std.specs.Prelude.{◌≡◌, ◌≢◌, ◌⊎◌, ℕ, ◌+◌, ◌*◌, ◌/◌, ◌%◌, ◌==◌, ◌&&◌, ◌||◌, not, bit_and, bytes_eq, min, List, [], length, slice_index, Bool, true, false, if◌then◌else◌, Option, Some, None}
 use Rattle.octet_core.specs.Grammar.{self_ended, Accepts, Refuses}
 use Rattle.octet_core.specs.declared.stop.Stop.{Stop}
 use Rattle.octet_core.specs.declared.stop.Stop.TheVariants.{At, Short}

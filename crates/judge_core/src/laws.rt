@@ -7,6 +7,7 @@ ghost use Rattle.judge_core.specs.declared.courses.Heard.{Heard};
 ghost use Rattle.judge_core.specs.declared.courses.Verdict.TheVariants.{Permitted};
 ghost use Rattle.judge_core.specs.Courses.{Permits, judges, judgment};
 ghost use Rattle.t1_core.specs.Link.{tables};
+ghost use Rattle.judge_core.specs.Tapped.{NoTraceAccuses};
 ghost use Rattle.judge_core.specs.Watched.{EndsArePermitted, NobodyIsAccused};
 ghost use Rattle.judge_core.specs.Followed.{Follows, PermitsSurely, Sending, followed, permitted};
 ghost use Rattle.block_core.specs.declared.side.Side.{Side};
@@ -52,6 +53,12 @@ pub fn ends_are_permitted()
 /// damaged on the way.
 pub fn nobody_is_accused()
     ensures { NobodyIsAccused tables }
+{}
+
+/// The monitor of a trace accuses neither end of `t1_core`, whatever is lost or damaged on the way, and whichever of the
+/// lost blocks the tap misses. The trace has the blocks of one connection, and the ends of the terminal's waiting times.
+pub fn no_trace_accuses()
+    ensures { NoTraceAccuses tables }
 {}
 
 /// The rule that a block breaks was at stake. A permitted block keeps each rule that was at stake.
