@@ -15,6 +15,9 @@ use std::alloc::{AllocError, Global};
 /// The initial capacity of a text in octets.
 const ROOM: usize = 512;
 
+/// The initial capacity of the line of a row in octets.
+const LINE_ROOM: usize = 64;
+
 /// The text of a value.
 #[derive(Drop)]
 pub struct Shown {
@@ -75,7 +78,8 @@ fn lines_of<V: Showable>(
     ensures { IfOk result (λ text. string_bytes text ≡ lines_of noted (V.rows value.now taken)) }
 {
     let mut rows = Rows::new(alloc, Layout::Lines, noted)?;
-    value.push_rows(&mut rows, &mut String::new(alloc), taken)?;
+    let mut line = String::with_capacity(alloc, LINE_ROOM)?;
+    value.push_rows(&mut rows, &mut line, taken)?;
     Ok(rows.into_lines())
 }
 
@@ -112,7 +116,8 @@ fn push_rows<V: Showable>(
         ++ rows_members noted (V.rows value.now taken)) }
 {
     let mut rows = Rows::new(alloc, Layout::Json, noted)?;
-    value.push_rows(&mut rows, &mut String::new(alloc), taken)?;
+    let mut line = String::with_capacity(alloc, LINE_ROOM)?;
+    value.push_rows(&mut rows, &mut line, taken)?;
     push_places(text, rows.places())?;
     if noted {
         push_notes(text, rows.notes())
