@@ -1115,6 +1115,7 @@ static void c_lent_lent_card_turn(struct call *m, u64 v0, u64 v1, u64 v2, u64 v3
 static void c_lent_kept_CCard_fitting(struct call *m, u64 v0, u64 v1, u64 v2, u64 v3);
 static void t1_core_lent_LentCard_received_into(struct call *m, u64 v0, u64 v1, u64 v2, u64 v3, u64 v4, u64 v5, u64
     v6);
+static void c_lent_kept_CCard_spelled(struct call *m, u64 v0, u64 v1);
 static void c_lent_card_session_host_turn(struct call *m, u64 v0, u64 v1, u64 v2, u64 v3, u64 v4, u64 v5, u64 v6, u64
     v7, u64 v8);
 static void session_core_progress_Progress_wait(struct call *m, u64 v0, u64 v1, u64 v2, u64 v3, u64 v4);
@@ -1149,6 +1150,8 @@ static void session_core_progress_Progress_echoed(struct call *m, u64 v0, u64 v1
 static void session_core_progress_Progress_hear(struct call *m, u64 v0, u64 v1, u64 v2, u64 v3, u64 v4, u64 v5, u32
     v6, u64 v7, u64 v8, u64 v9);
 KEPT u32 line_core_framing_sum_of(struct call *m, u64 v0, u64 v1);
+KEPT void c_lent_card_session_card_session_proceed(struct call *m, u64 v0, u64 v1, u64 v2, u64 v3, u32 v4, u64 v5, u64
+    v6, u64 v7);
 static void c_lent_kept_check_CCheck_fitting(struct call *m, u64 v0, u64 v1);
 static void c_lent_kept_judge_CWatched_of(struct call *m, u64 v0, u64 v1);
 static void c_lent_kept_judge_CWatched_watched(struct call *m, u64 v0, u64 v1);
@@ -1171,6 +1174,8 @@ static void c_lent_kept_CTerminal_fitting(struct call *m, u64 v0, u64 v1, u64 v2
 static void session_core_lines_Line_turn(struct call *m, u64 v0, u64 v1, u64 v2, u32 v3, u64 v4, u32 v5, u64 v6, u64
     v7, u64 v8);
 static void t1_core_lent_LentTerminal_quiet_into(struct call *m, u64 v0, u64 v1, u64 v2);
+KEPT void c_lent_session_session_proceed(struct call *m, u64 v0, u64 v1, u64 v2, u64 v3, u32 v4, u64 v5, u64 v6, u64
+    v7);
 static void t1_core_lent_LentTerminal_received_into(struct call *m, u64 v0, u64 v1, u64 v2, u64 v3, u64 v4, u64 v5,
     u64 v6);
 static void c_lent_lent_terminal_turn(struct call *m, u64 v0, u64 v1, u64 v2, u64 v3, u64 v4, u64 v5, u64 v6, u64 v7,
@@ -5306,14 +5311,14 @@ after1:;
 static void c_lent_kept_CCard_fitting(struct call *m, u64 v0, u64 v1, u64 v2, u64 v3)
 {
     u64 v4 = 0;
-    u64 v5 = 0;
-    u64 v6 = 0;
+    u64 v7 = 0;
     u64 v8 = 0;
-    u64 v15 = 0;
-    u64 v16 = 0;
+    u64 v9 = 0;
+    u64 v10 = 0;
+    u64 v11 = 0;
     u64 v17 = 0;
-    u64 v18 = 0;
     u64 v19 = 0;
+    u64 v22 = 0;
     u64 v30 = 0;
     u64 v32 = 0;
     u64 v33 = 0;
@@ -5321,16 +5326,16 @@ static void c_lent_kept_CCard_fitting(struct call *m, u64 v0, u64 v1, u64 v2, u6
     u64 v35 = 0;
     u64 v36 = 0;
     u64 v37 = 0;
-    u32 v7 = 0;
-    u32 v9 = 0;
-    u32 v10 = 0;
-    u32 v11 = 0;
+    u32 v5 = 0;
+    u32 v6 = 0;
     u32 v12 = 0;
     u32 v13 = 0;
     u32 v14 = 0;
+    u32 v15 = 0;
+    u32 v16 = 0;
+    u32 v18 = 0;
     u32 v20 = 0;
     u32 v21 = 0;
-    u32 v22 = 0;
     u32 v23 = 0;
     u32 v24 = 0;
     u32 v25 = 0;
@@ -5340,126 +5345,80 @@ static void c_lent_kept_CCard_fitting(struct call *m, u64 v0, u64 v1, u64 v2, u6
     u32 v29 = 0;
     u32 v31 = 0;
     u8 *f37 = NULL;
-    u8 *p77 = NULL;
-    u8 *p179 = NULL;
-    u8 *p190 = NULL;
-    u8 *p586 = NULL;
-    v37 = m->g0 - 48ull;
-    f37 = at(m, v37, 48);
+    u8 *p392 = NULL;
+    u8 *p403 = NULL;
+    u8 *p414 = NULL;
+    u8 *p425 = NULL;
+    u8 *p436 = NULL;
+    u8 *p519 = NULL;
+    v37 = m->g0 - 144ull;
+    f37 = at(m, v37, 144);
     v4 = v37;
-    if ((v4 ^ 0x8000000000000000ull) < (16ull ^ 0x8000000000000000ull)) { goto after6; }
+    m->g0 = v4;
+    memset(f37 + 40, (int)(0u & 255u), 104);
     put32(f37 + 35, 0u);
     put32(f37 + 32, 0u);
     put32(f37 + 24, 0u);
-    put8(f37 + 28, 0u);
+    put32(f37 + 27, 0u);
     put32(f37 + 16, 0u);
     put8(f37 + 20, 0u);
     put32(f37 + 8, 0u);
-    put32(f37 + 11, 0u);
-    v5 = (u64)load8(m, v1, 0);
-    if (v5 > 1ull) { goto after3; }
-    v6 = 0ull;
-    switch ((u32)v5) {
-        case 1: goto after8;
+    put8(f37 + 12, 0u);
+    put32(f37, 0u);
+    put32(f37 + 3, 0u);
+    c_lent_kept_CCard_spelled(m, v37 + 40ull, v1);
+    if (get8(f37 + 40) != 1u) { goto after5; }
+    v5 = get8(f37 + 104);
+    v6 = get8(f37 + 72);
+    v7 = get64(f37 + 136);
+    v8 = get64(f37 + 128);
+    v9 = get64(f37 + 120);
+    v10 = get64(f37 + 112);
+    v11 = get64(f37 + 96);
+    v12 = get8(f37 + 90);
+    v13 = get8(f37 + 89);
+    v14 = get8(f37 + 82);
+    v15 = get8(f37 + 81);
+    v16 = get8(f37 + 80);
+    v17 = get64(f37 + 64);
+    v18 = get8(f37 + 56);
+    v19 = get64(f37 + 48);
+    v20 = get8(f37 + 88);
+    switch ((u32)(((u64)v20) & 255ull)) {
+        case 2: goto after8;
+        case 3: goto after9;
+        case 4: goto after10;
         default: goto after7;
     }
-after8:;
-    v6 = 1ull;
-after7:;
-    v5 = (u64)load8(m, v1 + 1ull, 0);
-    if (v5 > 1ull) { goto after3; }
-    switch ((u32)v5) {
-        case 1: goto after10;
-        default: goto after9;
-    }
 after10:;
-    v6 = v6 | 256ull;
+    if ((v13 & 255u) == 1u) { goto after8; }
+    v21 = 0u;
+    v1 = 0ull;
+    if (((v12 + 0xFFFFFFFFu) & 255u) > 253u) { goto after3; }
+    v22 = 0ull;
+    v23 = 0u;
+    v24 = 0u;
+    v25 = 0u;
+    v26 = 0u;
+    v27 = 0u;
+    v28 = 0u;
+    v29 = 0u;
+    v30 = 0ull;
+    v31 = 0u;
+    v32 = 0ull;
+    v33 = 0ull;
+    v34 = 0ull;
+    v35 = 0ull;
+    v36 = 0ull;
+    if ((v18 & 255u) == 1u) { goto after2; }
+    goto after6;
 after9:;
-    p77 = held(m, v1 + 7ull, 2);
-    v7 = held8(p77, 1, m, v1 + 7ull);
-    v8 = 0ull;
-    v9 = 0u;
-    v10 = held8(p77, 0, m, v1 + 7ull);
-    v11 = v10;
-    v12 = v10;
-    v13 = v10;
-    switch (v10) {
-        case 0: goto after4;
-        case 1: goto after14;
-        case 2: goto after14;
-        case 3: goto after13;
-        case 4: goto after12;
-        case 5: goto after11;
-        default: goto after3;
-    }
-after14:;
-    v11 = 0u;
-    v9 = 0u;
-    goto after5;
-after13:;
-    v8 = load64(m, v1 + 24ull, 0);
-    v10 = 3u;
-    v11 = 0u;
-    v9 = 0u;
-    v12 = 0u;
-    v13 = v7;
-    goto after4;
-after12:;
-    v9 = 0u;
-    v11 = v7;
-    goto after5;
-after11:;
-    v13 = 0u;
-    v10 = 4u;
-    v12 = 1u;
-    v11 = v7;
-    v9 = 1u;
-    goto after4;
-after6:;
-    UNREACHABLE;
-after5:;
-    v12 = 0u;
-    v13 = 0u;
-after4:;
-    v7 = load8(m, v1 + 2ull, 0);
-    switch (v7) {
-        case 0: goto after17;
-        case 1: goto after16;
-        default: goto after3;
-    }
-after17:;
-    v14 = 0u;
-    put32(f37 + 43, 0u);
-    put32(f37 + 40, 0u);
-    v15 = 0ull;
-    goto after15;
-after16:;
-    put32(f37 + 40, 0u);
-    put32(f37 + 43, 0u);
-    p179 = held(m, v1 + 3ull, 21);
-    v14 = held8(p179, 0, m, v1 + 3ull);
-    v15 = held64(p179, 13, m, v1 + 3ull);
-after15:;
-    p190 = held(m, v1 + 4ull, 60);
-    v16 = held64(p190, 52, m, v1 + 4ull);
-    v17 = held64(p190, 44, m, v1 + 4ull);
-    v18 = held64(p190, 36, m, v1 + 4ull);
-    v19 = held64(p190, 28, m, v1 + 4ull);
-    v20 = held8(p190, 2, m, v1 + 4ull);
-    v21 = held8(p190, 1, m, v1 + 4ull);
-    v22 = held8(p190, 0, m, v1 + 4ull);
-    switch (v10) {
-        case 2: goto after20;
-        case 3: goto after21;
-        case 4: goto after22;
-        default: goto after19;
-    }
-after22:;
-    if (v9) { goto after20; }
-    v9 = 0u;
+    v21 = 0u;
     v1 = 0ull;
-    if (((v11 + 0xFFFFFFFFu) & 255u) > 253u) { goto after2; }
-    v5 = 0ull;
+    if ((v7 - v11) <= (((u64)v5) & 255ull)) { goto after3; }
+    if (((v5 + 0xFFFFFFFFu) & 255u) > 253u) { goto after3; }
+    if (v7 < v11) { goto after3; }
+    v22 = 0ull;
     v23 = 0u;
     v24 = 0u;
     v25 = 0u;
@@ -5474,43 +5433,20 @@ after22:;
     v34 = 0ull;
     v35 = 0ull;
     v36 = 0ull;
-    if (v7 != 1u) { goto after18; }
-    goto after1;
-after21:;
-    v9 = 0u;
-    v1 = 0ull;
-    if (v7 == 1u) { goto after2; }
-    if ((v16 - v8) <= (((u64)v13) & 255ull)) { goto after2; }
-    if (((v13 + 0xFFFFFFFFu) & 255u) > 253u) { goto after2; }
-    v5 = 0ull;
-    v23 = 0u;
-    v24 = 0u;
-    v25 = 0u;
-    v26 = 0u;
-    v27 = 0u;
-    v28 = 0u;
-    v29 = 0u;
-    v30 = 0ull;
-    v31 = 0u;
-    v32 = 0ull;
-    v33 = 0ull;
-    v34 = 0ull;
-    v35 = 0ull;
-    v36 = 0ull;
-    if (v16 >= v8) { goto after18; }
-    goto after1;
-after20:;
-    if (v7 != 1u) { goto after18; }
-    v9 = 0u;
-    v1 = 0ull;
+    if ((v18 & 255u) != 1u) { goto after6; }
     goto after2;
-after19:;
-    if (v7 != 1u) { goto after18; }
-    v9 = 0u;
+after8:;
+    if ((v18 & 255u) != 1u) { goto after6; }
+    v21 = 0u;
     v1 = 0ull;
-    if ((v16 - v15) > (((u64)v14) & 255ull)) { goto after2; }
-    if (((v14 + 0xFFFFFFFFu) & 255u) > 253u) { goto after2; }
-    v5 = 0ull;
+    goto after3;
+after7:;
+    if ((v18 & 255u) != 1u) { goto after6; }
+    v21 = 0u;
+    v1 = 0ull;
+    if ((v7 - v17) > (((u64)v6) & 255ull)) { goto after3; }
+    if (((v6 + 0xFFFFFFFFu) & 255u) > 253u) { goto after3; }
+    v22 = 0ull;
     v23 = 0u;
     v24 = 0u;
     v25 = 0u;
@@ -5525,17 +5461,17 @@ after19:;
     v34 = 0ull;
     v35 = 0ull;
     v36 = 0ull;
-    if (v16 < v15) { goto after1; }
-after18:;
-    v9 = 0u;
+    if (v7 < v17) { goto after2; }
+after6:;
+    v21 = 0u;
     v1 = 0ull;
-    if (((v22 + 0xFFFFFFFFu) & 255u) > 253u) { goto after2; }
-    if (((v21 + 0xFFFFFFFFu) & 255u) > 253u) { goto after2; }
-    if (((v20 + 0xFFFFFFFFu) & 255u) > 253u) { goto after2; }
-    if (v18 > v3) { goto after2; }
-    if (v19 > v2) { goto after2; }
-    if (v17 > v2) { goto after2; }
-    v5 = 0ull;
+    if (((v16 + 0xFFFFFFFFu) & 255u) > 253u) { goto after3; }
+    if (((v15 + 0xFFFFFFFFu) & 255u) > 253u) { goto after3; }
+    if (((v14 + 0xFFFFFFFFu) & 255u) > 253u) { goto after3; }
+    if (v8 > v2) { goto after3; }
+    if (v7 > v3) { goto after3; }
+    if (v10 > v2) { goto after3; }
+    v22 = 0ull;
     v23 = 0u;
     v24 = 0u;
     v25 = 0u;
@@ -5550,38 +5486,50 @@ after18:;
     v34 = 0ull;
     v35 = 0ull;
     v36 = 0ull;
-    if (v16 > v3) { goto after1; }
-    put32(f37 + 35, get32(f37 + 43));
-    put32(f37 + 32, get32(f37 + 40));
-    put32(f37 + 24, 0u);
-    put8(f37 + 28, 0u);
-    put32(f37 + 16, 0u);
-    put8(f37 + 20, 0u);
-    put32(f37 + 8, 0u);
-    put32(f37 + 11, 0u);
+    if (v9 > v3) { goto after2; }
+    v1 = v37 + 57ull;
+    p392 = held(m, v1, 7);
+    put32(f37 + 35, held32(p392, 3, m, v1));
+    put32(f37 + 32, held32(p392, 0, m, v1));
+    v1 = v37 + 73ull;
+    p403 = held(m, v1, 7);
+    put32(f37 + 24, held32(p403, 0, m, v1));
+    put32(f37 + 27, held32(p403, 3, m, v1));
+    v1 = v37 + 83ull;
+    p414 = held(m, v1, 5);
+    put32(f37 + 16, held32(p414, 0, m, v1));
+    put8(f37 + 20, held8(p414, 4, m, v1));
+    v1 = v37 + 91ull;
+    p425 = held(m, v1, 5);
+    put32(f37 + 8, held32(p425, 0, m, v1));
+    put8(f37 + 12, held8(p425, 4, m, v1));
+    v1 = v37 + 105ull;
+    p436 = held(m, v1, 7);
+    put32(f37 + 3, held32(p436, 3, m, v1));
+    put32(f37, held32(p436, 0, m, v1));
     v36 = 1ull;
-    v1 = v6;
-    v9 = v7;
-    v5 = v15;
-    v23 = v14;
-    v24 = v22;
-    v25 = v21;
-    v26 = v20;
-    v27 = v10;
-    v28 = v12;
-    v29 = v11;
-    v30 = v8;
-    v31 = v13;
-    v32 = v19;
-    v33 = v18;
-    v34 = v17;
-    v35 = v16;
+    v1 = v19;
+    v21 = v18;
+    v22 = v17;
+    v23 = v6;
+    v24 = v16;
+    v25 = v15;
+    v26 = v14;
+    v27 = v20;
+    v28 = v13;
+    v29 = v12;
+    v30 = v11;
+    v31 = v5;
+    v32 = v10;
+    v33 = v9;
+    v34 = v8;
+    v35 = v7;
+    goto after2;
+after5:;
+    fill(m, v0, 0u, 104ull);
     goto after1;
 after3:;
-    fill(m, v0, 0u, 104ull);
-    return;
-after2:;
-    v5 = 0ull;
+    v22 = 0ull;
     v23 = 0u;
     v24 = 0u;
     v25 = 0u;
@@ -5596,36 +5544,37 @@ after2:;
     v34 = 0ull;
     v35 = 0ull;
     v36 = 0ull;
+after2:;
+    p519 = held(m, v0, 104);
+    put_held64(p519, 0, m, v0, v36);
+    put_held8(p519, 16, m, v0, v21);
+    put_held64(p519, 8, m, v0, v1);
+    put_held32(p519, 17, m, v0, get32(f37 + 32));
+    put_held32(p519, 20, m, v0, get32(f37 + 35));
+    put_held8(p519, 32, m, v0, v23);
+    put_held64(p519, 24, m, v0, v22);
+    put_held32(p519, 33, m, v0, get32(f37 + 24));
+    put_held32(p519, 36, m, v0, get32(f37 + 27));
+    put_held8(p519, 42, m, v0, v26);
+    put_held8(p519, 41, m, v0, v25);
+    put_held8(p519, 40, m, v0, v24);
+    put_held32(p519, 43, m, v0, get32(f37 + 16));
+    put_held8(p519, 47, m, v0, get8(f37 + 20));
+    put_held8(p519, 50, m, v0, v29);
+    put_held8(p519, 49, m, v0, v28);
+    put_held8(p519, 48, m, v0, v27);
+    put_held8(p519, 64, m, v0, v31);
+    put_held64(p519, 56, m, v0, v30);
+    put_held64(p519, 96, m, v0, v35);
+    put_held64(p519, 88, m, v0, v34);
+    put_held64(p519, 80, m, v0, v33);
+    put_held64(p519, 72, m, v0, v32);
+    put_held32(p519, 51, m, v0, get32(f37 + 8));
+    put_held8(p519, 55, m, v0, get8(f37 + 12));
+    put_held32(p519, 65, m, v0, get32(f37));
+    put_held32(p519, 68, m, v0, get32(f37 + 3));
 after1:;
-    p586 = held(m, v0, 104);
-    put_held64(p586, 0, m, v0, v36);
-    put_held8(p586, 23, m, v0, (u32)0ull);
-    put_held16(p586, 21, m, v0, (u32)0ull);
-    put_held32(p586, 17, m, v0, (u32)0ull);
-    put_held8(p586, 32, m, v0, v23);
-    put_held64(p586, 24, m, v0, v5);
-    put_held8(p586, 16, m, v0, v9);
-    put_held64(p586, 8, m, v0, v1);
-    put_held32(p586, 33, m, v0, get32(f37 + 32));
-    put_held32(p586, 36, m, v0, get32(f37 + 35));
-    put_held8(p586, 42, m, v0, v26);
-    put_held8(p586, 41, m, v0, v25);
-    put_held8(p586, 40, m, v0, v24);
-    put_held32(p586, 43, m, v0, get32(f37 + 24));
-    put_held8(p586, 47, m, v0, get8(f37 + 28));
-    put_held8(p586, 50, m, v0, v29);
-    put_held8(p586, 49, m, v0, v28);
-    put_held8(p586, 48, m, v0, v27);
-    put_held64(p586, 56, m, v0, v30);
-    put_held8(p586, 64, m, v0, v31);
-    put_held64(p586, 72, m, v0, v32);
-    put_held64(p586, 80, m, v0, v33);
-    put_held64(p586, 88, m, v0, v34);
-    put_held64(p586, 96, m, v0, v35);
-    put_held8(p586, 55, m, v0, get8(f37 + 20));
-    put_held32(p586, 51, m, v0, get32(f37 + 16));
-    put_held32(p586, 65, m, v0, get32(f37 + 8));
-    put_held32(p586, 68, m, v0, get32(f37 + 11));
+    m->g0 = v37 + 144ull;
 }
 
 static void t1_core_lent_LentCard_received_into(struct call *m, u64 v0, u64 v1, u64 v2, u64 v3, u64 v4, u64 v5, u64
@@ -6194,6 +6143,164 @@ after1:;
     put_held64(p1570, 8, m, v0, v4);
     put_held8(p1570, 1, m, v0, 0u);
     m->g0 = v22 + 32ull;
+}
+
+static void c_lent_kept_CCard_spelled(struct call *m, u64 v0, u64 v1)
+{
+    u64 v2 = 0;
+    u64 v3 = 0;
+    u64 v4 = 0;
+    u64 v10 = 0;
+    u64 v11 = 0;
+    u64 v12 = 0;
+    u64 v13 = 0;
+    u64 v14 = 0;
+    u64 v15 = 0;
+    u64 v18 = 0;
+    u32 v5 = 0;
+    u32 v6 = 0;
+    u32 v7 = 0;
+    u32 v8 = 0;
+    u32 v9 = 0;
+    u32 v16 = 0;
+    u32 v17 = 0;
+    u8 *f18 = NULL;
+    u8 *p62 = NULL;
+    u8 *p170 = NULL;
+    u8 *p197 = NULL;
+    u8 *p228 = NULL;
+    v18 = m->g0 - 16ull;
+    f18 = at(m, v18, 16);
+    v2 = v18;
+    if ((v2 ^ 0x8000000000000000ull) < (16ull ^ 0x8000000000000000ull)) { goto after1; }
+    v3 = (u64)load8(m, v1, 0);
+    if (v3 > 1ull) { goto after4; }
+    v4 = 0ull;
+    switch ((u32)v3) {
+        case 1: goto after3;
+        default: goto after2;
+    }
+after4:;
+    fill(m, v0, 0u, 104ull);
+    return;
+after3:;
+    v4 = 1ull;
+after2:;
+    v3 = (u64)load8(m, v1 + 1ull, 0);
+    if (v3 > 1ull) { goto after7; }
+    switch ((u32)v3) {
+        case 1: goto after6;
+        default: goto after5;
+    }
+after7:;
+    fill(m, v0, 0u, 104ull);
+    return;
+after6:;
+    v4 = v4 | 256ull;
+after5:;
+    p62 = held(m, v1 + 7ull, 2);
+    v5 = held8(p62, 1, m, v1 + 7ull);
+    v3 = 0ull;
+    v6 = held8(p62, 0, m, v1 + 7ull);
+    v7 = v6;
+    v8 = v6;
+    v9 = v6;
+    switch (v6) {
+        case 0: goto after12;
+        case 1: goto after16;
+        case 2: goto after16;
+        case 3: goto after15;
+        case 4: goto after14;
+        case 5: goto after13;
+        default: goto after11;
+    }
+after16:;
+    v7 = 0u;
+    v8 = 0u;
+    v9 = 0u;
+    goto after12;
+after15:;
+    v3 = load64(m, v1 + 24ull, 0);
+    v6 = 3u;
+    v7 = 0u;
+    v8 = 0u;
+    v9 = v5;
+    goto after12;
+after14:;
+    v8 = 0u;
+    v7 = v5;
+    v9 = 0u;
+    goto after12;
+after13:;
+    v9 = 0u;
+    v6 = 4u;
+    v8 = 1u;
+    v7 = v5;
+after12:;
+    v10 = (u64)load8(m, v1 + 2ull, 0);
+    if (v10 > 1ull) { goto after17; }
+    switch ((u32)v10) {
+        case 1: goto after9;
+        default: goto after10;
+    }
+after17:;
+    fill(m, v0, 0u, 104ull);
+    return;
+after11:;
+    fill(m, v0, 0u, 104ull);
+    return;
+after10:;
+    v5 = 0u;
+    put32(f18 + 11, 0u);
+    put32(f18 + 8, 0u);
+    v10 = 0ull;
+    v11 = 0ull;
+    goto after8;
+after9:;
+    p170 = held(m, v1 + 3ull, 21);
+    v5 = held8(p170, 0, m, v1 + 3ull);
+    v10 = held64(p170, 13, m, v1 + 3ull);
+    put32(f18 + 11, 0u);
+    put32(f18 + 8, 0u);
+    v11 = 1ull;
+after8:;
+    put32(f18 + 3, get32(f18 + 11));
+    put32(f18, get32(f18 + 8));
+    p197 = held(m, v1 + 4ull, 60);
+    v12 = held64(p197, 52, m, v1 + 4ull);
+    v13 = held64(p197, 44, m, v1 + 4ull);
+    v14 = held64(p197, 36, m, v1 + 4ull);
+    v15 = held64(p197, 28, m, v1 + 4ull);
+    v16 = held16(p197, 0, m, v1 + 4ull);
+    v17 = held8(p197, 2, m, v1 + 4ull);
+    p228 = held(m, v0, 104);
+    put_held8(p228, 32, m, v0, v5);
+    put_held64(p228, 24, m, v0, v10);
+    put_held64(p228, 16, m, v0, v11);
+    put_held64(p228, 8, m, v0, v4);
+    put_held64(p228, 0, m, v0, 1ull);
+    put_held32(p228, 33, m, v0, get32(f18));
+    put_held32(p228, 36, m, v0, get32(f18 + 3));
+    put_held32(p228, 43, m, v0, 0u);
+    put_held8(p228, 42, m, v0, v17);
+    put_held16(p228, 40, m, v0, v16);
+    put_held8(p228, 47, m, v0, 0u);
+    put_held8(p228, 50, m, v0, v7);
+    put_held8(p228, 49, m, v0, v8);
+    put_held8(p228, 48, m, v0, v6);
+    put_held8(p228, 55, m, v0, 0u);
+    put_held32(p228, 51, m, v0, 0u);
+    put_held8(p228, 64, m, v0, v9);
+    put_held64(p228, 56, m, v0, v3);
+    put_held32(p228, 65, m, v0, 0u);
+    put_held32(p228, 68, m, v0, 0u);
+    put_held64(p228, 72, m, v0, v15);
+    put_held64(p228, 80, m, v0, v14);
+    put_held64(p228, 88, m, v0, v13);
+    put_held64(p228, 96, m, v0, v12);
+    return;
+after1:;
+    UNREACHABLE;
 }
 
 static void c_lent_card_session_host_turn(struct call *m, u64 v0, u64 v1, u64 v2, u64 v3, u64 v4, u64 v5, u64 v6, u64
@@ -7876,6 +7983,316 @@ again6:;
     }
 after3:;
     return v3;
+}
+
+KEPT void c_lent_card_session_card_session_proceed(struct call *m, u64 v0, u64 v1, u64 v2, u64 v3, u32 v4, u64 v5, u64
+    v6, u64 v7)
+{
+    u64 v8 = 0;
+    u64 v9 = 0;
+    u64 v10 = 0;
+    u64 v14 = 0;
+    u64 v15 = 0;
+    u64 v17 = 0;
+    u32 v11 = 0;
+    u32 v12 = 0;
+    u32 v13 = 0;
+    u32 v16 = 0;
+    u64 w0 = 0;
+    u8 *f17 = NULL;
+    u8 *p122 = NULL;
+    u8 *p293 = NULL;
+    u8 *p395 = NULL;
+    u8 *p482 = NULL;
+    u8 *p682 = NULL;
+    v17 = m->g0 - 320ull;
+    f17 = at(m, v17, 320);
+    v8 = v17;
+    m->g0 = v8;
+    memset(f17 + 56, (int)(0u & 255u), 104);
+    c_lent_kept_CCard_spelled(m, v17 + 56ull, v1);
+    if (get8(f17 + 56) != 1u) { goto after7; }
+    copy(m, v17 + 160ull, v17 + 64ull, 96ull);
+    v9 = v1 + 480ull;
+    v10 = v1 + 64ull;
+    v11 = load8(m, v1 + 496ull, 0);
+    v12 = 1u;
+    v13 = v4 & 255u;
+    if ((1u << (v13 & 31)) & 243u) { goto after8; }
+    if (v13 != 2u) { goto after9; }
+    put64(f17 + 280, 0ull);
+    put64(f17 + 272, 0ull);
+    put64(f17 + 264, 0ull);
+    v4 = get8(f17 + 200);
+    v14 = v1 + 216ull;
+    v15 = v1 + 208ull;
+    v5 = load64(m, v15, 0);
+    t1_core_lent_LentCard_received_into(m, v17 + 264ull, v17 + 160ull, v2, v3, v14, (v5 < 259ull) ? v5 : 259ull, v7);
+    if (get8(f17 + 264)) { goto after5; }
+    if (get8(f17 + 272)) { goto after10; }
+    v2 = get64(f17 + 280);
+    p122 = held(m, v1 + 128ull, 360);
+    put_held64(p122, 0, m, v1 + 128ull, 0xFFFFFFFFFFFFFFFFull);
+    put_held64(p122, 352, m, v1 + 128ull, v2);
+    session_core_progress_Progress_talk(m, v17 + 8ull, v1 + 120ull, v10, v15, v6);
+    v6 = get64(f17 + 16);
+    v16 = get8(f17 + 8);
+    if (v16 != 2u) { goto after11; }
+    if ((held8(p122, 72, m, v1 + 128ull) & 255u) == 0) { goto after11; }
+    store64(m, v15, 0, 4ull);
+    store32(m, v14, 0, 0x1000000u);
+    goto after3;
+after11:;
+    v12 = 1u;
+    v4 = v16;
+    switch (v16) {
+        case 1: goto after15;
+        case 2: goto after3;
+        case 3: goto after3;
+        case 4: goto after14;
+        case 5: goto after13;
+        case 6: goto after12;
+        case 7: goto after3;
+        default: goto after2;
+    }
+after15:;
+    v12 = 1u;
+    v16 = 0u;
+    v4 = 1u;
+    v2 = v6;
+    goto after2;
+after14:;
+    v4 = 8u;
+    goto after4;
+after13:;
+    v4 = 9u;
+    goto after4;
+after12:;
+    v4 = 10u;
+    goto after4;
+after10:;
+    v2 = 0ull;
+    v5 = v1 + 488ull;
+    w0 = v5;
+    v5 = load64(m, v5, 0) + 1ull;
+    store64(m, w0, 0, ((v4 & 255u) == 4u) ? ((v5 == 0) ? 0xFFFFFFFFFFFFFFFFull : v5) : 0ull);
+    put64(f17 + 296, 0ull);
+    put64(f17 + 304, 0ull);
+    put64(f17 + 312, 0ull);
+    put16(f17 + 294, 103u);
+    v12 = 1u;
+    if ((1u << (get8(f17 + 200) & 31)) & 11u) { goto after16; }
+    v2 = get64(f17 + 240);
+after16:;
+    v4 = 7u;
+    v16 = 0u;
+    if (v11 & 255u) { goto after2; }
+    if (v2 > 3ull) { goto after2; }
+    session_core_card_reply(m, v17 + 296ull, v17 + 160ull, v10, v9, v3, v17 + 294ull, 2ull, v6, v7);
+    v12 = (u32)(get8(f17 + 296) == 0);
+    v2 = get64(f17 + 312);
+    v4 = get8(f17 + 304);
+    v16 = get8(f17 + 297);
+    goto after2;
+after9:;
+    p293 = held(m, v1 + 80ull, 56);
+    put_held64(p293, 48, m, v1 + 80ull, 0xFFFFFFFFFFFFFFFFull);
+    v2 = v1 + 120ull;
+    if (held64(p293, 0, m, v1 + 80ull) >= load64(m, v2, 0)) { goto after18; }
+    session_core_progress_Progress_drop_octets(m, v17 + 24ull, v2, v10, 7u, v6);
+    v2 = get64(f17 + 32);
+    goto after17;
+after18:;
+    session_core_progress_Progress_await_block(m, v17 + 40ull, v2, v10, v1 + 208ull, v6);
+    v2 = get64(f17 + 48);
+after17:;
+    v12 = 1u;
+    v16 = 0u;
+    v4 = 1u;
+    goto after2;
+after8:;
+    v2 = load64(m, v9, 0);
+    v16 = v4;
+    switch ((u32)(((u64)v4) & 255ull)) {
+        case 1: goto after24;
+        case 2: goto after20;
+        case 3: goto after20;
+        case 4: goto after23;
+        case 5: goto after22;
+        case 6: goto after21;
+        case 7: goto after20;
+        default: goto after2;
+    }
+after24:;
+    v16 = 0u;
+    v2 = v5;
+    goto after2;
+after23:;
+    v2 = 0ull;
+    v4 = 8u;
+    goto after19;
+after22:;
+    v2 = 0ull;
+    v4 = 9u;
+    goto after19;
+after21:;
+    v2 = 0ull;
+    v4 = 10u;
+    goto after19;
+after20:;
+    v2 = 0ull;
+    v4 = 11u;
+after19:;
+    v16 = 0u;
+    goto after2;
+after7:;
+    p395 = held(m, v0, 24);
+    put_held64(p395, 1, m, v0, 0ull);
+    put_held8(p395, 0, m, v0, 32u);
+    put_held64(p395, 9, m, v0, 0ull);
+    put_held64(p395, 16, m, v0, 0ull);
+    goto after1;
+after5:;
+    v12 = 0u;
+    v16 = get8(f17 + 265);
+    v4 = 0u;
+    v2 = 0ull;
+    goto after2;
+after4:;
+    v16 = 0u;
+    v2 = 0ull;
+    goto after2;
+after3:;
+    v4 = 11u;
+    v16 = 0u;
+    v12 = 1u;
+    v2 = 0ull;
+after2:;
+    v13 = get8(f17 + 200);
+    v11 = v13;
+    v6 = 0ull;
+    switch ((u32)(((u64)v13) & 255ull)) {
+        case 1: goto after29;
+        case 2: goto after29;
+        case 3: goto after28;
+        case 4: goto after27;
+        default: goto after25;
+    }
+after29:;
+    v11 = 0u;
+    goto after26;
+after28:;
+    v13 = 3u;
+    v6 = get64(f17 + 208);
+    v11 = get8(f17 + 216);
+    goto after25;
+after27:;
+    v13 = (get8(f17 + 201)) ? 5u : 4u;
+    v11 = get8(f17 + 202);
+after26:;
+    v6 = 0ull;
+after25:;
+    p482 = held(m, v1, 64);
+    put_held8(p482, 8, m, v1, v11);
+    put_held8(p482, 7, m, v1, v13);
+    put_held8(p482, 6, m, v1, get8(f17 + 194));
+    put_held16(p482, 4, m, v1, get16(f17 + 192));
+    put_held16(p482, 0, m, v1, get16(f17 + 160));
+    v13 = get8(f17 + 168);
+    put_held8(p482, 2, m, v1, v13 & 1u);
+    v13 = (u32)(v13 == 1u);
+    put_held8(p482, 3, m, v1, v13 ? get8(f17 + 184) : 0u);
+    v7 = get64(f17 + 248);
+    v3 = get64(f17 + 240);
+    v5 = get64(f17 + 232);
+    v9 = get64(f17 + 224);
+    v10 = get64(f17 + 176);
+    put_held32(p482, 12, m, v1, 0u);
+    put_held32(p482, 9, m, v1, 0u);
+    put_held64(p482, 16, m, v1, v13 ? v10 : 0ull);
+    put_held64(p482, 24, m, v1, v6);
+    put_held64(p482, 32, m, v1, v9);
+    put_held64(p482, 40, m, v1, v5);
+    put_held64(p482, 48, m, v1, v3);
+    put_held64(p482, 56, m, v1, v7);
+    if (v12 == 0) { goto after31; }
+    v1 = 0ull;
+    v13 = 68u;
+    switch ((u32)(((u64)v4) & 255ull)) {
+        case 1: goto after32;
+        case 2: goto after35;
+        case 3: goto after37;
+        case 4: goto after43;
+        case 5: goto after42;
+        case 6: goto after41;
+        case 7: goto after35;
+        case 8: goto after39;
+        case 9: goto after38;
+        case 10: goto after36;
+        case 11: goto after40;
+        default: goto after44;
+    }
+after44:;
+    v13 = 0u;
+    goto after34;
+after43:;
+    v1 = 0ull;
+    v13 = 2u;
+    goto after33;
+after42:;
+    v1 = 0ull;
+    v13 = 3u;
+    goto after33;
+after41:;
+    v1 = 0ull;
+    v13 = 4u;
+    goto after33;
+after40:;
+    v1 = 0ull;
+    v13 = 21u;
+    goto after33;
+after39:;
+    v1 = 0ull;
+    v13 = 64u;
+    goto after33;
+after38:;
+    v1 = 0ull;
+    v13 = 65u;
+    goto after33;
+after37:;
+    v13 = 66u;
+    goto after34;
+after36:;
+    v1 = 0ull;
+    v13 = 67u;
+    goto after33;
+after35:;
+    v13 = 1u;
+after34:;
+    v1 = v2;
+after33:;
+    v2 = 0ull;
+after32:;
+    put32(f17 + 299, 0u);
+    put32(f17 + 296, 0u);
+    goto after30;
+after31:;
+    put32(f17 + 299, 0u);
+    put32(f17 + 296, 0u);
+    v13 = 0x131215u >> (((v16 & 255u) << 3) & 31);
+    v1 = 0ull;
+    v2 = 0ull;
+after30:;
+    put32(f17 + 259, get32(f17 + 299));
+    put32(f17 + 256, get32(f17 + 296));
+    p682 = held(m, v0, 24);
+    put_held8(p682, 0, m, v0, v13);
+    put_held32(p682, 1, m, v0, get32(f17 + 256));
+    put_held32(p682, 4, m, v0, get32(f17 + 259));
+    put_held64(p682, 16, m, v0, v2);
+    put_held64(p682, 8, m, v0, v1);
+after1:;
+    m->g0 = v17 + 320ull;
 }
 
 static void c_lent_kept_check_CCheck_fitting(struct call *m, u64 v0, u64 v1)
@@ -16430,6 +16847,297 @@ after1:;
     m->g0 = v4 + 16ull;
 }
 
+KEPT void c_lent_session_session_proceed(struct call *m, u64 v0, u64 v1, u64 v2, u64 v3, u32 v4, u64 v5, u64 v6, u64
+    v7)
+{
+    u64 v8 = 0;
+    u64 v12 = 0;
+    u64 v20 = 0;
+    u64 v21 = 0;
+    u64 v22 = 0;
+    u64 v23 = 0;
+    u32 v9 = 0;
+    u32 v10 = 0;
+    u32 v11 = 0;
+    u32 v13 = 0;
+    u32 v14 = 0;
+    u32 v15 = 0;
+    u32 v16 = 0;
+    u32 v17 = 0;
+    u32 v18 = 0;
+    u32 v19 = 0;
+    u32 t5 = 0;
+    u64 w4 = 0;
+    u64 w7 = 0;
+    u8 *f23 = NULL;
+    u8 *p85 = NULL;
+    u8 *p278 = NULL;
+    u8 *p353 = NULL;
+    u8 *p480 = NULL;
+    u8 *p658 = NULL;
+    u8 *p677 = NULL;
+    v23 = m->g0 - 176ull;
+    f23 = at(m, v23, 176);
+    v8 = v23;
+    m->g0 = v8;
+    v9 = load8(m, v1, 0);
+    if (v9 > 1u) { goto after3; }
+    v10 = load8(m, v1 + 1ull, 0);
+    if (v10 > 1u) { goto after3; }
+    v11 = load8(m, v1 + 6ull, 0);
+    if (v11 > 6u) { goto after3; }
+    v12 = 0ull;
+    v13 = 0u;
+    v14 = 1u << (v11 & 31);
+    if (v14 & 73u) { goto after5; }
+    v15 = load8(m, v1 + 7ull, 0);
+    if ((v14 & 6u) == 0) { goto after6; }
+    v12 = load64(m, v1 + 16ull, 0);
+    v13 = 0u;
+    goto after4;
+after6:;
+    v13 = v15;
+after5:;
+    v15 = 0u;
+after4:;
+    v14 = load8(m, v1 + 8ull, 0);
+    if (v14 > 1u) { goto after3; }
+    p85 = held(m, v1 + 2ull, 54);
+    v16 = held8(p85, 3, m, v1 + 2ull);
+    v17 = held8(p85, 2, m, v1 + 2ull);
+    v18 = held8(p85, 1, m, v1 + 2ull);
+    v19 = held8(p85, 0, m, v1 + 2ull);
+    put32(f23 + 50, 0u);
+    put8(f23 + 49, v13);
+    put8(f23 + 48, v11);
+    put16(f23 + 46, 0u);
+    put8(f23 + 45, v16);
+    put8(f23 + 44, v17);
+    put8(f23 + 43, v18);
+    put8(f23 + 42, v19);
+    put8(f23 + 41, v10);
+    put8(f23 + 40, v9);
+    put16(f23 + 54, 0u);
+    put8(f23 + 64, v15);
+    put64(f23 + 56, v12);
+    v12 = held64(p85, 46, m, v1 + 2ull);
+    v20 = held64(p85, 38, m, v1 + 2ull);
+    v21 = held64(p85, 30, m, v1 + 2ull);
+    v22 = held64(p85, 22, m, v1 + 2ull);
+    put32(f23 + 68, 0u);
+    put32(f23 + 65, 0u);
+    put8(f23 + 72, v14);
+    put32(f23 + 73, 0u);
+    put32(f23 + 76, 0u);
+    put64(f23 + 80, v22);
+    put64(f23 + 88, v21);
+    put64(f23 + 96, v20);
+    put64(f23 + 104, v12);
+    v20 = v1 + 488ull;
+    v21 = v1 + 56ull;
+    v9 = v4 & 255u;
+    if ((1u << (v9 & 31)) & 243u) { goto after9; }
+    if (v9 != 2u) { goto after11; }
+    v12 = 0ull;
+    put64(f23 + 168, 0ull);
+    put64(f23 + 120, 0ull);
+    put64(f23 + 128, 0ull);
+    put64(f23 + 136, 0ull);
+    put64(f23 + 144, 0ull);
+    v5 = load64(m, v1 + 200ull, 0);
+    t1_core_lent_LentTerminal_received_into(m, v23 + 120ull, v23 + 40ull, v2, v3, v1 + 208ull, (v5 < 259ull) ? v5 :
+        259ull, v7);
+    if (get8(f23 + 120)) { goto after10; }
+    put8(f23 + 168, get8(f23 + 144));
+    put64(f23 + 160, get64(f23 + 136));
+    put64(f23 + 152, (u64)get8(f23 + 128));
+    p278 = held(m, v1 + 96ull, 12);
+    w4 = held64(p278, 0, m, v1 + 96ull);
+    t5 = held32(p278, 8, m, v1 + 96ull);
+    w7 = (get8(f23 + 72)) ? get64(f23 + 104) : 0ull;
+    session_core_lines_Line_turn(m, v23 + 8ull, v21, v20, 2u, w4, t5, v23 + 152ull, w7, v6);
+    v9 = 0u;
+    v12 = get64(f23 + 16);
+    v4 = get8(f23 + 8);
+    goto after8;
+after11:;
+    v12 = 0ull;
+    put64(f23 + 168, 0ull);
+    put64(f23 + 120, 0ull);
+    put64(f23 + 128, 0ull);
+    put64(f23 + 136, 0ull);
+    put64(f23 + 144, 0ull);
+    t1_core_lent_LentTerminal_quiet_into(m, v23 + 120ull, v23 + 40ull, v7);
+    if (get8(f23 + 120)) { goto after10; }
+    put8(f23 + 168, get8(f23 + 144));
+    put64(f23 + 160, get64(f23 + 136));
+    put64(f23 + 152, (u64)get8(f23 + 128));
+    p353 = held(m, v1 + 96ull, 12);
+    w4 = held64(p353, 0, m, v1 + 96ull);
+    t5 = held32(p353, 8, m, v1 + 96ull);
+    w7 = (get8(f23 + 72)) ? get64(f23 + 104) : 0ull;
+    session_core_lines_Line_turn(m, v23 + 24ull, v21, v20, 2u, w4, t5, v23 + 152ull, w7, v6);
+    v9 = 0u;
+    v12 = get64(f23 + 32);
+    v4 = get8(f23 + 24);
+    goto after8;
+after10:;
+    v4 = 0u;
+    v9 = 1u;
+    v11 = get8(f23 + 121);
+    goto after7;
+after9:;
+    v12 = load64(m, v20, 0);
+    v9 = v4;
+    v11 = v4;
+    switch ((u32)(((u64)v4) & 255ull)) {
+        case 1: goto after17;
+        case 2: goto after13;
+        case 3: goto after13;
+        case 4: goto after16;
+        case 5: goto after15;
+        case 6: goto after14;
+        case 7: goto after13;
+        default: goto after7;
+    }
+after17:;
+    v9 = 0u;
+    v11 = 0u;
+    v12 = v5;
+    goto after7;
+after16:;
+    v12 = 0ull;
+    v4 = 8u;
+    goto after12;
+after15:;
+    v12 = 0ull;
+    v4 = 9u;
+    goto after12;
+after14:;
+    v12 = 0ull;
+    v4 = 10u;
+    goto after12;
+after13:;
+    v12 = 0ull;
+    v4 = 11u;
+after12:;
+    v9 = 0u;
+after8:;
+    v11 = 0u;
+after7:;
+    v7 = 0ull;
+    v10 = 0u;
+    v13 = get8(f23 + 48);
+    v15 = 1u << (v13 & 31);
+    if (v15 & 73u) { goto after18; }
+    if ((v15 & 6u) == 0) { goto after19; }
+    v7 = get64(f23 + 56);
+    v10 = get8(f23 + 64);
+    goto after18;
+after19:;
+    v10 = get8(f23 + 49);
+after18:;
+    p480 = held(m, v1, 56);
+    put_held32(p480, 0, m, v1, get32(f23 + 40));
+    put_held32(p480, 9, m, v1, 0u);
+    put_held32(p480, 12, m, v1, 0u);
+    put_held64(p480, 16, m, v1, v7);
+    put_held8(p480, 8, m, v1, get8(f23 + 72));
+    put_held8(p480, 7, m, v1, v10);
+    put_held8(p480, 6, m, v1, v13);
+    put_held16(p480, 4, m, v1, get16(f23 + 44));
+    put_held64(p480, 24, m, v1, get64(f23 + 80));
+    put_held64(p480, 32, m, v1, get64(f23 + 88));
+    put_held64(p480, 40, m, v1, get64(f23 + 96));
+    put_held64(p480, 48, m, v1, get64(f23 + 104));
+    if (v9 & 255u) { goto after21; }
+    v1 = 0ull;
+    v9 = 68u;
+    switch ((u32)(((u64)v4) & 255ull)) {
+        case 1: goto after22;
+        case 2: goto after25;
+        case 3: goto after27;
+        case 4: goto after33;
+        case 5: goto after32;
+        case 6: goto after31;
+        case 7: goto after25;
+        case 8: goto after29;
+        case 9: goto after28;
+        case 10: goto after26;
+        case 11: goto after30;
+        default: goto after34;
+    }
+after34:;
+    v9 = 0u;
+    goto after24;
+after33:;
+    v1 = 0ull;
+    v9 = 2u;
+    goto after23;
+after32:;
+    v1 = 0ull;
+    v9 = 3u;
+    goto after23;
+after31:;
+    v1 = 0ull;
+    v9 = 4u;
+    goto after23;
+after30:;
+    v1 = 0ull;
+    v9 = 21u;
+    goto after23;
+after29:;
+    v1 = 0ull;
+    v9 = 64u;
+    goto after23;
+after28:;
+    v1 = 0ull;
+    v9 = 65u;
+    goto after23;
+after27:;
+    v9 = 66u;
+    goto after24;
+after26:;
+    v1 = 0ull;
+    v9 = 67u;
+    goto after23;
+after25:;
+    v9 = 1u;
+after24:;
+    v1 = v12;
+after23:;
+    v12 = 0ull;
+after22:;
+    put32(f23 + 123, 0u);
+    put32(f23 + 120, 0u);
+    goto after20;
+after21:;
+    put32(f23 + 123, 0u);
+    put32(f23 + 120, 0u);
+    v9 = v11 + 16u;
+    v1 = 0ull;
+    v12 = 0ull;
+after20:;
+    put32(f23 + 115, get32(f23 + 123));
+    put32(f23 + 112, get32(f23 + 120));
+    p658 = held(m, v0, 24);
+    put_held8(p658, 0, m, v0, v9);
+    put_held32(p658, 1, m, v0, get32(f23 + 112));
+    put_held32(p658, 4, m, v0, get32(f23 + 115));
+    put_held64(p658, 16, m, v0, v12);
+    put_held64(p658, 8, m, v0, v1);
+    goto after1;
+after3:;
+    p677 = held(m, v0, 24);
+    put_held64(p677, 1, m, v0, 0ull);
+    put_held8(p677, 0, m, v0, 32u);
+    put_held64(p677, 9, m, v0, 0ull);
+    put_held64(p677, 16, m, v0, 0ull);
+    goto after1;
+after1:;
+    m->g0 = v23 + 176ull;
+}
+
 static void t1_core_lent_LentTerminal_received_into(struct call *m, u64 v0, u64 v1, u64 v2, u64 v3, u64 v4, u64 v5,
     u64 v6)
 {
@@ -22313,323 +23021,155 @@ static void rattle_export_scard_lent_card_session_step(struct call *m, u64 v0, u
     u32 v6, u64 v7, u64 v8, u64 v9, u64 v10, u64 v11)
 {
     u64 v12 = 0;
-    u64 v17 = 0;
-    u32 v13 = 0;
-    u32 v14 = 0;
-    u32 v15 = 0;
-    u32 v16 = 0;
-    u64 w0 = 0;
-    u64 w3 = 0;
-    u8 *f17 = NULL;
-    u8 *p190 = NULL;
-    u8 *p359 = NULL;
-    u8 *p548 = NULL;
-    u8 *p749 = NULL;
-    v17 = m->g0 - 320ull;
-    f17 = at(m, v17, 320);
-    v12 = v17;
+    u64 v13 = 0;
+    u64 v14 = 0;
+    u64 v15 = 0;
+    u64 v16 = 0;
+    u64 v21 = 0;
+    u64 v23 = 0;
+    u32 v17 = 0;
+    u32 v18 = 0;
+    u32 v19 = 0;
+    u32 v20 = 0;
+    u32 v22 = 0;
+    u8 *f23 = NULL;
+    u8 *p388 = NULL;
+    v23 = m->g0 - 144ull;
+    f23 = at(m, v23, 144);
+    v12 = v23;
     m->g0 = v12;
-    memset(f17 + 64, (int)(0u & 255u), 104);
-    if (v11 > 257ull) { goto after8; }
-    put32(f17 + 267, 0u);
-    put32(f17 + 264, 0u);
+    put64(f23 + 32, 0ull);
+    put64(f23 + 24, 0ull);
+    put64(f23 + 16, 0ull);
+    if (v11 > 257ull) { goto after3; }
+    put32(f23 + 43, 0u);
+    put32(f23 + 40, 0u);
     v11 = 0ull;
     v1 = 258ull;
     v6 = 33u;
-    goto after1;
-after8:;
-    c_lent_kept_CCard_fitting(m, v17 + 64ull, v1, v3, v5);
-    if (get8(f17 + 64) != 1u) { goto after6; }
-    v5 = v4 + ((v4 == 0) ? 4096ull : 0ull);
-    v3 = v2 + ((v2 == 0) ? 4096ull : 0ull);
-    copy(m, v17 + 168ull, v17 + 72ull, 96ull);
-    v13 = load8(m, v1 + 496ull, 0);
-    v4 = v1 + 64ull;
-    v2 = v10 + ((v10 == 0) ? 4096ull : 0ull);
-    w3 = v7 + ((v7 == 0) ? 4096ull : 0ull);
-    v7 = v1 + 480ull;
-    v10 = load64(m, v7, 0);
-    session_core_lines_Line_happen(m, v17 + 48ull, v4, v6, w3, v8, v9, v2, (v11 < v10) ? v11 : v10);
-    v10 = get64(f17 + 56);
-    v14 = 1u;
-    v6 = get8(f17 + 48);
-    if ((1u << (v6 & 31)) & 243u) { goto after9; }
-    if (v6 != 2u) { goto after10; }
-    put64(f17 + 280, 0ull);
-    put64(f17 + 272, 0ull);
-    put64(f17 + 264, 0ull);
-    v6 = get8(f17 + 208);
-    v8 = v1 + 216ull;
-    v10 = v1 + 208ull;
-    v11 = load64(m, v10, 0);
-    t1_core_lent_LentCard_received_into(m, v17 + 264ull, v17 + 168ull, v3, v5, v8, (v11 < 259ull) ? v11 : 259ull, v2);
-    if (get8(f17 + 264)) { goto after5; }
-    if (get8(f17 + 272)) { goto after11; }
-    v11 = get64(f17 + 280);
-    p190 = held(m, v1 + 128ull, 360);
-    put_held64(p190, 0, m, v1 + 128ull, 0xFFFFFFFFFFFFFFFFull);
-    put_held64(p190, 352, m, v1 + 128ull, v11);
-    session_core_progress_Progress_talk(m, v17, v1 + 120ull, v4, v10, v9);
-    v7 = get64(f17 + 8);
-    v6 = get8(f17);
-    if (v6 != 2u) { goto after12; }
-    if ((held8(p190, 72, m, v1 + 128ull) & 255u) == 0) { goto after12; }
-    store64(m, v10, 0, 4ull);
-    store32(m, v8, 0, 0x1000000u);
-    goto after3;
-after12:;
-    v14 = 1u;
-    v15 = v6;
-    switch (v6) {
-        case 1: goto after16;
-        case 2: goto after3;
-        case 3: goto after3;
-        case 4: goto after15;
-        case 5: goto after14;
-        case 6: goto after13;
-        case 7: goto after3;
-        default: goto after2;
+    goto after2;
+after3:;
+    memset(f23 + 40, (int)(0u & 255u), 104);
+    c_lent_kept_CCard_spelled(m, v23 + 40ull, v1);
+    if (get8(f23 + 40) != 1u) { goto after5; }
+    v13 = get64(f23 + 136);
+    v14 = get64(f23 + 128);
+    v15 = get64(f23 + 120);
+    v16 = get64(f23 + 112);
+    v17 = get8(f23 + 82);
+    v18 = get8(f23 + 81);
+    v19 = get8(f23 + 80);
+    v20 = get8(f23 + 56);
+    switch ((u32)(u64)get8(f23 + 88)) {
+        case 2: goto after8;
+        case 3: goto after9;
+        case 4: goto after10;
+        default: goto after7;
     }
-after16:;
-    v14 = 1u;
-    v6 = 0u;
-    v15 = 1u;
-    v11 = v7;
-    goto after2;
-after15:;
-    v15 = 8u;
-    goto after4;
-after14:;
-    v15 = 9u;
-    goto after4;
-after13:;
-    v15 = 10u;
-    goto after4;
-after11:;
-    v11 = 0ull;
-    v10 = v1 + 488ull;
-    w0 = v10;
-    v10 = load64(m, v10, 0) + 1ull;
-    store64(m, w0, 0, ((v6 & 255u) == 4u) ? ((v10 == 0) ? 0xFFFFFFFFFFFFFFFFull : v10) : 0ull);
-    put64(f17 + 296, 0ull);
-    put64(f17 + 304, 0ull);
-    put64(f17 + 312, 0ull);
-    put16(f17 + 294, 103u);
-    v14 = 1u;
-    if ((1u << (get8(f17 + 208) & 31)) & 11u) { goto after17; }
-    v11 = get64(f17 + 248);
-after17:;
-    v15 = 7u;
-    v6 = 0u;
-    if (v13 & 255u) { goto after2; }
-    if (v11 > 3ull) { goto after2; }
-    session_core_card_reply(m, v17 + 296ull, v17 + 168ull, v4, v7, v5, v17 + 294ull, 2ull, v9, v2);
-    v14 = (u32)(get8(f17 + 296) == 0);
-    v11 = get64(f17 + 312);
-    v15 = get8(f17 + 304);
-    v6 = get8(f17 + 297);
-    goto after2;
 after10:;
-    p359 = held(m, v1 + 80ull, 56);
-    put_held64(p359, 48, m, v1 + 80ull, 0xFFFFFFFFFFFFFFFFull);
-    v11 = v1 + 120ull;
-    if (held64(p359, 0, m, v1 + 80ull) >= load64(m, v11, 0)) { goto after19; }
-    session_core_progress_Progress_drop_octets(m, v17 + 16ull, v11, v4, 7u, v9);
-    v11 = get64(f17 + 24);
-    goto after18;
-after19:;
-    session_core_progress_Progress_await_block(m, v17 + 32ull, v11, v4, v1 + 208ull, v9);
-    v11 = get64(f17 + 40);
-after18:;
-    v14 = 1u;
-    v6 = 0u;
-    v15 = 1u;
-    goto after2;
+    if (get8(f23 + 89) == 1u) { goto after8; }
+    if (((get8(f23 + 90) + 0xFFFFFFFFu) & 255u) > 253u) { goto after5; }
+    if ((v20 & 255u) != 1u) { goto after6; }
+    goto after5;
 after9:;
-    v11 = load64(m, v7, 0);
-    v15 = v6;
-    switch (v6) {
-        case 1: goto after25;
-        case 2: goto after21;
-        case 3: goto after21;
-        case 4: goto after24;
-        case 5: goto after23;
-        case 6: goto after22;
-        case 7: goto after21;
-        default: goto after2;
-    }
-after25:;
-    v15 = 1u;
-    v6 = 0u;
-    v14 = 1u;
-    v11 = v10;
-    goto after2;
-after24:;
-    v11 = 0ull;
-    v15 = 8u;
-    goto after20;
-after23:;
-    v11 = 0ull;
-    v15 = 9u;
-    goto after20;
-after22:;
-    v11 = 0ull;
-    v15 = 10u;
-    goto after20;
-after21:;
-    v11 = 0ull;
-    v15 = 11u;
-after20:;
-    v6 = 0u;
-    goto after2;
+    v21 = get64(f23 + 96);
+    v22 = get8(f23 + 104);
+    if ((v13 - v21) <= (((u64)v22) & 255ull)) { goto after5; }
+    if (v13 < v21) { goto after5; }
+    if (((v22 + 0xFFFFFFFFu) & 255u) > 253u) { goto after5; }
+    if ((v20 & 255u) != 1u) { goto after6; }
+    goto after5;
+after8:;
+    if ((v20 & 255u) != 1u) { goto after6; }
+    goto after5;
+after7:;
+    if ((v20 & 255u) != 1u) { goto after6; }
+    v21 = get64(f23 + 64);
+    v20 = get8(f23 + 72);
+    if ((v13 - v21) > (((u64)v20) & 255ull)) { goto after5; }
+    if (((v20 + 0xFFFFFFFFu) & 255u) > 253u) { goto after5; }
+    if (v13 < v21) { goto after5; }
 after6:;
-    put32(f17 + 267, 0u);
-    put32(f17 + 264, 0u);
+    if (((v19 + 0xFFFFFFFFu) & 255u) > 253u) { goto after5; }
+    if (((v18 + 0xFFFFFFFFu) & 255u) > 253u) { goto after5; }
+    if (((v17 + 0xFFFFFFFFu) & 255u) >= 254u) { goto after5; }
+    if (v14 > v3) { goto after5; }
+    if (v13 > v5) { goto after5; }
+    if (v16 > v3) { goto after5; }
+    if (v15 <= v5) { goto after4; }
+after5:;
+    put32(f23 + 43, 0u);
+    put32(f23 + 40, 0u);
     v1 = 0ull;
     v6 = 32u;
     v11 = 0ull;
-    goto after1;
-after5:;
-    v14 = 0u;
-    v6 = get8(f17 + 265);
-    v15 = 0u;
-    v11 = 0ull;
     goto after2;
 after4:;
-    v6 = 0u;
-    v11 = 0ull;
-    goto after2;
-after3:;
-    v15 = 11u;
-    v6 = 0u;
-    v14 = 1u;
-    v11 = 0ull;
-after2:;
-    v13 = get8(f17 + 208);
-    v16 = v13;
-    v10 = 0ull;
-    switch ((u32)(((u64)v13) & 255ull)) {
-        case 1: goto after30;
-        case 2: goto after30;
-        case 3: goto after29;
-        case 4: goto after28;
-        default: goto after26;
-    }
-after30:;
-    v16 = 0u;
-    goto after27;
-after29:;
-    v13 = 3u;
-    v10 = get64(f17 + 216);
-    v16 = get8(f17 + 224);
-    goto after26;
-after28:;
-    v13 = (get8(f17 + 209)) ? 5u : 4u;
-    v16 = get8(f17 + 210);
-after27:;
-    v10 = 0ull;
-after26:;
-    p548 = held(m, v1, 64);
-    put_held8(p548, 8, m, v1, v16);
-    put_held8(p548, 7, m, v1, v13);
-    put_held8(p548, 6, m, v1, get8(f17 + 202));
-    put_held16(p548, 4, m, v1, get16(f17 + 200));
-    put_held16(p548, 0, m, v1, get16(f17 + 168));
-    v13 = get8(f17 + 176);
-    put_held8(p548, 2, m, v1, v13 & 1u);
-    v13 = (u32)(v13 == 1u);
-    put_held8(p548, 3, m, v1, v13 ? get8(f17 + 192) : 0u);
-    v7 = get64(f17 + 256);
-    v4 = get64(f17 + 248);
-    v2 = get64(f17 + 240);
-    v5 = get64(f17 + 232);
-    v3 = get64(f17 + 184);
-    put_held32(p548, 12, m, v1, 0u);
-    put_held32(p548, 9, m, v1, 0u);
-    put_held64(p548, 16, m, v1, v13 ? v3 : 0ull);
-    put_held64(p548, 24, m, v1, v10);
-    put_held64(p548, 32, m, v1, v5);
-    put_held64(p548, 40, m, v1, v2);
-    put_held64(p548, 48, m, v1, v4);
-    put_held64(p548, 56, m, v1, v7);
-    if (v14 == 0) { goto after32; }
+    v5 = v10 + ((v10 == 0) ? 4096ull : 0ull);
+    v3 = load64(m, v1 + 480ull, 0);
+    session_core_lines_Line_happen(m, v23, v1 + 64ull, v6, v7 + ((v7 == 0) ? 4096ull : 0ull), v8, v9, v5, (v11 < v3) ?
+        v11 : v3);
+    v11 = get64(f23 + 8);
+    v20 = get8(f23);
+    if ((v20 & 254u) != 2u) { goto after12; }
+    c_lent_card_session_card_session_proceed(m, v23 + 16ull, v1, v2 + ((v2 == 0) ? 4096ull : 0ull), v4 + ((v4 == 0) ?
+        4096ull : 0ull), v20, v11, v9, v5);
+    v11 = get64(f23 + 32);
+    v1 = get64(f23 + 24);
+    v6 = get8(f23 + 16);
+    goto after11;
+after12:;
     v1 = 0ull;
     v6 = 68u;
-    switch ((u32)(((u64)v15) & 255ull)) {
-        case 1: goto after33;
-        case 2: goto after36;
-        case 3: goto after38;
-        case 4: goto after44;
-        case 5: goto after43;
-        case 6: goto after42;
-        case 7: goto after36;
-        case 8: goto after40;
-        case 9: goto after39;
-        case 10: goto after37;
-        case 11: goto after41;
-        default: goto after45;
+    switch (v20) {
+        case 1: goto after13;
+        case 2: goto after1;
+        case 3: goto after1;
+        case 4: goto after17;
+        case 5: goto after16;
+        case 6: goto after15;
+        case 7: goto after18;
+        default: goto after19;
     }
-after45:;
+after19:;
+    v11 = 0ull;
     v6 = 0u;
-    goto after35;
-after44:;
-    v1 = 0ull;
-    v6 = 2u;
-    goto after34;
-after43:;
-    v1 = 0ull;
-    v6 = 3u;
-    goto after34;
-after42:;
-    v1 = 0ull;
-    v6 = 4u;
-    goto after34;
-after41:;
+    v1 = v3;
+    goto after13;
+after18:;
     v1 = 0ull;
     v6 = 21u;
-    goto after34;
-after40:;
+    goto after14;
+after17:;
     v1 = 0ull;
     v6 = 64u;
-    goto after34;
-after39:;
+    goto after14;
+after16:;
     v1 = 0ull;
     v6 = 65u;
-    goto after34;
-after38:;
-    v6 = 66u;
-    goto after35;
-after37:;
+    goto after14;
+after15:;
     v1 = 0ull;
     v6 = 67u;
-    goto after34;
-after36:;
-    v6 = 1u;
-after35:;
-    v1 = v11;
-after34:;
+after14:;
     v11 = 0ull;
-after33:;
-    put32(f17 + 299, 0u);
-    put32(f17 + 296, 0u);
-    goto after31;
-after32:;
-    put32(f17 + 299, 0u);
-    put32(f17 + 296, 0u);
-    v6 = 0x131215u >> (((v6 & 255u) << 3) & 31);
-    v1 = 0ull;
-    v11 = 0ull;
-after31:;
-    put32(f17 + 267, get32(f17 + 299));
-    put32(f17 + 264, get32(f17 + 296));
+after13:;
+    put32(f23 + 20, 0u);
+    put32(f23 + 17, 0u);
+after11:;
+    put32(f23 + 43, get32(f23 + 20));
+    put32(f23 + 40, get32(f23 + 17));
+after2:;
+    p388 = held(m, v0, 24);
+    put_held8(p388, 0, m, v0, v6);
+    put_held32(p388, 1, m, v0, get32(f23 + 40));
+    put_held32(p388, 4, m, v0, get32(f23 + 43));
+    put_held64(p388, 16, m, v0, v11);
+    put_held64(p388, 8, m, v0, v1);
+    m->g0 = v23 + 144ull;
+    return;
 after1:;
-    p749 = held(m, v0, 24);
-    put_held8(p749, 0, m, v0, v6);
-    put_held32(p749, 1, m, v0, get32(f17 + 264));
-    put_held32(p749, 4, m, v0, get32(f17 + 267));
-    put_held64(p749, 16, m, v0, v11);
-    put_held64(p749, 8, m, v0, v1);
-    m->g0 = v17 + 320ull;
+    UNREACHABLE;
 }
 
 static void module_scard_lent_check_begin(struct call *m, u64 v0, u64 v1, u64 v2)
@@ -25946,244 +26486,176 @@ static void rattle_export_scard_lent_session_step(struct call *m, u64 v0, u64 v1
     v6, u64 v7, u64 v8, u64 v9, u64 v10, u64 v11)
 {
     u64 v12 = 0;
-    u64 v18 = 0;
+    u64 v14 = 0;
+    u64 v21 = 0;
+    u64 v22 = 0;
+    u64 v23 = 0;
+    u64 v24 = 0;
+    u64 v25 = 0;
     u32 v13 = 0;
-    u32 v14 = 0;
     u32 v15 = 0;
     u32 v16 = 0;
     u32 v17 = 0;
-    u32 t5 = 0;
-    u64 w3 = 0;
-    u64 w4 = 0;
-    u64 w7 = 0;
-    u8 *f18 = NULL;
-    u8 *p197 = NULL;
-    u8 *p272 = NULL;
-    u8 *p397 = NULL;
-    u8 *p562 = NULL;
-    v18 = m->g0 - 272ull;
-    f18 = at(m, v18, 272);
-    v12 = v18;
+    u32 v18 = 0;
+    u32 v19 = 0;
+    u32 v20 = 0;
+    u8 *f25 = NULL;
+    u8 *p112 = NULL;
+    u8 *p441 = NULL;
+    v25 = m->g0 - 48ull;
+    f25 = at(m, v25, 48);
+    v12 = v25;
     m->g0 = v12;
-    memset(f18 + 56, (int)(0u & 255u), 80);
-    if (v11 > 257ull) { goto after5; }
-    put32(f18 + 267, 0u);
-    put32(f18 + 264, 0u);
+    put64(f25 + 40, 0ull);
+    put64(f25 + 32, 0ull);
+    put64(f25 + 24, 0ull);
+    if (v11 > 257ull) { goto after3; }
+    put32(f25 + 19, 0u);
+    put32(f25 + 16, 0u);
     v11 = 0ull;
     v1 = 258ull;
     v6 = 33u;
-    goto after1;
-after5:;
-    c_lent_kept_CTerminal_fitting(m, v18 + 56ull, v1, v3, v5);
-    if (get8(f18 + 56) != 1u) { goto after6; }
-    v5 = v4 + ((v4 == 0) ? 4096ull : 0ull);
-    v2 = v2 + ((v2 == 0) ? 4096ull : 0ull);
-    copy(m, v18 + 136ull, v18 + 64ull, 72ull);
-    v3 = v1 + 56ull;
-    v4 = v10 + ((v10 == 0) ? 4096ull : 0ull);
-    w3 = v7 + ((v7 == 0) ? 4096ull : 0ull);
-    v7 = v1 + 488ull;
-    v10 = load64(m, v7, 0);
-    session_core_lines_Line_happen(m, v18 + 40ull, v3, v6, w3, v8, v9, v4, (v11 < v10) ? v11 : v10);
-    v10 = get64(f18 + 48);
-    v6 = get8(f18 + 40);
-    if ((1u << (v6 & 31)) & 243u) { goto after9; }
-    if (v6 != 2u) { goto after11; }
-    v11 = 0ull;
-    put64(f18 + 256, 0ull);
-    put64(f18 + 208, 0ull);
-    put64(f18 + 216, 0ull);
-    put64(f18 + 224, 0ull);
-    put64(f18 + 232, 0ull);
-    v10 = load64(m, v1 + 200ull, 0);
-    t1_core_lent_LentTerminal_received_into(m, v18 + 208ull, v18 + 136ull, v2, v5, v1 + 208ull, (v10 < 259ull) ? v10 :
-        259ull, v4);
-    if (get8(f18 + 208)) { goto after10; }
-    put8(f18 + 256, get8(f18 + 232));
-    put64(f18 + 248, get64(f18 + 224));
-    put64(f18 + 240, (u64)get8(f18 + 216));
-    p197 = held(m, v1 + 96ull, 12);
-    w4 = held64(p197, 0, m, v1 + 96ull);
-    t5 = held32(p197, 8, m, v1 + 96ull);
-    w7 = (get8(f18 + 168)) ? get64(f18 + 200) : 0ull;
-    session_core_lines_Line_turn(m, v18 + 8ull, v3, v7, 2u, w4, t5, v18 + 240ull, w7, v9);
-    v6 = 0u;
-    v11 = get64(f18 + 16);
-    v13 = get8(f18 + 8);
-    goto after8;
-after11:;
-    v11 = 0ull;
-    put64(f18 + 256, 0ull);
-    put64(f18 + 208, 0ull);
-    put64(f18 + 216, 0ull);
-    put64(f18 + 224, 0ull);
-    put64(f18 + 232, 0ull);
-    t1_core_lent_LentTerminal_quiet_into(m, v18 + 208ull, v18 + 136ull, v4);
-    if (get8(f18 + 208)) { goto after10; }
-    put8(f18 + 256, get8(f18 + 232));
-    put64(f18 + 248, get64(f18 + 224));
-    put64(f18 + 240, (u64)get8(f18 + 216));
-    p272 = held(m, v1 + 96ull, 12);
-    w4 = held64(p272, 0, m, v1 + 96ull);
-    t5 = held32(p272, 8, m, v1 + 96ull);
-    w7 = (get8(f18 + 168)) ? get64(f18 + 200) : 0ull;
-    session_core_lines_Line_turn(m, v18 + 24ull, v3, v7, 2u, w4, t5, v18 + 240ull, w7, v9);
-    v6 = 0u;
-    v11 = get64(f18 + 32);
-    v13 = get8(f18 + 24);
-    goto after8;
-after10:;
-    v13 = 0u;
-    v6 = 1u;
-    v14 = get8(f18 + 209);
-    goto after7;
-after9:;
-    v11 = load64(m, v7, 0);
-    v14 = v6;
-    v13 = v6;
-    switch (v6) {
-        case 1: goto after17;
-        case 2: goto after13;
-        case 3: goto after13;
-        case 4: goto after16;
-        case 5: goto after15;
-        case 6: goto after14;
-        case 7: goto after13;
-        default: goto after7;
-    }
-after17:;
-    v13 = 1u;
-    v6 = 0u;
-    v14 = 0u;
-    v11 = v10;
-    goto after7;
-after16:;
-    v11 = 0ull;
-    v13 = 8u;
-    goto after12;
-after15:;
-    v11 = 0ull;
-    v13 = 9u;
-    goto after12;
-after14:;
-    v11 = 0ull;
-    v13 = 10u;
-    goto after12;
-after13:;
-    v11 = 0ull;
-    v13 = 11u;
-after12:;
-    v6 = 0u;
-after8:;
-    v14 = 0u;
-after7:;
-    v10 = 0ull;
-    v15 = 0u;
-    v16 = get8(f18 + 144);
-    v17 = 1u << (v16 & 31);
-    if (v17 & 73u) { goto after18; }
-    if ((v17 & 6u) == 0) { goto after19; }
-    v10 = get64(f18 + 152);
-    v15 = get8(f18 + 160);
-    goto after18;
-after19:;
-    v15 = get8(f18 + 145);
-after18:;
-    p397 = held(m, v1, 56);
-    put_held8(p397, 8, m, v1, get8(f18 + 168));
-    put_held8(p397, 7, m, v1, v15);
-    put_held8(p397, 6, m, v1, v16);
-    put_held16(p397, 4, m, v1, get16(f18 + 140));
-    put_held32(p397, 0, m, v1, get32(f18 + 136));
-    put_held32(p397, 9, m, v1, 0u);
-    put_held32(p397, 12, m, v1, 0u);
-    put_held64(p397, 16, m, v1, v10);
-    put_held64(p397, 24, m, v1, get64(f18 + 176));
-    put_held64(p397, 32, m, v1, get64(f18 + 184));
-    put_held64(p397, 40, m, v1, get64(f18 + 192));
-    put_held64(p397, 48, m, v1, get64(f18 + 200));
-    if (v6) { goto after3; }
-    v1 = 0ull;
-    v6 = 68u;
-    switch ((u32)(((u64)v13) & 255ull)) {
-        case 1: goto after20;
-        case 2: goto after23;
-        case 3: goto after25;
-        case 4: goto after31;
-        case 5: goto after30;
-        case 6: goto after29;
-        case 7: goto after23;
-        case 8: goto after27;
-        case 9: goto after26;
-        case 10: goto after24;
-        case 11: goto after28;
-        default: goto after32;
-    }
-after32:;
-    v6 = 0u;
-    goto after22;
-after31:;
-    v1 = 0ull;
-    v6 = 2u;
-    goto after21;
-after30:;
-    v1 = 0ull;
-    v6 = 3u;
-    goto after21;
-after29:;
-    v1 = 0ull;
-    v6 = 4u;
-    goto after21;
-after28:;
-    v1 = 0ull;
-    v6 = 21u;
-    goto after21;
-after27:;
-    v1 = 0ull;
-    v6 = 64u;
-    goto after21;
-after26:;
-    v1 = 0ull;
-    v6 = 65u;
-    goto after21;
-after25:;
-    v6 = 66u;
-    goto after22;
-after24:;
-    v1 = 0ull;
-    v6 = 67u;
-    goto after21;
-after23:;
-    v6 = 1u;
-after22:;
-    v1 = v11;
-after21:;
-    v11 = 0ull;
-after20:;
-    put32(f18 + 267, 0u);
-    put32(f18 + 264, 0u);
-    goto after1;
-after6:;
-    put32(f18 + 267, 0u);
-    put32(f18 + 264, 0u);
-    v1 = 0ull;
-    v6 = 32u;
     goto after2;
 after3:;
-    put32(f18 + 267, 0u);
-    put32(f18 + 264, 0u);
-    v6 = v14 + 16u;
+    if (load8(m, v1, 0) > 1u) { goto after5; }
+    if (load8(m, v1 + 1ull, 0) > 1u) { goto after5; }
+    v13 = load8(m, v1 + 6ull, 0);
+    if (v13 > 6u) { goto after5; }
+    v14 = 0ull;
+    v15 = 0u;
+    v16 = 1u << (v13 & 31);
+    if (v16 & 73u) { goto after7; }
+    v17 = load8(m, v1 + 7ull, 0);
+    if ((v16 & 6u) == 0) { goto after8; }
+    v14 = load64(m, v1 + 16ull, 0);
+    v15 = 0u;
+    goto after6;
+after8:;
+    v15 = v17;
+after7:;
+    v17 = 0u;
+after6:;
+    v16 = load8(m, v1 + 8ull, 0);
+    if (v16 > 1u) { goto after5; }
+    p112 = held(m, v1 + 3ull, 53);
+    v18 = held8(p112, 2, m, v1 + 3ull);
+    v19 = held8(p112, 1, m, v1 + 3ull);
+    v20 = held8(p112, 0, m, v1 + 3ull);
+    v21 = held64(p112, 45, m, v1 + 3ull);
+    v22 = held64(p112, 37, m, v1 + 3ull);
+    v23 = held64(p112, 29, m, v1 + 3ull);
+    v24 = held64(p112, 21, m, v1 + 3ull);
+    switch (v13) {
+        case 1: goto after14;
+        case 2: goto after10;
+        case 3: goto after13;
+        case 4: goto after12;
+        case 5: goto after11;
+        default: goto after9;
+    }
+after14:;
+    if (v21 != 0ull) { goto after5; }
+    if ((v22 - v14) <= (((u64)v17) & 255ull)) { goto after5; }
+    if (((v17 + 1u) & 255u) < 2u) { goto after5; }
+    if (v22 < v14) { goto after5; }
+    if ((v16 & 1u) == 0) { goto after9; }
+    goto after5;
+after13:;
+    if ((v16 & 1u) == 0) { goto after9; }
+    goto after5;
+after12:;
+    if (((v15 + 0xFFFFFFFFu) & 255u) < 254u) { goto after9; }
+    goto after5;
+after11:;
+    if ((v15 & 255u) < 4u) { goto after9; }
+    goto after5;
+after10:;
+    if (v21 != 0ull) { goto after5; }
+    if ((v22 - v14) > (((u64)v17) & 255ull)) { goto after5; }
+    if (((v17 + 1u) & 255u) < 2u) { goto after5; }
+    if (v22 < v14) { goto after5; }
+    if (v16 & 1u) { goto after5; }
+after9:;
+    if (((v20 + 0xFFFFFFFFu) & 255u) > 253u) { goto after5; }
+    if (((v19 + 0xFFFFFFFFu) & 255u) > 253u) { goto after5; }
+    if (v23 > v5) { goto after5; }
+    if (v24 > v3) { goto after5; }
+    if (v21 > v5) { goto after5; }
+    if (((v18 + 0xFFFFFFFFu) & 255u) > 253u) { goto after5; }
+    if (v22 <= v3) { goto after4; }
+after5:;
+    put32(f25 + 19, 0u);
+    put32(f25 + 16, 0u);
     v1 = 0ull;
-after2:;
+    v6 = 32u;
     v11 = 0ull;
+    goto after2;
+after4:;
+    v3 = v10 + ((v10 == 0) ? 4096ull : 0ull);
+    v5 = load64(m, v1 + 488ull, 0);
+    session_core_lines_Line_happen(m, v25, v1 + 56ull, v6, v7 + ((v7 == 0) ? 4096ull : 0ull), v8, v9, v3, (v11 < v5) ?
+        v11 : v5);
+    v11 = get64(f25 + 8);
+    v13 = get8(f25);
+    if ((v13 & 254u) != 2u) { goto after16; }
+    c_lent_session_session_proceed(m, v25 + 24ull, v1, v2 + ((v2 == 0) ? 4096ull : 0ull), v4 + ((v4 == 0) ? 4096ull :
+        0ull), v13, v11, v9, v3);
+    v11 = get64(f25 + 40);
+    v1 = get64(f25 + 32);
+    v6 = get8(f25 + 24);
+    goto after15;
+after16:;
+    v1 = 0ull;
+    v6 = 68u;
+    switch (v13) {
+        case 1: goto after17;
+        case 2: goto after1;
+        case 3: goto after1;
+        case 4: goto after21;
+        case 5: goto after20;
+        case 6: goto after19;
+        case 7: goto after22;
+        default: goto after23;
+    }
+after23:;
+    v11 = 0ull;
+    v6 = 0u;
+    v1 = v5;
+    goto after17;
+after22:;
+    v1 = 0ull;
+    v6 = 21u;
+    goto after18;
+after21:;
+    v1 = 0ull;
+    v6 = 64u;
+    goto after18;
+after20:;
+    v1 = 0ull;
+    v6 = 65u;
+    goto after18;
+after19:;
+    v1 = 0ull;
+    v6 = 67u;
+after18:;
+    v11 = 0ull;
+after17:;
+    put32(f25 + 28, 0u);
+    put32(f25 + 25, 0u);
+after15:;
+    put32(f25 + 19, get32(f25 + 28));
+    put32(f25 + 16, get32(f25 + 25));
+after2:;
+    p441 = held(m, v0, 24);
+    put_held8(p441, 0, m, v0, v6);
+    put_held32(p441, 1, m, v0, get32(f25 + 16));
+    put_held32(p441, 4, m, v0, get32(f25 + 19));
+    put_held64(p441, 16, m, v0, v11);
+    put_held64(p441, 8, m, v0, v1);
+    m->g0 = v25 + 48ull;
+    return;
 after1:;
-    p562 = held(m, v0, 24);
-    put_held8(p562, 0, m, v0, v6);
-    put_held32(p562, 1, m, v0, get32(f18 + 264));
-    put_held32(p562, 4, m, v0, get32(f18 + 267));
-    put_held64(p562, 16, m, v0, v11);
-    put_held64(p562, 8, m, v0, v1);
-    m->g0 = v18 + 272ull;
+    UNREACHABLE;
 }
 
 static void module_scard_lent_terminal_answer(struct call *m, u64 v0, u64 v1, u64 v2, u64 v3, u64 v4, u64 v5)
@@ -31110,7 +31582,7 @@ struct scard_turn scard_lent_card_received(struct scard_lent_card *state, uint8_
     uint8_t *reply, size_t reply_room, const uint8_t *octets, size_t count, uint8_t *out, size_t room)
 {
     struct call m;
-    u8 stack[352];
+    u8 stack[464];
     SHAPED_HERE
     struct scard_turn result;
     begin(&m, stack, sizeof stack, shaped);
@@ -31123,9 +31595,9 @@ struct scard_turn scard_lent_card_received(struct scard_lent_card *state, uint8_
     m.g0 -= 16;
     module_scard_lent_card_received(&m, m.g0, ADDRESS(2), ADDRESS(3), (u64)command_room, ADDRESS(4), (u64)reply_room,
         ADDRESS(5), (u64)count, ADDRESS(6), (u64)room);
-    result.kind = (uint8_t)get8(stack + 336);
-    result.wait = (uint8_t)get8(stack + 336 + 1);
-    result.count = (scard_size)get64(stack + 336 + 8);
+    result.kind = (uint8_t)get8(stack + 448);
+    result.wait = (uint8_t)get8(stack + 448 + 1);
+    result.count = (scard_size)get64(stack + 448 + 8);
     return result;
 }
 
@@ -31133,7 +31605,7 @@ struct scard_turn scard_lent_card_reply(struct scard_lent_card *state, uint8_t *
     *reply, size_t reply_room, const uint8_t *octets, size_t count, uint8_t *out, size_t room)
 {
     struct call m;
-    u8 stack[352];
+    u8 stack[464];
     SHAPED_HERE
     struct scard_turn result;
     begin(&m, stack, sizeof stack, shaped);
@@ -31146,9 +31618,9 @@ struct scard_turn scard_lent_card_reply(struct scard_lent_card *state, uint8_t *
     m.g0 -= 16;
     module_scard_lent_card_reply(&m, m.g0, ADDRESS(2), ADDRESS(3), (u64)command_room, ADDRESS(4), (u64)reply_room,
         ADDRESS(5), (u64)count, ADDRESS(6), (u64)room);
-    result.kind = (uint8_t)get8(stack + 336);
-    result.wait = (uint8_t)get8(stack + 336 + 1);
-    result.count = (scard_size)get64(stack + 336 + 8);
+    result.kind = (uint8_t)get8(stack + 448);
+    result.wait = (uint8_t)get8(stack + 448 + 1);
+    result.count = (scard_size)get64(stack + 448 + 8);
     return result;
 }
 
@@ -31156,7 +31628,7 @@ struct scard_turn scard_lent_card_more_time(struct scard_lent_card *state, uint8
     uint8_t *reply, size_t reply_room, uint8_t multiple, uint8_t *out, size_t room)
 {
     struct call m;
-    u8 stack[352];
+    u8 stack[464];
     SHAPED_HERE
     struct scard_turn result;
     begin(&m, stack, sizeof stack, shaped);
@@ -31168,9 +31640,9 @@ struct scard_turn scard_lent_card_more_time(struct scard_lent_card *state, uint8
     m.g0 -= 16;
     module_scard_lent_card_more_time(&m, m.g0, ADDRESS(2), ADDRESS(3), (u64)command_room, ADDRESS(4), (u64)reply_room,
         (u32)multiple, ADDRESS(5), (u64)room);
-    result.kind = (uint8_t)get8(stack + 336);
-    result.wait = (uint8_t)get8(stack + 336 + 1);
-    result.count = (scard_size)get64(stack + 336 + 8);
+    result.kind = (uint8_t)get8(stack + 448);
+    result.wait = (uint8_t)get8(stack + 448 + 1);
+    result.count = (scard_size)get64(stack + 448 + 8);
     return result;
 }
 
@@ -31178,7 +31650,7 @@ struct scard_turn scard_lent_card_ask_ifs(struct scard_lent_card *state, uint8_t
     uint8_t *reply, size_t reply_room, uint8_t size, uint8_t *out, size_t room)
 {
     struct call m;
-    u8 stack[352];
+    u8 stack[464];
     SHAPED_HERE
     struct scard_turn result;
     begin(&m, stack, sizeof stack, shaped);
@@ -31190,9 +31662,9 @@ struct scard_turn scard_lent_card_ask_ifs(struct scard_lent_card *state, uint8_t
     m.g0 -= 16;
     module_scard_lent_card_ask_ifs(&m, m.g0, ADDRESS(2), ADDRESS(3), (u64)command_room, ADDRESS(4), (u64)reply_room,
         (u32)size, ADDRESS(5), (u64)room);
-    result.kind = (uint8_t)get8(stack + 336);
-    result.wait = (uint8_t)get8(stack + 336 + 1);
-    result.count = (scard_size)get64(stack + 336 + 8);
+    result.kind = (uint8_t)get8(stack + 448);
+    result.wait = (uint8_t)get8(stack + 448 + 1);
+    result.count = (scard_size)get64(stack + 448 + 8);
     return result;
 }
 
@@ -31220,7 +31692,7 @@ struct scard_verdict scard_lent_card_command(const struct scard_lent_card *state
     command_room, const uint8_t *reply, size_t reply_room)
 {
     struct call m;
-    u8 stack[176];
+    u8 stack[288];
     SHAPED_HERE
     struct scard_verdict result;
     begin(&m, stack, sizeof stack, shaped);
@@ -31229,9 +31701,9 @@ struct scard_verdict scard_lent_card_command(const struct scard_lent_card *state
     lend(&m, 4, reply, reply_room);
     m.g0 -= 16;
     module_scard_lent_card_command(&m, m.g0, ADDRESS(2), ADDRESS(3), (u64)command_room, ADDRESS(4), (u64)reply_room);
-    result.status = (uint8_t)get8(stack + 160);
-    result.reason = (uint8_t)get8(stack + 160 + 1);
-    result.place = (scard_size)get64(stack + 160 + 8);
+    result.status = (uint8_t)get8(stack + 272);
+    result.reason = (uint8_t)get8(stack + 272 + 1);
+    result.place = (scard_size)get64(stack + 272 + 8);
     return result;
 }
 
@@ -31768,7 +32240,7 @@ struct scard_session_next scard_lent_session_step(struct scard_lent_session *ses
     now, uint8_t *out, size_t room)
 {
     struct call m;
-    u8 stack[624];
+    u8 stack[400];
     SHAPED_HERE
     struct scard_session_next result;
     begin(&m, stack, sizeof stack, shaped);
@@ -31781,9 +32253,9 @@ struct scard_session_next scard_lent_session_step(struct scard_lent_session *ses
     m.g0 -= 24;
     module_scard_lent_session_step(&m, m.g0, ADDRESS(2), ADDRESS(3), (u64)command_room, ADDRESS(4), (u64)answer_room,
         (u32)event, ADDRESS(5), (u64)count, (u64)now, ADDRESS(6), (u64)room);
-    result.kind = (uint8_t)get8(stack + 600);
-    result.count = (scard_size)get64(stack + 600 + 8);
-    result.wait = (scard_size)get64(stack + 600 + 16);
+    result.kind = (uint8_t)get8(stack + 376);
+    result.count = (scard_size)get64(stack + 376 + 8);
+    result.wait = (scard_size)get64(stack + 376 + 16);
     return result;
 }
 
@@ -31791,7 +32263,7 @@ struct scard_session_next scard_lent_card_session_serve(struct scard_lent_card_s
     *command, size_t command_room, const uint8_t *reply, size_t reply_room, uint64_t now)
 {
     struct call m;
-    u8 stack[224];
+    u8 stack[336];
     SHAPED_HERE
     struct scard_session_next result;
     begin(&m, stack, sizeof stack, shaped);
@@ -31801,9 +32273,9 @@ struct scard_session_next scard_lent_card_session_serve(struct scard_lent_card_s
     m.g0 -= 24;
     module_scard_lent_card_session_serve(&m, m.g0, ADDRESS(2), ADDRESS(3), (u64)command_room, ADDRESS(4),
         (u64)reply_room, (u64)now);
-    result.kind = (uint8_t)get8(stack + 200);
-    result.count = (scard_size)get64(stack + 200 + 8);
-    result.wait = (scard_size)get64(stack + 200 + 16);
+    result.kind = (uint8_t)get8(stack + 312);
+    result.count = (scard_size)get64(stack + 312 + 8);
+    result.wait = (scard_size)get64(stack + 312 + 16);
     return result;
 }
 
@@ -31812,7 +32284,7 @@ struct scard_session_next scard_lent_card_session_reply(struct scard_lent_card_s
     *out, size_t room)
 {
     struct call m;
-    u8 stack[400];
+    u8 stack[512];
     SHAPED_HERE
     struct scard_session_next result;
     begin(&m, stack, sizeof stack, shaped);
@@ -31824,9 +32296,9 @@ struct scard_session_next scard_lent_card_session_reply(struct scard_lent_card_s
     m.g0 -= 24;
     module_scard_lent_card_session_reply(&m, m.g0, ADDRESS(2), ADDRESS(3), (u64)command_room, ADDRESS(4),
         (u64)reply_room, ADDRESS(5), (u64)count, (u64)now, ADDRESS(6), (u64)room);
-    result.kind = (uint8_t)get8(stack + 376);
-    result.count = (scard_size)get64(stack + 376 + 8);
-    result.wait = (scard_size)get64(stack + 376 + 16);
+    result.kind = (uint8_t)get8(stack + 488);
+    result.count = (scard_size)get64(stack + 488 + 8);
+    result.wait = (scard_size)get64(stack + 488 + 16);
     return result;
 }
 
@@ -31834,7 +32306,7 @@ struct scard_session_next scard_lent_card_session_more_time(struct scard_lent_ca
     size_t command_room, uint8_t *reply, size_t reply_room, uint8_t multiple, uint64_t now, uint8_t *out, size_t room)
 {
     struct call m;
-    u8 stack[400];
+    u8 stack[512];
     SHAPED_HERE
     struct scard_session_next result;
     begin(&m, stack, sizeof stack, shaped);
@@ -31845,9 +32317,9 @@ struct scard_session_next scard_lent_card_session_more_time(struct scard_lent_ca
     m.g0 -= 24;
     module_scard_lent_card_session_more_time(&m, m.g0, ADDRESS(2), ADDRESS(3), (u64)command_room, ADDRESS(4),
         (u64)reply_room, (u32)multiple, (u64)now, ADDRESS(5), (u64)room);
-    result.kind = (uint8_t)get8(stack + 376);
-    result.count = (scard_size)get64(stack + 376 + 8);
-    result.wait = (scard_size)get64(stack + 376 + 16);
+    result.kind = (uint8_t)get8(stack + 488);
+    result.count = (scard_size)get64(stack + 488 + 8);
+    result.wait = (scard_size)get64(stack + 488 + 16);
     return result;
 }
 
@@ -31855,7 +32327,7 @@ struct scard_session_next scard_lent_card_session_ask_ifs(struct scard_lent_card
     size_t command_room, uint8_t *reply, size_t reply_room, uint8_t size, uint64_t now, uint8_t *out, size_t room)
 {
     struct call m;
-    u8 stack[400];
+    u8 stack[512];
     SHAPED_HERE
     struct scard_session_next result;
     begin(&m, stack, sizeof stack, shaped);
@@ -31866,9 +32338,9 @@ struct scard_session_next scard_lent_card_session_ask_ifs(struct scard_lent_card
     m.g0 -= 24;
     module_scard_lent_card_session_ask_ifs(&m, m.g0, ADDRESS(2), ADDRESS(3), (u64)command_room, ADDRESS(4),
         (u64)reply_room, (u32)size, (u64)now, ADDRESS(5), (u64)room);
-    result.kind = (uint8_t)get8(stack + 376);
-    result.count = (scard_size)get64(stack + 376 + 8);
-    result.wait = (scard_size)get64(stack + 376 + 16);
+    result.kind = (uint8_t)get8(stack + 488);
+    result.count = (scard_size)get64(stack + 488 + 8);
+    result.wait = (scard_size)get64(stack + 488 + 16);
     return result;
 }
 
@@ -31877,7 +32349,7 @@ struct scard_session_next scard_lent_card_session_step(struct scard_lent_card_se
     uint64_t now, uint8_t *out, size_t room)
 {
     struct call m;
-    u8 stack[672];
+    u8 stack[560];
     SHAPED_HERE
     struct scard_session_next result;
     begin(&m, stack, sizeof stack, shaped);
@@ -31890,9 +32362,9 @@ struct scard_session_next scard_lent_card_session_step(struct scard_lent_card_se
     m.g0 -= 24;
     module_scard_lent_card_session_step(&m, m.g0, ADDRESS(2), ADDRESS(3), (u64)command_room, ADDRESS(4),
         (u64)reply_room, (u32)event, ADDRESS(5), (u64)count, (u64)now, ADDRESS(6), (u64)room);
-    result.kind = (uint8_t)get8(stack + 648);
-    result.count = (scard_size)get64(stack + 648 + 8);
-    result.wait = (scard_size)get64(stack + 648 + 16);
+    result.kind = (uint8_t)get8(stack + 536);
+    result.count = (scard_size)get64(stack + 536 + 8);
+    result.wait = (scard_size)get64(stack + 536 + 16);
     return result;
 }
 
