@@ -11,7 +11,7 @@ use Rattle.program_octets.specs.Texts.{refused_text}
 use Rattle.program_octets.specs.Verdicts.{Shows, ShowsWhere, accepted, codec_of, kind_name, refused, shown_in, status_of}
 use Rattle.program_octets.specs.declared.status.Status.{Status}
 use Rattle.program_octets.specs.declared.status.Status.TheVariants as status
-use Rattle.program.specs.Answers.{ShowsNoted, ShowsNotedObject}
+use Rattle.program.specs.Answers.{of_refusal, of_value, ShowsNoted, ShowsNotedObject}
 use Rattle.program.specs.Judged.{refusal_row, IsRefusalBy, IsRefusalLine}
 use Rattle.program_words.specs.declared.request.Expected.{Expected}
 use Rattle.layouts.specs.declared.layout.Layout.TheVariants.{Json, Lines}
@@ -144,6 +144,7 @@ module _ (expected : Expected) (b text : List ℕ) (ended : Status) where
         object = shown_in false Json expected.kind c v n;
         is_shown = accepted v n h refl e;
         rows = rows;
+        are_rows = of_value v n h refl e;
         has_notes = of-value expected b (lines_of true rows) ended v n h refl e;
         is_text = is ∙ value-member (kind_name expected.kind) (accepted_members n) (c.members v)
             (places_member (places_of rows)) (notes_of rows);
@@ -161,6 +162,8 @@ module _ (expected : Expected) (b text : List ℕ) (ended : Status) where
         object = object;
         is_shown = shown;
         rows = rows;
+        are_rows = of_refusal refusal.0 words refusal.1
+            (ap (λ (l : List ℕ). refusal_row l words ∷ []) refusal.2) e;
         has_notes = of-refusal expected b (lines_of true rows) ended refusal.0 words refusal.1
             (row-line ends.0 line words (refusal.2 ∙ ends.1) ∙ ap (λ (l : List ℕ). noted_line l words) refusal.2) e;
         is_text = is;

@@ -2,9 +2,11 @@
 use Rattle.std.specs.Prelude.{◌≡◌, ◌<◌, ◌++◌, ℕ, ◌⊎◌, List, [], ◌∷◌, codes, drop, length, take, true, Result, Err, MatchResult}
 use Rattle.std.specs.Io.KnownBytes.{Appends}
 use Rattle.octet_core.specs.Failures.{HasFailed}
+use Rattle.octet_core.specs.declared.stop.Stop.{Stop}
 use Rattle.program_octets.specs.Verdicts.{Checks, NotesBy, Shows, Tidies, IsFilled, codec_of, kind_name}
 use Rattle.chain_core.specs.Chain.{chain_blocks}
 use Rattle.program_octets.specs.ChainTexts.{blocks_text}
+use Rattle.program_octets.specs.Codec.{Codec, Stops, Takes}
 use Rattle.program_words.specs.Texts.{fault_text}
 use Rattle.chain_core.specs.Cut.{cut_of}
 use Rattle.program.specs.Calls.{Calls}
@@ -12,9 +14,11 @@ use Rattle.program.specs.ExchangeTexts.{TellsFile}
 use Rattle.program.specs.SimulationTexts.{Simulates, SimulatesLines}
 use Rattle.program.specs.RecordTexts.{Records}
 use Rattle.program.specs.JudgeTexts.{JudgesTrace}
+use Rattle.program.specs.Judged.{refusal_row}
 use Rattle.answer_json.specs.Answers.{json_text}
 use Rattle.program_octets.specs.Json.{object_head, with_notes}
 use Rattle.program_octets.specs.Rows.{Row, lines_of, notes_of}
+use Rattle.program_octets.specs.Texts.{refused_text}
 use Rattle.program.specs.Pieces.{ReadsFor}
 use Rattle.program.specs.Lines.{all_lines, line_octets, AreTold}
 use Rattle.program_words.specs.Given.{octets_given}
@@ -55,12 +59,19 @@ pub record ShowsNoted (kind : Kind) (expected : Expected) (b text : List ℕ) (e
   pub is_cut : without_notes text ≡ plain
   pub unnoted : ended ≡ status.Fault → text ≡ plain
 
--- The object of the value or of the refusal, with the notes of some rows. As lines they are the value or the refusal with
--- notes.
+-- the rows of the value, or that of the refusal, with some words as the note on its line
+pub data AreRowsBy {V R : Type 0} (c : Codec V R) (b : List ℕ) (rows : List Row) (ended : Status) : Type 0 where
+  of_value : (v : V) (n : ℕ) → Takes c b v n → rows ≡ c.rows v n → ended ≡ status.Accepted → AreRowsBy c b rows ended
+  of_refusal : (stop : Stop R) (words : List ℕ) → Stops c b stop
+      → rows ≡ refusal_row (refused_text c.name stop) words ∷ [] → ended ≡ status.Refused → AreRowsBy c b rows ended
+
+-- The object of the value or of the refusal, with the notes of its rows. As lines these are the value or the refusal
+-- with notes.
 pub record ShowsNotedObject (kind : Kind) (expected : Expected) (b text : List ℕ) (ended : Status) : Type 0 where
   pub object : List ℕ
   pub is_shown : Shows layout.Json kind expected b object ended
   pub rows : List Row
+  pub are_rows : AreRowsBy (codec_of kind expected).codec b rows ended
   pub has_notes : ShowsNoted kind expected b (lines_of true rows) ended
   pub is_text : text ≡ with_notes object (notes_of rows)
 
