@@ -6,7 +6,7 @@ use Rattle.layouts.specs.declared.layout.Layout.{Layout}
 use Rattle.layouts.specs.declared.layout.Layout.TheVariants.{Lines, Json}
 use Rattle.notes.specs.Noted.{where_noted}
 use Rattle.program_octets.specs.Places.{place_text, with_places}
-use Rattle.program_octets.specs.Rows.{Row, Sheet, line_text, lines_of, needs, needs_lines, notes_with, places_of, row, sheet, text_with, with_notes_of, with_row, with_rows}
+use Rattle.program_octets.specs.Rows.{Row, Sheet, line_text, lines_of, places_of, row, sheet, with_notes_of, with_row, with_rows}
 
 -- ---- what is rendered of rows
 
@@ -59,35 +59,29 @@ notes-append items (r ∷ rows) others = notes-append (with_note items r.line r.
 
 -- ---- one row
 
-pub line-with : (s : Sheet) (layout : Layout) (noted : Bool) (text notes line note words new : List ℕ)
-    (place : List (ℕ × ℕ)) → s ≡ sheet layout noted text notes → layout ≡ Lines → words ≡ where_noted noted note
-    → new ≡ text ++ line_text line words → sheet layout noted new notes ≡ with_row s (row line note place)
+pub line-with : (s : Sheet) (layout : Layout) (noted : Bool) (text notes line note new : List ℕ)
+    (place : List (ℕ × ℕ)) → s ≡ sheet layout noted text notes → layout ≡ Lines
+    → new ≡ text ++ line_text line (where_noted noted note)
+    → sheet layout noted new notes ≡ with_row s (row line note place)
 unfolding with_row
-line-with s layout noted text notes line note words new place is lines filled added =
-    rw (is, lines, added, filled) refl
+line-with s layout noted text notes line note new place is lines added = rw (is, lines, added) refl
 
-pub items-with : (s : Sheet) (layout : Layout) (noted : Bool) (text notes line note words new items : List ℕ)
-    (place : List (ℕ × ℕ)) → s ≡ sheet layout noted text notes → layout ≡ Json → words ≡ where_noted noted note
-    → new ≡ with_item text (place_text place) → items ≡ with_note notes line words
-    → sheet layout noted new items ≡ with_row s (row line note place)
+-- a row with its place as an item, and its note as another one
+pub items-noted : (s t : Sheet) (layout : Layout) (noted : Bool) (text notes line note new : List ℕ)
+    (place : List (ℕ × ℕ)) → s ≡ sheet layout noted text notes → layout ≡ Json → noted ≡ true
+    → new ≡ with_item text (place_text place) → t ≡ sheet layout noted new (with_note notes line note)
+    → t ≡ with_row s (row line note place)
 unfolding with_row
-items-with s layout noted text notes line note words new items place is json filled added said =
-    rw (is, json, added, said, filled) refl
+items-noted s t layout noted text notes line note new place is json notes-are added said =
+    rw (said, is, json, notes-are, added) refl
 
--- where no line is needed, any line does
-pub no-line : (s : Sheet) (line other note : List ℕ) (place : List (ℕ × ℕ)) → needs_lines s ≡ false
-    → with_row s (row line note place) ≡ with_row s (row other note place)
+-- a row with its place as an item, where no notes are asked for
+pub items-plain : (s : Sheet) (layout : Layout) (noted : Bool) (text notes line note new : List ℕ)
+    (place : List (ℕ × ℕ)) → s ≡ sheet layout noted text notes → layout ≡ Json → noted ≡ false
+    → new ≡ with_item text (place_text place) → sheet layout noted new notes ≡ with_row s (row line note place)
 unfolding with_row
-no-line s line other note place none = go s.layout s.noted none
-  where
-    go : (layout : Layout) (noted : Bool) → needs layout noted ≡ false
-        → sheet layout noted (text_with layout s.text line (where_noted noted note) place)
-        (notes_with layout s.notes line (where_noted noted note))
-        ≡ sheet layout noted (text_with layout s.text other (where_noted noted note) place)
-        (notes_with layout s.notes other (where_noted noted note))
-    go Lines noted h = absurd (cc h)
-    go Json true h = absurd (cc h)
-    go Json false h = refl
+items-plain s layout noted text notes line note new place is json plain added =
+    rw (is, json, plain, added) refl
 
 -- what holds where a call succeeds
 pub on-ok : {T E : Type 0} (P Q : Type 0) (r : Result T E) → (P → Q) → OnOk r P → OnOk r Q

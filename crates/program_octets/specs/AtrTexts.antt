@@ -24,10 +24,12 @@ abbrev pub convention_text : Convention → List ℕ
 convention_text Direct = codes "direct"
 convention_text Inverse = codes "inverse"
 
+abbrev pub byte_line : List ℕ → ℕ → ℕ → List ℕ
+byte_line name number byte = name ++ (decimal number ++ (codes " " ++ encode_upper (byte ∷ [])))
+
 -- an interface byte at this place, by its name
 abbrev pub value_row : List ℕ → ℕ → ℕ → List ℕ → ℕ → Row
-value_row name number byte note at =
-    row (name ++ (decimal number ++ (codes " " ++ encode_upper (byte ∷ [])))) note (from_to at (at + 1))
+value_row name number byte note at = row (byte_line name number byte) note (from_to at (at + 1))
 
 -- an interface byte without a note, if it is present
 abbrev pub byte_rows : List ℕ → ℕ → Option ℕ → ℕ → List Row

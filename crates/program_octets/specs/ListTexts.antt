@@ -17,8 +17,11 @@ abbrev pub count_row : List (List ℕ × ℕ) → ℕ → Row
 count_row entries n = row (codes "entries " ++ decimal (length entries)) (list_note entries) (from_to 0 n)
 
 -- the tag and the length of an entry
+abbrev pub entry_line : List ℕ → ℕ → List ℕ
+entry_line tag length = encode_upper tag ++ (codes " " ++ decimal length)
+
 abbrev pub entry_row : List ℕ × ℕ → List (ℕ × ℕ) → Row
-entry_row e place = row (encode_upper e.0 ++ (codes " " ++ decimal e.1)) [] place
+entry_row e place = row (entry_line e.0 e.1) [] place
 
 -- entries from this place on
 abbrev pub entry_rows : ℕ → List (List ℕ × ℕ) → List Row

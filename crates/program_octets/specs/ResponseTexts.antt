@@ -30,10 +30,11 @@ abbrev pub part_row : List ℕ → ℕ → Row
 part_row part end = row (codes "part " ++ octets_text part) [] (from_to 0 end)
 
 -- the row of two status bytes and their class
+abbrev pub status_line : ℕ → ℕ → List ℕ
+status_line sw1 sw2 = codes "status " ++ (encode_upper (sw1 ∷ sw2 ∷ []) ++ (codes " " ++ class_text sw1 sw2))
+
 abbrev pub status_row : ℕ → ℕ → List (ℕ × ℕ) → Row
-status_row sw1 sw2 place =
-    row (codes "status " ++ (encode_upper (sw1 ∷ sw2 ∷ []) ++ (codes " " ++ class_text sw1 sw2)))
-    (note_of (status_says sw1 sw2)) place
+status_row sw1 sw2 place = row (status_line sw1 sw2) (note_of (status_says sw1 sw2)) place
 
 -- a response that takes n octets, row by row
 abbrev pub response_rows : ResponseParts → ℕ → List Row

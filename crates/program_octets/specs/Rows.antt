@@ -1,5 +1,5 @@
 -- The lines of an answer as rows, and what is rendered of them.
-use Rattle.std.specs.Prelude.{ℕ, List, [], ◌∷◌, ◌++◌, Bool, true, codes}
+use Rattle.std.specs.Prelude.{ℕ, List, [], ◌∷◌, ◌++◌, Bool, codes}
 use Rattle.answer_json.specs.Notes.{with_note}
 use Rattle.layouts.specs.Items.{with_item}
 use Rattle.layouts.specs.declared.layout.Layout.{Layout}
@@ -59,14 +59,6 @@ text_with Json items line note place = with_item items (place_text place)
 abbrev pub notes_with : Layout → List ℕ → List ℕ → List ℕ → List ℕ
 notes_with Lines items line note = items
 notes_with Json items line note = with_note items line note
-
--- whether lines are needed: for an object without notes only the places are
-abbrev pub needs : Layout → Bool → Bool
-needs Lines noted = true
-needs Json noted = noted
-
-abbrev pub needs_lines : Sheet → Bool
-needs_lines s = needs s.layout s.noted
 
 unfoldable pub with_row : Sheet → Row → Sheet
 with_row s r = sheet s.layout s.noted (text_with s.layout s.text r.line (where_noted s.noted r.note) r.place)

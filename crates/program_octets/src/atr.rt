@@ -55,8 +55,8 @@ impl Showable for Atr {
 
     ghost members = { atr_members };
 
-    fn push_rows(&self, to: &mut Rows, line: &mut String, taken: usize) -> Result<(), AllocError> {
-        push_rows(to, line, self, taken)
+    fn push_rows(&self, to: &mut Rows, taken: usize) -> Result<(), AllocError> {
+        push_rows(to, self, taken)
     }
 
     fn push_members(&self, alloc: Global, text: &mut String) -> Result<(), AllocError> {

@@ -1,6 +1,6 @@
 //! What the program prints about a block.
 
-ghost use Rattle.std.specs.Prelude.{◌≡◌, ◌++◌, OnOk, refl, slice_index, string_bytes};
+ghost use Rattle.std.specs.Prelude.{◌≡◌, ◌++◌, codes, OnOk, refl, slice_index, string_bytes};
 ghost use Rattle.block_core.specs.Block.{fault_code, front_of, number_bit, spelling, Parts};
 ghost use Rattle.octet_core.specs.Octets.{xor_of};
 ghost use Rattle.program_octets.specs.BlockTexts.{block_codec, lrc_members, lrc_row, lrc_rows, more_number, nad_row, pcb_object, pcb_row, pcb_text, supervisory_text};
@@ -9,7 +9,8 @@ ghost use Rattle.program_octets.specs.Rows.{with_row, with_rows};
 
 use crate::codec::{Codec, Outcome};
 use crate::places::Place;
-use crate::rows::{Rows, begin};
+use crate::row_lines::{OctetLine, RowLine};
+use crate::rows::Rows;
 use crate::shown::{Showable, Shown};
 use crate::text::{push_hex, push_octet};
 use block_core::{Block, BlockReason, BlockRef, Fault, Number, Pcb, S};
@@ -68,8 +69,8 @@ impl Showable for Checked<'_> {
 
     ghost members = { λ checked. lrc_members checked.block checked.lrc };
 
-    fn push_rows(&self, to: &mut Rows, line: &mut String, taken: usize) -> Result<(), AllocError> {
-        push_block(to, line, &self.block, self.lrc, taken)
+    fn push_rows(&self, to: &mut Rows, taken: usize) -> Result<(), AllocError> {
+        push_block(to, &self.block, self.lrc, taken)
     }
 
     fn push_members(&self, _alloc: Global, text: &mut String) -> Result<(), AllocError> {
@@ -86,51 +87,62 @@ fn last(block: &BlockRef<'_>, octets: &[u8]) -> u8
 }
 
 /// Appends the rows of a block: its node address, its kind, its information field and its LRC.
-fn push_block(
-    to: &mut Rows,
-    line: &mut String,
-    block: &BlockRef<'_>,
-    lrc: u8,
-    taken: usize,
-) -> Result<(), AllocError>
+fn push_block(to: &mut Rows, block: &BlockRef<'_>, lrc: u8, taken: usize) -> Result<(), AllocError>
     ensures { OnOk result (to.new ≡ with_rows to.old (lrc_rows block.now lrc taken)) }
 {
     let at = taken.saturating_sub(1);
-    push_nad(to, line, block.nad())?;
-    push_pcb_row(to, line, block.pcb(), block.inf())?;
+    push_nad(to, block.nad())?;
+    push_pcb_row(to, block.pcb(), block.inf())?;
     let count = CountNote {
         count: block.inf().len(),
     };
-    to.push_word(line, "inf ", block.inf(), &count, &Place::Range(3, at))?;
-    push_lrc(to, line, lrc, &Place::Range(at, taken))
+    to.push_word("inf ", block.inf(), &count, &Place::Range(3, at))?;
+    push_lrc(to, lrc, &Place::Range(at, taken))
 }
 
 /// Appends the row of a node address.
-fn push_nad(to: &mut Rows, line: &mut String, nad: u8) -> Result<(), AllocError>
+fn push_nad(to: &mut Rows, nad: u8) -> Result<(), AllocError>
     ensures { OnOk result (to.new ≡ with_row to.old (nad_row nad)) }
 {
-    begin(line, "nad ")?;
-    push_octet(line, nad)?;
-    to.push(line.as_str(), &nad_note(nad), &Place::Range(0, 1))
+    let line = OctetLine {
+        front: "nad ",
+        octet: nad,
+    };
+    to.push(&line, &nad_note(nad), &Place::Range(0, 1))
 }
 
 /// Appends the row of a block's kind, by its PCB and its information field.
-fn push_pcb_row(to: &mut Rows, line: &mut String, pcb: Pcb, inf: &[u8]) -> Result<(), AllocError>
+fn push_pcb_row(to: &mut Rows, pcb: Pcb, inf: &[u8]) -> Result<(), AllocError>
     ensures { OnOk result (to.new ≡ with_row to.old (pcb_row pcb inf.now)) }
 {
-    begin(line, "pcb ")?;
-    push_pcb(line, pcb)?;
     let note = pcb_note(pcb.octet(), first(inf));
-    to.push(line.as_str(), &note, &Place::Range(1, 2))
+    to.push(&PcbLine { pcb }, &note, &Place::Range(1, 2))
+}
+
+/// The line of a block's kind.
+#[derive(Clone, Copy)]
+struct PcbLine {
+    pcb: Pcb,
+}
+
+impl RowLine for PcbLine {
+    ghost line = { λ l. codes "pcb " ++ pcb_text l.pcb };
+
+    fn push_to(&self, text: &mut String) -> Result<(), AllocError> {
+        text.push_str("pcb ")?;
+        push_pcb(text, self.pcb)
+    }
 }
 
 /// Appends the row of an LRC.
-fn push_lrc(to: &mut Rows, line: &mut String, lrc: u8, place: &Place<'_>) -> Result<(), AllocError>
+fn push_lrc(to: &mut Rows, lrc: u8, place: &Place<'_>) -> Result<(), AllocError>
     ensures { OnOk result (to.new ≡ with_row to.old (lrc_row lrc (ranges_of place.now))) }
 {
-    begin(line, "lrc ")?;
-    push_octet(line, lrc)?;
-    to.push(line.as_str(), &lrc_note(), place)
+    let line = OctetLine {
+        front: "lrc ",
+        octet: lrc,
+    };
+    to.push(&line, &lrc_note(), place)
 }
 
 /// Returns the first octet, or 0 if there are none.

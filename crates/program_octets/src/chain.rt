@@ -72,14 +72,14 @@ impl Showable for Joined<'_> {
 
     ghost members = { λ joined. joined_members joined.blocks joined.message.now };
 
-    fn push_rows(&self, to: &mut Rows, line: &mut String, taken: usize) -> Result<(), AllocError> {
+    fn push_rows(&self, to: &mut Rows, taken: usize) -> Result<(), AllocError> {
         let blocks = self.blocks as usize;
         let count = CountNote {
             count: self.message.len(),
         };
-        to.push_number(line, "blocks ", blocks, &NoNote, &Place::Range(0, taken))?;
+        to.push_number("blocks ", blocks, &NoNote, &Place::Range(0, taken))?;
         let fields = Place::Fields(self.blocks, self.octets);
-        to.push_word(line, "message ", self.message, &count, &fields)
+        to.push_word("message ", self.message, &count, &fields)
     }
 
     fn push_members(&self, _alloc: Global, text: &mut String) -> Result<(), AllocError> {

@@ -1,6 +1,6 @@
 //! What the program prints about a command.
 
-ghost use Rattle.std.specs.Prelude.{◌≡◌, ◌++◌, OnOk, refl, string_bytes};
+ghost use Rattle.std.specs.Prelude.{◌≡◌, ◌++◌, codes, OnOk, refl, string_bytes};
 ghost use Rattle.apdu_core.specs.Command.{CommandParts};
 ghost use Rattle.program_octets.specs.CommandTexts.{command_codec, command_members, command_rows, header_row, le_or, le_row, le_size, rows_by, shape_members, shape_text};
 ghost use Rattle.program_octets.specs.Places.{ranges_of};
@@ -8,7 +8,8 @@ ghost use Rattle.program_octets.specs.Rows.{with_row, with_rows};
 
 use crate::codec::{Codec, Outcome};
 use crate::places::Place;
-use crate::rows::{Rows, begin};
+use crate::row_lines::{HexLine, RowLine, TextLine};
+use crate::rows::Rows;
 use crate::shown::{Showable, Shown};
 use crate::text::push_hex;
 use apdu_core::{Command, CommandReason, CommandRef, Shape};
@@ -58,9 +59,9 @@ impl Showable for CommandRef<'_> {
 
     ghost members = { command_members };
 
-    fn push_rows(&self, to: &mut Rows, line: &mut String, taken: usize) -> Result<(), AllocError> {
+    fn push_rows(&self, to: &mut Rows, taken: usize) -> Result<(), AllocError> {
         let le = taken.saturating_sub(le_size(self.shape()));
-        push_command(to, line, self, le, taken)
+        push_command(to, self, le, taken)
     }
 
     fn push_members(&self, _alloc: Global, text: &mut String) -> Result<(), AllocError> {
@@ -71,7 +72,6 @@ impl Showable for CommandRef<'_> {
 /// Appends the rows of a command: its case, its header, its data field and Le, which begins at `le`.
 fn push_command(
     to: &mut Rows,
-    line: &mut String,
     command: &CommandRef<'_>,
     le: usize,
     taken: usize,
@@ -79,39 +79,50 @@ fn push_command(
     ensures { OnOk result (to.new ≡ with_rows to.old (rows_by command.now le taken)) }
 {
     let shape = Place::Range(0, taken);
-    to.push(shape_name(command.shape()), &NoNote, &shape)?;
-    push_header(to, line, command.header())?;
+    let text = shape_name(command.shape());
+    to.push(&TextLine { text }, &NoNote, &shape)?;
+    push_header(to, command.header())?;
     let part = command.part();
     let lc = LcNote { len: part.len() };
-    to.push_word(line, "part ", part, &lc, &Place::Range(4, le))?;
-    push_le_row(to, line, command.le(), &Place::Range(le, taken))
+    to.push_word("part ", part, &lc, &Place::Range(4, le))?;
+    push_le_row(to, command.le(), &Place::Range(le, taken))
 }
 
 /// Appends the row of a header.
-fn push_header(to: &mut Rows, line: &mut String, header: [u8; 4]) -> Result<(), AllocError>
+fn push_header(to: &mut Rows, header: [u8; 4]) -> Result<(), AllocError>
     ensures { OnOk result (to.new ≡ with_row to.old (header_row header)) }
 {
-    begin(line, "header ")?;
-    push_hex(line, &header)?;
+    let line = HexLine {
+        front: "header ",
+        octets: &header,
+    };
     let note = HeaderNote {
         class: header[0],
         instruction: header[1],
     };
-    to.push(line.as_str(), &note, &Place::Range(0, 4))
+    to.push(&line, &note, &Place::Range(0, 4))
 }
 
 /// Appends the row of Le.
-fn push_le_row(
-    to: &mut Rows,
-    line: &mut String,
-    le: Option<u32>,
-    place: &Place<'_>,
-) -> Result<(), AllocError>
+fn push_le_row(to: &mut Rows, le: Option<u32>, place: &Place<'_>) -> Result<(), AllocError>
     ensures { OnOk result (to.new ≡ with_row to.old (le_row le (ranges_of place.now))) }
 {
-    begin(line, "le ")?;
-    push_le(line, le, "none")?;
-    to.push(line.as_str(), &le_note(le), place)
+    to.push(&LeLine { le }, &le_note(le), place)
+}
+
+/// The line of Le.
+#[derive(Clone, Copy)]
+struct LeLine {
+    le: Option<u32>,
+}
+
+impl RowLine for LeLine {
+    ghost line = { λ l. codes "le " ++ le_or (codes "none") l.le };
+
+    fn push_to(&self, text: &mut String) -> Result<(), AllocError> {
+        text.push_str("le ")?;
+        push_le(text, self.le, "none")
+    }
 }
 
 /// Appends a command as members of an object.

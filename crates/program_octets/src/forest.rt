@@ -1,6 +1,6 @@
 //! What the program prints about a forest of data objects.
 
-ghost use Rattle.std.specs.Prelude.{◌≡◌, ◌++◌, [], List, ℕ, IfOk, MatchResult, OnOk, map, refl, string_bytes};
+ghost use Rattle.std.specs.Prelude.{◌≡◌, ◌++◌, [], ◌-◌, codes, List, ℕ, IfOk, MatchResult, OnOk, map, refl, string_bytes};
 ghost use Rattle.octet_core.specs.Grammar.{whole, Refuses};
 ghost use Rattle.tlv_core.specs.Tree.{Tree};
 ghost use Rattle.tlv_core.specs.Forest.{largest, IsForest};
@@ -8,6 +8,7 @@ ghost use Rattle.tlv_core.specs.Reasons.{IsReason};
 ghost use Rattle.tlv_core.specs.Flat.{part_seen};
 ghost use Rattle.program_octets.specs.Codec.{IsVerdict};
 ghost use Rattle.program_octets.specs.Verdicts.{Tells};
+ghost use Rattle.std.specs.List.{repeat};
 ghost use Rattle.program_octets.specs.ForestTexts.{forest_codec, header_members, object_rows, objects_head, part_line, part_object, part_row, parts_members, parts_rows, place_members, placed_row, tidied_text, value_member, value_text, with_objects};
 ghost use Rattle.program_octets.specs.Places.{ranges_of};
 ghost use Rattle.program_octets.specs.Rows.{with_row, with_rows};
@@ -17,7 +18,8 @@ ghost use Rattle.layouts.specs.Items.{with_item};
 use crate::answer::Answer;
 use crate::codec::{CheckedAnswer, Codec, Outcome};
 use crate::places::Place;
-use crate::rows::{Rows, begin};
+use crate::row_lines::RowLine;
+use crate::rows::Rows;
 use crate::shown::{Showable, Shown};
 use crate::text::{octets_word, push_hex, push_word};
 use layouts::{Layout, push_separator};
@@ -67,8 +69,8 @@ impl Showable for FlatForest<'_> {
 
     ghost members = { parts_members };
 
-    fn push_rows(&self, to: &mut Rows, line: &mut String, taken: usize) -> Result<(), AllocError> {
-        push_forest(to, line, self.parts(), taken)
+    fn push_rows(&self, to: &mut Rows, taken: usize) -> Result<(), AllocError> {
+        push_forest(to, self.parts(), taken)
     }
 
     fn push_members(&self, alloc: Global, text: &mut String) -> Result<(), AllocError> {
@@ -220,67 +222,72 @@ fn push_value_member(text: &mut String, part: &Part<'_>) -> Result<(), AllocErro
 }
 
 /// Appends the rows of objects: their number, and each object.
-fn push_forest(
-    to: &mut Rows,
-    line: &mut String,
-    parts: &[Part<'_>],
-    taken: usize,
-) -> Result<(), AllocError>
+fn push_forest(to: &mut Rows, parts: &[Part<'_>], taken: usize) -> Result<(), AllocError>
     ensures { OnOk result (to.new
         ≡ with_rows to.old (parts_rows (map part_seen parts.now) taken)) }
 {
     let place = Place::Range(0, taken);
-    to.push_number(line, "objects ", parts.len(), &NoNote, &place)?;
-    push_parts(to, line, parts)
+    to.push_number("objects ", parts.len(), &NoNote, &place)?;
+    push_parts(to, parts)
 }
 
 /// Appends a row for each object.
-fn push_parts(to: &mut Rows, line: &mut String, parts: &[Part<'_>]) -> Result<(), AllocError>
+fn push_parts(to: &mut Rows, parts: &[Part<'_>]) -> Result<(), AllocError>
     ensures { OnOk result (to.new
         ≡ with_rows to.old (object_rows (map part_seen parts.now))) }
 {
     for part in parts {
-        push_part(to, line, part)?;
+        push_part(to, part)?;
     }
     Ok(())
 }
 
 /// Appends the row of an object, from its tag to the end of its value.
-fn push_part(to: &mut Rows, line: &mut String, part: &Part<'_>) -> Result<(), AllocError>
+fn push_part(to: &mut Rows, part: &Part<'_>) -> Result<(), AllocError>
     ensures { OnOk result (to.new ≡ with_row to.old (part_row (part_seen part.now))) }
 {
     let end = part.place.checked_add(part.value.len()).ok_or(AllocError)?;
-    push_placed(to, line, part, &Place::Range(header_place(part), end))
+    push_placed(to, part, &Place::Range(header_place(part), end))
 }
 
 /// Appends the row of an object at this place.
-fn push_placed(
-    to: &mut Rows,
-    line: &mut String,
-    part: &Part<'_>,
-    place: &Place<'_>,
-) -> Result<(), AllocError>
+fn push_placed(to: &mut Rows, part: &Part<'_>, place: &Place<'_>) -> Result<(), AllocError>
     ensures { OnOk result (to.new ≡ with_row to.old (placed_row (part_seen part.now)
         (ranges_of place.now))) }
 {
-    if !to.needs_lines() {
-        return to.push("", part, place);
-    }
-    fill(to.alloc(), line, part)?;
-    to.push(line.as_str(), part, place)
+    to.push(&PartLine { part }, part, place)
 }
 
-/// Fills a line with an object, after two spaces for each depth above 1: its tag, its length field and its value.
-fn fill(alloc: Global, line: &mut String, part: &Part<'_>) -> Result<(), AllocError>
-    ensures { OnOk result (string_bytes line.new ≡ part_line (part_seen part.now)) }
+/// The line of an object, after two spaces for each depth above 1: its tag, its length field and its value.
+#[derive(Clone, Copy)]
+struct PartLine<'p, 'a> {
+    part: &'p Part<'a>,
+}
+
+impl RowLine for PartLine<'_, '_> {
+    ghost line = { λ l. part_line (part_seen l.part.now) };
+
+    fn push_to(&self, text: &mut String) -> Result<(), AllocError> {
+        push_indent(text, self.part.depth)?;
+        push_hex(text, self.part.tag.octets())?;
+        text.push_str(" ")?;
+        push_hex(text, self.part.length_field().as_slice())?;
+        text.push_str(" ")?;
+        push_value(text, self.part)
+    }
+}
+
+/// Appends two spaces for each depth above 1.
+fn push_indent(text: &mut String, depth: usize) -> Result<(), AllocError>
+    ensures { OnOk result (string_bytes text.new
+        ≡ string_bytes text.old ++ repeat (depth - 1) (codes "  ")) }
 {
-    let indent = "  ".repeat(alloc, part.depth.saturating_sub(1))?;
-    begin(line, indent.as_str())?;
-    push_hex(line, part.tag.octets())?;
-    line.push_str(" ")?;
-    push_hex(line, part.length_field().as_slice())?;
-    line.push_str(" ")?;
-    push_value(line, part)
+    let mut left = depth.saturating_sub(1);
+    while left > 0 {
+        text.push_str("  ")?;
+        left -= 1;
+    }
+    Ok(())
 }
 
 /// Appends the octets of a value, or that it is constructed.

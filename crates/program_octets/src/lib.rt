@@ -23,6 +23,7 @@ pub mod laws;
 pub mod list;
 mod places;
 mod response;
+mod row_lines;
 mod rows;
 pub mod shown;
 pub mod status;

@@ -4,7 +4,7 @@ ghost use Rattle.std.specs.Prelude.{◌≡◌, ◌++◌, [], List, ℕ, IfOk, On
 ghost use Rattle.tlv_core.specs.Fill.{filled, HasDuplicate};
 ghost use Rattle.program_octets.specs.Codec.{IsVerdict};
 ghost use Rattle.program_octets.specs.Verdicts.{IsFilled, IsFilledBy};
-ghost use Rattle.program_octets.specs.ListTexts.{dol_members, dol_rows, entry_object, entry_row, entry_rows, filled_text, list_codec, with_entries};
+ghost use Rattle.program_octets.specs.ListTexts.{dol_members, dol_rows, entry_line, entry_object, entry_row, entry_rows, filled_text, list_codec, with_entries};
 ghost use Rattle.program_octets.specs.Places.{ranges_of};
 ghost use Rattle.program_octets.specs.Rows.{with_row, with_rows};
 ghost use Rattle.layouts.specs.Items.{with_item};
@@ -12,6 +12,7 @@ ghost use Rattle.layouts.specs.Items.{with_item};
 use crate::answer::Answer;
 use crate::codec::{CheckedAnswer, Codec, Outcome};
 use crate::places::Place;
+use crate::row_lines::RowLine;
 use crate::rows::Rows;
 use crate::shown::{Showable, Shown};
 use crate::text::{octets_word, push_hex};
@@ -62,12 +63,12 @@ impl Showable for Dol {
 
     ghost members = { dol_members };
 
-    fn push_rows(&self, to: &mut Rows, line: &mut String, taken: usize) -> Result<(), AllocError> {
+    fn push_rows(&self, to: &mut Rows, taken: usize) -> Result<(), AllocError> {
         let entries = self.entries();
         let asked = ListNote { entries };
         let place = Place::Range(0, taken);
-        to.push_number(line, "entries ", entries.len(), &asked, &place)?;
-        push_entries(to, line, entries)
+        to.push_number("entries ", entries.len(), &asked, &place)?;
+        push_entries(to, entries)
     }
 
     fn push_members(&self, alloc: Global, text: &mut String) -> Result<(), AllocError> {
@@ -76,33 +77,42 @@ impl Showable for Dol {
 }
 
 /// Appends the rows of entries.
-fn push_entries(to: &mut Rows, line: &mut String, entries: &[(Tag, u8)]) -> Result<(), AllocError>
+fn push_entries(to: &mut Rows, entries: &[(Tag, u8)]) -> Result<(), AllocError>
     ensures { OnOk result (to.new ≡ with_rows to.old (entry_rows 0 entries.now)) }
 {
     let mut at: usize = 0;
     for (tag, length) in entries {
         let end = at.checked_add(tag.octets().len() + 1).ok_or(AllocError)?;
-        push_entry(to, line, tag, *length, &Place::Range(at, end))?;
+        push_entry(to, tag, *length, &Place::Range(at, end))?;
         at = end;
     }
     Ok(())
 }
 
 /// Appends the row of an entry: its tag and its length.
-fn push_entry(
-    to: &mut Rows,
-    line: &mut String,
-    tag: &Tag,
-    length: u8,
-    place: &Place<'_>,
-) -> Result<(), AllocError>
+fn push_entry(to: &mut Rows, tag: &Tag, length: u8, place: &Place<'_>) -> Result<(), AllocError>
     ensures { OnOk result (to.new ≡ with_row to.old
         (entry_row (tag.now, length) (ranges_of place.now))) }
 {
-    line.clear();
-    push_hex(line, tag.octets())?;
-    write!(line, " {length}")?;
-    to.push(line.as_str(), &NoNote, place)
+    let octets = tag.octets();
+    to.push(&EntryLine { octets, length }, &NoNote, place)
+}
+
+/// The line of an entry.
+#[derive(Clone, Copy)]
+struct EntryLine<'a> {
+    octets: &'a [u8],
+    length: u8,
+}
+
+impl RowLine for EntryLine<'_> {
+    ghost line = { λ l. entry_line l.octets.now l.length };
+
+    fn push_to(&self, text: &mut String) -> Result<(), AllocError> {
+        let length = self.length;
+        push_hex(text, self.octets)?;
+        write!(text, " {length}")
+    }
 }
 
 /// Returns the octets that a list requests from known values, and the verdict on the octets of the list. A fault of the

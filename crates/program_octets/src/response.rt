@@ -2,13 +2,14 @@
 
 ghost use Rattle.std.specs.Prelude.{◌≡◌, ◌++◌, OnOk, refl, string_bytes};
 ghost use Rattle.apdu_core.specs.Response.{ResponseParts};
-ghost use Rattle.program_octets.specs.ResponseTexts.{class_text, name_of, response_codec, response_members, response_rows, status_members, status_row};
+ghost use Rattle.program_octets.specs.ResponseTexts.{class_text, name_of, response_codec, response_members, response_rows, status_line, status_members, status_row};
 ghost use Rattle.program_octets.specs.Places.{ranges_of};
 ghost use Rattle.program_octets.specs.Rows.{with_row};
 
 use crate::codec::{Codec, Outcome};
 use crate::places::Place;
-use crate::rows::{Rows, begin};
+use crate::row_lines::RowLine;
+use crate::rows::Rows;
 use crate::shown::{Showable, Shown};
 use crate::text::push_hex;
 use apdu_core::{Response, ResponseReason, ResponseRef, StatusClass, status_class};
@@ -58,12 +59,12 @@ impl Showable for ResponseRef<'_> {
 
     ghost members = { response_members };
 
-    fn push_rows(&self, to: &mut Rows, line: &mut String, taken: usize) -> Result<(), AllocError> {
+    fn push_rows(&self, to: &mut Rows, taken: usize) -> Result<(), AllocError> {
         let status = taken.saturating_sub(2);
         let place = Place::Range(0, status);
-        to.push_word(line, "part ", self.part(), &NoNote, &place)?;
+        to.push_word("part ", self.part(), &NoNote, &place)?;
         let place = Place::Range(status, taken);
-        push_status_row(to, line, self.sw1(), self.sw2(), &place)
+        push_status_row(to, self.sw1(), self.sw2(), &place)
     }
 
     fn push_members(&self, _alloc: Global, text: &mut String) -> Result<(), AllocError> {
@@ -72,21 +73,29 @@ impl Showable for ResponseRef<'_> {
 }
 
 /// Appends the row of two status bytes and their class.
-fn push_status_row(
-    to: &mut Rows,
-    line: &mut String,
-    sw1: u8,
-    sw2: u8,
-    place: &Place<'_>,
-) -> Result<(), AllocError>
+fn push_status_row(to: &mut Rows, sw1: u8, sw2: u8, place: &Place<'_>) -> Result<(), AllocError>
     ensures { OnOk result (to.new ≡ with_row to.old (status_row sw1 sw2 (ranges_of place.now))) }
 {
-    begin(line, "status ")?;
-    push_hex(line, &[sw1, sw2])?;
-    line.push_str(" ")?;
-    line.push_str(class_name(sw1, sw2))?;
     let note = status_note(sw1, sw2);
-    to.push(line.as_str(), &note, place)
+    to.push(&StatusLine { sw1, sw2 }, &note, place)
+}
+
+/// The line of two status bytes.
+#[derive(Clone, Copy)]
+struct StatusLine {
+    sw1: u8,
+    sw2: u8,
+}
+
+impl RowLine for StatusLine {
+    ghost line = { λ l. status_line l.sw1 l.sw2 };
+
+    fn push_to(&self, text: &mut String) -> Result<(), AllocError> {
+        text.push_str("status ")?;
+        push_hex(text, &[self.sw1, self.sw2])?;
+        text.push_str(" ")?;
+        text.push_str(class_name(self.sw1, self.sw2))
+    }
 }
 
 /// Appends a response as members of an object.

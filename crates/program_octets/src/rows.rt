@@ -1,13 +1,14 @@
 //! The rows of a value, and what is rendered of them.
 
 ghost use Rattle.std.specs.Prelude.{◌≡◌, ◌++◌, [], IfOk, OnOk, decimal, string_bytes};
+ghost use Rattle.answer_json.specs.Notes.{with_note};
 ghost use Rattle.notes.specs.Noted.{marked, where_noted};
 ghost use Rattle.program_octets.specs.Places.{ranges_of};
-ghost use Rattle.program_octets.specs.Rows.{line_text, needs_lines, row, sheet, with_row};
+ghost use Rattle.program_octets.specs.Rows.{line_text, row, sheet, with_row};
 ghost use Rattle.program_octets.specs.Texts.{octets_text};
 
 use crate::places::{Place, push_place};
-use crate::text::push_word;
+use crate::row_lines::{NumberLine, RowLine, WordLine};
 use answer_json::push_note;
 use layouts::Layout;
 use notes::{LineNote, MARK};
@@ -27,6 +28,8 @@ pub(crate) struct Rows {
     text: String,
     /// The items of `notes`.
     notes: String,
+    /// The line of a row, if it goes into `notes`.
+    line: String,
     /// The note on the last row.
     note: String,
 }
@@ -51,31 +54,30 @@ impl Rows {
             noted,
             text: String::with_capacity(alloc, ROOM)?,
             notes: String::new(alloc),
+            line: String::new(alloc),
             note: String::new(alloc),
         })
     }
 
     /// Appends a row: its line, the note on it, and the octets that it is about.
-    pub(crate) fn push<N: LineNote>(
+    pub(crate) fn push<L: RowLine, N: LineNote>(
         &mut self,
-        line: &str,
+        line: &L,
         note: &N,
         place: &Place<'_>,
     ) -> Result<(), AllocError>
         ensures { OnOk result (self.new
-            ≡ with_row self.old (row line.now (N.note note.now) (ranges_of place.now))) }
+            ≡ with_row self.old (row (L.line line.now) (N.note note.now) (ranges_of place.now))) }
     {
-        fill(&mut self.note, self.noted, note)?;
         match self.layout {
-            Layout::Lines => push_line(&mut self.text, line, self.note.as_str()),
+            Layout::Lines => push_line(&mut self.text, &mut self.note, self.noted, line, note),
             Layout::Json => {
                 push_place(self.alloc, &mut self.text, place)?;
-                push_note(
-                    self.alloc,
-                    &mut self.notes,
-                    line.as_bytes(),
-                    self.note.as_bytes(),
-                )
+                if self.noted {
+                    self.push_item(line, note)
+                } else {
+                    Ok(())
+                }
             }
         }
     }
@@ -83,7 +85,6 @@ impl Rows {
     /// Appends a row whose line has octets as a word, after this text.
     pub(crate) fn push_word<N: LineNote>(
         &mut self,
-        line: &mut String,
         front: &str,
         octets: &[u8],
         note: &N,
@@ -93,18 +94,12 @@ impl Rows {
             (row (front.now ++ octets_text octets.now)
             (N.note note.now) (ranges_of place.now))) }
     {
-        if !self.needs_lines() {
-            return self.push("", note, place);
-        }
-        begin(line, front)?;
-        push_word(line, octets)?;
-        self.push(line.as_str(), note, place)
+        self.push(&WordLine { front, octets }, note, place)
     }
 
     /// Appends a row whose line has a number, after this text.
     pub(crate) fn push_number<N: LineNote>(
         &mut self,
-        line: &mut String,
         front: &str,
         number: usize,
         note: &N,
@@ -113,24 +108,24 @@ impl Rows {
         ensures { OnOk result (self.new ≡ with_row self.old (row (front.now ++ decimal number)
             (N.note note.now) (ranges_of place.now))) }
     {
-        begin(line, front)?;
-        write!(line, "{number}")?;
-        self.push(line.as_str(), note, place)
+        self.push(&NumberLine { front, number }, note, place)
     }
 
-    /// Whether the lines of rows are needed. For an object without notes only the places are.
-    pub(crate) fn needs_lines(&self) -> bool
-        ensures { result ≡ needs_lines self.now }
+    /// Appends a line and its note to the items of `notes`, if it has one.
+    fn push_item<L: RowLine, N: LineNote>(&mut self, line: &L, note: &N) -> Result<(), AllocError>
+        ensures { OnOk result (self.new ≡ sheet self.old.layout self.old.noted self.old.text
+            (with_note self.old.notes (L.line line.now) (N.note note.now))) }
     {
-        match self.layout {
-            Layout::Lines => true,
-            Layout::Json => self.noted,
-        }
-    }
-
-    /// Returns the allocator.
-    pub(crate) fn alloc(&self) -> Global {
-        self.alloc
+        self.line.clear();
+        line.push_to(&mut self.line)?;
+        self.note.clear();
+        note.push_to(&mut self.note)?;
+        push_note(
+            self.alloc,
+            &mut self.notes,
+            self.line.as_bytes(),
+            self.note.as_bytes(),
+        )
     }
 
     /// Returns the lines of the rows.
@@ -155,21 +150,23 @@ impl Rows {
     }
 }
 
-/// Fills a text with a note, if it is `noted`.
-fn fill<N: LineNote>(text: &mut String, noted: bool, note: &N) -> Result<(), AllocError>
-    ensures { OnOk result (string_bytes text.new ≡ where_noted noted (N.note note.now)) }
+/// Appends a line with its end and, if it is `noted`, with its note. The note is made in the text `words`.
+fn push_line<L: RowLine, N: LineNote>(
+    text: &mut String,
+    words: &mut String,
+    noted: bool,
+    line: &L,
+    note: &N,
+) -> Result<(), AllocError>
+    ensures { OnOk result (string_bytes text.new ≡ string_bytes text.old
+        ++ line_text (L.line line.now) (where_noted noted (N.note note.now))) }
 {
-    text.clear();
-    if noted { note.push_to(text) } else { Ok(()) }
-}
-
-/// Appends a line with its note.
-fn push_line(text: &mut String, line: &str, note: &str) -> Result<(), AllocError>
-    ensures { OnOk result (string_bytes text.new
-        ≡ string_bytes text.old ++ line_text line.now note.now) }
-{
-    text.push_str(line)?;
-    push_marked(text, note)?;
+    line.push_to(text)?;
+    if noted {
+        words.clear();
+        note.push_to(words)?;
+        push_marked(text, words.as_str())?;
+    }
     text.push_str("\n")
 }
 
@@ -182,12 +179,4 @@ fn push_marked(text: &mut String, note: &str) -> Result<(), AllocError>
     }
     text.push_str(MARK)?;
     text.push_str(note)
-}
-
-/// Begins a line again.
-pub(crate) fn begin(line: &mut String, text: &str) -> Result<(), AllocError>
-    ensures { OnOk result (string_bytes line.new ≡ text.now) }
-{
-    line.clear();
-    line.push_str(text)
 }

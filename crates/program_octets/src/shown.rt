@@ -15,9 +15,6 @@ use std::alloc::{AllocError, Global};
 /// The initial capacity of a text in octets.
 const ROOM: usize = 512;
 
-/// The initial capacity of the line of a row in octets.
-const LINE_ROOM: usize = 64;
-
 /// The text of a value.
 #[derive(Drop)]
 pub struct Shown {
@@ -35,8 +32,8 @@ pub(crate) trait Showable {
     /// The value's members of a JSON object. Each begins with a comma.
     ghost members: { Self → List ℕ };
 
-    /// Appends the value's rows, if the value takes `taken` octets. Each line is made in the text `line`.
-    fn push_rows(&self, to: &mut Rows, line: &mut String, taken: usize) -> Result<(), AllocError>
+    /// Appends the value's rows, if the value takes `taken` octets.
+    fn push_rows(&self, to: &mut Rows, taken: usize) -> Result<(), AllocError>
         ensures { OnOk result (to.new ≡ with_rows to.old (rows self.now taken)) };
 
     /// Appends the value's members to a text.
@@ -78,8 +75,7 @@ fn lines_of<V: Showable>(
     ensures { IfOk result (λ text. string_bytes text ≡ lines_of noted (V.rows value.now taken)) }
 {
     let mut rows = Rows::new(alloc, Layout::Lines, noted)?;
-    let mut line = String::with_capacity(alloc, LINE_ROOM)?;
-    value.push_rows(&mut rows, &mut line, taken)?;
+    value.push_rows(&mut rows, taken)?;
     Ok(rows.into_lines())
 }
 
@@ -116,8 +112,7 @@ fn push_rows<V: Showable>(
         ++ rows_members noted (V.rows value.now taken)) }
 {
     let mut rows = Rows::new(alloc, Layout::Json, noted)?;
-    let mut line = String::with_capacity(alloc, LINE_ROOM)?;
-    value.push_rows(&mut rows, &mut line, taken)?;
+    value.push_rows(&mut rows, taken)?;
     push_places(text, rows.places())?;
     if noted {
         push_notes(text, rows.notes())
