@@ -19,7 +19,7 @@ import dataclasses
 import assembler
 import unit
 from assembler import Function
-from bodies import Passes
+from passes import Passes
 from wasm import CODES, Unfit
 
 TRAP = "trap"

@@ -13,7 +13,8 @@ import unittest
 sys.dont_write_bytecode = True
 TRANSLATOR = pathlib.Path(__file__).resolve().parents[2] / "tools/release/translator"
 sys.path.insert(0, str(TRANSLATOR))
-from bodies import Writer, own_frame
+from bodies import Writer
+from frames import own_frame
 from near import Near
 from loops import Sum
 from wasm import (BLOCK, BR, BR_IF, CODES, DROP, ELSE, END, GLOBAL_GET, GLOBAL_SET, I32, I32_CONST, I64, I64_CONST, IF, LOCAL_GET,

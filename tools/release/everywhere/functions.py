@@ -7,9 +7,10 @@ import collections
 import re
 
 import bodies
-from bodies import BITS, LOADED, STORED, Value, value_of
 from loops import Sum
+from memory import LOADED, STORED
 from reading import F64_CONST, MEMORY_GROW, MEMORY_SIZE
+from values import BITS, TYPES, Value, value_of
 from wasm import CODES, GLOBAL_GET, GLOBAL_SET, I32, I64, I64_CONST, MEMORY_FILL
 
 # An access adds numbers below this itself, in place of the address. An address that they lead past 2^32 then ends the
@@ -124,8 +125,8 @@ def reached(address, offset):
 
 def head(function, name):
     """The prototype of a function."""
-    gives = bodies.TYPES[function.gives[0]] if function.gives else "void"
-    takes = [f"{bodies.TYPES[kind]} v{place}" for place, kind in enumerate(function.takes)]
+    gives = TYPES[function.gives[0]] if function.gives else "void"
+    takes = [f"{TYPES[kind]} v{place}" for place, kind in enumerate(function.takes)]
     return f"{gives} {name}({', '.join(['u8 *m', *takes])})"
 
 
@@ -153,7 +154,7 @@ def variables(function, used):
     named = {}
     for name, kind in [*own, *sorted(used)]:
         named.setdefault(kind, []).append(f"{name} = 0" if name[0] == "v" else name)
-    return [f"{bodies.TYPES[kind]} {', '.join(names)};" for kind, names in sorted(named.items())]
+    return [f"{TYPES[kind]} {', '.join(names)};" for kind, names in sorted(named.items())]
 
 
 def text(program, place, names):

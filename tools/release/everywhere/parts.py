@@ -9,7 +9,7 @@ HERE = pathlib.Path(__file__).resolve().parent
 sys.path[:0] = [str(HERE), str(HERE.parent / "translator")]
 import functions
 import reading
-from bodies import TYPES, constant
+from values import TYPES, constant
 from wasm import Unfit
 
 HEAD = "/* Made by tools/release/program-c from dist/scard.wasm; don't change it. */\n"

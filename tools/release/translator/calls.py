@@ -5,9 +5,12 @@ import re
 import textwrap
 
 from apart import is_apart
-from bodies import TYPES, Passes, Writer, frames_of, looks_at_stack, own_frame
+from bodies import Writer
 from constants import Constants, rows
+from frames import frames_of, looks_at_stack, own_frame
 from header import COUNT, NUMBERS
+from passes import Passes
+from values import TYPES
 from wasm import CALL, GLOBAL_GET, I32, I64, Unfit
 
 # the windows of machine.h: the first one for a pointer of the caller, and how many there are

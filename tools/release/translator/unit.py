@@ -6,8 +6,8 @@ import textwrap
 
 import header
 import wasm
-from bodies import Passes
 from calls import Calls, layout, shape
+from passes import Passes
 
 HEAD = """/* scard: the calls of scard.h that take no memory, for any machine.
  *

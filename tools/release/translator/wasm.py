@@ -29,6 +29,9 @@ LISTED = [
 ]
 NAMES = {first + at: name for first, names in LISTED for at, name in enumerate(names.split())}
 CODES = {name: code for code, name in NAMES.items()}
+# the comparisons, by their names without a type: the operator in C, and whether numbers are signed
+COMPARED = {"eq": ("==", 0), "ne": ("!=", 0), "lt_s": ("<", 1), "lt_u": ("<", 0), "gt_s": (">", 1), "gt_u": (">", 0),
+            "le_s": ("<=", 1), "le_u": ("<=", 0), "ge_s": (">=", 1), "ge_u": (">=", 0)}
 ONE_NUMBER = {BR, BR_IF, CALL, LOCAL_GET, LOCAL_SET, LOCAL_TEE, GLOBAL_GET, GLOBAL_SET}
 NO_RESULT = 0x40
 
