@@ -8,6 +8,7 @@
 //! the program ends with status 1. With the word `few` it tries only some cases of the long lists.
 #![tactic(auto)]
 
+mod application;
 mod chains;
 mod deliveries;
 mod drawn;

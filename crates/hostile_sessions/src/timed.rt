@@ -8,12 +8,13 @@ ghost use Rattle.std.specs.Prelude.{◌≡◌, false, IfSome};
 ghost use Rattle.session_core.specs.Wire.{is_set};
 ghost use Rattle.session_laws.specs.Ending.{HasBurst};
 
+use crate::application::{Application, COMMAND, REPLY, command_of, reply_of};
 use crate::queue::{Queue, ROOM, arriving, harmed};
 use atr_core::T1Params;
 use line_core::TimedDevice;
 use rand_pcg::Pcg32;
 use session_core::{Action, CardSession, FOREVER, Limits, Rules, TerminalSession};
-use session_laws::{AskingHost, HostTurn, ask_ifs_ends, exchange_ends, resynch_ends, serve_events};
+use session_laws::{ask_ifs_ends, exchange_ends, resynch_ends, serve_events};
 use std::alloc::Global;
 use std::io;
 use test_support::{Case, Fault, Share};
@@ -37,103 +38,6 @@ const LIMITS: Limits = Limits {
 
 /// The most turns of a card for one block: more than a block has octets.
 const TURNS: usize = 1_000;
-
-/// How many octets a command has.
-const COMMAND: usize = 5;
-
-/// How many octets a reply has, more than one block takes: zeros, and at the end a number and the status bytes.
-const REPLY: usize = 60;
-
-/// Returns the command with this number. It has a sum, so that other octets are hardly ever a command.
-fn command_of(number: u8) -> [u8; COMMAND] {
-    [0x00, 0xB0, number, number ^ 0x5A, 0x00]
-}
-
-/// Returns the number of a command.
-fn number_of(command: &[u8]) -> Option<u8> {
-    match command {
-        [0x00, 0xB0, number, sum, 0x00] if *sum == *number ^ 0x5A => Some(*number),
-        _ => None,
-    }
-}
-
-fn reply_of(number: u8) -> [u8; REPLY] {
-    let mut reply = [0; REPLY];
-    reply[REPLY - 3] = number;
-    reply[REPLY - 2] = 0x6A;
-    reply[REPLY - 1] = 0x82;
-    reply
-}
-
-/// The card's application.
-#[derive(Drop)]
-struct Application {
-    /// The least number that the next command may have.
-    next: u8,
-    /// How many turns were about commands that nobody sent, or that were acted on before, or about nothing granted.
-    wrong: u32,
-    /// How many requests about the present command are still to come.
-    requests: u8,
-    /// Whether the last turn was a request.
-    has_asked: bool,
-    reply: [u8; REPLY],
-}
-
-impl Application {
-    fn new() -> Application {
-        Application {
-            next: 0,
-            wrong: 0,
-            requests: 0,
-            has_asked: false,
-            reply: [0; REPLY],
-        }
-    }
-
-    /// Asks for a size and for time in turn, and then replies.
-    fn turn(&mut self) -> HostTurn {
-        self.has_asked = self.requests > 0;
-        if self.requests == 0 {
-            return HostTurn::Reply;
-        }
-        self.requests -= 1;
-        if self.requests == 1 {
-            HostTurn::AskIfs(self.next.saturating_add(1))
-        } else {
-            HostTurn::MoreTime(self.next)
-        }
-    }
-}
-
-impl AskingHost for Application {
-    ghost served = { λ _ _ _. Unit {0} };
-
-    ghost reply = { λ host. host.reply };
-
-    fn act(&mut self, command: &[u8]) -> HostTurn {
-        match number_of(command) {
-            Some(number) if number >= self.next => {
-                self.next = number.saturating_add(1);
-                self.requests = number % 4;
-                self.reply = reply_of(number);
-            }
-            _ => self.wrong = self.wrong.saturating_add(1),
-        }
-        self.turn()
-    }
-
-    fn go_on(&mut self, command: &[u8]) -> HostTurn {
-        match number_of(command) {
-            Some(number) if number.saturating_add(1) == self.next && self.has_asked => {}
-            _ => self.wrong = self.wrong.saturating_add(1),
-        }
-        self.turn()
-    }
-
-    fn reply(&self) -> &[u8] {
-        &self.reply
-    }
-}
 
 /// The card's side of the line.
 #[derive(Drop)]
