@@ -71,7 +71,7 @@ pub fn block_decode(octets: &[u8], ifs: u8, out: &mut CBlock) -> Verdict
     }
 }
 
-/// Writes the parts of a PCB. The kind of an octet that is no PCB is 0.
+/// Writes the parts of a PCB. If the octet isn't a PCB, the kind is 0.
 pub fn block_parts(pcb: u8, out: &mut CPcb)
     ensures { ShowsPcb pcb out.new }
 {

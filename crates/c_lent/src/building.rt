@@ -43,7 +43,7 @@ pub fn dol_entry(tag: &CTag, len: u8, out: &mut [u8]) -> Verdict
     }
 }
 
-/// Copies a tag and the octets after it to the front of a buffer. If it is too small, it stays as it was.
+/// Copies a tag and the octets after it to the front of a buffer. If the buffer is too small, it stays unchanged.
 fn put_tagged(tag: &[u8], rest: &[u8], out: &mut [u8]) -> Verdict
     requires tag { IsTag tag.now }
     requires few { length rest.now ≤ 5 }

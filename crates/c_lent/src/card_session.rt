@@ -110,7 +110,7 @@ pub fn card_session_begin(
     Verdict::ok(0)
 }
 
-/// Begins to serve the terminal, or goes on after the line failed.
+/// Begins to serve the terminal, or continues after the line failed.
 pub fn card_session_serve(
     session: &mut CCardSession,
     command: &[u8],
@@ -231,7 +231,7 @@ pub fn card_session_step(
 }
 
 /// Passes what the line says next to the card.
-#[inline(never)]
+#[inline(always)]
 fn card_session_proceed(
     session: &mut CCardSession,
     command: &mut [u8],

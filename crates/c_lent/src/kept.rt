@@ -193,8 +193,11 @@ impl CTerminal {
     }
 
     /// Returns the terminal that the fields spell, if any.
+    #[inline(always)]
     pub(crate) fn spelled(&self) -> Option<LentTerminal>
-        ensures { result ≡ terminal_of self.now }
+        ensures terminal { result ≡ terminal_of self.now }
+        ensures wait { IfSome result (λ end.
+            terminal_wait_of self.now.wait self.now.size self.now.place ≡ Some end.wait) }
     {
         Some(LentTerminal {
             number: number_of(self.number)?,
@@ -212,20 +215,8 @@ impl CTerminal {
         })
     }
 
-    /// Whether the fields spell a terminal that fits buffers of these sizes.
-    pub(crate) fn is_fitting(&self, command: usize, answer: usize) -> bool
-        ensures some { result ≡ true → (end : LentTerminal)
-            × (terminal_of self.now ≡ Some end) × IsLentTerminal end command answer }
-        ensures none { result ≡ false → (end : LentTerminal) → terminal_of self.now ≡ Some end
-            → IsLentTerminal end command answer → ⊥ }
-    {
-        match self.spelled() {
-            Some(end) => end.fits(command, answer),
-            None => false,
-        }
-    }
-
     /// Returns the terminal that the fields spell, if it fits buffers of these sizes.
+    #[inline(never)]
     pub fn fitting(&self, command: usize, answer: usize) -> Option<LentTerminal>
         ensures some { IfSome result (λ end.
             (terminal_of self.now ≡ Some end) × IsLentTerminal end command answer) }
@@ -273,8 +264,11 @@ impl CCard {
     }
 
     /// Returns the card that the fields spell, if any.
+    #[inline(always)]
     pub(crate) fn spelled(&self) -> Option<LentCard>
         ensures card { result ≡ card_of self.now }
+        ensures wait { IfSome result (λ end.
+            card_wait_of self.now.wait self.now.size self.now.place ≡ Some end.wait) }
         ensures command { IfSome result (λ end. end.command_len ≡ self.now.command_len) }
     {
         let number = number_of(self.number)?;
@@ -296,20 +290,8 @@ impl CCard {
         })
     }
 
-    /// Whether the fields spell a card that fits buffers of these sizes.
-    pub(crate) fn is_fitting(&self, command: usize, reply: usize) -> bool
-        ensures some { result ≡ true → (end : LentCard)
-            × (card_of self.now ≡ Some end) × IsLentCard end command reply }
-        ensures none { result ≡ false → (end : LentCard) → card_of self.now ≡ Some end
-            → IsLentCard end command reply → ⊥ }
-    {
-        match self.spelled() {
-            Some(end) => end.fits(command, reply),
-            None => false,
-        }
-    }
-
     /// Returns the card that the fields spell, if it fits buffers of these sizes.
+    #[inline(never)]
     pub fn fitting(&self, command: usize, reply: usize) -> Option<LentCard>
         ensures some { IfSome result (λ end.
             (card_of self.now ≡ Some end) × IsLentCard end command reply) }

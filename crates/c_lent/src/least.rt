@@ -16,7 +16,7 @@ use shortfall::{
 };
 
 /// Returns how many more octets a value of a codec needs at least, if it begins with these octets. It is 0 if they are
-/// a whole value, or the number is that of no such codec.
+/// a whole value, or no codec has this number.
 pub fn least(codec: u8, octets: &[u8]) -> usize
     ensures atr { codec ≡ 1 → result ≡ atr_least octets.now }
     ensures block { codec ≡ 2 → result ≡ block_least octets.now }

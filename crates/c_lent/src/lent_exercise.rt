@@ -75,7 +75,7 @@ impl CExercise {
     }
 }
 
-/// Returns the marks of those of these rules that are at stake.
+/// Returns the marks of the given rules that are at stake.
 fn marks_of(stakes: &Stakes, rules: &[Rule]) -> u32
     ensures { result ≡ marks_with stakes.now rules.now 0 }
 {

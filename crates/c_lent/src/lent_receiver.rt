@@ -51,8 +51,8 @@ pub fn lent_receiver_feed(state: &mut CReceiver, message: &mut [u8], piece: &[u8
     Verdict::fed(answer)
 }
 
-/// Begins a receiver anew, with a first block of this number, and the information size and the limit that it had. Each
-/// octet of the buffer is set to 0.
+/// Restarts a receiver. The first block has this number; the information size and the limit stay. Each octet of the
+/// buffer is set to 0.
 pub fn lent_receiver_restart(state: &mut CReceiver, message: &mut [u8], ns: u8) -> Verdict
     ensures { ReceiverRestarted state.old message.old (number_of ns) state.new message.new result }
 {

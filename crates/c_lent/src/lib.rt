@@ -17,6 +17,7 @@ pub mod card_session;
 pub mod chain;
 pub mod dol;
 pub mod filling;
+mod fitting;
 pub mod hexadecimal;
 mod judge_numbers;
 pub mod kept;

@@ -5,7 +5,7 @@ ghost use Rattle.c_lent.specs.Verdict.{put_verdict, put_into};
 
 use crate::verdict::Verdict;
 
-/// Copies octets to the front of a buffer. If it is too small, it stays as it was.
+/// Copies octets to the front of a buffer. If the buffer is too small, it stays unchanged.
 pub fn put(octets: &[u8], out: &mut [u8]) -> Verdict
     ensures verdict { result ≡ put_verdict octets.now out.old }
     ensures buffer { out.new ≡ put_into octets.now out.old }

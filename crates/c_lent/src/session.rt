@@ -236,7 +236,7 @@ pub fn session_step(
 }
 
 /// Passes what the line says next to the terminal.
-#[inline(never)]
+#[inline(always)]
 fn session_proceed(
     session: &mut CSession,
     command: &[u8],

@@ -26,7 +26,7 @@ pub extern "C" fn scard_block_decode(octets: &[u8], ifs: u8, out: &mut CBlock) -
     c_lent::block::block_decode(octets, ifs, out)
 }
 
-/// Writes the parts of a PCB. The kind of an octet that is no PCB is 0, and so are its other parts.
+/// Writes the parts of a PCB. If the octet isn't a PCB, the kind is 0, and so are its other parts.
 #[unsafe(no_mangle)]
 pub extern "C" fn scard_block_parts(pcb: u8, out: &mut CPcb)
     ensures { ShowsPcb pcb out.new }

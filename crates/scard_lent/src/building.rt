@@ -13,7 +13,7 @@ use c_lent::parts::CTag;
 use c_lent::verdict::Verdict;
 
 /// Writes the header of a data object: its tag, and the shortest length field for a value of `len` octets, at most
-/// 1,048,576. Returns `ARGUMENT` with place 0 if `tag` is no tag, or if `len` is larger.
+/// 1,048,576. Returns `ARGUMENT` with place 0 if `tag` isn't a tag, or if `len` is larger.
 #[unsafe(no_mangle)]
 pub extern "C" fn scard_tlv_header(tag: &CTag, len: usize, out: &mut [u8]) -> Verdict
     ensures written { IsTag (tag_of tag.now) → len ≤ largest
@@ -26,7 +26,7 @@ pub extern "C" fn scard_tlv_header(tag: &CTag, len: usize, out: &mut [u8]) -> Ve
 }
 
 /// Writes an entry of a data object list: a tag, and the length that its value is to have. Returns `ARGUMENT` with
-/// place 0 if `tag` is no tag.
+/// place 0 if `tag` isn't a tag.
 #[unsafe(no_mangle)]
 pub extern "C" fn scard_dol_entry(tag: &CTag, len: u8, out: &mut [u8]) -> Verdict
     ensures written { IsTag (tag_of tag.now)

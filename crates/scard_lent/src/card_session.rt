@@ -25,7 +25,7 @@ pub extern "C" fn scard_lent_card_session_begin(
     c_lent::card_session::card_session_begin(session, command, reply, setup)
 }
 
-/// Begins to serve the terminal, or goes on after the line failed.
+/// Begins to serve the terminal, or continues after the line failed.
 #[unsafe(no_mangle)]
 pub extern "C" fn scard_lent_card_session_serve(
     session: &mut CCardSession,

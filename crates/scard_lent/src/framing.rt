@@ -45,7 +45,7 @@ pub extern "C" fn scard_lent_framer_wait(
     framer.wait(first, inside, after)
 }
 
-/// Returns how many octets at the front of the kept ones an end takes: the burst, or its first 259 octets.
+/// Returns how many of the kept octets an end takes: the burst, or its first 259 octets.
 #[unsafe(no_mangle)]
 pub extern "C" fn scard_lent_framer_burst(framer: &Framer) -> usize
     ensures is { result ≡ min framer.now.count handed }

@@ -12,7 +12,7 @@ ghost use Rattle.shortfall.specs.Forest.{open_rest};
 ghost use Rattle.shortfall.specs.List.{list_least};
 
 /// Returns how many more octets a value of a codec needs at least, if it begins with these octets. It is 0 if they are
-/// a whole value, or the number is that of no such codec. The call allocates nothing.
+/// a whole value, or no codec has this number. The call allocates nothing.
 #[unsafe(no_mangle)]
 pub extern "C" fn scard_least(codec: u8, octets: &[u8]) -> usize
     ensures atr { codec ≡ 1 → result ≡ atr_least octets.now }

@@ -52,9 +52,9 @@ pub extern "C" fn scard_lent_receiver_feed(
     c_lent::lent_receiver::lent_receiver_feed(state, message, piece)
 }
 
-/// Begins a receiver anew, with a first block of this number, and the information size and the limit that it had. Each
-/// octet of the buffer is set to 0. Returns `ARGUMENT` if `ns` isn't 0 or 1, or if the state and the buffer
-/// aren't a receiver. Then nothing changes.
+/// Restarts a receiver. The first block has this number; the information size and the limit stay. Each octet of the
+/// buffer is set to 0. Returns `ARGUMENT` if `ns` isn't 0 or 1, or if the state and the buffer aren't a receiver. Then
+/// nothing changes.
 #[unsafe(no_mangle)]
 pub extern "C" fn scard_lent_receiver_restart(
     state: &mut CReceiver,

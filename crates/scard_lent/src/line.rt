@@ -18,9 +18,9 @@ pub extern "C" fn scard_lent_line_begin(line: &mut Line, rules: &Rules)
     line.begin(rules);
 }
 
-/// Begins an exchange of a terminal, or the sending of what a card's host asked for. Octets that came late are dropped
-/// first. After the block the end waits for the first octet of a burst for `first` microseconds, and a card without a
-/// limit, with `UINT64_MAX`.
+/// Begins an exchange of a terminal, or sends what a card's host asked for. Octets that came late are dropped first.
+/// After the block the end waits for the first octet of a burst for `first` microseconds, and a card without a limit,
+/// with `UINT64_MAX`.
 #[unsafe(no_mangle)]
 pub extern "C" fn scard_lent_line_exchange(line: &mut Line, first: u64, now: u64) -> LineNext
     ensures { (burst : List ℕ) → HasHeard line.old.framer burst
@@ -51,7 +51,7 @@ pub extern "C" fn scard_lent_line_talk(line: &mut Line, first: u64, now: u64) ->
     line.talk(first, now)
 }
 
-/// Begins to serve the terminal, as a card does, or goes on after the line failed.
+/// Begins to serve the terminal, as a card does, or continues after the line failed.
 #[unsafe(no_mangle)]
 pub extern "C" fn scard_lent_line_serve(line: &mut Line, now: u64) -> LineNext
     ensures { (burst : List ℕ) → HasHeard line.old.framer burst

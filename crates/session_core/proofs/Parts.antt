@@ -1,10 +1,11 @@
 -- Steps, from what the parts of a call leave.
-use Rattle.std.proofs.Common.{length, ◌<◌, ◌≡◌, ℕ, List, [], ◌∷◌, take, Bool, true, false, ◌∙◌, if◌then◌else◌, refl, sym, ap, arith}
+use Rattle.std.specs.List.{starts_with}
+use Rattle.std.proofs.Common.{◌&&◌, not, length, ◌<◌, ◌≤◌, nat_eq, slice_index, ◌≡◌, ℕ, List, [], ◌∷◌, take, Bool, true, false, ◌∙◌, if◌then◌else◌, refl, sym, ap, arith}
 use Rattle.session_core.specs.declared.event.Next.TheVariants.{Heard}
 use Rattle.line_core.specs.declared.framing.Framer.{Framer}
 use Rattle.line_core.specs.Bursts.{HasHeard, handed}
 use Rattle.session_core.specs.declared.event.Next.{Next}
-use Rattle.session_core.specs.Wire.{Ruled, Doing, spends, time_of, takes_in, came, Step, step_of, IsStep, is_echo, owed_after, counted, judges, judged, stops, hands, is_refused, broken, misses, unheard, agrees, hears_echo, echoed}
+use Rattle.session_core.specs.Wire.{Ruled, Doing, spends, time_of, takes_in, came, Step, step_of, IsStep, is_echo, owed_after, counted, judges, judged, stops, hands, is_refused, broken, misses, unheard, agrees, hears_echo, echoed, on_came, on_silent, interrupted, forever, last_look}
 
 -- a step whose parts these are
 pub is_step : (step : Step) (p : Doing) (burst : List ℕ) (next : Next) (framer : Framer)
@@ -76,3 +77,27 @@ unfolding came
 came-some r p after burst [] is_garbled now block p' framer next some e g =
     let bad : ⊥ = omega (arith, some) in elim bad [ ]
 came-some r p after burst (octet ∷ octets) is_garbled now block p' framer next some e g = rw e at g
+
+-- octets that begin with a block begin with its PCB
+pub second_equal : (octets first : List ℕ) → starts_with nat_eq octets first ≡ true → 2 ≤ length first
+    → slice_index octets 1 ≡ slice_index first 1
+second_equal octets [] e two = let bad : ⊥ = omega (arith, two) in elim bad [ ]
+second_equal octets (y ∷ []) e two = let bad : ⊥ = omega (arith, two) in elim bad [ ]
+second_equal [] (y ∷ z ∷ first) e two = grind (arith)
+second_equal (x ∷ []) (y ∷ z ∷ first) e two = grind (arith)
+second_equal (x ∷ w ∷ octets) (y ∷ z ∷ first) e two = grind (arith)
+
+not-and : (a b : Bool) → (not a && b) ≡ true → (a ≡ false) × (b ≡ true)
+not-and false true e = (refl, refl)
+not-and false false e = (refl, e)
+not-and true true e = (sym e, refl)
+not-and true false e = (sym e, e)
+
+-- an interrupt of a last look ends the wait as a silence does
+pub looks-last : (r : Ruled) (p : Doing) (burst : List ℕ) (is_garbled : Bool) (now : ℕ) (block : List ℕ)
+    → (not (nat_eq p.asked forever) && nat_eq p.interrupts last_look) ≡ true
+    → on_came r p burst [] is_garbled now block ≡ on_silent r p burst now block
+unfolding on_came came interrupted on_silent
+looks-last r p burst is_garbled now block e =
+    let both = not-and (nat_eq p.asked forever) (nat_eq p.interrupts last_look) e in
+    rw both.0 (rw both.1 refl)

@@ -1,8 +1,9 @@
 //! The burst that comes after a block, and echoes.
 
-ghost use Rattle.std.specs.Prelude.{◌≡◌, ◌&&◌, List, ℕ};
+ghost use Rattle.std.specs.Prelude.{◌≡◌, ◌&&◌, true, false, nat_eq, List, ℕ};
+ghost use Rattle.std.specs.List.{starts_with};
 ghost use Rattle.line_core.specs.Bursts.{HasHeard};
-ghost use Rattle.session_core.specs.Wire.{ruled, seen, phase_of, moment_with, is_set, Step, step_of, IsStep, wait_in, is_over, owed_after, guard, moment_of, pcb_of, is_info, is_supervisory, is_echo, echoes_after, is_certain, is_refused, hands, counted, judges, judged, ends, goes_on, begun, spoiled, weighed, hears, awaits, serves};
+ghost use Rattle.session_core.specs.Wire.{ruled, seen, phase_of, moment_with, is_set, since, forever, Step, step_of, IsStep, waits, wait_in, is_over, owed_after, guard, moment_of, pcb_of, is_info, is_supervisory, is_echo, echoes_after, is_certain, is_refused, hands, counted, judges, judged, ends, goes_on, begun, spoiled, weighed, hears, awaits, serves};
 
 use crate::event::Next;
 use crate::limits::passed;
@@ -57,7 +58,7 @@ impl Progress {
     }
 
     /// Returns what the end owes after the burst.
-    #[inline(never)]
+    #[inline(always)]
     pub(crate) fn owed_after(&self, rules: &Rules, framer: &Framer) -> u64
         ensures { (burst : List ℕ) → HasHeard framer.now burst
             → result ≡ owed_after (ruled rules.now) (seen self.now) burst }
@@ -73,13 +74,25 @@ impl Progress {
         }
     }
 
-    /// Returns when a burst began whose first octet came so long after the block was sent.
-    fn moment(&self, rules: &Rules, since: u64) -> u8
-        ensures { moment_with result ≡ moment_of (ruled rules.now) (seen self.now) since }
+    /// Returns when a burst began whose first octet came now.
+    fn moment(&self, rules: &Rules, now: u64) -> u8
+        ensures { moment_with result ≡ moment_of (ruled rules.now) (seen self.now)
+            (since now self.now.asked_at) }
     {
         if !is_set(rules.has_clock) || rules.after == NO_SILENCE {
-            UNKNOWN
-        } else if rules.guard() <= since {
+            return UNKNOWN;
+        }
+        self.moment_since(rules, passed(now, self.asked_at, 0))
+    }
+
+    /// Returns when a burst began whose first octet came so long after the block was sent, on a line on which that says
+    /// something.
+    fn moment_since(&self, rules: &Rules, since: u64) -> u8
+        requires clock { is_set rules.now.has_clock ≡ true }
+        requires silence { nat_eq rules.now.after forever ≡ false }
+        ensures { moment_with result ≡ moment_of (ruled rules.now) (seen self.now) since }
+    {
+        if rules.guard() <= since {
             IN_TIME
         } else if self.late < rules.guard() - since {
             EARLY
@@ -91,12 +104,15 @@ impl Progress {
 
 impl Progress {
     /// Whether the octets of a burst that are passed to the end may be an echo of its block.
+    #[inline(always)]
     fn is_echo(&self, rules: &Rules, octets: &[u8], block: &[u8]) -> bool
         ensures { result ≡ is_echo (ruled rules.now) (seen self.now) octets.now block.now }
     {
         !is_set(rules.has_echo)
             && (!block.is_empty()
-                && (begin_with(octets, block) && !(is_info(octets) && self.began_at == IN_TIME)))
+                && (may_begin_with(octets, block)
+                    && begin_with(octets, block)
+                    && !(is_info(octets) && self.began_at == IN_TIME)))
     }
 
     /// Whether an echo is certain.
@@ -136,6 +152,7 @@ impl Progress {
 
     /// Takes a burst that has ended.
     #[tactic(auto, using(crate::proofs::Parts::is_step), unfolding(crate::specs::Wire::hands))]
+    #[inline(always)]
     fn hand(&mut self, rules: &Rules, octets: &[u8], is_echo: bool) -> Next
         ensures { (burst : List ℕ)
             → hands (ruled rules.now) (seen self.old) burst octets.now is_echo
@@ -158,6 +175,7 @@ impl Progress {
 
     /// Takes a burst that has ended, unless it is an echo.
     #[tactic(auto, using(crate::proofs::Parts::is_step), unfolding(crate::specs::Wire::judges))]
+    #[inline(always)]
     fn take(&mut self, rules: &Rules, octets: &[u8], is_echo: bool) -> Next
         ensures { (burst : List ℕ)
             → judges (ruled rules.now) (seen self.old) burst octets.now is_echo
@@ -172,7 +190,7 @@ impl Progress {
 
     /// Judges a burst that has ended.
     #[tactic(auto, using(crate::proofs::Parts::is_step), unfolding(crate::specs::Wire::judged))]
-    #[inline(never)]
+    #[inline(always)]
     fn judge(&mut self, rules: &Rules, framer: &Framer, block: &[u8]) -> Next
         ensures { (burst : List ℕ) → HasHeard framer.now burst
             → judged (ruled rules.now) (seen self.old) burst block.now ≡ step_of (seen self.new) burst result }
@@ -184,6 +202,15 @@ impl Progress {
         self.take(rules, octets, is_echo)
     }
 
+    /// Judges a burst that has ended. The calls in which that is rare share this function.
+    #[inline(never)]
+    fn judge_apart(&mut self, rules: &Rules, framer: &Framer, block: &[u8]) -> Next
+        ensures { (burst : List ℕ) → HasHeard framer.now burst
+            → judged (ruled rules.now) (seen self.old) burst block.now ≡ step_of (seen self.new) burst result }
+    {
+        self.judge(rules, framer, block)
+    }
+
     /// Ends the burst after a silence.
     #[tactic(auto, using(crate::proofs::Parts::is_step), unfolding(crate::specs::Wire::ends))]
     pub(crate) fn end(&mut self, rules: &Rules, framer: &Framer, block: &[u8]) -> Next
@@ -193,36 +220,63 @@ impl Progress {
         if framer.count == 0 {
             self.stop(Next::Quiet)
         } else {
-            self.judge(rules, framer, block)
+            self.judge_apart(rules, framer, block)
         }
+    }
+
+    /// Waits for more of the burst.
+    #[inline(always)]
+    fn wait_more(&mut self, rules: &Rules, framer: &Framer, now: u64) -> Next
+        ensures { (burst : List ℕ) → HasHeard framer.now burst
+            → waits (ruled rules.now) (seen self.old) burst (wait_in (ruled rules.now) (seen self.old) burst) now
+            ≡ step_of (seen self.new) burst result }
+    {
+        let wanted = self.wait_in(rules, framer);
+        self.wait(rules, wanted, now)
     }
 
     /// Waits for more of the burst, unless that is over.
     #[tactic(auto, using(crate::proofs::Parts::is_step), unfolding(crate::specs::Wire::goes_on))]
-    #[inline(never)]
+    #[inline(always)]
     pub(crate) fn go_on(&mut self, rules: &Rules, framer: &Framer, now: u64, block: &[u8]) -> Next
+        ensures { (burst : List ℕ) → HasHeard framer.now burst
+            → goes_on (ruled rules.now) (seen self.old) burst now block.now ≡ step_of (seen self.new) burst result }
+    {
+        if self.is_over(rules, framer) {
+            self.judge_apart(rules, framer, block)
+        } else {
+            self.wait_more(rules, framer, now)
+        }
+    }
+
+    /// Waits for more of the burst, unless that is over. The code that judges it is in place here, since a whole burst
+    /// is over when its octets came.
+    #[tactic(auto, using(crate::proofs::Parts::is_step), unfolding(crate::specs::Wire::goes_on))]
+    #[inline(always)]
+    fn go_on_at_once(&mut self, rules: &Rules, framer: &Framer, now: u64, block: &[u8]) -> Next
         ensures { (burst : List ℕ) → HasHeard framer.now burst
             → goes_on (ruled rules.now) (seen self.old) burst now block.now ≡ step_of (seen self.new) burst result }
     {
         if self.is_over(rules, framer) {
             self.judge(rules, framer, block)
         } else {
-            let wanted = self.wait_in(rules, framer);
-            self.wait(rules, wanted, now)
+            self.wait_more(rules, framer, now)
         }
     }
 
     /// Notes when the burst began, if it hasn't begun yet.
+    #[inline(always)]
     fn note(&mut self, rules: &Rules, framer: &Framer, now: u64)
         ensures { (burst : List ℕ) → HasHeard framer.now burst
             → (seen self.new) ≡ begun (ruled rules.now) (seen self.old) burst now }
     {
         if framer.count == 0 {
-            self.began_at = self.moment(rules, passed(now, self.asked_at, 0));
+            self.began_at = self.moment(rules, now);
         }
     }
 
     /// Notes whether the burst is a whole block.
+    #[inline(always)]
     pub(crate) fn weigh(&mut self, framer: &Framer)
         ensures { (burst : List ℕ) → HasHeard framer.now burst
             → (seen self.new) ≡ weighed (seen self.old) burst }
@@ -232,7 +286,7 @@ impl Progress {
 
     /// Takes octets of the burst.
     #[tactic(auto, using(crate::proofs::Parts::is_step), unfolding(crate::specs::Wire::hears))]
-    #[inline(never)]
+    #[inline(always)]
     pub(crate) fn hear(
         &mut self,
         rules: &Rules,
@@ -250,7 +304,7 @@ impl Progress {
         self.is_spoiled = mark(is_set(self.is_spoiled) || is_garbled);
         framer.feed(octets);
         self.weigh(framer);
-        self.go_on(rules, framer, now, block)
+        self.go_on_at_once(rules, framer, now, block)
     }
 
     /// Waits for the next block, as a card does.
@@ -290,6 +344,14 @@ fn pcb_of(octets: &[u8]) -> u8
         [_, pcb, ..] => *pcb,
         _ => 0,
     }
+}
+
+/// Whether a burst may begin with these octets, by its PCB alone. Most blocks that follow one another have other ones.
+#[tactic(auto, using(crate::proofs::Parts::second_equal))]
+fn may_begin_with(octets: &[u8], first: &[u8]) -> bool
+    ensures { starts_with nat_eq octets.now first.now ≡ true → result ≡ true }
+{
+    first.len() < 2 || pcb_of(octets) == pcb_of(first)
 }
 
 /// Whether a burst is an I-block, if it is a whole block.

@@ -1,7 +1,7 @@
 //! The limits of an exchange, and the waits within them.
 
-ghost use Rattle.std.specs.Prelude.{◌≡◌, List, ℕ};
-ghost use Rattle.session_core.specs.Wire.{ruled, seen, phase_of, moment_with, is_set, gone, left_of, passed, time_of, spends, asking, broken, waits, Step};
+ghost use Rattle.std.specs.Prelude.{◌≡◌, ◌*◌, List, ℕ};
+ghost use Rattle.session_core.specs.Wire.{ruled, seen, phase_of, moment_with, is_set, gone, left_of, passed, time_of, spends, asking, broken, waits, capped, Step};
 
 use crate::event::Next;
 use crate::progress::{FOREVER, NO_SILENCE, Progress, Rules, is_set, mark};
@@ -18,6 +18,21 @@ pub(crate) fn passed(now: u64, began: u64, back: u64) -> u64
     if turned <= HALF { turned } else { back }
 }
 
+/// The greatest number of 32 bits. The product of two such numbers has at most 64 bits.
+const MOST_SHORT: u64 = 4_294_967_295;
+
+/// Returns the product of a time and a number, or the greatest time if that is less. A product that can't have more than
+/// 64 bits takes less time than one that can.
+pub(crate) fn product(one: u64, other: u64) -> u64
+    ensures { result ≡ capped (one * other) }
+{
+    if one <= MOST_SHORT && other <= MOST_SHORT {
+        one * other
+    } else {
+        one.saturating_mul(other)
+    }
+}
+
 impl Rules {
     /// Returns how long so many octets take on the line. It is 0 if the line delivers whole bursts.
     pub(crate) fn time_of(&self, count: usize) -> u64
@@ -26,7 +41,7 @@ impl Rules {
         if self.after == NO_SILENCE {
             0
         } else {
-            (count as u64).saturating_mul(self.octet)
+            product(count as u64, self.octet)
         }
     }
 }
@@ -44,7 +59,7 @@ impl Progress {
     }
 
     /// Returns how much of it is left.
-    #[inline(never)]
+    #[inline(always)]
     pub(crate) fn left(&self, rules: &Rules, now: u64) -> u64
         ensures { result ≡ left_of (ruled rules.now) (seen self.now) now }
     {

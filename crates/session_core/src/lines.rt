@@ -1,8 +1,8 @@
 //! The line of one end in one struct, and what it does next as plain numbers, for callers in C.
 
-ghost use Rattle.std.specs.Prelude.{◌≡◌, List, [], ℕ};
+ghost use Rattle.std.specs.Prelude.{◌≡◌, ◌<◌, ◌&&◌, Bool, false, not, nat_eq, List, [], ℕ, length};
 ghost use Rattle.line_core.specs.Bursts.{HasHeard};
-ghost use Rattle.session_core.specs.Wire.{ruled, seen, fresh, begins, clears, talks, serves, forever, handed_over, IsStep, step_of};
+ghost use Rattle.session_core.specs.Wire.{ruled, seen, fresh, begins, clears, talks, serves, on_sent, on_came, on_silent, on_failed, forever, last_look, handed_over, IsStep, step_of};
 ghost use Rattle.session_core.specs.Lines.{first_of, told_next, stepped, held_over, started, IsTold, GoesTo};
 
 use crate::event::Next;
@@ -186,22 +186,137 @@ impl Line {
     }
 
     /// Takes what happened on the line, by its number.
+    #[inline(always)]
     pub fn happen(&mut self, event: u8, octets: &[u8], now: u64, block: &[u8]) -> Next
         ensures { (burst : List ℕ) → HasHeard self.old.framer burst
             → GoesTo (stepped event (ruled self.old.rules) (seen self.old.progress) burst octets.now now
             block.now) self.old.rules self.new result }
     {
-        let framer = &mut self.framer;
-        let next = stepped(
-            &mut self.progress,
+        let next = self.stepped(event, octets, now, block);
+        self.hand(next)
+    }
+
+    /// Takes an event by its number.
+    #[tactic(auto, using(crate::proofs::Parts::is_step))]
+    #[inline(always)]
+    fn stepped(&mut self, event: u8, octets: &[u8], now: u64, block: &[u8]) -> Next
+        ensures rules { self.new.rules ≡ self.old.rules }
+        ensures step { (burst : List ℕ) → HasHeard self.old.framer burst
+            → IsStep (stepped event (ruled self.old.rules) (seen self.old.progress) burst octets.now now block.now)
+            (seen self.new.progress) self.new.framer result }
+    {
+        match event {
+            0 => self.sent(now, block),
+            1 => self.hears(octets, false, now, block),
+            2 => self.hears(octets, true, now, block),
+            3 => self.silent(now, block),
+            4 => self.failed(),
+            _ => Next::Order,
+        }
+    }
+
+    /// Says that the block was sent.
+    #[tactic(auto, using(crate::proofs::Parts::is_step))]
+    #[inline(never)]
+    fn sent(&mut self, now: u64, block: &[u8]) -> Next
+        ensures rules { self.new.rules ≡ self.old.rules }
+        ensures step { (burst : List ℕ) → HasHeard self.old.framer burst
+            → IsStep (on_sent (ruled self.old.rules) (seen self.old.progress) burst now block.now)
+            (seen self.new.progress) self.new.framer result }
+    {
+        self.progress.on_sent(&self.rules, &self.framer, now, block)
+    }
+
+    /// Says that octets came, or that a wait was interrupted.
+    #[inline(always)]
+    fn hears(&mut self, octets: &[u8], is_garbled: bool, now: u64, block: &[u8]) -> Next
+        ensures rules { self.new.rules ≡ self.old.rules }
+        ensures step { (burst : List ℕ) → HasHeard self.old.framer burst
+            → IsStep (on_came (ruled self.old.rules) (seen self.old.progress) burst octets.now is_garbled now
+            block.now) (seen self.new.progress) self.new.framer result }
+    {
+        if octets.is_empty() {
+            self.hears_none(now, block)
+        } else {
+            self.came(octets, is_garbled, now, block)
+        }
+    }
+
+    /// Says that a wait was interrupted. If the end only looked at what was there already, that is a silence.
+    #[inline(always)]
+    fn hears_none(&mut self, now: u64, block: &[u8]) -> Next
+        ensures rules { self.new.rules ≡ self.old.rules }
+        ensures step { (burst : List ℕ) → HasHeard self.old.framer burst → (is_garbled : Bool)
+            → IsStep (on_came (ruled self.old.rules) (seen self.old.progress) burst [] is_garbled now block.now)
+            (seen self.new.progress) self.new.framer result }
+    {
+        if self.progress.is_last_look() {
+            self.silent(now, block)
+        } else {
+            self.interrupted(now)
+        }
+    }
+
+    /// Says that a wait was interrupted that may go on.
+    #[tactic(auto, using(crate::proofs::Parts::is_step))]
+    #[inline(never)]
+    fn interrupted(&mut self, now: u64) -> Next
+        requires early { (not (nat_eq self.old.progress.asked forever) && nat_eq
+            self.old.progress.interrupts last_look)
+            ≡ false }
+        ensures rules { self.new.rules ≡ self.old.rules }
+        ensures step { (burst : List ℕ) → HasHeard self.old.framer burst
+            → (is_garbled : Bool) (block : List ℕ)
+            → IsStep (on_came (ruled self.old.rules) (seen self.old.progress) burst [] is_garbled now block)
+            (seen self.new.progress) self.new.framer result }
+    {
+        self.progress
+            .on_early_interrupt(&self.rules, &self.framer, now)
+    }
+
+    /// Says that octets came, one or more.
+    #[tactic(auto, using(crate::proofs::Parts::is_step))]
+    #[inline(never)]
+    fn came(&mut self, octets: &[u8], is_garbled: bool, now: u64, block: &[u8]) -> Next
+        requires some { 0 < length octets.now }
+        ensures rules { self.new.rules ≡ self.old.rules }
+        ensures step { (burst : List ℕ) → HasHeard self.old.framer burst
+            → IsStep (on_came (ruled self.old.rules) (seen self.old.progress) burst octets.now is_garbled now
+            block.now) (seen self.new.progress) self.new.framer result }
+    {
+        self.progress.on_octets(
             &self.rules,
-            framer,
-            event,
+            &mut self.framer,
             octets,
+            is_garbled,
             now,
             block,
-        );
-        self.hand(next)
+        )
+    }
+
+    /// Says that nothing came within the silence that was asked for.
+    #[tactic(auto, using(crate::proofs::Parts::is_step))]
+    #[inline(never)]
+    fn silent(&mut self, now: u64, block: &[u8]) -> Next
+        ensures rules { self.new.rules ≡ self.old.rules }
+        ensures step { (burst : List ℕ) → HasHeard self.old.framer burst
+            → IsStep (on_silent (ruled self.old.rules) (seen self.old.progress) burst now block.now)
+            (seen self.new.progress) self.new.framer result }
+    {
+        self.progress
+            .on_silent(&self.rules, &mut self.framer, now, block)
+    }
+
+    /// Says that the line failed.
+    #[tactic(auto, using(crate::proofs::Parts::is_step))]
+    #[inline(never)]
+    fn failed(&mut self) -> Next
+        ensures rules { self.new.rules ≡ self.old.rules }
+        ensures step { (burst : List ℕ) → HasHeard self.old.framer burst
+            → IsStep (on_failed (ruled self.old.rules) (seen self.old.progress) burst)
+            (seen self.new.progress) self.new.framer result }
+    {
+        self.progress.on_failed(&self.rules, &self.framer)
     }
 
     /// Returns what the end does next. If it may not take its burst, a damaged block is in place of that.
@@ -234,31 +349,5 @@ fn replace(framer: &mut Framer, is_spoiled: bool)
         let damaged = DAMAGED;
         framer.restart();
         framer.feed(&damaged);
-    }
-}
-
-/// Takes an event by its number.
-#[tactic(auto, using(crate::proofs::Parts::is_step))]
-fn stepped(
-    progress: &mut Progress,
-    rules: &Rules,
-    framer: &mut Framer,
-    event: u8,
-    octets: &[u8],
-    now: u64,
-    block: &[u8],
-) -> Next
-    ensures { (burst : List ℕ) → HasHeard framer.old burst
-        → IsStep (stepped event (ruled rules.now) (seen progress.old) burst octets.now now block.now) (seen
-        progress.new)
-        framer.new result }
-{
-    match event {
-        0 => progress.on_sent(rules, framer, now, block),
-        1 => progress.on_came(rules, framer, octets, false, now, block),
-        2 => progress.on_came(rules, framer, octets, true, now, block),
-        3 => progress.on_silent(rules, framer, now, block),
-        4 => progress.on_failed(rules, framer),
-        _ => Next::Order,
     }
 }

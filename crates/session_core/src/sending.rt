@@ -6,7 +6,7 @@ ghost use Rattle.line_core.specs.Bursts.{HasHeard};
 ghost use Rattle.session_core.specs.Wire.{ruled, seen, phase_of, moment_with, is_set, Step, step_of, IsStep, silence_in, dropping, drops, dropped, cleared, stops, says, settles, talks, begins, clears, misses, takes, echo_wait, took, timed, is_used_up, sent, sent_in, follows, unechoed, met, hears_echo, echoed, agrees, unheard};
 
 use crate::event::Next;
-use crate::limits::passed;
+use crate::limits::{passed, product};
 use crate::progress::{
     CLEARING, ECHOING, FOREVER, IDLE, LATE, LISTENING, MISSING, Progress, Rules, SENDING, SETTLING,
     UNKNOWN, UNSET, is_set, mark,
@@ -40,7 +40,7 @@ impl Progress {
 
     /// Waits for the silence.
     #[tactic(auto, using(crate::proofs::Parts::is_step), unfolding(crate::specs::Wire::dropping))]
-    #[inline(never)]
+    #[inline(always)]
     fn wait_silent(&mut self, rules: &Rules, now: u64) -> Next
         ensures { (burst : List ℕ) → dropping (ruled rules.now) (seen self.old) burst now
             ≡ step_of (seen self.new) burst result }
@@ -64,6 +64,7 @@ impl Progress {
 
     /// Drops octets that came.
     #[tactic(auto, using(crate::proofs::Parts::is_step), unfolding(crate::specs::Wire::dropped))]
+    #[inline(never)]
     pub(crate) fn dropped(&mut self, rules: &Rules, count: usize, now: u64) -> Next
         ensures { (burst : List ℕ) → dropped (ruled rules.now) (seen self.old) burst count now
             ≡ step_of (seen self.new) burst result }
@@ -87,7 +88,7 @@ impl Progress {
 
     /// Says that another block met the end's own.
     #[tactic(auto, using(crate::proofs::Parts::is_step), unfolding(crate::specs::Wire::misses))]
-    #[inline(never)]
+    #[inline(always)]
     pub(crate) fn miss(&mut self, rules: &Rules, now: u64) -> Next
         ensures { (burst : List ℕ) → misses (ruled rules.now) (seen self.old) burst now
             ≡ step_of (seen self.new) burst result }
@@ -143,7 +144,7 @@ impl Progress {
 
     /// Sends the block, once the line is silent.
     #[tactic(auto, using(crate::proofs::Parts::is_step), unfolding(crate::specs::Wire::settles))]
-    #[inline(never)]
+    #[inline(always)]
     fn settle(&mut self, rules: &Rules, framer: &mut Framer, now: u64) -> Next
         ensures { (burst : List ℕ) → HasHeard framer.old burst
             → IsStep (settles (ruled rules.now) (seen self.old) burst now) (seen self.new) framer.new result }
@@ -194,7 +195,7 @@ impl Progress {
 
     /// Says that the block was sent.
     #[tactic(auto, using(crate::proofs::Parts::is_step), unfolding(crate::specs::Wire::sent))]
-    #[inline(never)]
+    #[inline(always)]
     pub(crate) fn sent(&mut self, rules: &Rules, framer: &Framer, now: u64, block: &[u8]) -> Next
         ensures { (burst : List ℕ) → HasHeard framer.now burst
             → sent (ruled rules.now) (seen self.old) burst now block.now ≡ step_of (seen self.new) burst result }
@@ -207,6 +208,7 @@ impl Progress {
 
     /// Reads the echo of the block, or the burst that comes.
     #[tactic(auto, using(crate::proofs::Parts::is_step), unfolding(crate::specs::Wire::sent_in))]
+    #[inline(always)]
     fn sent_in(&mut self, rules: &Rules, framer: &Framer, now: u64, block: &[u8]) -> Next
         ensures { (burst : List ℕ) → HasHeard framer.now burst
             → sent_in (ruled rules.now) (seen self.old) burst now block.now ≡ step_of (seen self.new) burst result }
@@ -280,6 +282,7 @@ impl Progress {
 
     /// Takes octets after the echo, the first ones of the next burst.
     #[tactic(auto, using(crate::proofs::Parts::is_step), unfolding(crate::specs::Wire::follows))]
+    #[inline(never)]
     fn follow(
         &mut self,
         rules: &Rules,
@@ -315,6 +318,7 @@ impl Progress {
 
     /// Takes octets that came in place of the echo, or as it.
     #[tactic(auto, using(crate::proofs::Parts::is_step), unfolding(crate::specs::Wire::met))]
+    #[inline(never)]
     pub(crate) fn meet(
         &mut self,
         rules: &Rules,
@@ -369,7 +373,7 @@ impl Rules {
     fn takes(&self, block: &[u8]) -> u64
         ensures { result ≡ takes (ruled self.now) block.now }
     {
-        (block.len() as u64).saturating_mul(self.octet)
+        product(block.len() as u64, self.octet)
     }
 
     /// Returns the wait for each part of the echo of a block.

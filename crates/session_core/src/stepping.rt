@@ -1,8 +1,8 @@
 //! The steps of an end on its line.
 
-ghost use Rattle.std.specs.Prelude.{◌≡◌, ◌∷◌, List, ℕ, length};
+ghost use Rattle.std.specs.Prelude.{◌≡◌, ◌<◌, ◌&&◌, ◌∷◌, [], Bool, false, not, nat_eq, List, ℕ, length};
 ghost use Rattle.line_core.specs.Bursts.{HasHeard};
-ghost use Rattle.session_core.specs.Wire.{ruled, seen, phase_of, moment_with, is_set, Step, step_of, IsStep, is_waiting, is_idle, is_sending, left_in, used_up, silent_in, came_in, silent, failed, interrupted, came, takes_in, has_none_left, is_past, counts_interrupt, missed, on_sent, on_came, on_silent, on_failed, step, spends, time_of};
+ghost use Rattle.session_core.specs.Wire.{ruled, seen, phase_of, moment_with, is_set, Step, step_of, IsStep, is_waiting, is_idle, is_sending, left_in, used_up, silent_in, came_in, silent, failed, interrupted, came, takes_in, has_none_left, is_past, counts_interrupt, missed, on_sent, on_came, on_silent, on_failed, step, spends, time_of, forever, last_look};
 
 use crate::event::{Event, Next};
 use crate::limits::passed;
@@ -23,10 +23,12 @@ impl Progress {
     fn is_waiting(&self) -> bool
         ensures { result ≡ is_waiting (phase_of self.now.phase) }
     {
-        match self.phase {
-            LATE | CLEARING | SETTLING | ECHOING | LISTENING | MISSING => true,
-            _ => false,
-        }
+        // the phase that is most common comes first
+        self.phase == LISTENING
+            || match self.phase {
+                LATE | CLEARING | SETTLING | ECHOING | MISSING => true,
+                _ => false,
+            }
     }
 
     /// Whether it sends its block.
@@ -76,6 +78,7 @@ impl Progress {
 
     /// Says that the block was sent.
     #[tactic(auto, using(crate::proofs::Parts::is_step), unfolding(crate::specs::Wire::on_sent))]
+    #[inline(always)]
     pub(crate) fn on_sent(&mut self, rules: &Rules, framer: &Framer, now: u64, block: &[u8]) -> Next
         ensures { (burst : List ℕ) → HasHeard framer.now burst
             → on_sent (ruled rules.now) (seen self.old) burst now block.now ≡ step_of (seen self.new) burst result }
@@ -88,8 +91,7 @@ impl Progress {
     }
 
     /// Says that octets came, or that a wait was interrupted.
-    #[tactic(auto, using(crate::proofs::Parts::is_step), unfolding(crate::specs::Wire::on_came))]
-    pub(crate) fn on_came(
+    fn on_came(
         &mut self,
         rules: &Rules,
         framer: &mut Framer,
@@ -98,6 +100,70 @@ impl Progress {
         now: u64,
         block: &[u8],
     ) -> Next
+        ensures { (burst : List ℕ) → HasHeard framer.old burst
+            → IsStep (on_came (ruled rules.now) (seen self.old) burst octets.now is_garbled now block.now) (seen
+            self.new)
+            framer.new result }
+    {
+        if octets.is_empty() {
+            self.on_interrupt(rules, framer, now, block)
+        } else {
+            self.on_octets(rules, framer, octets, is_garbled, now, block)
+        }
+    }
+
+    /// Says that a wait was interrupted.
+    fn on_interrupt(&mut self, rules: &Rules, framer: &mut Framer, now: u64, block: &[u8]) -> Next
+        ensures { (burst : List ℕ) → HasHeard framer.old burst → (is_garbled : Bool)
+            → IsStep (on_came (ruled rules.now) (seen self.old) burst [] is_garbled now block.now) (seen self.new)
+            framer.new result }
+    {
+        if self.is_last_look() {
+            self.on_silent(rules, framer, now, block)
+        } else {
+            self.on_early_interrupt(rules, framer, now)
+        }
+    }
+
+    /// Whether the end only looks at what is there already: its wait was over. An interrupt then ends the wait.
+    pub(crate) fn is_last_look(&self) -> bool
+        ensures { result ≡ (not (nat_eq self.now.asked forever) && nat_eq self.now.interrupts
+            last_look) }
+    {
+        self.asked != FOREVER && self.interrupts == LAST_LOOK
+    }
+
+    /// Says that a wait was interrupted that may go on.
+    #[tactic(auto, unfolding(crate::specs::Wire::on_came, crate::specs::Wire::came))]
+    #[inline(always)]
+    pub(crate) fn on_early_interrupt(&mut self, rules: &Rules, framer: &Framer, now: u64) -> Next
+        requires early { (not (nat_eq self.old.asked forever) && nat_eq self.old.interrupts
+            last_look) ≡ false }
+        ensures { (burst : List ℕ) → HasHeard framer.now burst
+            → (is_garbled : Bool) (block : List ℕ)
+            → on_came (ruled rules.now) (seen self.old) burst [] is_garbled now block
+            ≡ step_of (seen self.new) burst result }
+    {
+        if self.is_waiting() {
+            self.interrupted(rules, framer, now)
+        } else {
+            Next::Order
+        }
+    }
+
+    /// Says that octets came, one or more.
+    #[tactic(auto, using(crate::proofs::Parts::is_step), unfolding(crate::specs::Wire::on_came))]
+    #[inline(always)]
+    pub(crate) fn on_octets(
+        &mut self,
+        rules: &Rules,
+        framer: &mut Framer,
+        octets: &[u8],
+        is_garbled: bool,
+        now: u64,
+        block: &[u8],
+    ) -> Next
+        requires some { 0 < length octets.now }
         ensures { (burst : List ℕ) → HasHeard framer.old burst
             → IsStep (on_came (ruled rules.now) (seen self.old) burst octets.now is_garbled now block.now) (seen
             self.new)
@@ -112,6 +178,7 @@ impl Progress {
 
     /// Says that nothing came within the silence that was asked for.
     #[tactic(auto, using(crate::proofs::Parts::is_step), unfolding(crate::specs::Wire::on_silent))]
+    #[inline(always)]
     pub(crate) fn on_silent(
         &mut self,
         rules: &Rules,
@@ -143,8 +210,9 @@ impl Progress {
         }
     }
 
-    /// Takes octets that came, or an interrupt.
+    /// Takes octets that came.
     #[tactic(auto, using(crate::proofs::Parts::is_step), unfolding(crate::specs::Wire::came))]
+    #[inline(always)]
     fn came(
         &mut self,
         rules: &Rules,
@@ -154,13 +222,11 @@ impl Progress {
         now: u64,
         block: &[u8],
     ) -> Next
+        requires some { 0 < length octets.now }
         ensures { (burst : List ℕ) → HasHeard framer.old burst
             → IsStep (came (ruled rules.now) (seen self.old) burst octets.now is_garbled now block.now) (seen self.new)
             framer.new result }
     {
-        if octets.is_empty() {
-            return self.interrupted(rules, framer, now, block);
-        }
         let time = rules.time_of(octets.len());
         self.spend(time);
         self.take_in(rules, framer, octets, is_garbled, now, block)
@@ -168,7 +234,7 @@ impl Progress {
 
     /// Takes octets that came, unless they came too late.
     #[tactic(auto, using(crate::proofs::Parts::is_step), unfolding(crate::specs::Wire::takes_in))]
-    #[inline(never)]
+    #[inline(always)]
     fn take_in(
         &mut self,
         rules: &Rules,
@@ -199,6 +265,7 @@ impl Progress {
 
     /// Takes octets that came in time.
     #[tactic(auto, using(crate::proofs::Parts::is_step), unfolding(crate::specs::Wire::came_in))]
+    #[inline(always)]
     fn came_in(
         &mut self,
         rules: &Rules,
@@ -213,18 +280,42 @@ impl Progress {
             now block.now)
             (seen self.new) framer.new result }
     {
+        if self.phase == LISTENING {
+            self.hear(rules, framer, octets, is_garbled, now, block)
+        } else {
+            self.came_unheard(rules, framer, octets, is_garbled, now, block)
+        }
+    }
+
+    /// Takes octets that came in time, which don't belong to a burst that the end takes.
+    #[tactic(auto, using(crate::proofs::Parts::is_step), unfolding(crate::specs::Wire::came_in))]
+    #[inline(never)]
+    fn came_unheard(
+        &mut self,
+        rules: &Rules,
+        framer: &mut Framer,
+        octets: &[u8],
+        is_garbled: bool,
+        now: u64,
+        block: &[u8],
+    ) -> Next
+        requires other { nat_eq self.old.phase 6 ≡ false }
+        ensures { (burst : List ℕ) → HasHeard framer.old burst
+            → IsStep (came_in (phase_of self.old.phase) (ruled rules.now) (seen self.old) burst octets.now is_garbled
+            now block.now)
+            (seen self.new) framer.new result }
+    {
         match self.phase {
             LATE => self.drop_octets(rules, CLEARING, now),
             CLEARING | SETTLING | MISSING => { self.dropped(rules, octets.len(), now) }
             ECHOING => self.meet(rules, framer, octets, is_garbled, now, block),
-            LISTENING => self.hear(rules, framer, octets, is_garbled, now, block),
             _ => Next::Order,
         }
     }
 
     /// Says that nothing came within the silence that was asked for.
     #[tactic(auto, using(crate::proofs::Parts::is_step), unfolding(crate::specs::Wire::silent))]
-    #[inline(never)]
+    #[inline(always)]
     fn silent(&mut self, rules: &Rules, framer: &mut Framer, now: u64, block: &[u8]) -> Next
         ensures { (burst : List ℕ) → HasHeard framer.old burst
             → IsStep (silent (ruled rules.now) (seen self.old) burst now block.now) (seen self.new) framer.new result }
@@ -278,19 +369,17 @@ impl Progress {
         }
     }
 
-    /// Takes an interrupt of a wait.
+    /// Takes an interrupt of a wait that may go on.
     #[tactic(auto, using(crate::proofs::Parts::is_step), unfolding(crate::specs::Wire::interrupted))]
-    #[inline(never)]
-    fn interrupted(&mut self, rules: &Rules, framer: &mut Framer, now: u64, block: &[u8]) -> Next
-        ensures { (burst : List ℕ) → HasHeard framer.old burst
-            → IsStep (interrupted (ruled rules.now) (seen self.old) burst now block.now) (seen self.new) framer.new
-            result }
+    #[inline(always)]
+    fn interrupted(&mut self, rules: &Rules, framer: &Framer, now: u64) -> Next
+        requires early { (not (nat_eq self.old.asked forever) && nat_eq self.old.interrupts
+            last_look) ≡ false }
+        ensures { (burst : List ℕ) → HasHeard framer.now burst → (block : List ℕ)
+            → interrupted (ruled rules.now) (seen self.old) burst now block ≡ step_of (seen self.new) burst result }
     {
         if self.asked == FOREVER {
             return Next::Wait(FOREVER);
-        }
-        if self.interrupts == LAST_LOOK {
-            return self.silent(rules, framer, now, block);
         }
         if self.is_past(rules, now) {
             self.interrupts = LAST_LOOK;

@@ -19,6 +19,7 @@ ghost use Rattle.session_core.specs.Terminals.{IsTurned, IsSent, TurnsTo, IsStep
 
 use crate::action::{Action, own_block};
 use crate::event::Next;
+use crate::limits::product;
 use crate::lines::{Line, Start};
 use crate::setup::Limits;
 use t1_core::{EncodedTerminalTurn, LentTerminal, TerminalFault, TerminalWait};
@@ -42,13 +43,13 @@ impl Line {
     {
         self.rules.most_time = limits.time;
         self.rules.most_blocks = limits.blocks;
-        let first = self.rules.bwt.saturating_mul(u64::from(waiting));
+        let first = product(self.rules.bwt, u64::from(waiting));
         let next = self.start(start, first, now);
         Action::of(next, count)
     }
 
     /// Does what a terminal's turn says. The answer has so many octets.
-    #[inline(never)]
+    #[inline(always)]
     fn turn(
         &mut self,
         own: &mut usize,
@@ -72,6 +73,24 @@ impl Line {
             EncodedTerminalTurn::GivenUp => Action::GivenUp,
             EncodedTerminalTurn::Dead => Action::Dead,
         }
+    }
+
+    /// Does what a terminal's turn says. The calls in which that is rare share this function.
+    #[inline(never)]
+    fn turn_apart(
+        &mut self,
+        own: &mut usize,
+        start: Start,
+        limits: Limits,
+        turn: EncodedTerminalTurn,
+        answer: usize,
+        now: u64,
+    ) -> Action
+        ensures { (burst : List ℕ) → HasHeard self.old.framer burst
+            → IsTurned turn answer start limits self.old.rules (seen self.old.progress) burst now self.new own.old
+            own.new result }
+    {
+        self.turn(own, start, limits, turn, answer, now)
     }
 }
 
@@ -111,7 +130,7 @@ pub fn exchange(
         × (own.new ≡ own.old)) }
 {
     let turn = end.transmit_into(command, answer, octets, out)?;
-    Ok(line.turn(
+    Ok(line.turn_apart(
         own,
         Start::Exchange,
         limits,
@@ -144,7 +163,7 @@ pub fn ask_ifs(
         (λ _. (end.new ≡ end.old) × (line.new ≡ line.old) × (own.new ≡ own.old)) }
 {
     let turn = end.ask_ifs_into(command, answer, size, out)?;
-    Ok(line.turn(
+    Ok(line.turn_apart(
         own,
         Start::Exchange,
         limits,
@@ -175,7 +194,7 @@ pub fn resynch(
 {
     end.wait = TerminalWait::Resynch(0);
     let turn = end.quiet_into(command, answer, out)?;
-    Ok(line.turn(
+    Ok(line.turn_apart(
         own,
         Start::Clear,
         Limits::NONE,
@@ -280,5 +299,5 @@ fn unheard(
 {
     let turn = end.quiet_into(command, answer, out)?;
     let limits = line.limits();
-    Ok(line.turn(own, Start::Talk, limits, turn, answer_len(end, answer), now))
+    Ok(line.turn_apart(own, Start::Talk, limits, turn, answer_len(end, answer), now))
 }

@@ -10,7 +10,7 @@ use Rattle.c_lent.proofs.session.session_proceed.Goals as goal
 pub returns : goal.returns
 returns c = λ t is step rules g.
     let p = c.in-Some.end in
-    let spells : terminal_of c.args.session.now.terminal ≡ Some p = sym c.in-Some.ensures in
+    let spells : terminal_of c.args.session.now.terminal ≡ Some p = sym c.in-Some.ensures.terminal in
     subst (λ (s : TerminalState). Proceeds s step rules c.args.now
     (lent c.args.session.now c.args.command.now c.args.answer.now)
     (lent (record {

@@ -10,8 +10,8 @@ returns-clause-turn c = λ burst h.
     turns-ok (terminal_held c.args.end.now c.args.command.now c.args.answer.now) (ask_ifs c.args.size) Exchange
     c.args.limits
     c.args.line.now.rules (seen c.args.line.now.progress) burst c.args.now
-    (terminal_held c.ask_ifs_into.new.self c.args.command.now c.args.answer.now) c.turn.new.self
-    c.args.own.now c.turn.new.own c.args.out.now c.ask_ifs_into.new.out c.in_ok-turn.turn c.answer_len.result
-    c.turn.result
+    (terminal_held c.ask_ifs_into.new.self c.args.command.now c.args.answer.now) c.turn_apart.new.self
+    c.args.own.now c.turn_apart.new.own c.args.out.now c.ask_ifs_into.new.out c.in_ok-turn.turn c.answer_len.result
+    c.turn_apart.result
     c.in_ok-turn.ensures.turn c.in_ok-turn.ensures.state
-    (c.answer_len.ensures c.args.command.now) (c.turn.ensures burst h)
+    (c.answer_len.ensures c.args.command.now) (c.turn_apart.ensures burst h)

@@ -1,7 +1,5 @@
-use Rattle.session_core.specs.Wire.{ruled}
-use Rattle.session_core.specs.Wire.{seen}
 use Rattle.std.proofs.Common.{◌∙◌, sym}
-use Rattle.session_core.specs.Wire.{goes_on, is_over, judged, waits, wait_in}
+use Rattle.session_core.specs.Wire.{ruled, seen, goes_on, is_over, judged, waits, wait_in}
 use Rattle.session_core.proofs.Parts.{no}
 use Rattle.session_core.proofs.progress.Progress.go_on.Goals as goal
 
@@ -12,5 +10,4 @@ returns-else-is_over c = λ burst h.
     (judged (ruled c.args.rules.now) (seen c.args.self.now) burst c.args.block.now)
     (waits (ruled c.args.rules.now) (seen c.args.self.now) burst
     (wait_in (ruled c.args.rules.now) (seen c.args.self.now) burst) c.args.now)
-    (sym (c.is_over.ensures burst h) ∙ c.if-is_over.false)
-    ∙ rw (c.wait_in-wanted.ensures burst h) at (c.wait.ensures burst)
+    (sym (c.is_over.ensures burst h) ∙ c.if-is_over.false) ∙ c.wait_more.ensures burst h
