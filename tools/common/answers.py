@@ -32,7 +32,6 @@ LINES = {
     "entries": ("entries {count}", "{tag} {length}"),
     "exchanges": ("", EXCHANGE + " lost {lost} damaged {damaged} time {time|none}"),
     "lines": ("", ""),
-    "other": ("", ""),
 }
 # the forms of lines that have an object of their own, by a member that only such an object has
 INNER = {

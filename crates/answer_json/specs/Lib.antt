@@ -1,5 +1,3 @@
-pub mod Words
 pub mod Strings
-pub mod Forms
-pub mod Answers
 pub mod Notes
+pub mod Refusals

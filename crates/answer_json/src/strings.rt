@@ -1,9 +1,9 @@
 //! Lines as an array of strings.
 
-ghost use Rattle.std.specs.Prelude.{◌≡◌, IfOk, OnOk, string_bytes};
-ghost use Rattle.answer_json.specs.Strings.{json_string, line_string, line_strings, with_string};
+ghost use Rattle.std.specs.Prelude.{◌≡◌, ◌==◌, ◌∷◌, ◌<◌, length, string_bytes, IfOk, IfSome, OnOk};
+ghost use Rattle.std.specs.List.{position_from, slice_split};
+ghost use Rattle.answer_json.specs.Strings.{after_mark, characters, json_string, lent, line_string, line_strings, parted, with_string};
 
-use crate::words::{characters, parted};
 use layouts::push_separator;
 use serde_json::Value;
 use std::alloc::{AllocError, Global};
@@ -51,4 +51,38 @@ pub(crate) fn line_string(alloc: Global, line: &[u8]) -> Result<String, AllocErr
     ensures { IfOk result (λ item. string_bytes item ≡ line_string line.now) }
 {
     json_string(alloc, characters(alloc, line)?)
+}
+
+/// Returns octets as text: each becomes the character with its number.
+fn characters(alloc: Global, octets: &[u8]) -> Result<String, AllocError>
+    ensures { IfOk result (λ text. string_bytes text ≡ characters octets.now) }
+{
+    let mut text = String::with_capacity(alloc, octets.len())?;
+    let mut rest = octets;
+    while let [x, more @ ..] = rest {
+        text.push(char::from(*x))?;
+        rest = more;
+    }
+    Ok(text)
+}
+
+/// Returns the octets before the first of these marks, and those after it if there is one.
+fn parted(octets: &[u8], mark: u8) -> (&[u8], Option<&[u8]>)
+    ensures parted { (result.0.now, lent result.1) ≡ parted mark octets.now }
+    ensures split { slice_split (λ x. x == mark) octets.now
+        ≡ result.0.now ∷ after_mark mark (lent result.1) }
+    ensures shorter { IfSome result.1 (λ rest. length rest.now < length octets.now) }
+{
+    match place_of(octets, mark) {
+        Some(place) => (&octets[..place], Some(&octets[place + 1..])),
+        None => (octets, None),
+    }
+}
+
+/// Returns the place of the first of these marks.
+fn place_of(octets: &[u8], mark: u8) -> Option<usize>
+    ensures place { result ≡ position_from (λ x. x == mark) 0 octets.now }
+    ensures inside { IfSome result (λ place. place < length octets.now) }
+{
+    octets.iter().position(|&x| x == mark)
 }

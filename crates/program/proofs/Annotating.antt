@@ -6,9 +6,13 @@ use Rattle.program_octets.proofs.NoSign.{no-sign, refusal-ends, value-lines}
 use Rattle.program_octets.specs.Codec.{Codec, IsVerdict, Stops, Takes}
 use Rattle.program_octets.specs.Json.{accepted_members, notes_member, object_head, object_line, with_member, with_notes}
 use Rattle.program_octets.specs.Places.{places_member}
+use Rattle.answer_json.specs.Refusals.{verdict_first}
 use Rattle.program_octets.specs.Rows.{Row, lines_of, notes_of, places_of}
-use Rattle.program_octets.specs.Texts.{refused_text}
+use Rattle.program_octets.specs.Texts.{refused_text, stopped}
 use Rattle.program_octets.specs.Verdicts.{Shows, ShowsWhere, accepted, codec_of, kind_name, refused, shown_in, status_of}
+use Rattle.program_octets.specs.Sayings.{text_of}
+use Rattle.program_octets.specs.declared.said.Said.{Said}
+use Rattle.program_octets.specs.declared.said.Said.TheVariants as saying
 use Rattle.program_octets.specs.declared.status.Status.{Status}
 use Rattle.program_octets.specs.declared.status.Status.TheVariants as status
 use Rattle.program.specs.Answers.{of_refusal, of_value, ShowsNoted, ShowsNotedObject}
@@ -44,19 +48,21 @@ module _ (expected : Expected) (b text : List ℕ) (ended : Status) where
   of-value : (v : (codec_of expected.kind expected).Value) (n : ℕ)
       → Takes (codec_of expected.kind expected).codec b v n
       → text ≡ lines_of true ((codec_of expected.kind expected).codec.rows v n) → ended ≡ status.Accepted
-      → ShowsNoted expected.kind expected b text ended
+      → ShowsNoted expected.kind expected b (saying.Text text) ended
   of-value v n h is e =
-      let plain : List ℕ = lines_of false ((codec_of expected.kind expected).codec.rows v n) in
-      let shown : Shows Lines expected.kind expected b plain ended = accepted v n h refl e in
-      let noted : IsNoted plain text =
-      subst (λ (l : List ℕ). IsNoted plain l) (sym is) (value-lines expected.kind expected v n) in
+      let lines : List ℕ = lines_of false ((codec_of expected.kind expected).codec.rows v n) in
+      let shown : Shows Lines expected.kind expected b (saying.Text lines) ended = accepted v n h refl e in
+      let noted : IsNoted lines text =
+      subst (λ (l : List ℕ). IsNoted lines l) (sym is) (value-lines expected.kind expected v n) in
       record {
+        text = text;
+        is_text = refl;
         words = [];
         has_notes = accepted v n h is e;
-        plain = plain;
+        plain = saying.Text lines;
         is_shown = shown;
         is_noted = noted;
-        is_cut = cut-noted plain text (no-sign expected.kind expected b plain ended shown) noted;
+        is_cut = cut-noted lines text (no-sign expected.kind expected b (saying.Text lines) ended shown) noted;
         unnoted = λ fault. absurd (let bad : status.Accepted ≡ status.Fault = sym e ∙ fault in cc);
       }
 
@@ -64,49 +70,60 @@ module _ (expected : Expected) (b text : List ℕ) (ended : Status) where
   of-refusal : (stop : Stop (codec_of expected.kind expected).Reason) (words : List ℕ)
       → Stops (codec_of expected.kind expected).codec b stop
       → text ≡ noted_line (refused_text (codec_of expected.kind expected).codec.name stop) words
-      → ended ≡ status.Refused → ShowsNoted expected.kind expected b text ended
+      → ended ≡ status.Refused → ShowsNoted expected.kind expected b (saying.Text text) ended
   of-refusal stop words h is e =
-      let plain : List ℕ = refused_text (codec_of expected.kind expected).codec.name stop in
+      let plain : Said = saying.Refusal (stopped (codec_of expected.kind expected).codec.name stop) in
+      let line : List ℕ = refused_text (codec_of expected.kind expected).codec.name stop in
       let shown : Shows Lines expected.kind expected b plain ended = refused stop h refl e in
       let ends = refusal-ends (codec_of expected.kind expected).codec.name stop in
-      let noted : IsNoted plain text =
-      subst (λ (l : List ℕ). IsNoted plain l) (sym is) (subst (λ (l : List ℕ). IsNoted l (noted_line l words))
+      let noted : IsNoted line text =
+      subst (λ (l : List ℕ). IsNoted line l) (sym is) (subst (λ (l : List ℕ). IsNoted l (noted_line l words))
       (sym ends.1) (words-noted ends.0 words)) in
       record {
+        text = text;
+        is_text = refl;
         words = words;
         has_notes = refused stop h is e;
         plain = plain;
         is_shown = shown;
         is_noted = noted;
-        is_cut = cut-noted plain text (no-sign expected.kind expected b plain ended shown) noted;
+        is_cut = cut-noted line text (no-sign expected.kind expected b plain ended shown) noted;
         unnoted = λ fault. absurd (let bad : status.Refused ≡ status.Fault = sym e ∙ fault in cc);
       }
 
+-- an answer whose text is this
+noted-as : (expected : Expected) (b text : List ℕ) (said : Said) (ended : Status) → said ≡ saying.Text text
+    → ShowsNoted expected.kind expected b (saying.Text text) ended
+    → ShowsNoted expected.kind expected b said ended
+noted-as expected b text said ended is h = subst (λ (s : Said). ShowsNoted expected.kind expected b s ended) (sym is) h
+
 -- what is told where nothing is refused
-pub accepted-noted : (expected : Expected) (b text : List ℕ) (ended : Status) → (ended ≡ status.Refused → ⊥)
-    → ShowsWhere true Lines expected.kind expected b text ended → ShowsNoted expected.kind expected b text ended
-accepted-noted expected b text ended other (accepted v n h is e) = of-value expected b text ended v n h is e
-accepted-noted expected b text ended other (refused stop h is e) = absurd (other e)
+pub accepted-noted : (expected : Expected) (b : List ℕ) (said : Said) (ended : Status) → (ended ≡ status.Refused → ⊥)
+    → ShowsWhere true Lines expected.kind expected b said ended → ShowsNoted expected.kind expected b said ended
+accepted-noted expected b said ended other (accepted v n h is e) =
+    let lines : List ℕ = lines_of true ((codec_of expected.kind expected).codec.rows v n) in
+    noted-as expected b lines said ended is (of-value expected b lines ended v n h refl e)
+accepted-noted expected b said ended other (refused stop h is e) = absurd (other e)
 
 -- a refusal to whose line words are added
-pub refused-noted : (expected : Expected) (b plain lent text words : List ℕ) (ended : Status) → ended ≡ status.Refused
-    → ShowsWhere true Lines expected.kind expected b plain ended → lent ≡ plain → text ≡ noted_line lent words
-    → ShowsNoted expected.kind expected b text status.Refused
+pub refused-noted : (expected : Expected) (b : List ℕ) (plain : Said) (lent text words : List ℕ) (ended : Status)
+    → ended ≡ status.Refused → ShowsWhere true Lines expected.kind expected b plain ended → lent ≡ text_of plain
+    → text ≡ noted_line lent words → ShowsNoted expected.kind expected b (saying.Text text) status.Refused
 refused-noted expected b plain lent text words ended over (accepted v n h is e) lends adds =
     absurd (let bad : status.Accepted ≡ status.Refused = sym e ∙ over in cc)
 refused-noted expected b plain lent text words ended over (refused stop h is e) lends adds =
     of-refusal expected b text status.Refused stop words h
-    (adds ∙ ap (λ (l : List ℕ). noted_line l words) (lends ∙ is)) refl
+    (adds ∙ ap (λ (l : List ℕ). noted_line l words) (lends ∙ ap text_of is)) refl
 
 -- what is told without notes is told with them too
-pub some-noted : (expected : Expected) (b text : List ℕ) (ended : Status)
-    → Shows Lines expected.kind expected b text ended → (t : List ℕ) × ShowsNoted expected.kind expected b t ended
-some-noted expected b text ended (accepted v n h is e) =
+pub some-noted : (expected : Expected) (b : List ℕ) (said : Said) (ended : Status)
+    → Shows Lines expected.kind expected b said ended → (t : Said) × ShowsNoted expected.kind expected b t ended
+some-noted expected b said ended (accepted v n h is e) =
     let noted : List ℕ = lines_of true ((codec_of expected.kind expected).codec.rows v n) in
-    (noted, of-value expected b noted ended v n h refl e)
-some-noted expected b text ended (refused stop h is e) =
+    (saying.Text noted, of-value expected b noted ended v n h refl e)
+some-noted expected b said ended (refused stop h is e) =
     let noted : List ℕ = noted_line (refused_text (codec_of expected.kind expected).codec.name stop) [] in
-    (noted, of-refusal expected b noted ended stop [] h refl e)
+    (saying.Text noted, of-refusal expected b noted ended stop [] h refl e)
 
 -- ---- as an object
 
@@ -131,12 +148,12 @@ value-member about count members places items =
     parts ∙ sym (member-last front (notes_member items))
     ∙ ap (λ (object : List ℕ). with_member object (notes_member items)) (sym whole)
 
-module _ (expected : Expected) (b text : List ℕ) (ended : Status) where
+module _ (expected : Expected) (b : List ℕ) (said : Said) (ended : Status) where
   -- a value with notes
   object-of-value : (v : (codec_of expected.kind expected).Value) (n : ℕ)
       → Takes (codec_of expected.kind expected).codec b v n
-      → text ≡ shown_in true Json expected.kind (codec_of expected.kind expected).codec v n → ended ≡ status.Accepted
-      → ShowsNotedObject expected.kind expected b text ended
+      → said ≡ saying.Object (shown_in true Json expected.kind (codec_of expected.kind expected).codec v n)
+      → ended ≡ status.Accepted → ShowsNotedObject expected.kind expected b said ended
   object-of-value v n h is e =
       let c = (codec_of expected.kind expected).codec in
       let rows : List Row = c.rows v n in
@@ -146,15 +163,15 @@ module _ (expected : Expected) (b text : List ℕ) (ended : Status) where
         rows = rows;
         are_rows = of_value v n h refl e;
         has_notes = of-value expected b (lines_of true rows) ended v n h refl e;
-        is_text = is ∙ value-member (kind_name expected.kind) (accepted_members n) (c.members v)
-            (places_member (places_of rows)) (notes_of rows);
+        is_said = is ∙ ap saying.Object (value-member (kind_name expected.kind) (accepted_members n) (c.members v)
+            (places_member (places_of rows)) (notes_of rows));
       }
 
   -- a refusal with words as a note on its line
-  object-of-refusal : (object line words : List ℕ) → Shows Json expected.kind expected b object ended
+  object-of-refusal : (object line words : List ℕ) → Shows Json expected.kind expected b (saying.Object object) ended
       → IsRefusalLine expected.kind expected b line → ended ≡ status.Refused
-      → text ≡ with_notes object (notes_of (refusal_row line words ∷ []))
-      → ShowsNotedObject expected.kind expected b text ended
+      → said ≡ saying.Object (with_notes object (notes_of (refusal_row line words ∷ [])))
+      → ShowsNotedObject expected.kind expected b said ended
   object-of-refusal object line words shown refusal e is =
       let rows : List Row = refusal_row line words ∷ [] in
       let ends = refusal-ends (codec_of expected.kind expected).codec.name refusal.0 in
@@ -166,46 +183,55 @@ module _ (expected : Expected) (b text : List ℕ) (ended : Status) where
             (ap (λ (l : List ℕ). refusal_row l words ∷ []) refusal.2) e;
         has_notes = of-refusal expected b (lines_of true rows) ended refusal.0 words refusal.1
             (row-line ends.0 line words (refusal.2 ∙ ends.1) ∙ ap (λ (l : List ℕ). noted_line l words) refusal.2) e;
-        is_text = is;
+        is_said = is;
       }
 
+-- the object of a refusal, in which it is said
+abbrev refusal-object : (expected : Expected) → Stop (codec_of expected.kind expected).Reason → List ℕ
+refusal-object expected stop = object_line (kind_name expected.kind)
+    (verdict_first (stopped (codec_of expected.kind expected).codec.name stop))
+
 -- a refusal as an object is the same with notes and without
-refusal-plain : (expected : Expected) (b text : List ℕ) (ended : Status) → ended ≡ status.Refused
-    → ShowsWhere true Json expected.kind expected b text ended → Shows Json expected.kind expected b text ended
-refusal-plain expected b text ended over (accepted v n h is e) =
+refusal-plain : (expected : Expected) (b : List ℕ) (said : Said) (ended : Status) → ended ≡ status.Refused
+    → ShowsWhere true Json expected.kind expected b said ended
+    → Shows Json expected.kind expected b (saying.Object (text_of said)) ended
+refusal-plain expected b said ended over (accepted v n h is e) =
     absurd (let bad : status.Accepted ≡ status.Refused = sym e ∙ over in cc)
-refusal-plain expected b text ended over (refused stop h is e) = refused stop h is e
+refusal-plain expected b said ended over (refused stop h is e) =
+    refused stop h (ap (λ (s : Said). saying.Object (text_of s)) is) e
 
 -- what is told as an object where nothing is refused
-pub accepted-object : (expected : Expected) (b text : List ℕ) (ended : Status) → (ended ≡ status.Refused → ⊥)
-    → ShowsWhere true Json expected.kind expected b text ended
-    → ShowsNotedObject expected.kind expected b text ended
-accepted-object expected b text ended other (accepted v n h is e) = object-of-value expected b text ended v n h is e
-accepted-object expected b text ended other (refused stop h is e) = absurd (other e)
+pub accepted-object : (expected : Expected) (b : List ℕ) (said : Said) (ended : Status) → (ended ≡ status.Refused → ⊥)
+    → ShowsWhere true Json expected.kind expected b said ended
+    → ShowsNotedObject expected.kind expected b said ended
+accepted-object expected b said ended other (accepted v n h is e) = object-of-value expected b said ended v n h is e
+accepted-object expected b said ended other (refused stop h is e) = absurd (other e)
 
 -- a refusal to whose object the notes are added
-pub refused-object : (expected : Expected) (b object line lent text words : List ℕ) (ended : Status)
-    → ended ≡ status.Refused → ShowsWhere true Json expected.kind expected b object ended
-    → IsRefusalLine expected.kind expected b line → lent ≡ notes_of (refusal_row line words ∷ [])
-    → text ≡ with_notes object lent → ShowsNotedObject expected.kind expected b text status.Refused
-refused-object expected b object line lent text words ended over shown refusal lends is =
-    object-of-refusal expected b text status.Refused object line words
-    (subst (λ (e : Status). Shows Json expected.kind expected b object e) over
-    (refusal-plain expected b object ended over shown))
-    refusal refl (is ∙ ap (with_notes object) lends)
+pub refused-object : (expected : Expected) (b : List ℕ) (shown : Said) (object line lent text words : List ℕ)
+    (ended : Status) → ended ≡ status.Refused → ShowsWhere true Json expected.kind expected b shown ended
+    → IsRefusalLine expected.kind expected b line → object ≡ text_of shown
+    → lent ≡ notes_of (refusal_row line words ∷ []) → text ≡ with_notes object lent
+    → ShowsNotedObject expected.kind expected b (saying.Object text) status.Refused
+refused-object expected b shown object line lent text words ended over shows refusal same lends is =
+    object-of-refusal expected b (saying.Object text) status.Refused object line words
+    (rw same (subst (λ (e : Status). Shows Json expected.kind expected b (saying.Object (text_of shown)) e) over
+    (refusal-plain expected b shown ended over shows)))
+    refusal refl (ap saying.Object (is ∙ ap (with_notes object) lends))
 
 -- what is told as an object without notes is told with them too
-pub some-object : (expected : Expected) (b text : List ℕ) (ended : Status)
-    → Shows Json expected.kind expected b text ended → (t : List ℕ)
+pub some-object : (expected : Expected) (b : List ℕ) (said : Said) (ended : Status)
+    → Shows Json expected.kind expected b said ended → (t : Said)
     × ShowsNotedObject expected.kind expected b t ended
-some-object expected b text ended (accepted v n h is e) =
-    let object : List ℕ =
-    shown_in true Json expected.kind (codec_of expected.kind expected).codec v n in
+some-object expected b said ended (accepted v n h is e) =
+    let object : Said =
+    saying.Object (shown_in true Json expected.kind (codec_of expected.kind expected).codec v n) in
     (object, object-of-value expected b object ended v n h refl e)
-some-object expected b text ended (refused stop h is e) =
+some-object expected b said ended (refused stop h is e) =
     let line : List ℕ = refused_text (codec_of expected.kind expected).codec.name stop in
-    let object : List ℕ = with_notes text (notes_of (refusal_row line [] ∷ [])) in
-    (object, object-of-refusal expected b object ended text line [] (refused stop h is e) (stop, h, refl) e refl)
+    let plain : List ℕ = refusal-object expected stop in
+    let object : Said = saying.Object (with_notes plain (notes_of (refusal_row line [] ∷ []))) in
+    (object, object-of-refusal expected b object ended plain line [] (refused stop h refl e) (stop, h, refl) e refl)
 
 -- the line of a refusal by the verdict of which an answer is one
 pub refusal-by : {V R : Type 0} (c : Codec V R) (b line : List ℕ) (verdict : Result ℕ (Stop R)) (ended : Status)

@@ -1,6 +1,7 @@
 -- How a request's answer becomes that of the words.
 use Rattle.std.proofs.Common.{◌≡◌, ◌⊎◌, inl, inr, ℕ, List, [], Option, Result, Ok, Err, ap, sym, refl, subst}
-use Rattle.program_words.specs.Texts.{fault_text}
+use Rattle.program_octets.specs.Sayings.{faulted}
+use Rattle.program_octets.specs.declared.said.Said.{Said}
 use Rattle.program_words.specs.Given.{octets_given, IsFromReader}
 use Rattle.program_words.specs.declared.given.OctetSource.{OctetSource}
 use Rattle.program_words.specs.Words.{AskFor, AskForFile, AskForOctets, HasOther, IsOnce, IsRead, NeedsFile, NeedsOctets, called_for_version, taken, called_for_help, not_taken}
@@ -25,10 +26,10 @@ abbrev read_as : Fault → Result Request Fault
 read_as fault = Err fault
 
 -- a request that asks for no file is answered without the reader
-pub told-at_once : (request : Request) (held : Option (List ℕ)) (count : ℕ) (text : List ℕ) (ended : Status)
-    → (NeedsFile request → ⊥) → IsAnswerTo request (Ok []) text ended
-    → IsRightTo request (calls held held count count) text ended
-told-at_once request held count text ended free answer =
+pub told-at_once : (request : Request) (held : Option (List ℕ)) (count : ℕ) (said : Said) (ended : Status)
+    → (NeedsFile request → ⊥) → IsAnswerTo request (Ok []) said ended
+    → IsRightTo request (calls held held count count) said ended
+told-at_once request held count said ended free answer =
     inl (record { file = Ok []; is_file = λ needs. absurd (free needs); is_answer = answer })
 
 module _ (Needs : Request → Type 0) (words : List (List ℕ)) where
@@ -75,24 +76,24 @@ IsWith other asked = (asked ≡ other) × NeedsFile asked
 
 module _ (words : List (List ℕ)) (reads : Calls) where
   -- what is right of the request is right of the words that were read as it
-  pub right : (request : Request) (text : List ℕ) (ended : Status) → IsRead words (Ok (Once request))
-      → IsRightTo request reads text ended → IsRight words reads text ended
-  right request text ended read (inl to) = inl (record {
+  pub right : (request : Request) (said : Said) (ended : Status) → IsRead words (Ok (Once request))
+      → IsRightTo request reads said ended → IsRight words reads said ended
+  right request said ended read (inl to) = inl (record {
     file = to.file;
     is_file = λ other ask.
         let is = asks (IsWith other) words request read ask in
         subst (λ (r : Request). ReadsFor r reads to.file) is.0 (to.is_file is.1);
     is_answer = record { read = Ok (Once request); is_read = read; is_answer = to.is_answer };
   })
-  right request text ended read (inr wanting) = inr wanting
+  right request said ended read (inr wanting) = inr wanting
 
 -- the line of the fault of words that were refused, or of memory
 pub refused-words : (words : List (List ℕ)) (held : Option (List ℕ)) (count : ℕ) (fault : Fault)
     → (read_as fault ≡ Err Memory) ⊎ IsRead words (Err fault)
-    → IsRight words (calls held held count count) (fault_text fault) status.Fault
+    → IsRight words (calls held held count count) (faulted fault) status.Fault
 refused-words words held count fault (inl memory) =
     let same : fault ≡ Memory = cc memory in
-    inr (ap fault_text same, refl, refl)
+    inr (ap faulted same, refl, refl)
 refused-words words held count fault (inr refused) = inl (record {
   file = Ok [];
   is_file = λ request ask. absurd (asks-none (IsWith request) words fault refused ask);
@@ -115,29 +116,29 @@ needs-octets words asked (not_taken parsed other e) need = cc e
 -- ---- octets that are given
 
 -- a request that tells of the octets that are given
-module _ (request : Request) (given : OctetSource) (Told : List ℕ → List ℕ → Status → Type 0)
+module _ (request : Request) (given : OctetSource) (Told : List ℕ → Said → Status → Type 0)
     (reads : Calls)
     (had_for : (file : Result (List ℕ) Fault) → (IsFromReader given → ReadsWhole reads file) → NeedsFile request
     → ReadsFor request reads file)
-    (answers : (file : Result (List ℕ) Fault) (text : List ℕ) (ended : Status)
-    → IsToldOf Told (octets_given given file) text ended → IsAnswerTo request file text ended) where
+    (answers : (file : Result (List ℕ) Fault) (said : Said) (ended : Status)
+    → IsToldOf Told (octets_given given file) said ended → IsAnswerTo request file said ended) where
   -- where no octets were taken, the line of that fault is a right answer
   pub told-fault : (fault : Fault) → IsTaken given reads (Err fault)
-      → IsRightTo request reads (fault_text fault) status.Fault
+      → IsRightTo request reads (faulted fault) status.Fault
   told-fault fault had =
       elim had.is_taken [
         | inl is ↦
             inl (record {
               file = had.file;
               is_file = had_for had.file had.is_file;
-              is_answer = answers had.file (fault_text fault) status.Fault
-                  (subst (λ (r : Result (List ℕ) Fault). IsToldOf Told r (fault_text fault) status.Fault) is
+              is_answer = answers had.file (faulted fault) status.Fault
+                  (subst (λ (r : Result (List ℕ) Fault). IsToldOf Told r (faulted fault) status.Fault) is
                   (refl, refl));
             })
-        | inr memory ↦ let same : fault ≡ Memory = cc memory.0 in inr (ap fault_text same, refl, memory.1)
+        | inr memory ↦ let same : fault ≡ Memory = cc memory.0 in inr (ap faulted same, refl, memory.1)
       ]
 
   -- where memory runs out after they were taken, the line of that does
   pub told-wanting : (octets : List ℕ) → IsTaken given reads (Ok octets)
-      → IsRightTo request reads (fault_text Memory) status.Fault
+      → IsRightTo request reads (faulted Memory) status.Fault
   told-wanting octets had = inr (refl, refl, had.count)

@@ -9,6 +9,7 @@ use Rattle.program_words.specs.declared.request.Asked.TheVariants.{Once, Lines}
 use Rattle.program_words.specs.declared.request.Request.{Request}
 use Rattle.program_words.specs.declared.request.Task.{Task}
 use Rattle.program_words.specs.declared.fault.Fault.TheVariants.{Memory}
+use Rattle.program_octets.specs.Sayings.{faulted}
 use Rattle.program_words.specs.Texts.{fault_text}
 use Rattle.program.specs.Calls.{calls, Calls}
 use Rattle.program.specs.Answers.{IsReadFrom, IsWritten, Writes}
@@ -77,9 +78,9 @@ module _ (held : Option (List ℕ)) (count : ℕ) (writes : Calls) (ended : Stat
     text = fault_text Memory;
     right = status.Fault;
     is_right = record {
-      text = fault_text Memory;
+      said = faulted Memory;
       note = [];
-      is_said = said-nothing words (calls held held count count) (fault_text Memory) status.Fault
+      is_said = said-nothing words (calls held held count count) (faulted Memory) status.Fault
           (inr (refl, refl, refl));
       is_whole = sym (append-nil (fault_text Memory));
     };

@@ -3,7 +3,6 @@ use Rattle.std.proofs.Common.{◌≡◌, ◌++◌, inl, inr, ℕ, List, MatchRes
 use Rattle.std.specs.declared.alloc.Global.{Global}
 use Rattle.program_words.specs.declared.request.FileTask.{FileTask}
 use Rattle.layouts.specs.declared.layout.Layout.{Layout}
-use Rattle.program_octets.specs.declared.answer.Answer.{Answer}
 use Rattle.program_octets.specs.declared.status.Status.TheVariants as status
 use Rattle.exchange_text.specs.Exchange.{ExchangeParts}
 use Rattle.exchange_text.specs.Reading.{exchange_said, UnlessMemory}
@@ -15,8 +14,10 @@ use Rattle.block_core.specs.declared.side.Side.{Side}
 use Rattle.block_core.specs.declared.side.Side.TheVariants as side
 use Rattle.program.specs.Explained.{AreDifferenceNotes, IsDifferenceNote, IsFileNote, IsNoteSo}
 use Rattle.program.specs.FileNotes.{fault_note}
-use Rattle.program.specs.ExchangeTexts.{both_in, file_fault_text, AreReplayed, IsOutcome, IsReplayed, IsToldSo, TellsFile}
+use Rattle.program.specs.ExchangeTexts.{both_in, file_faulted, AreReplayed, IsOutcome, IsReplayed, IsToldSo, TellsFile}
 use Rattle.program.specs.Judged.{AreOf}
+use Rattle.program.specs.Replays.{AreReplayedAs}
+use Rattle.program.specs.declared.exchange.ReplayAccount.{ReplayAccount}
 use Rattle.program.specs.Lines.{worse}
 use Rattle.program.specs.declared.judged.WithNote.{WithNote}
 
@@ -36,8 +37,8 @@ pub of-exchange : (task : FileTask) (file : List ℕ) (e : ExchangeParts) (made 
 of-exchange task file e made (inl memory) h = absurd (cc memory)
 of-exchange task file e made (inr said) h =
     subst (λ (r : Result ExchangeParts ExchangeFault). MatchResult r
-    (λ e. IsToldSo task e made.answer.text made.answer.status)
-    (λ fault. (made.answer.text ≡ file_fault_text fault) × (made.answer.status ≡ status.Fault))
+    (λ e. IsToldSo task e made.answer.said made.answer.status)
+    (λ fault. (made.answer.said ≡ file_faulted fault) × (made.answer.status ≡ status.Fault))
     × IfOk made.note (λ note. MatchResult r (λ e. IsNoteSo task file e (string_bytes note))
     (λ fault. string_bytes note ≡ fault_note file fault))) said h
 
@@ -60,40 +61,22 @@ module _ (how : Layout) (file : List ℕ) (e : ExchangeParts) where
   joined-notes (Ok text) (Err fault) other terminal card h = absurd h
   joined-notes (Err fault) one other terminal card h = tt
 
-  -- what is said of both ends
-  pub of-both-ends : {E : Type 0} (r : Result Answer E) (terminal card : Answer)
-      → IsReplayed how e side.Terminal terminal.text terminal.status
-      → IsReplayed how e side.Card card.text card.status
-      → IfOk r (λ both. both.text ≡ both_in how terminal.text card.text both.status)
-      → IfOk r (λ both. both.status ≡ worse terminal.status card.status)
-      → IfOk r (λ both. AreReplayed how e both.text both.status)
-  of-both-ends (Ok both) terminal card one other text ended = record {
-    terminal = terminal.text;
-    one = terminal.status;
-    card = card.text;
-    other = card.status;
-    is_terminal = one;
-    is_card = other;
-    is_text = text;
-    is_ended = ended;
-  }
-  of-both-ends (Err fault) terminal card one other text ended = tt
-
-  -- the same with their notes
-  pub of-both : (terminal card made : WithNote)
-      → AreOf (IsReplayed how e side.Terminal) (IsDifferenceNote file e side.Terminal) terminal
-      → AreOf (IsReplayed how e side.Card) (IsDifferenceNote file e side.Card) card
-      → made.answer.text ≡ both_in how terminal.answer.text card.answer.text made.answer.status
-      → made.answer.status ≡ worse terminal.answer.status card.answer.status
+  -- what is said of both ends, with their notes
+  pub of-both : (terminal card made : ReplayAccount)
+      → AreReplayedAs (IsReplayed how e side.Terminal) (IsDifferenceNote file e side.Terminal) terminal
+      → AreReplayedAs (IsReplayed how e side.Card) (IsDifferenceNote file e side.Card) card
+      → string_bytes made.account.text ≡ both_in how (string_bytes terminal.account.text)
+      (string_bytes card.account.text) made.account.status
+      → made.account.status ≡ worse terminal.account.status card.account.status
       → IfOk made.note (λ text. IsOkAnd terminal.note (λ a. IsOkAnd card.note (λ b. string_bytes text ≡ string_bytes a
       ++ string_bytes b)))
-      → AreOf (AreReplayed how e) (AreDifferenceNotes file e) made
+      → AreReplayedAs (AreReplayed how e) (AreDifferenceNotes file e) made
   of-both terminal card made one other text ended notes = (
     record {
-      terminal = terminal.answer.text;
-      one = terminal.answer.status;
-      card = card.answer.text;
-      other = card.answer.status;
+      terminal = string_bytes terminal.account.text;
+      one = terminal.account.status;
+      card = string_bytes card.account.text;
+      other = card.account.status;
       is_terminal = one.0;
       is_card = other.0;
       is_text = text;

@@ -21,9 +21,10 @@ use Rattle.block_core.specs.declared.side.Side.{Side}
 use Rattle.block_core.specs.declared.side.Side.TheVariants as side
 use Rattle.exchange_core.proofs.Found.{one-replay, some-replay}
 use Rattle.exchange_text.proofs.Sound.{bind, octets-sound, same-ok}
-use Rattle.program.specs.ExchangeTexts.{agrees_in, both_in, differs_in, drawn, file_fault_text, listed_in, AreReplayed, IsReplayed, IsReplayedAt, IsReplayAnswer, IsToldSo, TellsFile, agrees, differs}
+use Rattle.program.specs.ExchangeTexts.{agrees_in, both_in, differs_in, drawn, file_faulted, listed_in, AreReplayed, IsReplayed, IsReplayedAt, IsReplayAnswer, IsToldSo, TellsFile, agrees, differs}
 use Rattle.program.specs.Laid.{laid}
 use Rattle.program.specs.Lines.{worse}
+use Rattle.program_octets.specs.declared.said.Said.TheVariants as saying
 use Rattle.program_octets.specs.declared.status.Status.{Status}
 use Rattle.program_octets.specs.declared.status.Status.TheVariants as status
 use Rattle.program_octets.proofs.OneOf.{OneText, ended-by, plain}
@@ -165,12 +166,12 @@ module _ (how : Layout) (e : ExchangeParts) where
   -- the answer is the one text laid out
   answer-once : (which : Ends) → OneText (IsReplayedAt which how e) → OneText (IsReplayAnswer which how e)
   answer-once which once = record {
-    one = λ t u s q h g. let same = once.one h.said g.said s q h.is_said g.is_said in
-        (h.is_text ∙ ap (laid how (codes "replay")) same.0 ∙ sym g.is_text, same.1);
+    one = λ t u s q h g. let same = once.one h.text g.text s q h.is_text g.is_text in
+        (h.is_said ∙ ap (laid how (codes "replay")) same.0 ∙ sym g.is_said, same.1);
     some = (
       laid how (codes "replay") once.some.0,
       once.some.1,
-      record { said = once.some.0; is_said = once.some.2; is_text = refl },
+      record { text = once.some.0; is_text = once.some.2; is_said = refl },
     );
   }
 
@@ -179,17 +180,17 @@ module _ (how : Layout) (e : ExchangeParts) where
 -- what is told of an exchange, or its text's fault
 told-said : (task : FileTask) (said : Result ExchangeParts ExchangeFault)
     → ((e : ExchangeParts) → said ≡ Ok e → OneText (IsToldSo task e))
-    → OneText (λ text ended. MatchResult said (λ e. IsToldSo task e text ended)
-    (λ fault. (text ≡ file_fault_text fault) × (ended ≡ status.Fault)))
+    → OneText (λ told ended. MatchResult said (λ e. IsToldSo task e told ended)
+    (λ fault. (told ≡ file_faulted fault) × (ended ≡ status.Fault)))
 told-said task (Ok e) once = once e refl
-told-said task (Err fault) once = ended-by (file_fault_text fault) status.Fault
+told-said task (Err fault) once = ended-by (file_faulted fault) status.Fault
 
 -- an exchange is told by one text, where its answer to reset is octets
 told-so : (task : FileTask) (e : ExchangeParts) → AreOctets e.atr → OneText (IsToldSo task e)
 told-so (Replay which how) e octets = answer-once how e which (at-once how e which octets)
-told-so Migrate e octets = plain (exchange_text (migrated e))
+told-so Migrate e octets = plain (saying.Text (exchange_text (migrated e)))
 told-so (Apdus how) e octets = plain (laid how (codes "apdus") (listed_in how e.lines))
-told-so (Draw drawing) e octets = plain (drawn drawing e)
+told-so (Draw drawing) e octets = plain (saying.Text (drawn drawing e))
 
 -- a file comes to one text with one status
 pub file-once : (task : FileTask) (file : List ℕ) → OneText (TellsFile task file)

@@ -7,7 +7,8 @@ use Rattle.program_words.specs.Given.{octets_given, octets_in, IsFromReader}
 use Rattle.program_words.specs.Value.{UnlessMemory}
 use Rattle.program_words.specs.declared.given.Form.{Form}
 use Rattle.program_words.specs.declared.given.OctetSource.TheVariants.{Read, Word}
-use Rattle.program_words.specs.Texts.{fault_text}
+use Rattle.program_octets.specs.Sayings.{faulted}
+use Rattle.program_octets.specs.declared.said.Said.{Said}
 use Rattle.program_words.specs.Words.{IsRead, NeedsFile}
 use Rattle.program_words.specs.declared.fault.Fault.{Fault}
 use Rattle.program_words.specs.declared.fault.Fault.TheVariants.{Hex, Memory, TooLarge}
@@ -16,7 +17,7 @@ use Rattle.program_words.specs.declared.request.Asked.TheVariants.{Once}
 use Rattle.program_words.specs.declared.request.Request.{Request}
 use Rattle.program.specs.Calls.{calls, Calls}
 use Rattle.program.specs.Answers.{IsAnswerTo, IsRight, IsRightTo, IsToldOf}
-use Rattle.program.specs.Explained.{differs, form_note, octets_of, on_known, on_words, said_of, silent, too_large, AreNoted, Fits, IsDifferenceNote, IsFaulted, IsFillNote, IsFormNote, IsKnownNote, IsNoted, IsNotedLine, IsNoteOn, IsNoteTo, IsReplyTo, IsSaid, IsTakenWith, Replies, RepliesTo, SaysOf}
+use Rattle.program.specs.Explained.{differs, form_note, octets_of, on_known, on_words, said_of, silent, too_large, AreNoted, Fits, IsDifferenceNote, IsFaulted, IsFillNote, IsFormNote, IsKnownNote, IsNoted, IsNotedFault, IsNoteOn, IsNoteTo, IsReplyTo, IsSaid, IsTakenWith, Replies, RepliesTo, SaysOf}
 use Rattle.program.specs.FileNotes.{line_text, IsWhy}
 use Rattle.program.specs.TracePlaces.{trace_place}
 use Rattle.program.specs.Files.{largest_file, ReadsWhole}
@@ -47,7 +48,7 @@ taken-as octets = Ok octets
 
 -- memory was wanting before anything was read
 pub wanting : (request : Request) (held : Option (List ℕ)) (count : ℕ)
-    → IsRightTo request (calls held held count count) (fault_text Memory) status.Fault
+    → IsRightTo request (calls held held count count) (faulted Memory) status.Fault
 wanting request held count = inr (refl, refl, refl)
 
 -- where an end does a line otherwise, the line with the reason and its place is the note on the exchange
@@ -100,11 +101,11 @@ says-by true c says least b verdict (Err e) is h = tt
 says-by false c says least b verdict r is h = h
 
 -- the line of a fault with a note on it, of which this holds
-pub faulted : (told : Fault) (Note : List ℕ → Type 0) (note : Result (String Global) AllocError)
-    (r : Result WithNote Fault) → IsNotedLine told note r → IfOk note (λ text. Note (string_bytes text))
+pub is-faulted : (told : Fault) (Note : List ℕ → Type 0) (note : Result (String Global) AllocError)
+    (r : Result WithNote Fault) → IsNotedFault told note r → IfOk note (λ text. Note (string_bytes text))
     → IsFaulted told Note r
-faulted told Note note (Ok made) (line, same) h = (line, rw same h)
-faulted told Note note (Err other) same h = same
+is-faulted told Note note (Ok made) (line, same) h = (line, rw same h)
+is-faulted told Note note (Err other) same h = same
 
 -- ---- answers to a request
 
@@ -112,7 +113,7 @@ module _ (words : List (List ℕ)) (request : Request) (reads : Calls) where
   -- an answer of which nothing is said
   pub alone : (made : WithNote) (file : Result (List ℕ) Fault)
       → (NeedsFile request → ReadsFor request reads file)
-      → IsAnswerTo request file made.answer.text made.answer.status
+      → IsAnswerTo request file made.answer.said made.answer.status
       → IfOk made.note (λ note. string_bytes note ≡ []) → IsReplyTo words request reads made
   alone made file is_file h none =
       record { file = file; is_file = is_file; is_answer = h; is_note = left-of made.note none }
@@ -125,7 +126,7 @@ module _ (words : List (List ℕ)) (request : Request) (reads : Calls) where
   -- an answer with a note
   pub with-note : (made : WithNote) (file : Result (List ℕ) Fault)
       → (NeedsFile request → ReadsFor request reads file)
-      → IsAnswerTo request file made.answer.text made.answer.status
+      → IsAnswerTo request file made.answer.said made.answer.status
       → IfOk made.note (λ note. IsNoteTo words request file (string_bytes note))
       → IsReplyTo words request reads made
   with-note made file is_file h note =
@@ -178,13 +179,13 @@ read-with form reads text result had octets explains asks same note = record {
 
 -- a request that tells of the octets that are given, and has a note on them and on their text
 module _ (explains : Bool) (words : List (List ℕ)) (request : Request) (given : OctetSource)
-    (Told : List ℕ → List ℕ → Status → Type 0)
+    (Told : List ℕ → Said → Status → Type 0)
     (Note : List ℕ → List ℕ → Type 0)
     (reads : Calls)
     (had_for : (file : Result (List ℕ) Fault) → (IsFromReader given → ReadsWhole reads file) → NeedsFile request
     → ReadsFor request reads file)
-    (answers : (file : Result (List ℕ) Fault) (text : List ℕ) (ended : Status)
-    → IsToldOf Told (octets_given given file) text ended → IsAnswerTo request file text ended)
+    (answers : (file : Result (List ℕ) Fault) (said : Said) (ended : Status)
+    → IsToldOf Told (octets_given given file) said ended → IsAnswerTo request file said ended)
     (notes : (file : Result (List ℕ) Fault) (note : List ℕ) → IsNoteOn given file Note note
     → IsNoteTo words request file note) where
   both-said : (asks : Bool) (one other note : List ℕ) (file : Result (List ℕ) Fault) (octets : List ℕ)
@@ -212,7 +213,7 @@ module _ (explains : Bool) (words : List (List ℕ)) (request : Request) (given 
 
   pub noted-given : (octets : List ℕ) (note : Result (String Global) AllocError)
       → IsTakenWith explains given reads (Ok (Given octets note))
-      → (one made : WithNote) → Told octets one.answer.text one.answer.status
+      → (one made : WithNote) → Told octets one.answer.said one.answer.status
       → IfOk one.note (λ text. SaysIf explains (Note octets) (string_bytes text))
       → made.answer ≡ one.answer
       → IfOk made.note (λ text. IsOkAnd one.note (λ first. IsOkAnd note (λ second.
@@ -223,9 +224,9 @@ module _ (explains : Bool) (words : List (List ℕ)) (request : Request) (given 
         | inl is ↦ record {
           file = had.taken.file;
           is_file = had_for had.taken.file had.taken.is_file;
-          is_answer = subst (λ (a : Answer). IsAnswerTo request had.taken.file a.text a.status) (sym same)
-              (answers had.taken.file one.answer.text one.answer.status
-              (subst (λ (r : Result (List ℕ) Fault). IsToldOf Told r one.answer.text one.answer.status) is answer));
+          is_answer = subst (λ (a : Answer). IsAnswerTo request had.taken.file a.said a.status) (sym same)
+              (answers had.taken.file one.answer.said one.answer.status
+              (subst (λ (r : Result (List ℕ) Fault). IsToldOf Told r one.answer.said one.answer.status) is answer));
           is_note = on-given one.note note made.note had.taken.file octets is fits had.is_note both;
         }
         | inr memory ↦ absurd (cc memory.0)
@@ -239,9 +240,9 @@ module _ (explains : Bool) (words : List (List ℕ)) (request : Request) (given 
         | inl is ↦ record {
           file = had.taken.file;
           is_file = had_for had.taken.file had.taken.is_file;
-          is_answer = answers had.taken.file made.answer.text made.answer.status
-              (subst (λ (r : Result (List ℕ) Fault). IsToldOf Told r made.answer.text made.answer.status) is
-              (had.is_note.0.text, had.is_note.0.status));
+          is_answer = answers had.taken.file made.answer.said made.answer.status
+              (subst (λ (r : Result (List ℕ) Fault). IsToldOf Told r made.answer.said made.answer.status) is
+              (had.is_note.0.said, had.is_note.0.status));
           is_note = go made.note had.taken.file is had.is_note.1;
         }
         | inr memory ↦ absurd (cc memory.0)
@@ -265,16 +266,16 @@ module _ (words : List (List ℕ)) (reads : Calls) where
   -- what is right of a request is right of the words
   pub noted-words : (request : Request) (made : WithNote) → IsRead words (Ok (Once request))
       → IsReplyTo words request reads made
-      → IsNoted words reads made.answer.text (said_of made.note) made.answer.status
+      → IsNoted words reads made.answer.said (said_of made.note) made.answer.status
   noted-words request made read h = go made.note h.is_note
     where
-      is-right : IsRight words reads made.answer.text made.answer.status
-      is-right = right words reads request made.answer.text made.answer.status read
+      is-right : IsRight words reads made.answer.said made.answer.status
+      is-right = right words reads request made.answer.said made.answer.status read
           (inl (record { file = h.file; is_file = h.is_file; is_answer = h.is_answer }))
 
       go : {E : Type 0} (note : Result (String Global) E)
           → IfOk note (λ n. (string_bytes n ≡ []) ⊎ IsNoteTo words request h.file (string_bytes n))
-          → IsNoted words reads made.answer.text (said_of note) made.answer.status
+          → IsNoted words reads made.answer.said (said_of note) made.answer.status
       go (Ok n) (inl none) = inl (is-right, silent none)
       go (Ok n) (inr is) = inr (
         request,
@@ -291,10 +292,10 @@ module _ (words : List (List ℕ)) (reads : Calls) where
   pub replied-words : (request : Request) (r : Result WithNote Fault) → IsRead words (Ok (Once request))
       → RepliesTo words request reads r → AreNoted words reads r
   replied-words request (Ok made) read h = noted-words request made read h
-  replied-words request (Err fault) read h = right words reads request (fault_text fault) status.Fault
+  replied-words request (Err fault) read h = right words reads request (faulted fault) status.Fault
       read h
 
-  pub right-noted : (text note : List ℕ) (ended : Status) → IsNoted words reads text note ended
+  pub right-noted : (text : Said) (note : List ℕ) (ended : Status) → IsNoted words reads text note ended
       → IsRight words reads text ended
   right-noted text note ended (inl to) = to.0
   right-noted text note ended (inr from) = right words reads from.0 text ended from.1 (inl (record {
@@ -304,13 +305,13 @@ module _ (words : List (List ℕ)) (reads : Calls) where
   }))
 
   -- a text of which nothing is said
-  pub said-nothing : (text : List ℕ) (ended : Status) → IsRight words reads text ended
+  pub said-nothing : (text : Said) (ended : Status) → IsRight words reads text ended
       → IsSaid words reads text [] ended
   said-nothing text ended h =
       record { is_right = h; is_noted = inl (h, silent refl); unasked = λ _. refl }
 
   -- or a note, where it is asked for
-  pub said-asked : (text note : List ℕ) (ended : Status) → asks_to_explain words ≡ true
+  pub said-asked : (text : Said) (note : List ℕ) (ended : Status) → asks_to_explain words ≡ true
       → IsNoted words reads text note ended → IsSaid words reads text note ended
   said-asked text note ended asks h = record {
     is_right = right-noted text note ended h;
@@ -320,28 +321,28 @@ module _ (words : List (List ℕ)) (reads : Calls) where
 
   -- a note on the line of a fault, where it fits that
   pub said-fault : (fault : Fault) (Note : List ℕ → Type 0) (r : Result WithNote Fault) → asks_to_explain words ≡ true
-      → IsRight words reads (fault_text fault) status.Fault → IsFaulted fault Note r
-      → IfOk r (λ _. (note : List ℕ) → Note note → Fits words (fault_text fault) note)
+      → IsRight words reads (faulted fault) status.Fault → IsFaulted fault Note r
+      → IfOk r (λ _. (note : List ℕ) → Note note → Fits words (faulted fault) note)
       → Replies words reads r
   said-fault fault Note (Ok made) asks h told fits = go made.note told.1
     where
-      is-right : IsRight words reads made.answer.text made.answer.status
-      is-right = rw (told.0.status, told.0.text) h
+      is-right : IsRight words reads made.answer.said made.answer.status
+      is-right = rw (told.0.status, told.0.said) h
 
       go : {E : Type 0} (note : Result (String Global) E) → IfOk note (λ n. Note (string_bytes n))
-          → IsSaid words reads made.answer.text (said_of note) made.answer.status
-      go (Ok n) is = said-asked made.answer.text (string_bytes n) made.answer.status asks
-          (inl (is-right, rw told.0.text (fits (string_bytes n) is)))
-      go (Err e) is = said-nothing made.answer.text made.answer.status is-right
+          → IsSaid words reads made.answer.said (said_of note) made.answer.status
+      go (Ok n) is = said-asked made.answer.said (string_bytes n) made.answer.status asks
+          (inl (is-right, rw told.0.said (fits (string_bytes n) is)))
+      go (Err e) is = said-nothing made.answer.said made.answer.status is-right
   said-fault fault Note (Err other) asks h same fits =
-      rw same (said-nothing (fault_text fault) status.Fault h)
+      rw same (said-nothing (faulted fault) status.Fault h)
 
   -- an answer whose note isn't asked for
-  pub said-alone : (made alone : WithNote) → IsNoted words reads made.answer.text
+  pub said-alone : (made alone : WithNote) → IsNoted words reads made.answer.said
       (said_of made.note) made.answer.status → alone.answer ≡ made.answer → said_of alone.note ≡ []
-      → IsSaid words reads alone.answer.text (said_of alone.note) alone.answer.status
-  said-alone made alone h same none = rw (same, none) (said-nothing made.answer.text made.answer.status
-      (right-noted made.answer.text (said_of made.note) made.answer.status h))
+      → IsSaid words reads alone.answer.said (said_of alone.note) alone.answer.status
+  said-alone made alone h same none = rw (same, none) (said-nothing made.answer.said made.answer.status
+      (right-noted made.answer.said (said_of made.note) made.answer.status h))
 
 -- ---- what fits the line of a fault
 
@@ -351,11 +352,11 @@ read-as fault = Err fault
 -- the note on words, where they were refused for want of nothing
 pub fits-words : (words : List (List ℕ)) (told : Fault) → told ≢ Memory
     → (read-as told ≡ Err Memory) ⊎ IsRead words (Err told) → (note : List ℕ) → IsWordsNote words note
-    → Fits words (fault_text told) note
+    → Fits words (faulted told) note
 fits-words words told other (inl memory) note h = absurd (other (cc memory))
 fits-words words told other (inr read) note h = on_words told read refl h
 
 -- the note on octets that are too many
 pub fits-large : (words : List (List ℕ)) (told : Fault) → told ≡ TooLarge → (note : List ℕ)
-    → note ≡ large_note largest_file → Fits words (fault_text told) note
-fits-large words told is note h = too_large (ap fault_text is) h
+    → note ≡ large_note largest_file → Fits words (faulted told) note
+fits-large words told is note h = too_large (ap faulted is) h

@@ -1,6 +1,8 @@
 -- Answers as objects of JSON, and as lines.
-use Rattle.std.proofs.Common.{◌≡◌, ℕ, List, [], Bool, true, false, Option, Result, Ok, Err, IfErr, append-nil, refl, sym}
+use Rattle.std.proofs.Common.{◌≡◌, ◌∙◌, ℕ, List, [], Bool, true, false, Option, Result, Ok, Err, IfErr, append-nil, refl, sym}
 use Rattle.command_line.specs.Asked.{asks_for_json}
+use Rattle.program_octets.proofs.Faults.{fault-line}
+use Rattle.program_octets.specs.Sayings.{faulted, text_of}
 use Rattle.program_words.specs.Texts.{fault_text}
 use Rattle.program_words.specs.declared.fault.Fault.{Fault}
 use Rattle.program_words.specs.declared.fault.Fault.TheVariants.{Memory}
@@ -25,26 +27,26 @@ module _ (words : List (List ℕ)) (reads : Calls) where
   pub lines-asked : (r : Result WithNote Fault) → asks_for_json words ≡ false
       → Replies words reads r → Gives (IsRightAsked words reads) r
   lines-asked (Ok made) ask h = in_lines ask (record {
-    text = made.answer.text;
+    said = made.answer.said;
     note = said_of made.note;
     is_said = h;
     is_whole = refl;
   })
   lines-asked (Err fault) ask h = in_lines ask (record {
-    text = fault_text fault;
+    said = faulted fault;
     note = [];
     is_said = h;
-    is_whole = sym (append-nil (fault_text fault));
+    is_whole = sym (append-nil (text_of (faulted fault)) ∙ fault-line fault);
   })
 
--- the line of a fault that is right is so as an answer of which nothing is said
+-- a fault that is right is so as an answer with no note
 pub right-line : (words : List (List ℕ)) (reads : Calls) (fault : Fault)
-    (answer : Answer) (made : WithNote) → IsSaid words reads (fault_text fault) [] status.Fault
-    → answer.text ≡ fault_text fault → answer.status ≡ status.Fault
+    (answer : Answer) (made : WithNote) → IsSaid words reads (faulted fault) [] status.Fault
+    → answer.said ≡ faulted fault → answer.status ≡ status.Fault
     → made.answer ≡ answer → said_of made.note ≡ []
-    → IsSaid words reads made.answer.text (said_of made.note) made.answer.status
-right-line words reads fault answer made h text ended same none =
-    rw (same, none, text, ended) h
+    → IsSaid words reads made.answer.said (said_of made.note) made.answer.status
+right-line words reads fault answer made h said ended same none =
+    rw (same, none, said, ended) h
 
 -- what holds anyway holds where a call fails
 pub held-err : {A E : Type 0} (r : Result A E) {P : Type 0} → P → IfErr r (λ _. P)
@@ -60,7 +62,7 @@ not-made r fault is memory h = rw (is, memory) (unmade h refl refl)
 -- words that have a text with what comes after it
 said-some : {words : List (List ℕ)} {reads : Calls} {whole : List ℕ} (ended : Status)
     → IsRightWith words reads whole ended → HaveAnswer words reads
-said-some ended h = record { text = h.text; note = h.note; ended = ended; is_said = h.is_said }
+said-some ended h = record { said = h.said; note = h.note; ended = ended; is_said = h.is_said }
 
 -- the line of memory that ran out before the words were read is right of any
 pub no-words-asked : (held : Option (List ℕ)) (count : ℕ) (writes : Calls)

@@ -19,7 +19,7 @@ use Rattle.program_octets.specs.declared.status.Status.{Status}
 use Rattle.program_octets.specs.declared.status.Status.TheVariants as status
 use Rattle.program_octets.proofs.OneOf.{OneText}
 use Rattle.program_words.specs.declared.request.Judging.{Judging}
-use Rattle.program.specs.ExchangeTexts.{file_fault_text}
+use Rattle.program.specs.ExchangeTexts.{file_faulted}
 use Rattle.program.specs.Laid.{laid}
 use Rattle.program.specs.FileNotes.{kept_note}
 use Rattle.program.specs.Calls.{Calls}
@@ -29,12 +29,13 @@ use Rattle.program.specs.Pieces.{IsAll, ReadsAll}
 use Rattle.program.specs.TraceLines.{lines_of, HasFault}
 use Rattle.program.proofs.Explaining.{with-note}
 use Rattle.program.proofs.Faults.{note-kept}
-use Rattle.program_words.specs.Texts.{fault_text}
+use Rattle.program_octets.specs.Sayings.{faulted, refused_as}
+use Rattle.program_octets.specs.declared.said.Said.{Said}
 use Rattle.program_words.specs.declared.fault.Fault.{Fault}
 use Rattle.program_words.specs.declared.fault.Fault.TheVariants as word
 use Rattle.program_words.specs.declared.request.Request.TheVariants.{Judge}
 use Rattle.program.specs.Judged.{AreOf}
-use Rattle.program.specs.JudgeTexts.{at_line, faulty, judged, judged_in, judged_status, on_text, refused, scope_of, unusable_in, used, IsJudgeNote, IsOffer, IsTextNote, JudgesText, JudgesTrace}
+use Rattle.program.specs.JudgeTexts.{at_line, faulty, judged, judged_in, judged_status, on_text, refused, scope_of, used, IsJudgeNote, IsOffer, IsTextNote, JudgesText, JudgesTrace}
 use Rattle.program.specs.declared.judged.WithNote.{WithNote}
 use Rattle.program.proofs.Simulations.{apart, if-ok, same-name}
 
@@ -72,7 +73,7 @@ some-offer atr ifsc (inr (none, e)) = absurd (cc e)
 -- ---- a text
 
 module _ (atr : List ℕ) (offered : Offered) (judging : Judging) (file : List ℕ) where
-  one-judged : (t u : List ℕ) (p q : Status) → JudgesText atr offered judging file t p
+  one-judged : (t u : Said) (p q : Status) → JudgesText atr offered judging file t p
       → JudgesText atr offered judging file u q
       → (t ≡ u) × (p ≡ q)
   one-judged t u p q (judged a h text stops) (judged b g other differs) =
@@ -87,9 +88,9 @@ module _ (atr : List ℕ) (offered : Offered) (judging : Judging) (file : List �
       absurd (judgment-or-fault offered (scope_of judging) file a x known h g)
   one-judged t u p q (faulty x h known text stops) (faulty y g also other differs) =
       let same = one-text-fault offered (scope_of judging) file x y known also h g in
-      (text ∙ ap file_fault_text same ∙ sym other, stops ∙ sym differs)
+      (text ∙ ap file_faulted same ∙ sym other, stops ∙ sym differs)
 
-  some-judged : (t : List ℕ) × (p : Status) × JudgesText atr offered judging file t p
+  some-judged : (t : Said) × (p : Status) × JudgesText atr offered judging file t p
   some-judged =
       elim (some-judgment offered (scope_of judging) file) [
         | inl one ↦ (
@@ -97,7 +98,7 @@ module _ (atr : List ℕ) (offered : Offered) (judging : Judging) (file : List �
           judged_status one.0.is_ok,
           judged one.0 one.1 refl refl,
         )
-        | inr fault ↦ (file_fault_text fault.0, status.Fault, faulty fault.0 fault.2 fault.1 refl refl)
+        | inr fault ↦ (file_faulted fault.0, status.Fault, faulty fault.0 fault.2 fault.1 refl refl)
       ]
 
 -- ---- what calls answer
@@ -113,7 +114,7 @@ faulty-lines offered scope text line fault h = lines.faulted offered scope text 
 pub faulty-noted : {E : Type 0} (atr : List ℕ) (offered : Offered) (judging : Judging) (file line : List ℕ)
     (fault : ExchangeFault) (r : Result WithNote E) → HasFault offered (scope_of judging) (lines_of file) line fault
     → IfOk r (λ _. fault ≢ Memory)
-    → IfOk r (AreOf (λ text stops. (text ≡ file_fault_text fault) × (stops ≡ status.Fault))
+    → IfOk r (AreOf (λ said stops. (said ≡ file_faulted fault) × (stops ≡ status.Fault))
     (λ note. note ≡ kept_note line fault))
     → IfOk r (AreOf (JudgesText atr offered judging file) (IsTextNote offered judging file))
 faulty-noted atr offered judging file line fault (Ok made) has told h =
@@ -136,13 +137,10 @@ used-noted atr offered judging file (Err e) found h = tt
 -- ---- with an answer to reset
 
 module _ (atr : List ℕ) (judging : Judging) (file : List ℕ) where
-  abbrev unusable : List ℕ → List ℕ
-  unusable name = laid judging.layout (codes "judge") (unusable_in judging.layout name)
-
-  one-traced : (t u : List ℕ) (p q : Status) → JudgesTrace atr judging file t p → JudgesTrace atr judging file u q
+  one-traced : (t u : Said) (p q : Status) → JudgesTrace atr judging file t p → JudgesTrace atr judging file u q
       → (t ≡ u) × (p ≡ q)
   one-traced t u p q (refused a f text stops) (refused b g other differs) =
-      (text ∙ ap unusable (same-name atr a b f g) ∙ sym other, stops ∙ sym differs)
+      (text ∙ ap refused_as (same-name atr a b f g) ∙ sym other, stops ∙ sym differs)
   one-traced t u p q (refused a f text stops) (used b g told) =
       absurd (apart atr b.values.ifsc a (found-by atr b g) f)
   one-traced t u p q (used a f told) (refused b g other differs) =
@@ -150,13 +148,13 @@ module _ (atr : List ℕ) (judging : Judging) (file : List ℕ) where
   one-traced t u p q (used a f told) (used b g also) = one-judged atr b judging file t u p q
       (subst (λ (offered : Offered). JudgesText atr offered judging file t p) (one-offer atr a b f g) told) also
 
-  some-traced : (found : Result ℕ (List ℕ)) → IsFound atr found → (t : List ℕ) × (p : Status)
+  some-traced : (found : Result ℕ (List ℕ)) → IsFound atr found → (t : Said) × (p : Status)
       × JudgesTrace atr judging file t p
   some-traced (Ok ifsc) f =
       let offer = some-offer atr ifsc f in
       let told = some-judged atr offer.0 judging file in
       (told.0, told.1, used offer.0 offer.1 told.2)
-  some-traced (Err name) f = (unusable name, status.Refused, refused name f refl refl)
+  some-traced (Err name) f = (refused_as name, status.Refused, refused name f refl refl)
 
 -- a text comes to one text with one status, where the answer to reset is octets
 pub judged-once : (atr : List ℕ) → AreOctets atr → (judging : Judging) (file : List ℕ)
@@ -179,10 +177,10 @@ module _ (words : List (List ℕ)) (atr : List ℕ) (judging : Judging) (reads :
 
   -- or memory ran out after it was read
   pub trace-wanting : (text : List ℕ) (fault : Fault) → IsAll reads text → fault ≡ word.Memory
-      → IsRightTo (Judge atr judging) reads (fault_text fault) status.Fault
-  trace-wanting text fault all is = inr (ap fault_text is, refl, all.count)
+      → IsRightTo (Judge atr judging) reads (faulted fault) status.Fault
+  trace-wanting text fault all is = inr (ap faulted is, refl, all.count)
 
   -- or it wasn't read to its end
   pub trace-unread : (fault : Fault) → ReadsAll reads (Err fault)
-      → IsRightTo (Judge atr judging) reads (fault_text fault) status.Fault
+      → IsRightTo (Judge atr judging) reads (faulted fault) status.Fault
   trace-unread fault h = inl (record { file = Err fault; is_file = λ need. h; is_answer = (refl, refl) })

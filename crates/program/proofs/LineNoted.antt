@@ -3,7 +3,7 @@ use Rattle.std.proofs.Common.{◌≡◌, ◌<◌, ◌≤◌, ◌≢◌, ◌∙�
 use Rattle.std.specs.declared.alloc.Global.{Global}
 use Rattle.std.proofs.lemmas.Bool.Decides.{nat_tests}
 use Rattle.program_words.specs.Loose.{loose_octets}
-use Rattle.program_words.specs.Texts.{fault_text}
+use Rattle.program_octets.specs.Sayings.{faulted}
 use Rattle.program_words.specs.Value.{UnlessMemory}
 use Rattle.program_words.specs.declared.fault.Fault.{Fault}
 use Rattle.program_words.specs.declared.fault.Fault.TheVariants.{Memory, TooLarge}
@@ -39,7 +39,7 @@ made-of made = Ok made
 -- the line of a fault for which a line has none
 pub line-fault : {E : Type 0} (telling : Telling) (line : List ℕ) (octets : Result (List ℕ) Fault) (fault : Fault)
     (r : Result WithNote E) → octets ≡ Err fault
-    → IfOk r (AreOf (λ text ended. (text ≡ fault_text fault) × (ended ≡ status.Fault))
+    → IfOk r (AreOf (λ said ended. (said ≡ faulted fault) × (ended ≡ status.Fault))
     (SaysIf telling.explains (λ note. note ≡ fault_note line fault)))
     → IfOk r (AreOf (IsToldOf (IsTold telling.task) octets)
     (SaysIf telling.explains (IsNoteOfLine telling.task line octets)))
@@ -48,7 +48,7 @@ line-fault telling line octets fault r is h = rw is h
 -- where it is no lack of memory
 pub told-fault : {E : Type 0} (telling : Telling) (line : List ℕ) (fault : Fault) (r : Result WithNote E)
     → length line ≤ largest_file → UnlessMemory (taken-as fault) (loose_octets line) → IfOk r (λ _. fault ≢ Memory)
-    → IfOk r (AreOf (λ text ended. (text ≡ fault_text fault) × (ended ≡ status.Fault))
+    → IfOk r (AreOf (λ said ended. (said ≡ faulted fault) × (ended ≡ status.Fault))
     (SaysIf telling.explains (λ note. note ≡ fault_note line fault)))
     → IfOk r (AreOf (IsToldOf (IsTold telling.task) (line_octets line))
     (SaysIf telling.explains (IsNoteOfLine telling.task line (line_octets line))))
@@ -81,12 +81,12 @@ told-octets telling line b r short (inr is) h =
 -- an answer with its note
 pub line-said : {E : Type 0} (telling : Telling) (line text : List ℕ) (answer : Answer)
     (note : Result (String Global) E) (said : String Global) → note ≡ Ok said
-    → IsToldOf (IsTold telling.task) (line_octets line) answer.text answer.status
+    → IsToldOf (IsTold telling.task) (line_octets line) answer.said answer.status
     → IfOk note (λ n. SaysIf telling.explains (IsNoteOfLine telling.task line (line_octets line)) (string_bytes n))
-    → text ≡ said_text telling.task answer.status answer.text (string_bytes said)
+    → text ≡ said_text telling.task answer.said (string_bytes said)
     → IsLineSaid telling line text answer.status
 line-said telling line text answer note said is told says same = record {
-  told = answer.text;
+  told = answer.said;
   note = string_bytes said;
   is_told = told;
   is_note = rw is at says;

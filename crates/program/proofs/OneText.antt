@@ -10,7 +10,8 @@ use Rattle.clap.specs.declared.error.kind.ErrorKind.TheVariants.{DisplayHelp}
 use Rattle.octet_core.specs.Failures.{most_failures}
 use Rattle.octet_core.specs.Octets.{AreOctets}
 use Rattle.program_words.proofs.Requests.{read-proper}
-use Rattle.program_words.specs.Texts.{fault_text}
+use Rattle.program_octets.specs.Sayings.{faulted, text_of}
+use Rattle.program_octets.specs.declared.said.Said.{Said}
 use Rattle.program_words.specs.Words.{asked_of, AskForOctets, HasOther, IsRead, called_for_version, taken, called_for_help, not_taken}
 use Rattle.command_line.specs.Form.{scard}
 use Rattle.program_words.specs.declared.fault.Fault.{Fault}
@@ -24,8 +25,8 @@ use Rattle.layouts.specs.declared.layout.Layout.{Layout}
 use Rattle.layouts.specs.declared.layout.Layout.TheVariants as layout
 use Rattle.program_words.specs.declared.request.Request.TheVariants.{BuildChain, BuildTidy, BuildFill, Tell, File, Record, Judge, Simulate, SimulateLines, Help, Version}
 use Rattle.program.specs.Calls.{calls}
-use Rattle.program.specs.Answers as same_text
-use Rattle.program.specs.Answers.{AsksForNotes, AskForNotes, HaveNotes, IsAnswer, IsAnswerAsked, IsPlain, IsSameText, IsWithout}
+use Rattle.program.specs.Answers as same_answer
+use Rattle.program.specs.Answers.{AsksForNotes, AskForNotes, HaveNotes, IsAnswer, IsAnswerAsked, IsPlain, IsSameAnswer, IsWithout}
 use Rattle.notes.specs.Noted.{without_notes}
 use Rattle.program.specs.Files.{file_of, largest_file, ReadsWhole}
 use Rattle.program.specs.Pieces.{most_pieces, ReadsAll}
@@ -36,28 +37,28 @@ use Rattle.program.proofs.OneAnswer.{one-cut, some-asked}
 
 -- ---- words
 
-one-fault : (fault : Fault) (text other : List ℕ) (ended different : Status) → (text ≡ fault_text fault)
-    × (ended ≡ status.Fault) → (other ≡ fault_text fault) × (different ≡ status.Fault) → (text ≡ other)
+one-fault : (fault : Fault) (text other : Said) (ended different : Status) → (text ≡ faulted fault)
+    × (ended ≡ status.Fault) → (other ≡ faulted fault) × (different ≡ status.Fault) → (text ≡ other)
     × (ended ≡ different)
 one-fault fault text other ended different h g = (h.0 ∙ sym g.0, h.1 ∙ sym g.1)
 
 -- two texts that are one without notes are one, or notes are asked for
-abbrev InLines : List ℕ → List ℕ → Type 0
-InLines text other = without_notes text ≡ without_notes other
+abbrev InLines : Said → Said → Type 0
+InLines text other = without_notes (text_of text) ≡ without_notes (text_of other)
 
-abbrev InObjects : List ℕ → List ℕ → Type 0
-InObjects text other = (plain : List ℕ) × HaveNotes text plain × HaveNotes other plain
+abbrev InObjects : Said → Said → Type 0
+InObjects text other = (plain : List ℕ) × HaveNotes (text_of text) plain × HaveNotes (text_of other) plain
 
-by-aim : (aim : Aim) (how : Layout) (text other plain : List ℕ) → IsWithout aim how text plain
+by-aim : (aim : Aim) (how : Layout) (text other plain : Said) → IsWithout aim how text plain
     → IsWithout aim how other plain
     → (text ≡ other) ⊎ ((((aim ≡ Note) × (how ≡ layout.Lines)) × InLines text other)
     ⊎ (((aim ≡ Note) × (how ≡ layout.Json)) × InObjects text other))
 by-aim Check how text other plain h g = inl (sym h ∙ g)
 by-aim Show how text other plain h g = inl (sym h ∙ g)
 by-aim Note layout.Lines text other plain h g = inr (inl ((refl, refl), sym h ∙ g))
-by-aim Note layout.Json text other plain h g = inr (inr ((refl, refl), (plain, h, g)))
+by-aim Note layout.Json text other plain h g = inr (inr ((refl, refl), (text_of plain, h, g)))
 
-same-or-noted : (asked : Asked) (text other plain : List ℕ) → IsPlain asked text plain → IsPlain asked other plain
+same-or-noted : (asked : Asked) (text other plain : Said) → IsPlain asked text plain → IsPlain asked other plain
     → (text ≡ other) ⊎ ((AsksForNotes layout.Lines asked × InLines text other)
     ⊎ (AsksForNotes layout.Json asked × InObjects text other))
 same-or-noted (Once (Tell task given)) text other plain h g = by-aim task.aim task.layout text other plain h g
@@ -87,27 +88,27 @@ asks-notes how words asked (not_taken parsed other e) notes = cc e
 
 -- the same words were read twice as this
 read-once : (words : List (List ℕ)) (read : Result Asked Fault) → IsRead words read → (file : Result (List ℕ) Fault)
-    → (AskForOctets words → IfOk file AreOctets) → (text other : List ℕ) (ended different : Status)
+    → (AskForOctets words → IfOk file AreOctets) → (text other : Said) (ended different : Status)
     → MatchResult read (λ asked. IsAnswerAsked asked file text ended)
-    (λ fault. (text ≡ fault_text fault) × (ended ≡ status.Fault))
+    (λ fault. (text ≡ faulted fault) × (ended ≡ status.Fault))
     → MatchResult read (λ asked. IsAnswerAsked asked file other different)
-    (λ fault. (other ≡ fault_text fault) × (different ≡ status.Fault))
-    → IsSameText words text other × (ended ≡ different)
+    (λ fault. (other ≡ faulted fault) × (different ≡ status.Fault))
+    → IsSameAnswer words text other × (ended ≡ different)
 read-once words (Ok asked) read file octets text other ended different h g =
     let proper = read-proper words asked read in
     let same = one-cut asked file proper.0 proper.1 (λ need. octets (needs-octets words asked read need)) text other
     ended different h g in
     elim (same-or-noted asked text other same.0.plain same.0.first same.0.second) [
-      | inl text_is ↦ (same_text.same text_is, same.1)
-      | inr (inl noted) ↦ (same_text.in_lines (asks-notes layout.Lines words asked read noted.0) noted.1, same.1)
+      | inl text_is ↦ (same_answer.same text_is, same.1)
+      | inr (inl noted) ↦ (same_answer.in_lines (asks-notes layout.Lines words asked read noted.0) noted.1, same.1)
       | inr (inr noted) ↦ (
-        same_text.in_objects (asks-notes layout.Json words asked read noted.0) noted.1.0 noted.1.1 noted.1.2,
+        same_answer.in_objects (asks-notes layout.Json words asked read noted.0) noted.1.0 noted.1.1 noted.1.2,
         same.1,
       )
     ]
 read-once words (Err fault) read file octets text other ended different h g =
     let same = one-fault fault text other ended different h g in
-    (same_text.same same.0, same.1)
+    (same_answer.same same.0, same.1)
 
 no-other : (kinds : Kinds) → kinds ≡ [] → HasOther kinds → ⊥
 no-other kinds none other = let among = subst (IsAmong other.0) none other.1 in among
@@ -131,9 +132,9 @@ read-same words read again (not_taken parsed other e) (taken are f) = absurd (no
 read-same words read again (not_taken parsed other e) (not_taken parsed_too another f) = inr (f ∙ sym e)
 
 -- the same words and file, of octets where they are asked for, have one text and status, but for a call for help
-pub one-text : (words : List (List ℕ)) (file : Result (List ℕ) Fault) (text other : List ℕ) (ended different : Status)
+pub one-text : (words : List (List ℕ)) (file : Result (List ℕ) Fault) (text other : Said) (ended different : Status)
     → (AskForOctets words → IfOk file AreOctets) → IsAnswer words file text ended → IsAnswer words file other different
-    → IsAmong DisplayHelp (fault_of scard words) ⊎ (IsSameText words text other × (ended ≡ different))
+    → IsAmong DisplayHelp (fault_of scard words) ⊎ (IsSameAnswer words text other × (ended ≡ different))
 one-text words file text other ended different octets h g =
     elim (read-same words h.read g.read h.is_read g.is_read) [
       | inl help ↦ inl help
@@ -141,7 +142,7 @@ one-text words file text other ended different octets h g =
           inr (read-once words h.read h.is_read file octets text other ended different h.is_answer
           (subst (λ (r : Result Asked Fault).
           MatchResult r (λ asked. IsAnswerAsked asked file other different)
-          (λ fault. (other ≡ fault_text fault) × (different ≡ status.Fault))) same g.is_answer))
+          (λ fault. (other ≡ faulted fault) × (different ≡ status.Fault))) same g.is_answer))
     ]
 
 -- an error of the parser of command lines is a call for help or not
@@ -166,18 +167,18 @@ some-read words true version = (Ok (Once Version), called_for_version version re
 some-read words false parsed = parsed-read words (fault_of scard words) parsed refl
 
 some-answer : (words : List (List ℕ)) (file : Result (List ℕ) Fault) → (AskForOctets words → IfOk file AreOctets)
-    → (read : Result Asked Fault) → IsRead words read → (text : List ℕ) × (ended : Status)
+    → (read : Result Asked Fault) → IsRead words read → (text : Said) × (ended : Status)
     × IsAnswer words file text ended
 some-answer words file octets (Ok asked) read =
     let proper = read-proper words asked read in
     let told = some-asked asked file proper.0 proper.1 (λ need. octets (needs-octets words asked read need)) in
     (told.0, told.1, record { read = Ok asked; is_read = read; is_answer = told.2 })
 some-answer words file octets (Err fault) read =
-    (fault_text fault, status.Fault, record { read = Err fault; is_read = read; is_answer = (refl, refl) })
+    (faulted fault, status.Fault, record { read = Err fault; is_read = read; is_answer = (refl, refl) })
 
 -- and they have some
 pub some-text : (words : List (List ℕ)) (file : Result (List ℕ) Fault) → (AskForOctets words → IfOk file AreOctets)
-    → (text : List ℕ) × (ended : Status) × IsAnswer words file text ended
+    → (text : Said) × (ended : Status) × IsAnswer words file text ended
 some-text words file octets = let read = some-read words (asks_for_version words) refl in
     some-answer words file octets read.0 read.1
 

@@ -16,14 +16,15 @@ use Rattle.traces.specs.declared.reading.TraceFault.{TraceFault}
 use Rattle.traces.specs.declared.reading.TraceFault.TheVariants.{Text, Unfit as UnfitLine}
 use Rattle.traces.specs.declared.trace.Item.{Item}
 use Rattle.traces.specs.declared.unfit.Unfit.{Unfit}
-use Rattle.program_octets.specs.Texts.{refused_as_text}
+use Rattle.program_octets.specs.Sayings.{refused_as}
+use Rattle.program_octets.specs.declared.said.Said.{Said}
 use Rattle.program_octets.specs.declared.status.Status.{Status}
 use Rattle.program_octets.specs.declared.status.Status.TheVariants as status
 use Rattle.program_octets.proofs.OneOf.{OneText, ended-by}
-use Rattle.program.specs.ExchangeTexts.{file_fault_text}
+use Rattle.program.specs.ExchangeTexts.{file_faulted}
 use Rattle.program.specs.Files.{largest_file}
 use Rattle.program.specs.Judged.{AreOf}
-use Rattle.program.specs.RecordTexts.{IsItemsNote, IsRecordNote, IsRefusedNote, Records, RecordsItems, RefusesText, line_with, refused, unfit, unfit_text, whole}
+use Rattle.program.specs.RecordTexts.{IsItemsNote, IsRecordNote, IsRefusedNote, Records, RecordsItems, RefusesText, line_with, refused, unfit, refused_line, whole}
 use Rattle.program.specs.SimulationTexts.{IsFile}
 use Rattle.program.specs.declared.judged.WithNote.{WithNote}
 use Rattle.program.proofs.Simulations.{apart, one-file, same-name, same-size, some-file}
@@ -36,20 +37,20 @@ same-some : {A : Type 0} (o : Option A) (x y : A) → o ≡ Some x → o ≡ Som
 same-some o x y e f = ap (λ p. unwrap_or p x) (sym e ∙ f)
 
 module _ (atr file : List ℕ) (items : List Item) where
-  same-file : (a b : ℕ) (t u : List ℕ) (p q : Status) → IsFound atr (Ok a) → IsFound atr (Ok b)
+  same-file : (a b : ℕ) (t u : Said) (p q : Status) → IsFound atr (Ok a) → IsFound atr (Ok b)
       → IsFile (exchange_of a atr items) t p → IsFile (exchange_of b atr items) u q → (t ≡ u) × (p ≡ q)
   same-file a b t u p q f g h k = one-file (exchange_of b atr items) t u p q
       (subst (λ (ifsc : ℕ). IsFile (exchange_of ifsc atr items) t p) (same-size atr a b f g) h) k
 
-  one-recorded : (t u : List ℕ) (p q : Status) → RecordsItems atr file items t p → RecordsItems atr file items u q
+  one-recorded : (t u : Said) (p q : Status) → RecordsItems atr file items t p → RecordsItems atr file items u q
       → (t ≡ u) × (p ≡ q)
   one-recorded t u p q (refused a f text ended) (refused b g other different) =
-      (text ∙ ap refused_as_text (same-name atr a b f g) ∙ sym other, ended ∙ sym different)
+      (text ∙ ap refused_as (same-name atr a b f g) ∙ sym other, ended ∙ sym different)
   one-recorded t u p q (refused a f text ended) (unfit b place why g is other different) = absurd (apart atr b a g f)
   one-recorded t u p q (refused a f text ended) (whole b g fit same) = absurd (apart atr b a g f)
   one-recorded t u p q (unfit a place why f is text ended) (refused b g other different) = absurd (apart atr a b f g)
   one-recorded t u p q (unfit a place why f is text ended) (unfit b at reason g same other different) = (
-    text ∙ ap (λ (x : ℕ × Unfit). unfit_text (line_with file x.0) (unfit_name x.1))
+    text ∙ ap (λ (x : ℕ × Unfit). refused_line (line_with file x.0) (unfit_name x.1))
         (same-some (unfit_in items) (place, why) (at, reason) is same) ∙ sym other,
     ended ∙ sym different,
   )
@@ -61,21 +62,21 @@ module _ (atr file : List ℕ) (items : List Item) where
   one-recorded t u p q (whole a f fit written) (whole b g fits same) = same-file a b t u p q f g written same
 
   some-items : (ifsc : ℕ) → IsFound atr (Ok ifsc) → (o : Option (ℕ × Unfit)) → unfit_in items ≡ o
-      → (t : List ℕ) × (p : Status) × RecordsItems atr file items t p
+      → (t : Said) × (p : Status) × RecordsItems atr file items t p
   some-items ifsc f None fit =
       let e = exchange_of ifsc atr items in
       let told = some-file e (cases_order (length (exchange_text e)) largest_file) in
       (told.0, told.1, whole ifsc f fit told.2)
   some-items ifsc f (Some (place, why)) is = (
-    unfit_text (line_with file place) (unfit_name why),
+    refused_line (line_with file place) (unfit_name why),
     status.Refused,
     unfit ifsc place why f is refl refl,
   )
 
-  some-found : (found : Result ℕ (List ℕ)) → IsFound atr found → (t : List ℕ) × (p : Status)
+  some-found : (found : Result ℕ (List ℕ)) → IsFound atr found → (t : Said) × (p : Status)
       × RecordsItems atr file items t p
   some-found (Ok ifsc) f = some-items ifsc f (unfit_in items) refl
-  some-found (Err name) f = (refused_as_text name, status.Refused, refused name f refl refl)
+  some-found (Err name) f = (refused_as name, status.Refused, refused name f refl refl)
 
   items-once : AreOctets atr → OneText (RecordsItems atr file items)
   items-once octets = record {
@@ -92,8 +93,8 @@ recorded-once atr octets file = go (trace_of file)
         → OneText (λ text ended. MatchResult said (λ items. RecordsItems atr file items text ended)
         (λ fault. RefusesText fault text ended))
     go (Ok items) = items-once atr file items octets
-    go (Err (Text fault)) = ended-by (file_fault_text fault) status.Fault
-    go (Err (UnfitLine line why)) = ended-by (unfit_text line (unfit_name why)) status.Refused
+    go (Err (Text fault)) = ended-by (file_faulted fault) status.Fault
+    go (Err (UnfitLine line why)) = ended-by (refused_line line (unfit_name why)) status.Refused
 
 -- an answer and a note that are of items are of the text that was read as them
 pub of-items : (atr file : List ℕ) (items : List Item) (made : WithNote) → UnlessMemory (Ok items) (trace_of file)
@@ -102,7 +103,7 @@ pub of-items : (atr file : List ℕ) (items : List Item) (made : WithNote) → U
 of-items atr file items made (inl memory) h = absurd (cc memory)
 of-items atr file items made (inr said) h =
     subst (λ (r : Result (List Item) TraceFault). MatchResult r
-    (λ items. RecordsItems atr file items made.answer.text made.answer.status)
-    (λ fault. RefusesText fault made.answer.text made.answer.status)
+    (λ items. RecordsItems atr file items made.answer.said made.answer.status)
+    (λ fault. RefusesText fault made.answer.said made.answer.status)
     × IfOk made.note (λ note. MatchResult r (λ items. IsItemsNote atr file items (string_bytes note))
     (λ fault. IsRefusedNote fault file (string_bytes note)))) said h

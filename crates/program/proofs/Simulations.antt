@@ -5,7 +5,9 @@ use Rattle.std.proofs.lemmas.Bool.{cases_order}
 use Rattle.octet_core.specs.Octets.{AreOctets}
 use Rattle.atr_core.proofs.Goes as atr_goes
 use Rattle.atr_core.proofs.Unique.{one-accepted}
-use Rattle.program_words.specs.Texts.{fault_text}
+use Rattle.program_octets.specs.Sayings.{faulted, refused_as}
+use Rattle.program_octets.specs.declared.said.Said.{Said}
+use Rattle.program_octets.specs.declared.said.Said.TheVariants as saying
 use Rattle.program_words.specs.declared.fault.Fault.TheVariants.{TooLarge}
 use Rattle.program_words.specs.declared.session.Session.{Session}
 use Rattle.exchange_text.specs.Exchange.{ExchangeParts}
@@ -24,13 +26,15 @@ use Rattle.program_words.specs.PairLines.{pairs_in}
 use Rattle.program_words.specs.Value.{UnlessMemory}
 use Rattle.program_words.specs.declared.session.Pair.{Pair}
 use Rattle.program_words.specs.declared.fault.Fault.{Fault}
-use Rattle.program_octets.specs.Texts.{refused_as_text}
 use Rattle.program_octets.specs.declared.status.Status.{Status}
 use Rattle.program_octets.specs.declared.status.Status.TheVariants as status
 use Rattle.program_octets.proofs.OneOf.{OneText, ended-by}
 
 abbrev text-of : Recording → List ℕ
 text-of r = exchange_text (exchange_of r)
+
+abbrev file-of : Recording → Said
+file-of r = saying.Text (text-of r)
 
 -- ---- what holds of an answer
 
@@ -48,7 +52,7 @@ if-both-ok (Err e) f h g = tt
 -- ---- the file of an exchange
 
 -- an exchange has one file
-pub one-file : (e : ExchangeParts) (t u : List ℕ) (p q : Status) → IsFile e t p → IsFile e u q → (t ≡ u) × (p ≡ q)
+pub one-file : (e : ExchangeParts) (t u : Said) (p q : Status) → IsFile e t p → IsFile e u q → (t ≡ u) × (p ≡ q)
 one-file e t u p q (fits small text ended) (fits little other different) = (text ∙ sym other, ended ∙ sym different)
 one-file e t u p q (fits small text ended) (over long other different) = absurd (omega (arith, small, long))
 one-file e t u p q (over long text ended) (fits small other different) = absurd (omega (arith, small, long))
@@ -56,10 +60,10 @@ one-file e t u p q (over long text ended) (over large other different) = (text �
 
 pub some-file : (e : ExchangeParts) → (length (exchange_text e) ≡ largest_file)
     ⊎ ((length (exchange_text e) < largest_file) ⊎ (largest_file < length (exchange_text e)))
-    → (t : List ℕ) × (p : Status) × IsFile e t p
-some-file e (inl same) = (exchange_text e, status.Accepted, fits (omega (arith, same)) refl refl)
-some-file e (inr (inl small)) = (exchange_text e, status.Accepted, fits (omega (arith, small)) refl refl)
-some-file e (inr (inr long)) = (fault_text TooLarge, status.Fault, over long refl refl)
+    → (t : Said) × (p : Status) × IsFile e t p
+some-file e (inl same) = (saying.Text (exchange_text e), status.Accepted, fits (omega (arith, same)) refl refl)
+some-file e (inr (inl small)) = (saying.Text (exchange_text e), status.Accepted, fits (omega (arith, small)) refl refl)
+some-file e (inr (inr long)) = (faulted TooLarge, status.Fault, over long refl refl)
 
 -- ---- one thing is found
 
@@ -101,14 +105,14 @@ module _ (s : Session) where
 
   -- ---- one text
 
-  one-simulated : (t u : List ℕ) (p q : Status) → Simulates s t p → Simulates s u q → (t ≡ u) × (p ≡ q)
+  one-simulated : (t u : Said) (p q : Status) → Simulates s t p → Simulates s u q → (t ≡ u) × (p ≡ q)
   one-simulated t u p q (unusable a f text ended) (unusable b g other different) =
-      (text ∙ ap refused_as_text (same-name s.atr a b f g) ∙ sym other, ended ∙ sym different)
+      (text ∙ ap refused_as (same-name s.atr a b f g) ∙ sym other, ended ∙ sym different)
   one-simulated t u p q (unusable a f text ended) (whole b r g end small other different) = absurd (apart s.atr b a g f)
   one-simulated t u p q (unusable a f text ended) (too_large b g long other different) = absurd (apart s.atr b a g f)
   one-simulated t u p q (whole a r f end small text ended) (unusable b g other different) = absurd (apart s.atr a b f g)
   one-simulated t u p q (whole a r f end small text ended) (whole b v g also little other different) =
-      (text ∙ ap text-of (same-end a b r v f g end also) ∙ sym other, ended ∙ sym different)
+      (text ∙ ap file-of (same-end a b r v f g end also) ∙ sym other, ended ∙ sym different)
   one-simulated t u p q (whole a r f end small text ended) (too_large b g long other different) =
       absurd (too-long-for a b r f g end small long)
   one-simulated t u p q (too_large a f long text ended) (unusable b g other different) = absurd (apart s.atr a b f g)
@@ -119,7 +123,7 @@ module _ (s : Session) where
 
   -- ---- some text
 
-  at-end : (ifsc : ℕ) (r : Recording) → IsFound s.atr (Ok ifsc) → EndsAs s ifsc r → (t : List ℕ) (p : Status)
+  at-end : (ifsc : ℕ) (r : Recording) → IsFound s.atr (Ok ifsc) → EndsAs s ifsc r → (t : Said) (p : Status)
       → IsFile (exchange_of r) t p → Simulates s t p
   at-end ifsc r f end t p (fits small text ended) = whole ifsc r f end small text ended
   at-end ifsc r f end t p (over long text ended) =
@@ -128,16 +132,16 @@ module _ (s : Session) where
 
   some-ended : (ifsc : ℕ) → IsFound s.atr (Ok ifsc) → (o : Option Recording)
       → simulated largest_file s (start s) (new_recording s.atr ifsc) ≡ o
-      → (t : List ℕ) × (p : Status) × Simulates s t p
+      → (t : Said) × (p : Status) × Simulates s t p
   some-ended ifsc f None h =
-      (fault_text TooLarge, status.Fault, too_large ifsc f (λ r end. too-long largest_file s ifsc r h end) refl refl)
+      (faulted TooLarge, status.Fault, too_large ifsc f (λ r end. too-long largest_file s ifsc r h end) refl refl)
   some-ended ifsc f (Some r) h =
       let told = some-file (exchange_of r) (cases_order (length (text-of r)) largest_file) in
       (told.0, told.1, at-end ifsc r f (largest_file, h) told.0 told.1 told.2)
 
-  some-found : (found : Result ℕ (List ℕ)) → IsFound s.atr found → (t : List ℕ) × (p : Status) × Simulates s t p
+  some-found : (found : Result ℕ (List ℕ)) → IsFound s.atr found → (t : Said) × (p : Status) × Simulates s t p
   some-found (Ok ifsc) f = some-ended ifsc f (simulated largest_file s (start s) (new_recording s.atr ifsc)) refl
-  some-found (Err name) f = (refused_as_text name, status.Refused, unusable name f refl refl)
+  some-found (Err name) f = (refused_as name, status.Refused, unusable name f refl refl)
 
   -- a session comes to one text with one status, where its answer to reset is octets
   pub simulated-once : AreOctets s.atr → OneText (Simulates s)
@@ -150,7 +154,7 @@ module _ (s : Session) where
   -- ---- the program
 
   -- the text of an exchange that the session makes
-  pub told-file : (e : ExchangeParts) (t : List ℕ) (p : Status) → IsSimulated largest_file s (Ok e) → IsFile e t p
+  pub told-file : (e : ExchangeParts) (t : Said) (p : Status) → IsSimulated largest_file s (Ok e) → IsFile e t p
       → Simulates s t p
   told-file e t p (ifsc, r, f, end, is) file =
       at-end ifsc r f end t p (subst (λ (x : ExchangeParts). IsFile x t p) is file)
@@ -164,18 +168,18 @@ module _ (s : Session) where
   pub told-both : (e : ExchangeParts) (made : WithNote) → IsSimulated largest_file s (Ok e)
       → AreOf (IsFile e) (IsExchangeNote s e) made → AreOf (Simulates s) (IsSimulationNote s) made
   told-both e made is h = (
-    told-file e made.answer.text made.answer.status is h.0,
+    told-file e made.answer.said made.answer.status is h.0,
     if-ok made.note (λ note k. told-note e (string_bytes note) is k) h.1,
   )
 
 -- ---- how the program ends with a text
 
-pub past : (e : ExchangeParts) (t : List ℕ) (p : Status) → IsFile e t p → p ≡ status.Fault
+pub past : (e : ExchangeParts) (t : Said) (p : Status) → IsFile e t p → p ≡ status.Fault
     → largest_file < length (exchange_text e)
 past e t p (fits small text ended) is = absurd (cc (ended, is))
 past e t p (over long text ended) is = long
 
-pub inside : (e : ExchangeParts) (t : List ℕ) (p : Status) → IsFile e t p → (p ≡ status.Fault → ⊥)
+pub inside : (e : ExchangeParts) (t : Said) (p : Status) → IsFile e t p → (p ≡ status.Fault → ⊥)
     → length (exchange_text e) ≤ largest_file
 inside e t p (fits small text ended) other = small
 inside e t p (over long text ended) other = absurd (other ended)
@@ -187,10 +191,10 @@ pub lines-once : (s : Session) → AreOctets s.atr → (b : List ℕ) → OneTex
 lines-once s octets b = go (pairs_in b)
   where
     go : (r : Result (List Pair) Fault)
-        → OneText (λ text ended. MatchResult r (λ pairs. Simulates (record s { pairs = pairs }) text ended)
-        (λ fault. (text ≡ fault_text fault) × (ended ≡ status.Fault)))
+        → OneText (λ said ended. MatchResult r (λ pairs. Simulates (record s { pairs = pairs }) said ended)
+        (λ fault. (said ≡ faulted fault) × (ended ≡ status.Fault)))
     go (Ok pairs) = simulated-once (record s { pairs = pairs }) octets
-    go (Err fault) = ended-by (fault_text fault) status.Fault
+    go (Err fault) = ended-by (faulted fault) status.Fault
 
 -- a session with the pairs that lines say
 pub of-lines : {E : Type 0} (s : Session) (b : List ℕ) (pairs : List Pair) (r : Result WithNote E)
@@ -199,6 +203,6 @@ pub of-lines : {E : Type 0} (s : Session) (b : List ℕ) (pairs : List Pair) (r 
     → IfOk r (AreOf (SimulatesLines s b) (IsLinesNote s b))
 of-lines s b pairs r (inl memory) h = absurd (cc memory)
 of-lines s b pairs r (inr is) h = subst (λ (p : Result (List Pair) Fault). IfOk r (AreOf
-    (λ text ended. MatchResult p (λ q. Simulates (record s { pairs = q }) text ended)
-    (λ fault. (text ≡ fault_text fault) × (ended ≡ status.Fault)))
+    (λ said ended. MatchResult p (λ q. Simulates (record s { pairs = q }) said ended)
+    (λ fault. (said ≡ faulted fault) × (ended ≡ status.Fault)))
     (λ note. MatchResult p (λ q. IsSimulationNote (record s { pairs = q }) note) (λ _. note ≡ pairs_note b)))) is h

@@ -1,5 +1,5 @@
--- What the program answers: one text and one status.
-use Rattle.std.specs.Prelude.{◌≡◌, ◌<◌, ◌++◌, ℕ, ◌⊎◌, List, [], ◌∷◌, codes, drop, length, take, true, Result, Err, MatchResult}
+-- What the program answers: what it says, and one status.
+use Rattle.std.specs.Prelude.{◌≡◌, ◌<◌, ◌++◌, ◌&&◌, ℕ, ◌⊎◌, List, [], ◌∷◌, codes, length, take, Bool, true, false, Result, Err, MatchResult}
 use Rattle.std.specs.Io.KnownBytes.{Appends}
 use Rattle.octet_core.specs.Failures.{HasFailed}
 use Rattle.octet_core.specs.declared.stop.Stop.{Stop}
@@ -7,7 +7,6 @@ use Rattle.program_octets.specs.Verdicts.{Checks, NotesBy, Shows, Tidies, IsFill
 use Rattle.chain_core.specs.Chain.{chain_blocks}
 use Rattle.program_octets.specs.ChainTexts.{blocks_text}
 use Rattle.program_octets.specs.Codec.{Codec, Stops, Takes}
-use Rattle.program_words.specs.Texts.{fault_text}
 use Rattle.chain_core.specs.Cut.{cut_of}
 use Rattle.program.specs.Calls.{Calls}
 use Rattle.program.specs.ExchangeTexts.{TellsFile}
@@ -15,8 +14,10 @@ use Rattle.program.specs.SimulationTexts.{Simulates, SimulatesLines}
 use Rattle.program.specs.RecordTexts.{Records}
 use Rattle.program.specs.JudgeTexts.{JudgesTrace}
 use Rattle.program.specs.Judged.{refusal_row}
-use Rattle.answer_json.specs.Answers.{json_text}
-use Rattle.program_octets.specs.Json.{object_head, with_notes}
+use Rattle.program_octets.specs.Json.{with_notes}
+use Rattle.program_octets.specs.Sayings.{faulted, object_of, text_of}
+use Rattle.program_octets.specs.declared.said.Said.{Said}
+use Rattle.program_octets.specs.declared.said.Said.TheVariants as saying
 use Rattle.program_octets.specs.Rows.{Row, lines_of, notes_of}
 use Rattle.program_octets.specs.Texts.{refused_text}
 use Rattle.program.specs.Pieces.{ReadsFor}
@@ -43,21 +44,23 @@ use Rattle.program_words.specs.declared.request.Request.{Request}
 use Rattle.program_words.specs.declared.request.Request.TheVariants.{BuildChain, BuildTidy, BuildFill, Tell, File, Record, Judge, Simulate, SimulateLines, Help, Version}
 use Rattle.program_words.specs.declared.request.Task.{Task}
 
--- the answer about octets, or the line of the fault if there are no octets
-abbrev pub IsToldOf : (List ℕ → List ℕ → Status → Type 0) → Result (List ℕ) Fault → List ℕ → Status → Type 0
-IsToldOf Told octets text ended = MatchResult octets (λ b. Told b text ended)
-    (λ fault. (text ≡ fault_text fault) × (ended ≡ status.Fault))
+-- the answer about octets, or the fault if there are no octets
+abbrev pub IsToldOf : (List ℕ → Said → Status → Type 0) → Result (List ℕ) Fault → Said → Status → Type 0
+IsToldOf Told octets said ended = MatchResult octets (λ b. Told b said ended)
+    (λ fault. (said ≡ faulted fault) × (ended ≡ status.Fault))
 
 -- The value with the notes on its lines, or a refusal with some words as a note. Cut at its notes, the text is that of
 -- `show` without them. A fault has no note. The words on a refusal are open.
-pub record ShowsNoted (kind : Kind) (expected : Expected) (b text : List ℕ) (ended : Status) : Type 0 where
+pub record ShowsNoted (kind : Kind) (expected : Expected) (b : List ℕ) (said : Said) (ended : Status) : Type 0 where
+  pub text : List ℕ
+  pub is_text : said ≡ saying.Text text
   pub words : List ℕ
   pub has_notes : NotesBy (codec_of kind expected).codec words b text ended
-  pub plain : List ℕ
+  pub plain : Said
   pub is_shown : Shows layout.Lines kind expected b plain ended
-  pub is_noted : IsNoted plain text
-  pub is_cut : without_notes text ≡ plain
-  pub unnoted : ended ≡ status.Fault → text ≡ plain
+  pub is_noted : IsNoted (text_of plain) text
+  pub is_cut : without_notes text ≡ text_of plain
+  pub unnoted : ended ≡ status.Fault → text ≡ text_of plain
 
 -- the rows of the value, or that of the refusal, with some words as the note on its line
 pub data AreRowsBy {V R : Type 0} (c : Codec V R) (b : List ℕ) (rows : List Row) (ended : Status) : Type 0 where
@@ -67,39 +70,45 @@ pub data AreRowsBy {V R : Type 0} (c : Codec V R) (b : List ℕ) (rows : List Ro
 
 -- The object of the value or of the refusal, with the notes of its rows. As lines these are the value or the refusal
 -- with notes.
-pub record ShowsNotedObject (kind : Kind) (expected : Expected) (b text : List ℕ) (ended : Status) : Type 0 where
-  pub object : List ℕ
-  pub is_shown : Shows layout.Json kind expected b object ended
-  pub rows : List Row
-  pub are_rows : AreRowsBy (codec_of kind expected).codec b rows ended
-  pub has_notes : ShowsNoted kind expected b (lines_of true rows) ended
-  pub is_text : text ≡ with_notes object (notes_of rows)
+pub record ShowsNotedObject (kind : Kind) (expected : Expected) (b : List ℕ) (said : Said) (ended : Status) : Type 0
+  where
+    pub object : List ℕ
+    pub is_shown : Shows layout.Json kind expected b (saying.Object object) ended
+    pub rows : List Row
+    pub are_rows : AreRowsBy (codec_of kind expected).codec b rows ended
+    pub has_notes : ShowsNoted kind expected b (saying.Text (lines_of true rows)) ended
+    pub is_said : said ≡ saying.Object (with_notes object (notes_of rows))
 
 -- the answer about octets
-abbrev pub Tells : Aim → Layout → Expected → List ℕ → List ℕ → Status → Type 0
+abbrev pub Tells : Aim → Layout → Expected → List ℕ → Said → Status → Type 0
 Tells Check how expected = Checks how expected.kind expected
 Tells Show how expected = Shows how expected.kind expected
 Tells Note layout.Lines expected = ShowsNoted expected.kind expected
 Tells Note layout.Json expected = ShowsNotedObject expected.kind expected
 
-abbrev pub IsTold : Task → List ℕ → List ℕ → Status → Type 0
+abbrev pub IsTold : Task → List ℕ → Said → Status → Type 0
 IsTold task = Tells task.aim task.layout task.expected
 
--- lines as a JSON object about a subject
-abbrev pub json_object : List ℕ → List ℕ → List ℕ
-json_object about lines = object_head about ++ drop 1 (json_text lines)
+-- whether notes are asked for
+abbrev pub has_notes : Aim → Bool
+has_notes Check = false
+has_notes Show = false
+has_notes Note = true
 
--- an object without notes; if notes are asked for, it has an empty array of them
-abbrev pub noted_as : Aim → List ℕ → List ℕ
-noted_as Check object = object
-noted_as Show object = object
-noted_as Note object = with_notes object []
+abbrev pub is_refusal : Said → Bool
+is_refusal (saying.Text lines) = false
+is_refusal (saying.Object object) = false
+is_refusal (saying.Refusal refusal) = true
 
--- an answer about octets as a JSON object: it is one already, unless it is the line of a fault, which has no note
-abbrev pub object_of : Aim → Kind → Status → List ℕ → List ℕ
-object_of aim kind status.Accepted told = told
-object_of aim kind status.Refused told = told
-object_of aim kind status.Fault told = noted_as aim (json_object (kind_name kind) told)
+-- an object, with an empty array of notes or without
+abbrev pub noted_if : Bool → List ℕ → List ℕ
+noted_if true object = with_notes object []
+noted_if false object = object
+
+-- The object of an answer about a subject. If notes are asked for, a refusal has an empty array of them: the notes of a
+-- value, or of octets that are refused, are in its object already.
+abbrev pub object_as : List ℕ → Bool → Said → List ℕ
+object_as about noted said = noted_if (is_refusal said && noted) (object_of about said)
 
 -- the lines that answer a line: a check has one, a value several and an empty one
 abbrev pub lines_text : Aim → List ℕ → List ℕ
@@ -108,42 +117,47 @@ lines_text Show told = told ++ codes "\n"
 lines_text Note told = told ++ codes "\n"
 
 -- the text that answers a line, as lines or as a JSON object
-abbrev pub line_text : Aim → Layout → Kind → Status → List ℕ → List ℕ
-line_text aim layout.Lines kind ended told = lines_text aim told
-line_text aim layout.Json kind ended told = object_of aim kind ended told
+abbrev pub line_text : Aim → Layout → Kind → Said → List ℕ
+line_text aim layout.Lines kind said = lines_text aim (text_of said)
+line_text aim layout.Json kind said = object_as (kind_name kind) (has_notes aim) said
 
 -- the text that answers a line, by the task
-abbrev pub answer_text : Task → Status → List ℕ → List ℕ
-answer_text task ended told = line_text task.aim task.layout task.expected.kind ended told
+abbrev pub answer_text : Task → Said → List ℕ
+answer_text task said = line_text task.aim task.layout task.expected.kind said
 
 -- the text and the status of one line
 pub record IsLineTold (task : Task) (line text : List ℕ) (ended : Status) : Type 0 where
-  pub told : List ℕ
+  pub told : Said
   pub is_told : IsToldOf (IsTold task) (line_octets line) told ended
-  pub is_text : text ≡ answer_text task ended told
+  pub is_text : text ≡ answer_text task told
 
 abbrev pub AreLinesTold : Task → List (List ℕ) → List ℕ → Status → Type 0
 AreLinesTold task lines text ended = AreTold (IsLineTold task) lines text ended
 
--- the text and the status of a request, with the result of reading standard input
-abbrev pub IsAnswerTo : Request → Result (List ℕ) Fault → List ℕ → Status → Type 0
-IsAnswerTo (Tell task given) file text ended = IsToldOf (IsTold task) (octets_given given file) text ended
-IsAnswerTo (BuildChain ifs number message) file text ended =
-    (text ≡ blocks_text (chain_blocks number (cut_of ifs message))) × (ended ≡ status.Accepted)
-IsAnswerTo (BuildTidy given) file text ended = IsToldOf Tidies (octets_given given file) text ended
-IsAnswerTo (BuildFill list known) file text ended = IsFilled list known text ended
-IsAnswerTo (File task) file text ended = IsToldOf (TellsFile task) file text ended
-IsAnswerTo (Record atr) file text ended = IsToldOf (Records atr) file text ended
-IsAnswerTo (Judge atr judging) file text ended = IsToldOf (JudgesTrace atr judging) file text ended
-IsAnswerTo (Simulate session) file text ended = Simulates session text ended
-IsAnswerTo (SimulateLines session) file text ended = IsToldOf (SimulatesLines session) file text ended
-IsAnswerTo (Help help) file text ended = (text ≡ help) × (ended ≡ status.Accepted)
-IsAnswerTo Version file text ended = (text ≡ version_line) × (ended ≡ status.Accepted)
+-- what is said to a request, with which status, with the result of reading standard input
+abbrev pub IsAnswerTo : Request → Result (List ℕ) Fault → Said → Status → Type 0
+IsAnswerTo (Tell task given) file said ended = IsToldOf (IsTold task) (octets_given given file) said ended
+IsAnswerTo (BuildChain ifs number message) file said ended =
+    (said ≡ saying.Text (blocks_text (chain_blocks number (cut_of ifs message)))) × (ended ≡ status.Accepted)
+IsAnswerTo (BuildTidy given) file said ended = IsToldOf Tidies (octets_given given file) said ended
+IsAnswerTo (BuildFill list known) file said ended = IsFilled list known said ended
+IsAnswerTo (File task) file said ended = IsToldOf (TellsFile task) file said ended
+IsAnswerTo (Record atr) file said ended = IsToldOf (Records atr) file said ended
+IsAnswerTo (Judge atr judging) file said ended = IsToldOf (JudgesTrace atr judging) file said ended
+IsAnswerTo (Simulate session) file said ended = Simulates session said ended
+IsAnswerTo (SimulateLines session) file said ended = IsToldOf (SimulatesLines session) file said ended
+IsAnswerTo (Help help) file said ended = (said ≡ saying.Text help) × (ended ≡ status.Accepted)
+IsAnswerTo Version file said ended = (said ≡ saying.Text version_line) × (ended ≡ status.Accepted)
 
--- the text and the status of what is asked for, with the result of reading standard input
-abbrev pub IsAnswerAsked : Asked → Result (List ℕ) Fault → List ℕ → Status → Type 0
-IsAnswerAsked (Once request) file text ended = IsAnswerTo request file text ended
-IsAnswerAsked (Lines task) file text ended = IsToldOf (λ b. AreLinesTold task (all_lines b)) file text ended
+-- the answers to lines as one text
+abbrev pub AreLinesAnswered : Task → List (List ℕ) → Said → Status → Type 0
+AreLinesAnswered task lines said ended =
+    (text : List ℕ) × (said ≡ saying.Text text) × AreLinesTold task lines text ended
+
+-- what is said to what is asked for, with which status, with the result of reading standard input
+abbrev pub IsAnswerAsked : Asked → Result (List ℕ) Fault → Said → Status → Type 0
+IsAnswerAsked (Once request) file said ended = IsAnswerTo request file said ended
+IsAnswerAsked (Lines task) file said ended = IsToldOf (λ b. AreLinesAnswered task (all_lines b)) file said ended
 
 -- ---- without notes
 
@@ -179,25 +193,25 @@ pub data HaveNotes (text plain : List ℕ) : Type 0 where
       → HaveNotes text plain
   no_object : text ≡ plain → HaveNotes text plain
 
--- a text, and the same without notes: each line cut at its first note, or each object without the member
-abbrev pub IsWithout : Aim → Layout → List ℕ → List ℕ → Type 0
-IsWithout Check how text plain = plain ≡ text
-IsWithout Show how text plain = plain ≡ text
-IsWithout Note layout.Lines text plain = plain ≡ without_notes text
-IsWithout Note layout.Json text plain = HaveNotes text plain
+-- an answer, and the same without notes: each line cut at its first note, or each object without the member
+abbrev pub IsWithout : Aim → Layout → Said → Said → Type 0
+IsWithout Check how said plain = plain ≡ said
+IsWithout Show how said plain = plain ≡ said
+IsWithout Note layout.Lines said plain = text_of plain ≡ without_notes (text_of said)
+IsWithout Note layout.Json said plain = HaveNotes (text_of said) (text_of plain)
 
-abbrev pub IsPlainOf : Request → List ℕ → List ℕ → Type 0
-IsPlainOf (Tell task given) text plain = IsWithout task.aim task.layout text plain
-IsPlainOf _ text plain = plain ≡ text
+abbrev pub IsPlainOf : Request → Said → Said → Type 0
+IsPlainOf (Tell task given) said plain = IsWithout task.aim task.layout said plain
+IsPlainOf _ said plain = plain ≡ said
 
-abbrev pub IsPlain : Asked → List ℕ → List ℕ → Type 0
-IsPlain (Once request) text plain = IsPlainOf request text plain
-IsPlain (Lines task) text plain = IsWithout task.aim task.layout text plain
+abbrev pub IsPlain : Asked → Said → Said → Type 0
+IsPlain (Once request) said plain = IsPlainOf request said plain
+IsPlain (Lines task) said plain = IsWithout task.aim task.layout said plain
 
--- two texts that are equal without notes
-pub record AreAlike (asked : Asked) (text other : List ℕ) : Type 0 where
-  pub plain : List ℕ
-  pub first : IsPlain asked text plain
+-- two answers that are equal without notes
+pub record AreAlike (asked : Asked) (said other : Said) : Type 0 where
+  pub plain : Said
+  pub first : IsPlain asked said plain
   pub second : IsPlain asked other plain
 
 -- notes are asked for, in this layout
@@ -213,30 +227,31 @@ abbrev pub AskForNotes : Layout → List (List ℕ) → Type 0
 AskForNotes how words =
     AreTaken words × MatchResult (asked_of (subcommand_of scard words)) (AsksForNotes how) (λ _. ⊥)
 
--- two texts of the same words: they are equal, or equal without notes if notes are asked for
-pub data IsSameText (words : List (List ℕ)) (text other : List ℕ) : Type 0 where
-  same : text ≡ other → IsSameText words text other
-  in_lines : AskForNotes layout.Lines words → without_notes text ≡ without_notes other → IsSameText words text other
-  in_objects : AskForNotes layout.Json words → (plain : List ℕ) → HaveNotes text plain → HaveNotes other plain
-      → IsSameText words text other
+-- two answers to the same words: they are equal, or equal without notes if notes are asked for
+pub data IsSameAnswer (words : List (List ℕ)) (said other : Said) : Type 0 where
+  same : said ≡ other → IsSameAnswer words said other
+  in_lines : AskForNotes layout.Lines words → without_notes (text_of said) ≡ without_notes (text_of other)
+      → IsSameAnswer words said other
+  in_objects : AskForNotes layout.Json words → (plain : List ℕ) → HaveNotes (text_of said) plain
+      → HaveNotes (text_of other) plain → IsSameAnswer words said other
 
 -- the request that words are read as, or memory ran out
 abbrev pub IsReadFrom : List (List ℕ) → Result Request Fault → Type 0
 IsReadFrom words read = (read ≡ Err Memory) ⊎ IsRead words (once_of read)
 
--- the text and the status of words: those of what they ask for, or of the fault
-pub record IsAnswer (words : List (List ℕ)) (file : Result (List ℕ) Fault) (text : List ℕ) (ended : Status) : Type 0
+-- what is said to words, with which status: the answer to what they ask for, or the fault
+pub record IsAnswer (words : List (List ℕ)) (file : Result (List ℕ) Fault) (said : Said) (ended : Status) : Type 0
   where
     pub read : Result Asked Fault
     pub is_read : IsRead words read
-    pub is_answer : MatchResult read (λ asked. IsAnswerAsked asked file text ended)
-        (λ fault. (text ≡ fault_text fault) × (ended ≡ status.Fault))
+    pub is_answer : MatchResult read (λ asked. IsAnswerAsked asked file said ended)
+        (λ fault. (said ≡ faulted fault) × (ended ≡ status.Fault))
 
 -- ---- with the octets or the file from a reader
 
--- memory ran out: the line of that fault, and no call of the reader failed
-abbrev pub IsWanting : Calls → List ℕ → Status → Type 0
-IsWanting reads text ended = (text ≡ fault_text Memory) × (ended ≡ status.Fault) × (reads.after ≡ reads.before)
+-- memory ran out: that fault, and no call of the reader failed
+abbrev pub IsWanting : Calls → Said → Status → Type 0
+IsWanting reads said ended = (said ≡ faulted Memory) × (ended ≡ status.Fault) × (reads.after ≡ reads.before)
 
 -- words that ask for this request, which needs standard input
 abbrev pub AskWithFile : Request → List (List ℕ) → Type 0
@@ -250,28 +265,28 @@ IsJudge _ = ⊥
 abbrev pub AskToJudge : List (List ℕ) → Type 0
 AskToJudge = AskFor IsJudge
 
--- the text and the status of words, with what was read if they ask for it
-pub record IsAnswerFrom (words : List (List ℕ)) (reads : Calls) (text : List ℕ)
+-- what is said to words, with what was read if they ask for it
+pub record IsAnswerFrom (words : List (List ℕ)) (reads : Calls) (said : Said)
     (ended : Status) : Type 0 where
   pub file : Result (List ℕ) Fault
   pub is_file : (request : Request) → AskWithFile request words → ReadsFor request reads file
-  pub is_answer : IsAnswer words file text ended
+  pub is_answer : IsAnswer words file said ended
 
--- the text and the status of words, or memory ran out
-abbrev pub IsRight : List (List ℕ) → Calls → List ℕ → Status → Type 0
-IsRight words reads text ended =
-    IsAnswerFrom words reads text ended ⊎ IsWanting reads text ended
+-- what is said to words, or memory ran out
+abbrev pub IsRight : List (List ℕ) → Calls → Said → Status → Type 0
+IsRight words reads said ended =
+    IsAnswerFrom words reads said ended ⊎ IsWanting reads said ended
 
--- the text and the status of a request, with what was read if it needs that
-pub record IsAnswerToFrom (request : Request) (reads : Calls) (text : List ℕ)
+-- what is said to a request, with what was read if it needs that
+pub record IsAnswerToFrom (request : Request) (reads : Calls) (said : Said)
     (ended : Status) : Type 0 where
   pub file : Result (List ℕ) Fault
   pub is_file : NeedsFile request → ReadsFor request reads file
-  pub is_answer : IsAnswerTo request file text ended
+  pub is_answer : IsAnswerTo request file said ended
 
-abbrev pub IsRightTo : Request → Calls → List ℕ → Status → Type 0
-IsRightTo request reads text ended =
-    IsAnswerToFrom request reads text ended ⊎ IsWanting reads text ended
+abbrev pub IsRightTo : Request → Calls → Said → Status → Type 0
+IsRightTo request reads said ended =
+    IsAnswerToFrom request reads said ended ⊎ IsWanting reads said ended
 
 -- how a text was written, and how the program ended
 pub data IsWritten (text : List ℕ) (right : Status) (writes : Calls) (ended : Status) :

@@ -14,16 +14,20 @@ use Rattle.exchange_text.specs.declared.line.Line.{Line}
 use Rattle.drawings.specs.Ladder.{ladder_text}
 use Rattle.drawings.specs.Picture.{picture_text}
 use Rattle.exchange_text.specs.Exchange.{ExchangeParts, migrated}
-use Rattle.exchange_text.specs.Faults.{exchange_fault_text}
+use Rattle.answer_json.specs.declared.refusal.Refusal.{Refusal}
+use Rattle.answer_json.specs.declared.refusal.Refusal.TheVariants.{FaultAt, Fault}
 use Rattle.exchange_text.specs.Reading.{exchange_said}
 use Rattle.exchange_core.specs.Replay as replay
 use Rattle.exchange_text.specs.Text.{exchange_text}
 use Rattle.exchange_text.specs.declared.fault.ExchangeFault.{ExchangeFault}
+use Rattle.exchange_text.specs.declared.fault.ExchangeFault.TheVariants as fault
 use Rattle.exchange_core.specs.declared.replaying.ReplayFault.{ReplayFault}
 use Rattle.block_core.specs.declared.side.Side.{Side}
 use Rattle.block_core.specs.declared.side.Side.TheVariants as side
 use Rattle.program.specs.Laid.{laid}
 use Rattle.program.specs.Lines.{worse}
+use Rattle.program_octets.specs.declared.said.Said.{Said}
+use Rattle.program_octets.specs.declared.said.Said.TheVariants as saying
 use Rattle.program_octets.specs.declared.status.Status.{Status}
 use Rattle.program_octets.specs.declared.status.Status.TheVariants as status
 
@@ -65,9 +69,17 @@ abbrev pub both_in : Layout → List ℕ → List ℕ → Status → List ℕ
 both_in layout.Lines terminal card ended = both_lines terminal card
 both_in layout.Json terminal card ended = both_members terminal card ended
 
--- the text isn't a file of an exchange: the line of its first fault
-abbrev pub file_fault_text : ExchangeFault → List ℕ
-file_fault_text fault = codes "fault: " ++ (exchange_fault_text fault ++ codes "\n")
+-- the text isn't a file of an exchange, by its first fault
+abbrev pub file_refusal : ExchangeFault → Refusal
+file_refusal fault.Header = Fault (codes "Header")
+file_refusal (fault.End line) = FaultAt line (codes "End")
+file_refusal (fault.Word line) = FaultAt line (codes "Word")
+file_refusal (fault.Hex line) = FaultAt line (codes "Hex")
+file_refusal (fault.Falls line) = FaultAt line (codes "Falls")
+file_refusal fault.Memory = Fault (codes "memory")
+
+abbrev pub file_faulted : ExchangeFault → Said
+file_faulted fault = saying.Refusal (file_refusal fault)
 
 -- the outcome of a call of replay; running out of memory says nothing about the exchange
 abbrev pub IsOutcome : {A : Type 0} → ExchangeParts → Side → Result A ReplayFault → Type 0
@@ -99,11 +111,11 @@ IsReplayedAt end.Card how e = IsReplayed how e side.Card
 IsReplayedAt end.Both how e = AreReplayed how e
 
 -- the answer about a replay
-pub record IsReplayAnswer (which : Ends) (how : Layout) (e : ExchangeParts) (text : List ℕ) (ended : Status) : Type 0
+pub record IsReplayAnswer (which : Ends) (how : Layout) (e : ExchangeParts) (said : Said) (ended : Status) : Type 0
   where
-    pub said : List ℕ
-    pub is_said : IsReplayedAt which how e said ended
-    pub is_text : text ≡ laid how (codes "replay") said
+    pub text : List ℕ
+    pub is_text : IsReplayedAt which how e text ended
+    pub is_said : said ≡ laid how (codes "replay") text
 
 -- the exchanges of command and answer, as lines or as members
 abbrev pub listed_in : Layout → List Line → List ℕ
@@ -116,14 +128,14 @@ drawn Ladder e = ladder_text e
 drawn Picture e = picture_text e
 
 -- the answer about an exchange
-abbrev pub IsToldSo : FileTask → ExchangeParts → List ℕ → Status → Type 0
+abbrev pub IsToldSo : FileTask → ExchangeParts → Said → Status → Type 0
 IsToldSo (Replay which how) e = IsReplayAnswer which how e
-IsToldSo Migrate e = λ text ended. (text ≡ exchange_text (migrated e)) × (ended ≡ status.Accepted)
-IsToldSo (Apdus how) e = λ text ended.
-    (text ≡ laid how (codes "apdus") (listed_in how e.lines)) × (ended ≡ status.Accepted)
-IsToldSo (Draw drawing) e = λ text ended. (text ≡ drawn drawing e) × (ended ≡ status.Accepted)
+IsToldSo Migrate e = λ said ended. (said ≡ saying.Text (exchange_text (migrated e))) × (ended ≡ status.Accepted)
+IsToldSo (Apdus how) e = λ said ended.
+    (said ≡ laid how (codes "apdus") (listed_in how e.lines)) × (ended ≡ status.Accepted)
+IsToldSo (Draw drawing) e = λ said ended. (said ≡ saying.Text (drawn drawing e)) × (ended ≡ status.Accepted)
 
--- the answer about the octets of a file: that about their exchange, or the line of their first fault
-abbrev pub TellsFile : FileTask → List ℕ → List ℕ → Status → Type 0
-TellsFile task file text ended = MatchResult (exchange_said file) (λ e. IsToldSo task e text ended)
-    (λ fault. (text ≡ file_fault_text fault) × (ended ≡ status.Fault))
+-- the answer about the octets of a file: that about their exchange, or their first fault
+abbrev pub TellsFile : FileTask → List ℕ → Said → Status → Type 0
+TellsFile task file said ended = MatchResult (exchange_said file) (λ e. IsToldSo task e said ended)
+    (λ fault. (said ≡ file_faulted fault) × (ended ≡ status.Fault))

@@ -19,7 +19,9 @@ use Rattle.program_words.specs.declared.request.FileTask.{FileTask}
 use Rattle.program_words.specs.declared.request.FileTask.TheVariants.{Replay}
 use Rattle.program_words.specs.declared.request.Request.{Request}
 use Rattle.program_words.specs.declared.request.Request.TheVariants.{BuildTidy, BuildFill, Tell, File, Record, Judge, Simulate, SimulateLines}
+use Rattle.program_octets.specs.Sayings.{faulted, text_of}
 use Rattle.program_octets.specs.declared.answer.Answer.{Answer}
+use Rattle.program_octets.specs.declared.said.Said.{Said}
 use Rattle.program_octets.specs.declared.status.Status.{Status}
 use Rattle.program_octets.specs.declared.status.Status.TheVariants as status
 use Rattle.exchange_text.specs.Exchange.{ExchangeParts}
@@ -125,27 +127,27 @@ IsNoteTo words (Simulate session) file note = IsSimulationNote session note
 IsNoteTo words (SimulateLines session) file note = IsOkAnd file (λ text. IsLinesNote session text note)
 IsNoteTo words _ file note = ⊥
 
--- a note that fits a text whatever the input was: none, that on words that aren't a request, or that on too many octets
-pub data Fits (words : List (List ℕ)) (text note : List ℕ) : Type 0 where
-  silent : note ≡ [] → Fits words text note
-  on_words : (told : Fault) → IsRead words (Err told) → text ≡ fault_text told → IsWordsNote words note
-      → Fits words text note
-  too_large : text ≡ fault_text fault.TooLarge → note ≡ large_note largest_file → Fits words text note
+-- a note that fits what is said whatever the input was: none, that on words that aren't a request, or that on too many octets
+pub data Fits (words : List (List ℕ)) (said : Said) (note : List ℕ) : Type 0 where
+  silent : note ≡ [] → Fits words said note
+  on_words : (told : Fault) → IsRead words (Err told) → said ≡ faulted told → IsWordsNote words note
+      → Fits words said note
+  too_large : said ≡ faulted fault.TooLarge → note ≡ large_note largest_file → Fits words said note
 
 -- an answer to a request of these words, and the note on its input, which may be empty
 pub record IsNotedFrom (words : List (List ℕ)) (request : Request) (reads : Calls)
-    (text note : List ℕ) (ended : Status) : Type 0 where
+    (said : Said) (note : List ℕ) (ended : Status) : Type 0 where
   pub file : Result (List ℕ) Fault
   pub is_file : NeedsFile request → ReadsFor request reads file
-  pub is_answer : IsAnswerTo request file text ended
+  pub is_answer : IsAnswerTo request file said ended
   pub is_note : IsNoteTo words request file note
 
--- an answer to words: its note is that on the input of a request, or it fits the text alone
-abbrev pub IsNoted : List (List ℕ) → Calls → List ℕ → List ℕ → Status → Type 0
-IsNoted words reads text note ended =
-    (IsRight words reads text ended × Fits words text note)
+-- an answer to words: its note is that on the input of a request, or it fits what is said alone
+abbrev pub IsNoted : List (List ℕ) → Calls → Said → List ℕ → Status → Type 0
+IsNoted words reads said note ended =
+    (IsRight words reads said ended × Fits words said note)
     ⊎ ((request : Request) × IsRead words (Ok (Once request))
-    × IsNotedFrom words request reads text note ended)
+    × IsNotedFrom words request reads said note ended)
 
 -- ---- octets with a note on their text
 
@@ -154,10 +156,10 @@ octets_of (Ok (Given octets note)) = Ok octets
 octets_of (Ok (Refused made)) = Err fault.Hex
 octets_of (Err fault) = Err fault
 
--- the line of a fault
-pub record IsFaultLine (told : Fault) (answer : Answer) : Type 0 where
+-- the answer for a fault
+pub record IsFaultAnswer (told : Fault) (answer : Answer) : Type 0 where
   pub status : answer.status ≡ status.Fault
-  pub text : answer.text ≡ fault_text told
+  pub said : answer.said ≡ faulted told
 
 -- Octets, and the note on their text, if it is asked for and memory for it was available; or the line of the fault of a
 -- text that isn't in its form, with the note on it.
@@ -165,7 +167,7 @@ abbrev pub SaysOf : Bool → OctetSource → Result (List ℕ) Fault → Taken �
 SaysOf explains given file (Given octets note) =
     IfOk note (λ text. SaysIf explains (λ said. said ≡ form_note given file) (string_bytes text))
 SaysOf explains given file (Refused made) =
-    IsFaultLine fault.Hex made.answer × IfOk made.note (λ note. IsFormNote given file (string_bytes note))
+    IsFaultAnswer fault.Hex made.answer × IfOk made.note (λ note. IsFormNote given file (string_bytes note))
 
 -- the result of taking octets, with the note on their text
 pub record IsTakenWith (explains : Bool) (given : OctetSource) (reads : Calls)
@@ -187,7 +189,7 @@ pub record IsReplyTo (words : List (List ℕ)) (request : Request) (reads : Call
     Type 0 where
   pub file : Result (List ℕ) Fault
   pub is_file : NeedsFile request → ReadsFor request reads file
-  pub is_answer : IsAnswerTo request file made.answer.text made.answer.status
+  pub is_answer : IsAnswerTo request file made.answer.said made.answer.status
   pub is_note : IfOk made.note (λ note. (string_bytes note ≡ []) ⊎ IsNoteTo words request file (string_bytes note))
 
 -- the answer to a request, or the fault for which there is none
@@ -195,48 +197,48 @@ abbrev pub RepliesTo : List (List ℕ) → Request → Calls → Result WithNote
     → Type 0
 RepliesTo words request reads (Ok made) = IsReplyTo words request reads made
 RepliesTo words request reads (Err fault) =
-    IsRightTo request reads (fault_text fault) status.Fault
+    IsRightTo request reads (faulted fault) status.Fault
 
--- a text and a note that are right for words: the note is empty unless one is asked for
-pub record IsSaid (words : List (List ℕ)) (reads : Calls) (text note : List ℕ)
+-- what is said and a note that are right for words: the note is empty unless one is asked for
+pub record IsSaid (words : List (List ℕ)) (reads : Calls) (said : Said) (note : List ℕ)
     (ended : Status) : Type 0 where
-  pub is_right : IsRight words reads text ended
-  pub is_noted : IsNoted words reads text note ended
+  pub is_right : IsRight words reads said ended
+  pub is_noted : IsNoted words reads said note ended
   pub unasked : asks_to_explain words ≡ false → note ≡ []
 
 -- the answer to words, or a fault
 abbrev pub Replies : List (List ℕ) → Calls → Result WithNote Fault → Type 0
 Replies words reads (Ok made) =
-    IsSaid words reads made.answer.text (said_of made.note) made.answer.status
+    IsSaid words reads made.answer.said (said_of made.note) made.answer.status
 Replies words reads (Err fault) =
-    IsSaid words reads (fault_text fault) [] status.Fault
+    IsSaid words reads (faulted fault) [] status.Fault
 
 -- the answer to words with its note, whether or not one is asked for
 abbrev pub AreNoted : List (List ℕ) → Calls → Result WithNote Fault → Type 0
 AreNoted words reads (Ok made) =
-    IsNoted words reads made.answer.text (said_of made.note) made.answer.status
+    IsNoted words reads made.answer.said (said_of made.note) made.answer.status
 AreNoted words reads (Err fault) =
-    IsRight words reads (fault_text fault) status.Fault
+    IsRight words reads (faulted fault) status.Fault
 
 -- the line of a fault with this note on it, or the fault itself
-abbrev pub IsNotedLine : Fault → Result (String Global) AllocError → Result WithNote Fault → Type 0
-IsNotedLine told note (Ok made) = IsFaultLine told made.answer × (made.note ≡ note)
-IsNotedLine told note (Err same) = same ≡ told
+abbrev pub IsNotedFault : Fault → Result (String Global) AllocError → Result WithNote Fault → Type 0
+IsNotedFault told note (Ok made) = IsFaultAnswer told made.answer × (made.note ≡ note)
+IsNotedFault told note (Err same) = same ≡ told
 
 -- the line of a fault with a note that this holds of, or the fault itself
 abbrev pub IsFaulted : Fault → (List ℕ → Type 0) → Result WithNote Fault → Type 0
-IsFaulted told Note (Ok made) = IsFaultLine told made.answer × IfOk made.note (λ note. Note (string_bytes note))
+IsFaulted told Note (Ok made) = IsFaultAnswer told made.answer × IfOk made.note (λ note. Note (string_bytes note))
 IsFaulted told Note (Err same) = same ≡ told
 
--- the text that is right for words, with the note after it
+-- the text of what is right for words, with the note after it
 pub record IsRightWith (words : List (List ℕ)) (reads : Calls) (whole : List ℕ)
     (ended : Status) : Type 0 where
-  pub text : List ℕ
+  pub said : Said
   pub note : List ℕ
-  pub is_said : IsSaid words reads text note ended
-  pub is_whole : whole ≡ text ++ note
+  pub is_said : IsSaid words reads said note ended
+  pub is_whole : whole ≡ text_of said ++ note
 
--- an answer with the note after it is right, or the line of a fault is
+-- the text of an answer with the note after it is right, or the line of a fault is
 abbrev pub Gives : (List ℕ → Status → Type 0) → Result WithNote Fault → Type 0
-Gives Right (Ok made) = Right (made.answer.text ++ said_of made.note) made.answer.status
+Gives Right (Ok made) = Right (text_of made.answer.said ++ said_of made.note) made.answer.status
 Gives Right (Err fault) = Right (fault_text fault) status.Fault

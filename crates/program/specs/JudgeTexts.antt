@@ -1,7 +1,8 @@
 -- What the program prints about a trace that it judges.
 use Rattle.std.specs.Prelude.{◌≡◌, ◌≢◌, ◌++◌, ℕ, List, [], codes, Bool, true, false, Option, Some, None, Ok, Err}
 use Rattle.hex.specs.Hex.{encode_upper}
-use Rattle.program_octets.specs.Texts.{refused_as_text}
+use Rattle.program_octets.specs.Sayings.{refused_as}
+use Rattle.program_octets.specs.declared.said.Said.{Said}
 use Rattle.program_octets.specs.declared.status.Status.{Status}
 use Rattle.program_octets.specs.declared.status.Status.TheVariants as status
 use Rattle.program_words.specs.declared.request.Ends.{Ends}
@@ -23,7 +24,7 @@ use Rattle.trace_judge.specs.declared.standing.Scope.{Scope}
 use Rattle.judge_times.specs.Waiting.{rates_before, Offered}
 use Rattle.explainer.specs.Notes.{IsSessionNote}
 use Rattle.program.specs.FileNotes.{trace_note}
-use Rattle.program.specs.ExchangeTexts.{file_fault_text}
+use Rattle.program.specs.ExchangeTexts.{file_faulted}
 
 -- the end that is judged alone, if there is one
 abbrev pub only_of : Ends → Option Side
@@ -58,28 +59,21 @@ judged_in layout.Lines atr said = said
 judged_in layout.Json atr said = codes "\"atr\":\"" ++ (encode_upper atr ++ (codes "\"," ++ said))
 
 -- The answer about a text for a card with this answer to reset, which offers this: its judgment, or its first fault.
-pub data JudgesText (atr : List ℕ) (offered : Offered) (judging : Judging) (file text : List ℕ) (ended : Status) : Type
-    0
-  where
-    judged : (judgment : Judgment) → Judges offered (scope_of judging) file (Ok judgment)
-        → text ≡ laid judging.layout (codes "judge") (judged_in judging.layout atr judgment.text)
-        → ended ≡ judged_status judgment.is_ok → JudgesText atr offered judging file text ended
-    faulty : (fault : ExchangeFault) → Judges offered (scope_of judging) file (Err fault) → fault ≢ Memory
-        → text ≡ file_fault_text fault → ended ≡ status.Fault → JudgesText atr offered judging file text ended
+pub data JudgesText (atr : List ℕ) (offered : Offered) (judging : Judging) (file : List ℕ) (said : Said)
+    (ended : Status) : Type 0 where
+  judged : (judgment : Judgment) → Judges offered (scope_of judging) file (Ok judgment)
+      → said ≡ laid judging.layout (codes "judge") (judged_in judging.layout atr judgment.text)
+      → ended ≡ judged_status judgment.is_ok → JudgesText atr offered judging file said ended
+  faulty : (fault : ExchangeFault) → Judges offered (scope_of judging) file (Err fault) → fault ≢ Memory
+      → said ≡ file_faulted fault → ended ≡ status.Fault → JudgesText atr offered judging file said ended
 
--- the answer to reset can't be used, by the name of the reason
-abbrev pub unusable_in : Layout → List ℕ → List ℕ
-unusable_in layout.Lines name = refused_as_text name
-unusable_in layout.Json name = codes "\"reason\":\"" ++ (name ++ codes "\",\"verdict\":\"refused\"")
-
--- The answer about an answer to reset and a text: the answer to reset can't be used, or the answer is that about the
--- text.
-pub data JudgesTrace (atr : List ℕ) (judging : Judging) (file text : List ℕ) (ended : Status) : Type 0 where
-  refused : (name : List ℕ) → IsFound atr (Err name)
-      → text ≡ laid judging.layout (codes "judge") (unusable_in judging.layout name) → ended ≡ status.Refused
-      → JudgesTrace atr judging file text ended
-  used : (offered : Offered) → IsOffer atr offered → JudgesText atr offered judging file text ended
-      → JudgesTrace atr judging file text ended
+-- The answer about an answer to reset and a text: the answer to reset can't be used, by the name of the reason, or the
+-- answer is that about the text.
+pub data JudgesTrace (atr : List ℕ) (judging : Judging) (file : List ℕ) (said : Said) (ended : Status) : Type 0 where
+  refused : (name : List ℕ) → IsFound atr (Err name) → said ≡ refused_as name → ended ≡ status.Refused
+      → JudgesTrace atr judging file said ended
+  used : (offered : Offered) → IsOffer atr offered → JudgesText atr offered judging file said ended
+      → JudgesTrace atr judging file said ended
 
 -- ---- notes
 

@@ -16,6 +16,7 @@ use Rattle.program_octets.specs.Rows.{Row, row}
 use Rattle.program_octets.specs.Texts.{refused_text}
 use Rattle.notes.specs.Noted.{kept}
 use Rattle.program_octets.specs.Verdicts.{codec_of}
+use Rattle.program_octets.specs.declared.said.Said.{Said}
 use Rattle.program_octets.specs.declared.status.Status.{Status}
 use Rattle.program_octets.specs.declared.status.Status.TheVariants as status
 use Rattle.layouts.specs.declared.layout.Layout.{Layout}
@@ -55,8 +56,8 @@ SaysIf true Note note = Note note
 SaysIf false Note note = note ≡ []
 
 -- this holds of an answer, and this of its note if memory for the note was available
-abbrev pub AreOf : (List ℕ → Status → Type 0) → (List ℕ → Type 0) → WithNote → Type 0
-AreOf Told Note made = Told made.answer.text made.answer.status × IfOk made.note (λ note. Note (string_bytes note))
+abbrev pub AreOf : (Said → Status → Type 0) → (List ℕ → Type 0) → WithNote → Type 0
+AreOf Told Note made = Told made.answer.said made.answer.status × IfOk made.note (λ note. Note (string_bytes note))
 
 -- the line of a refusal of octets
 abbrev pub IsRefusalBy : {V R : Type 0} → Codec V R → List ℕ → List ℕ → Type 0
@@ -71,7 +72,7 @@ abbrev pub IsRefusalLine : Kind → Expected → List ℕ → List ℕ → Type 
 IsRefusalLine kind expected b = IsRefusalBy (codec_of kind expected).codec b
 
 -- This holds of an answer, and this of its note. A refusal as an object, if notes are asked for, also has its line.
-abbrev pub AreShownWithNotes : Bool → Layout → (List ℕ → Status → Type 0) → (List ℕ → Type 0) → (List ℕ → Type 0)
+abbrev pub AreShownWithNotes : Bool → Layout → (Said → Status → Type 0) → (List ℕ → Type 0) → (List ℕ → Type 0)
     → ShownWithNotes → Type 0
 AreShownWithNotes noted layout Told Note Line made = AreOf Told Note made.said
     × (noted ≡ true → layout ≡ Json → made.said.answer.status ≡ status.Refused → Line made.line)

@@ -3,6 +3,7 @@ pub mod Lines
 pub mod Pieces
 pub mod TraceLines
 pub mod Laid
+pub mod Replays
 pub mod ExchangeTexts
 pub mod SimulationTexts
 pub mod Waits

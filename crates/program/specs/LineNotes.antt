@@ -7,7 +7,10 @@ use Rattle.layouts.specs.declared.layout.Layout.{Layout}
 use Rattle.layouts.specs.declared.layout.Layout.TheVariants as layout
 use Rattle.program_words.specs.declared.request.Task.{Task}
 use Rattle.program_octets.specs.declared.status.Status.{Status}
-use Rattle.program.specs.Answers.{lines_text, object_of, IsTold, IsToldOf}
+use Rattle.program_octets.specs.Sayings.{text_of}
+use Rattle.program_octets.specs.Verdicts.{kind_name}
+use Rattle.program_octets.specs.declared.said.Said.{Said}
+use Rattle.program.specs.Answers.{has_notes, lines_text, object_as, IsTold, IsToldOf}
 use Rattle.program.specs.InJson.{with_explanation}
 use Rattle.program.specs.Judged.{IsKindNote, SaysIf}
 use Rattle.program.specs.Files.{largest_file}
@@ -40,20 +43,21 @@ IsNoteOfLine task line (Ok b) = IsKindNote task.expected.kind task.expected b
 IsNoteOfLine task line (Err fault) = λ note. note ≡ fault_note line fault
 
 -- the text that answers a line, from its answer and a note, which may be empty
-abbrev pub said_in : Layout → Task → Status → List ℕ → List ℕ → List ℕ
-said_in layout.Lines task ended told note = lines_text task.aim (told ++ indented note)
-said_in layout.Json task ended told note = with_explanation (object_of task.aim task.expected.kind ended told) note
+abbrev pub said_in : Layout → Task → Said → List ℕ → List ℕ
+said_in layout.Lines task said note = lines_text task.aim (text_of said ++ indented note)
+said_in layout.Json task said note =
+    with_explanation (object_as (kind_name task.expected.kind) (has_notes task.aim) said) note
 
-abbrev pub said_text : Task → Status → List ℕ → List ℕ → List ℕ
-said_text task ended told note = said_in task.layout task ended told note
+abbrev pub said_text : Task → Said → List ℕ → List ℕ
+said_text task said note = said_in task.layout task said note
 
 -- the text and the status of one line
 pub record IsLineSaid (telling : Telling) (line text : List ℕ) (ended : Status) : Type 0 where
-  pub told : List ℕ
+  pub told : Said
   pub note : List ℕ
   pub is_told : IsToldOf (IsTold telling.task) (line_octets line) told ended
   pub is_note : SaysIf telling.explains (IsNoteOfLine telling.task line (line_octets line)) note
-  pub is_text : text ≡ said_text telling.task ended told note
+  pub is_text : text ≡ said_text telling.task told note
 
 abbrev pub AreLinesSaid : Telling → List (List ℕ) → List ℕ → Status → Type 0
 AreLinesSaid telling lines text ended = AreTold (IsLineSaid telling) lines text ended

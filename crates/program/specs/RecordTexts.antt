@@ -1,7 +1,10 @@
 -- What the program prints about the blocks that were seen on a line.
-use Rattle.std.specs.Prelude.{◌≡◌, ◌<◌, ◌≤◌, ℕ, List, [], ◌++◌, codes, decimal, length, Some, None, Ok, Err, MatchResult}
+use Rattle.std.specs.Prelude.{◌≡◌, ◌<◌, ◌≤◌, ℕ, List, [], codes, length, Some, None, Ok, Err, MatchResult}
 use Rattle.std.specs.List.{slice_split}
-use Rattle.program_octets.specs.Texts.{refused_as_text}
+use Rattle.answer_json.specs.declared.refusal.Refusal.TheVariants.{AtLine}
+use Rattle.program_octets.specs.Sayings.{refused_as}
+use Rattle.program_octets.specs.declared.said.Said.{Said}
+use Rattle.program_octets.specs.declared.said.Said.TheVariants as saying
 use Rattle.program_octets.specs.declared.status.Status.{Status}
 use Rattle.program_octets.specs.declared.status.Status.TheVariants as status
 use Rattle.exchange_text.specs.Exchange.{ExchangeParts}
@@ -19,7 +22,7 @@ use Rattle.traces.specs.declared.unfit.Unfit.{Unfit}
 use Rattle.traces.specs.declared.unfit.Unfit.TheVariants.{Pps, NodeAddress, Silence, Reset, Midway, Arrived}
 use Rattle.explainer.specs.Notes.{IsSessionNote, large_note}
 use Rattle.program.specs.FileNotes.{line_text, trace_note}
-use Rattle.program.specs.ExchangeTexts.{file_fault_text}
+use Rattle.program.specs.ExchangeTexts.{file_faulted}
 use Rattle.program.specs.Files.{largest_file}
 use Rattle.program.specs.SimulationTexts.{IsFile}
 
@@ -28,29 +31,29 @@ abbrev pub line_with : List ℕ → ℕ → ℕ
 line_with file place = item_line 1 place (slice_split is_line_end file)
 
 -- a line of the text can't be recorded, by this name
-abbrev pub unfit_text : ℕ → List ℕ → List ℕ
-unfit_text line name = codes "refused at line " ++ (decimal line ++ (codes ": " ++ (name ++ codes "\n")))
+abbrev pub refused_line : ℕ → List ℕ → Said
+refused_line line name = saying.Refusal (AtLine line name)
 
 -- The answer about an answer to reset and the items of a text: the answer to reset can't be used, a line can't be
 -- recorded, or the text of their exchange.
-pub data RecordsItems (atr file : List ℕ) (items : List Item) (text : List ℕ) (ended : Status) : Type 0 where
-  refused : (name : List ℕ) → IsFound atr (Err name) → text ≡ refused_as_text name → ended ≡ status.Refused
-      → RecordsItems atr file items text ended
+pub data RecordsItems (atr file : List ℕ) (items : List Item) (said : Said) (ended : Status) : Type 0 where
+  refused : (name : List ℕ) → IsFound atr (Err name) → said ≡ refused_as name → ended ≡ status.Refused
+      → RecordsItems atr file items said ended
   unfit : (ifsc place : ℕ) (why : Unfit) → IsFound atr (Ok ifsc) → unfit_in items ≡ Some (place, why)
-      → text ≡ unfit_text (line_with file place) (unfit_name why) → ended ≡ status.Refused
-      → RecordsItems atr file items text ended
-  whole : (ifsc : ℕ) → IsFound atr (Ok ifsc) → unfit_in items ≡ None → IsFile (exchange_of ifsc atr items) text ended
-      → RecordsItems atr file items text ended
+      → said ≡ refused_line (line_with file place) (unfit_name why) → ended ≡ status.Refused
+      → RecordsItems atr file items said ended
+  whole : (ifsc : ℕ) → IsFound atr (Ok ifsc) → unfit_in items ≡ None → IsFile (exchange_of ifsc atr items) said ended
+      → RecordsItems atr file items said ended
 
--- the answer about a text that is no trace to record: the line of its first fault, or the line that can't be recorded
-abbrev pub RefusesText : TraceFault → List ℕ → Status → Type 0
-RefusesText (Text fault) text ended = (text ≡ file_fault_text fault) × (ended ≡ status.Fault)
-RefusesText (UnfitLine line why) text ended = (text ≡ unfit_text line (unfit_name why)) × (ended ≡ status.Refused)
+-- the answer about a text that is no trace to record: its first fault, or the line that can't be recorded
+abbrev pub RefusesText : TraceFault → Said → Status → Type 0
+RefusesText (Text fault) said ended = (said ≡ file_faulted fault) × (ended ≡ status.Fault)
+RefusesText (UnfitLine line why) said ended = (said ≡ refused_line line (unfit_name why)) × (ended ≡ status.Refused)
 
 -- the answer about a text: that about its items, or the first line that is wrong or can't be recorded
-abbrev pub Records : List ℕ → List ℕ → List ℕ → Status → Type 0
-Records atr file text ended = MatchResult (trace_of file) (λ items. RecordsItems atr file items text ended)
-    (λ fault. RefusesText fault text ended)
+abbrev pub Records : List ℕ → List ℕ → Said → Status → Type 0
+Records atr file said ended = MatchResult (trace_of file) (λ items. RecordsItems atr file items said ended)
+    (λ fault. RefusesText fault said ended)
 
 -- ---- notes
 

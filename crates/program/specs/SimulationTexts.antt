@@ -1,7 +1,6 @@
 -- What the program prints about a session that it simulates.
 use Rattle.std.specs.Prelude.{◌≡◌, ◌<◌, ◌≤◌, ℕ, Bool, true, false, List, length, Ok, Err, MatchResult}
 use Rattle.std.specs.List.{count_by}
-use Rattle.program_words.specs.Texts.{fault_text}
 use Rattle.program_words.specs.declared.fault.Fault.TheVariants.{TooLarge}
 use Rattle.program_words.specs.PairLines.{pairs_in}
 use Rattle.program_words.specs.declared.session.Session.{Session}
@@ -15,34 +14,36 @@ use Rattle.explainer.specs.Notes.{large_note, AreUnsentNotes, IsSessionNote}
 use Rattle.explainer.specs.Pairs.{pairs_note}
 use Rattle.simulator.specs.Simulation.{EndsAs, exchange_of}
 use Rattle.program.specs.Files.{largest_file}
-use Rattle.program_octets.specs.Texts.{refused_as_text}
+use Rattle.program_octets.specs.Sayings.{faulted, refused_as}
+use Rattle.program_octets.specs.declared.said.Said.{Said}
+use Rattle.program_octets.specs.declared.said.Said.TheVariants as saying
 use Rattle.program_octets.specs.declared.status.Status.{Status}
 use Rattle.program_octets.specs.declared.status.Status.TheVariants as status
 
 -- the text of an exchange, or a fault if it is larger than a file
-pub data IsFile (e : ExchangeParts) (text : List ℕ) (ended : Status) : Type 0 where
-  fits : length (exchange_text e) ≤ largest_file → text ≡ exchange_text e → ended ≡ status.Accepted
-      → IsFile e text ended
-  over : largest_file < length (exchange_text e) → text ≡ fault_text TooLarge → ended ≡ status.Fault
-      → IsFile e text ended
+pub data IsFile (e : ExchangeParts) (said : Said) (ended : Status) : Type 0 where
+  fits : length (exchange_text e) ≤ largest_file → said ≡ saying.Text (exchange_text e) → ended ≡ status.Accepted
+      → IsFile e said ended
+  over : largest_file < length (exchange_text e) → said ≡ faulted TooLarge → ended ≡ status.Fault
+      → IsFile e said ended
 
 -- The answer about a session: the answer to reset can't be used, the text of its exchange, or no text of it fits a
 -- file.
-pub data Simulates (s : Session) (text : List ℕ) (ended : Status) : Type 0 where
-  unusable : (name : List ℕ) → IsFound s.atr (Err name) → text ≡ refused_as_text name → ended ≡ status.Refused
-      → Simulates s text ended
+pub data Simulates (s : Session) (said : Said) (ended : Status) : Type 0 where
+  unusable : (name : List ℕ) → IsFound s.atr (Err name) → said ≡ refused_as name → ended ≡ status.Refused
+      → Simulates s said ended
   whole : (ifsc : ℕ) (r : Recording) → IsFound s.atr (Ok ifsc) → EndsAs s ifsc r
       → length (exchange_text (exchange_of r)) ≤ largest_file
-      → text ≡ exchange_text (exchange_of r) → ended ≡ status.Accepted → Simulates s text ended
+      → said ≡ saying.Text (exchange_text (exchange_of r)) → ended ≡ status.Accepted → Simulates s said ended
   too_large : (ifsc : ℕ) → IsFound s.atr (Ok ifsc)
       → ((r : Recording) → EndsAs s ifsc r → largest_file < length (exchange_text (exchange_of r)))
-      → text ≡ fault_text TooLarge → ended ≡ status.Fault → Simulates s text ended
+      → said ≡ faulted TooLarge → ended ≡ status.Fault → Simulates s said ended
 
 -- the answer about a session whose pairs are the lines of a text, or the fault of a line
-abbrev pub SimulatesLines : Session → List ℕ → List ℕ → Status → Type 0
-SimulatesLines s b text ended = MatchResult (pairs_in b)
-    (λ pairs. Simulates (record s { pairs = pairs }) text ended)
-    (λ fault. (text ≡ fault_text fault) × (ended ≡ status.Fault))
+abbrev pub SimulatesLines : Session → List ℕ → Said → Status → Type 0
+SimulatesLines s b said ended = MatchResult (pairs_in b)
+    (λ pairs. Simulates (record s { pairs = pairs }) said ended)
+    (λ fault. (said ≡ faulted fault) × (ended ≡ status.Fault))
 
 -- ---- notes
 

@@ -17,22 +17,22 @@ use explainer::least_wanting;
 use layouts::Layout;
 use notes::{kept, noted_line, wanting_note};
 use octet_core::{Named, Octets, Stop};
-use program_octets::{Answer, Status, Verdict};
+use program_octets::{Answer, Said, Status, Verdict};
 use program_words::Kind;
 use std::alloc::{AllocError, Global};
 
 /// Returns the lines that `show` prints about octets, with notes on them. The line of a refusal gets these words.
 pub(crate) fn annotated(alloc: Global, shown: Answer, words: &str) -> Result<Answer, AllocError>
     ensures { (expected : AnyExpected) (octets : List ℕ)
-        → ShowsWhere true layout.Lines expected.kind expected octets shown.text shown.status
+        → ShowsWhere true layout.Lines expected.kind expected octets shown.said shown.status
         → IfOk result (λ answer.
-        ShowsNoted expected.kind expected octets answer.text answer.status) }
+        ShowsNoted expected.kind expected octets answer.said answer.status) }
 {
     match shown.status {
         Status::Refused => {
-            let text = noted_line(alloc, shown.text.get(), words)?;
+            let text = noted_line(alloc, shown.said.text(), words)?;
             Ok(Answer {
-                text,
+                said: Said::Text(text),
                 status: Status::Refused,
             })
         }
@@ -49,17 +49,17 @@ pub(crate) fn annotated_object(
     words: &str,
 ) -> Result<Answer, AllocError>
     ensures { (expected : AnyExpected) (octets : List ℕ)
-        → ShowsWhere true layout.Json expected.kind expected octets object.text object.status
+        → ShowsWhere true layout.Json expected.kind expected octets object.said object.status
         → (object.status ≡ ended.Refused → IsRefusalLine expected.kind expected octets line.now)
         → IfOk result (λ answer.
-        ShowsNotedObject expected.kind expected octets answer.text answer.status) }
+        ShowsNotedObject expected.kind expected octets answer.said answer.status) }
 {
     match object.status {
         Status::Refused => {
             let items = note_items(alloc, line, words)?;
-            let text = with_notes(alloc, object.text, items.as_str())?;
+            let text = with_notes(alloc, object.said.into_text(), items.as_str())?;
             Ok(Answer {
-                text,
+                said: Said::Object(text),
                 status: Status::Refused,
             })
         }
@@ -90,7 +90,7 @@ pub(crate) fn refusal_line<R: Named + Copy>(
         → verdict ≡ Err stop → line ≡ refused_text R.text stop) }
 {
     match (how, verdict) {
-        (Layout::Json, Err(stop)) if noted => Ok(Answer::refused(alloc, stop)?.text),
+        (Layout::Json, Err(stop)) if noted => Ok(Answer::refused(alloc, stop)?.said.into_text()),
         _ => Ok(Octets::of(Vec::new(alloc))),
     }
 }

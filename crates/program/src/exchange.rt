@@ -1,20 +1,25 @@
 //! Recorded exchanges: replayed, migrated, listed and drawn.
 
-ghost use Rattle.std.specs.Prelude.{◌≡◌, ◌≢◌, ◌+◌, ◌++◌, IfOk, IsOkAnd, OnOk, length, string_bytes};
+ghost use Rattle.std.specs.Prelude.{◌≡◌, ◌≢◌, ◌+◌, ◌++◌, IfOk, IsOkAnd, OnOk, codes, length, string_bytes};
 ghost use Rattle.exchange_text.specs.Exchange.{ExchangeParts};
 ghost use Rattle.exchange_text.specs.Text.{exchange_text};
 ghost use Rattle.exchange_text.specs.declared.fault.ExchangeFault.TheVariants.{Memory};
-ghost use Rattle.program.specs.ExchangeTexts.{agrees_in, both_in, both_lines, both_members, card_member, differs_in, drawn, file_fault_text, listed_in, terminal_member, verdict_member, IsOutcome, IsReplayed, IsReplayedAt, IsReplayAnswer, IsToldSo, TellsFile};
+ghost use Rattle.program.specs.ExchangeTexts.{agrees_in, both_in, both_lines, both_members, card_member, differs_in, drawn, file_faulted, file_refusal, listed_in, terminal_member, verdict_member, IsOutcome, IsReplayed, IsReplayedAt, IsReplayAnswer, IsToldSo, TellsFile};
 ghost use Rattle.program.specs.Explained.{IsDifferenceNote, IsFileNote, IsNoteAt, IsNoteSo};
 ghost use Rattle.program.specs.FileNotes.{fault_note};
 ghost use Rattle.program.specs.Judged.{AreOf};
+ghost use Rattle.program.specs.Laid.{laid};
+ghost use Rattle.program.specs.Replays.{AreReplayedAs};
+ghost use Rattle.answer_json.specs.declared.refusal.Refusal.TheVariants as refusal;
+ghost use Rattle.program_octets.specs.declared.said.Said.TheVariants as saying;
 ghost use Rattle.program.specs.Lines.{worse};
 ghost use Rattle.program_octets.specs.declared.status.Status.TheVariants as ended;
 
 use crate::file_notes::{difference_note, fault_note};
 use crate::judged::{WithNote, joined};
-use crate::laid::laid;
+use crate::laid::{Account, laid};
 use crate::lines::worse;
+use answer_json::{Name, Refusal};
 use apdu_list::{apdu_items, list_apdus};
 use drawings::{draw_ladder, draw_picture};
 use exchange_core::{
@@ -22,7 +27,7 @@ use exchange_core::{
 };
 use layouts::Layout;
 use octet_core::Octets;
-use program_octets::{Answer, Status};
+use program_octets::{Answer, Said, Status};
 use program_words::{Drawing, Ends, FileTask};
 use std::alloc::{AllocError, Global};
 
@@ -49,7 +54,7 @@ fn told_of(
     let answer = match task {
         FileTask::Replay(end, layout) => return replayed(alloc, file, &exchange, end, layout),
         FileTask::Migrate => written(alloc, &migrate(exchange))?,
-        FileTask::Apdus(layout) => laid(alloc, layout, "apdus", listed(alloc, &exchange, layout)?)?,
+        FileTask::Apdus(layout) => listed(alloc, &exchange, layout)?,
         FileTask::Draw(drawing) => drawn(alloc, &exchange, drawing)?,
     };
     Ok(WithNote::alone(alloc, answer))
@@ -66,9 +71,16 @@ fn replayed(
     ensures { IfOk result (AreOf (IsReplayAnswer end layout exchange.now)
         (IsNoteAt end file.now exchange.now)) }
 {
-    let WithNote { answer, note } = replayed_at(alloc, file, exchange, end, layout)?;
-    let answer = laid(alloc, layout, "replay", answer)?;
+    let ReplayAccount { account, note } = replayed_at(alloc, file, exchange, end, layout)?;
+    let answer = laid(alloc, layout, "replay", account)?;
     Ok(WithNote { answer, note })
+}
+
+/// Whether an end or both ends agree with an exchange, with a note if memory for it was available.
+#[derive(Drop)]
+struct ReplayAccount {
+    account: Account,
+    note: Result<String, AllocError>,
 }
 
 /// Replays an exchange at the end or ends that are named. Returns whether they agree with it, with a note.
@@ -78,8 +90,8 @@ fn replayed_at(
     exchange: &Exchange,
     end: Ends,
     layout: Layout,
-) -> Result<WithNote, AllocError>
-    ensures { IfOk result (AreOf (IsReplayedAt end layout exchange.now)
+) -> Result<ReplayAccount, AllocError>
+    ensures { IfOk result (AreReplayedAs (IsReplayedAt end layout exchange.now)
         (IsNoteAt end file.now exchange.now)) }
 {
     match end {
@@ -88,9 +100,9 @@ fn replayed_at(
         Ends::Both => {
             let terminal = replayed_by(alloc, file, exchange, Side::Terminal, layout)?;
             let card = replayed_by(alloc, file, exchange, Side::Card, layout)?;
-            let answer = both(alloc, layout, &terminal.answer, &card.answer)?;
+            let account = both(alloc, layout, &terminal.account, &card.account)?;
             let note = joined(terminal.note, card.note);
-            Ok(WithNote { answer, note })
+            Ok(ReplayAccount { account, note })
         }
     }
 }
@@ -102,82 +114,77 @@ fn replayed_by(
     exchange: &Exchange,
     side: Side,
     layout: Layout,
-) -> Result<WithNote, AllocError>
-    ensures { IfOk result (AreOf (IsReplayed layout exchange.now side)
+) -> Result<ReplayAccount, AllocError>
+    ensures { IfOk result (AreReplayedAs (IsReplayed layout exchange.now side)
         (IsDifferenceNote file.now exchange.now side)) }
 {
     let outcome = replay(alloc, exchange, side);
-    let answer = agreement(alloc, exchange, side, layout, &outcome)?;
+    let account = agreement(alloc, exchange, side, layout, &outcome)?;
     let note = difference_note(alloc, file, exchange, side, &outcome);
-    Ok(WithNote { answer, note })
+    Ok(ReplayAccount { account, note })
 }
 
 /// Joins what is said of both ends, each after the name of its end.
 fn both(
     alloc: Global,
     layout: Layout,
-    terminal: &Answer,
-    card: &Answer,
-) -> Result<Answer, AllocError>
-    ensures text { IfOk result (λ both. both.text
-        ≡ both_in layout terminal.now.text card.now.text both.status) }
+    terminal: &Account,
+    card: &Account,
+) -> Result<Account, AllocError>
+    ensures text { IfOk result (λ both. string_bytes both.text
+        ≡ both_in layout (string_bytes terminal.now.text) (string_bytes card.now.text)
+        both.status) }
     ensures status { IfOk result (λ both.
         both.status ≡ worse terminal.now.status card.now.status) }
 {
     let status = worse(terminal.status, card.status);
     let text = match layout {
-        Layout::Lines => both_lines(alloc, terminal.text.get(), card.text.get())?,
-        Layout::Json => both_members(alloc, terminal.text.get(), card.text.get(), status)?,
+        Layout::Lines => both_lines(alloc, terminal.text.as_str(), card.text.as_str())?,
+        Layout::Json => both_members(alloc, terminal.text.as_str(), card.text.as_str(), status)?,
     };
-    Ok(Answer { text, status })
+    Ok(Account { text, status })
 }
 
 /// Joins the lines about both ends.
-fn both_lines(alloc: Global, terminal: &[u8], card: &[u8]) -> Result<Octets, AllocError>
-    ensures { IfOk result (λ text. text ≡ both_lines terminal.now card.now) }
+fn both_lines(alloc: Global, terminal: &str, card: &str) -> Result<String, AllocError>
+    ensures { IfOk result (λ text. string_bytes text ≡ both_lines terminal.now card.now) }
 {
-    let mut text = Vec::new(alloc);
-    text.extend_from_slice(b"terminal: ")?;
-    text.extend_from_slice(terminal)?;
-    text.extend_from_slice(b"card: ")?;
-    text.extend_from_slice(card)?;
-    Ok(Octets::of(text))
+    format!(in alloc; "terminal: {terminal}card: {card}")
 }
 
 /// Joins the members about both ends, after the verdict.
 fn both_members(
     alloc: Global,
-    terminal: &[u8],
-    card: &[u8],
+    terminal: &str,
+    card: &str,
     status: Status,
-) -> Result<Octets, AllocError>
-    ensures { IfOk result (λ text. text ≡ both_members terminal.now card.now status) }
+) -> Result<String, AllocError>
+    ensures { IfOk result (λ text.
+        string_bytes text ≡ both_members terminal.now card.now status) }
 {
-    let mut text = Vec::new(alloc);
-    text.extend_from_slice(verdict_member(status).as_bytes())?;
+    let mut text = String::new(alloc);
+    text.push_str(verdict_member(status))?;
     push_card(&mut text, card)?;
     push_terminal(&mut text, terminal)?;
-    Ok(Octets::of(text))
+    Ok(text)
 }
 
 /// Appends the member for what is said of the card.
 #[tactic(auto, unfolding(crate::specs::ExchangeTexts::card_member))]
-fn push_card(text: &mut Vec<u8>, said: &[u8]) -> Result<(), AllocError>
-    ensures { OnOk result (text.new.items ≡ text.old.items ++ card_member said.now) }
+fn push_card(text: &mut String, said: &str) -> Result<(), AllocError>
+    ensures { OnOk result (string_bytes text.new
+        ≡ string_bytes text.old ++ card_member said.now) }
 {
-    text.extend_from_slice(b"\"card\":{")?;
-    text.extend_from_slice(said)?;
-    Ok(text.push(b'}')?)
+    write!(text, "\"card\":{{{said}}}")
 }
 
 /// Appends the member for what is said of the terminal, after a comma.
 #[tactic(auto, unfolding(crate::specs::ExchangeTexts::terminal_member))]
-fn push_terminal(text: &mut Vec<u8>, said: &[u8]) -> Result<(), AllocError>
-    ensures { OnOk result (text.new.items ≡ text.old.items ++ terminal_member said.now) }
+fn push_terminal(text: &mut String, said: &str) -> Result<(), AllocError>
+    ensures { OnOk result (string_bytes text.new
+        ≡ string_bytes text.old ++ terminal_member said.now) }
 {
-    text.extend_from_slice(b",\"terminal\":{")?;
-    text.extend_from_slice(said)?;
-    Ok(text.push(b'}')?)
+    write!(text, ",\"terminal\":{{{said}}}")
 }
 
 /// Returns the member for the verdict of both ends, by the status.
@@ -191,7 +198,7 @@ fn verdict_member(status: Status) -> &'static str
     }
 }
 
-/// Returns the line of a fault of the file, with a note on the file's line that has the fault.
+/// Returns the answer for a fault of the file, with a note on the file's line that has the fault.
 fn refused_with_note(
     alloc: Global,
     file: &[u8],
@@ -199,7 +206,7 @@ fn refused_with_note(
 ) -> Result<WithNote, AllocError>
     ensures other { IfOk result (λ _. fault ≢ Memory) }
     ensures made { IfOk result (AreOf
-        (λ text status. (text ≡ file_fault_text fault) × (status ≡ ended.Fault))
+        (λ said status. (said ≡ file_faulted fault) × (status ≡ ended.Fault))
         (λ note. note ≡ fault_note file.now fault)) }
 {
     let answer = refused(alloc, fault)?;
@@ -207,37 +214,47 @@ fn refused_with_note(
     Ok(WithNote { answer, note })
 }
 
-/// Lists the commands and answers of an exchange, as lines or as members.
+/// Lists the commands and answers of an exchange, as lines or as an object.
 fn listed(alloc: Global, exchange: &Exchange, layout: Layout) -> Result<Answer, AllocError>
-    ensures text { IfOk result (λ answer. answer.text ≡ listed_in layout exchange.now.lines) }
+    ensures said { IfOk result (λ answer. answer.said
+        ≡ laid layout (codes "apdus") (listed_in layout exchange.now.lines)) }
     ensures status { IfOk result (λ answer. answer.status ≡ ended.Accepted) }
 {
-    let text = match layout {
-        Layout::Lines => list_apdus(alloc, exchange)?,
+    match layout {
+        Layout::Lines => Ok(answer_with(list_apdus(alloc, exchange)?)),
         Layout::Json => {
             let items = apdu_items(alloc, exchange)?;
-            format!(in alloc; "\"verdict\":\"ok\",\"exchanges\":[{items}]")?.into_bytes()
+            let account = Account {
+                text: format!(in alloc; "\"verdict\":\"ok\",\"exchanges\":[{items}]")?,
+                status: Status::Accepted,
+            };
+            laid(alloc, Layout::Json, "apdus", account)
         }
-    };
-    Ok(Answer {
-        text: Octets::of(text),
-        status: Status::Accepted,
-    })
+    }
 }
 
 /// Draws an exchange.
 fn drawn(alloc: Global, exchange: &Exchange, drawing: Drawing) -> Result<Answer, AllocError>
-    ensures text { IfOk result (λ answer. answer.text ≡ drawn drawing exchange.now) }
+    ensures said { IfOk result (λ answer. answer.said
+        ≡ saying.Text (drawn drawing exchange.now)) }
     ensures status { IfOk result (λ answer. answer.status ≡ ended.Accepted) }
 {
     let text = match drawing {
         Drawing::Ladder => draw_ladder(alloc, exchange)?,
         Drawing::Picture => draw_picture(alloc, exchange)?,
     };
-    Ok(Answer {
-        text: Octets::of(text),
+    Ok(answer_with(text))
+}
+
+/// Returns lines as the answer to a request that succeeded.
+fn answer_with(lines: Vec<u8>) -> Answer
+    ensures said { result.said ≡ saying.Text lines.items }
+    ensures status { result.status ≡ ended.Accepted }
+{
+    Answer {
+        said: Said::Text(Octets::of(lines)),
         status: Status::Accepted,
-    })
+    }
 }
 
 /// Returns whether an end agrees with an exchange, by the outcome of replaying it: a line, or members.
@@ -247,20 +264,20 @@ fn agreement(
     side: Side,
     layout: Layout,
     outcome: &Result<(), ReplayFault>,
-) -> Result<Answer, AllocError>
+) -> Result<Account, AllocError>
     requires { IsOutcome exchange.now side outcome.now }
-    ensures { IfOk result (λ answer.
-        IsReplayed layout exchange.now side answer.text answer.status) }
+    ensures { IfOk result (λ account.
+        IsReplayed layout exchange.now side (string_bytes account.text) account.status) }
 {
     match outcome {
-        Ok(()) => {
-            let text = agreed(alloc, exchange.lines().get().len() + 2, layout)?;
-            Ok(Answer::of(text, Status::Accepted))
-        }
-        Err(ReplayFault::Differs { line, gives }) => {
-            let text = differing(alloc, *line, gives.get(), layout)?;
-            Ok(Answer::of(text, Status::Refused))
-        }
+        Ok(()) => Ok(Account {
+            text: agreed(alloc, exchange.lines().get().len() + 2, layout)?,
+            status: Status::Accepted,
+        }),
+        Err(ReplayFault::Differs { line, gives }) => Ok(Account {
+            text: differing(alloc, *line, gives.get(), layout)?,
+            status: Status::Refused,
+        }),
         Err(ReplayFault::Memory) => Err(AllocError),
     }
 }
@@ -290,25 +307,54 @@ fn differing(alloc: Global, line: usize, gives: &str, layout: Layout) -> Result<
 
 /// Returns the text of an exchange.
 pub(crate) fn written(alloc: Global, exchange: &Exchange) -> Result<Answer, AllocError>
-    ensures text { IfOk result (λ answer. answer.text ≡ exchange_text exchange.now) }
+    ensures said { IfOk result (λ answer. answer.said
+        ≡ saying.Text (exchange_text exchange.now)) }
     ensures status { IfOk result (λ answer. answer.status ≡ ended.Accepted) }
 {
-    let text = write_exchange(alloc, exchange)?;
-    Ok(Answer {
-        text: Octets::of(text),
-        status: Status::Accepted,
-    })
+    Ok(answer_with(write_exchange(alloc, exchange)?))
 }
 
-/// Returns the line of a fault of the file.
+/// Returns the answer for a fault of the file.
 pub(crate) fn refused(alloc: Global, fault: ExchangeFault) -> Result<Answer, AllocError>
     ensures other { IfOk result (λ _. fault ≢ Memory) }
-    ensures text { IfOk result (λ answer. answer.text ≡ file_fault_text fault) }
+    ensures said { IfOk result (λ answer. answer.said ≡ file_faulted fault) }
     ensures status { IfOk result (λ answer. answer.status ≡ ended.Fault) }
 {
     if fault == ExchangeFault::Memory {
         return Err(AllocError);
     }
-    let text = format!(in alloc; "fault: {fault}\n")?;
-    Ok(Answer::of(text, Status::Fault))
+    Answer::refusal(alloc, file_refusal(fault))
+}
+
+/// Returns a fault of the file, by its name, with its line if it is in one.
+fn file_refusal(fault: ExchangeFault) -> Refusal
+    ensures { result ≡ file_refusal fault }
+{
+    match fault {
+        ExchangeFault::Header => named("Header"),
+        ExchangeFault::End { line } => named_at(line, "End"),
+        ExchangeFault::Word { line } => named_at(line, "Word"),
+        ExchangeFault::Hex { line } => named_at(line, "Hex"),
+        ExchangeFault::Falls { line } => named_at(line, "Falls"),
+        ExchangeFault::Memory => named("memory"),
+    }
+}
+
+/// Returns a fault with this name.
+fn named(name: &'static str) -> Refusal
+    ensures { result ≡ refusal.Fault name.now }
+{
+    Refusal::Fault {
+        fault: Name::of(name),
+    }
+}
+
+/// Returns a fault in a line, with this name.
+fn named_at(line: usize, name: &'static str) -> Refusal
+    ensures { result ≡ refusal.FaultAt line name.now }
+{
+    Refusal::FaultAt {
+        line,
+        fault: Name::of(name),
+    }
 }

@@ -1,17 +1,16 @@
 //! Traces of a line, judged by what the standard permits each end to send.
 
-ghost use Rattle.std.specs.Prelude.{◌≡◌, ◌≢◌, ℕ, List, Err, IfErr, IfOk, codes};
+ghost use Rattle.std.specs.Prelude.{◌≡◌, ◌≢◌, ℕ, List, Err, IfErr, IfOk, string_bytes};
 ghost use Rattle.exchange_core.specs.Faults.{atr_fault_name};
 ghost use Rattle.exchange_core.specs.Replay.{IsFound};
 ghost use Rattle.exchange_text.specs.declared.fault.ExchangeFault.TheVariants.{Memory};
-ghost use Rattle.program.specs.ExchangeTexts.{file_fault_text};
+ghost use Rattle.program.specs.ExchangeTexts.{file_faulted};
 ghost use Rattle.program.specs.Calls.{calls_of, Calls};
 ghost use Rattle.program.specs.Explained.{RepliesTo};
 ghost use Rattle.program.specs.FileNotes.{kept_note};
 ghost use Rattle.program_octets.specs.declared.status.Status.TheVariants as ended;
 ghost use Rattle.program.specs.Judged.{AreOf};
-ghost use Rattle.program.specs.JudgeTexts.{judged_in, judged_status, only_of, scope_of, unusable_in, IsJudgeNote, IsOffer, IsTextNote, JudgesText, JudgesTrace};
-ghost use Rattle.program.specs.Laid.{laid};
+ghost use Rattle.program.specs.JudgeTexts.{judged_in, judged_status, only_of, scope_of, IsJudgeNote, IsOffer, IsTextNote, JudgesText, JudgesTrace};
 ghost use Rattle.program.specs.Pieces.{ReadsAll};
 ghost use Rattle.program.specs.TraceLines.{lines_of, ComesTo};
 ghost use Rattle.program_words.specs.declared.request.Judging.{Judging as AnyJudging};
@@ -21,7 +20,7 @@ ghost use Rattle.judge_times.specs.Waiting.{Offered};
 use crate::exchange::refused;
 use crate::file_notes::kept_note;
 use crate::judged::WithNote;
-use crate::laid::laid;
+use crate::laid::{Account, laid};
 use crate::pieces::read_past;
 use crate::trace_lines::{TraceLines, read_lines};
 use atr_core::{decode, t1_params};
@@ -77,24 +76,24 @@ fn only_of(ends: Ends) -> Option<Side>
 
 /// Returns what a judgment says for a card with this answer to reset. The status says whether each block is permitted as
 /// it was seen.
-fn answer_of(
+fn account_of(
     alloc: Global,
     layout: Layout,
     atr: &[u8],
     judgment: Judgment,
-) -> Result<Answer, AllocError>
-    ensures text { IfOk result (λ answer. answer.text
+) -> Result<Account, AllocError>
+    ensures text { IfOk result (λ account. string_bytes account.text
         ≡ judged_in layout atr.now judgment.text) }
-    ensures status { IfOk result (λ answer. answer.status ≡ judged_status judgment.is_ok) }
+    ensures status { IfOk result (λ account. account.status ≡ judged_status judgment.is_ok) }
 {
     let status = status_of(judgment.is_ok);
     let said = judgment.text.into_inner();
     match layout {
-        Layout::Lines => Ok(Answer::of(said, status)),
+        Layout::Lines => Ok(Account { text: said, status }),
         Layout::Json => {
             let digits = hex_upper(alloc, atr)?;
             let text = format!(in alloc; "\"atr\":\"{digits}\",{said}")?;
-            Ok(Answer::of(text, status))
+            Ok(Account { text, status })
         }
     }
 }
@@ -129,7 +128,7 @@ pub(crate) fn judged<R: Source>(
             Err(fault) => unread(alloc, fault),
         },
         Err(fault) => match read_past(reader) {
-            Ok(()) => Ok(unusable_noted(alloc, atr, judging.layout, fault)?),
+            Ok(()) => Ok(unusable_noted(alloc, atr, fault)?),
             Err(fault) => unread(alloc, fault),
         },
     }
@@ -151,35 +150,13 @@ fn unread(alloc: Global, fault: Fault) -> Result<WithNote, Fault>
 }
 
 /// Returns the answer for an answer to reset that can't be used, with a note on it.
-fn unusable_noted(
-    alloc: Global,
-    atr: &[u8],
-    layout: Layout,
-    fault: AtrFault,
-) -> Result<WithNote, AllocError>
+fn unusable_noted(alloc: Global, atr: &[u8], fault: AtrFault) -> Result<WithNote, AllocError>
     ensures { IsFound atr.now (Err (atr_fault_name fault)) → (judging : AnyJudging) (text : List ℕ)
-        → layout ≡ judging.layout
         → IfOk result (AreOf (JudgesTrace atr.now judging text) (IsJudgeNote atr.now judging text)) }
 {
-    let answer = unusable(alloc, layout, fault.name())?;
+    let answer = Answer::refused_as(alloc, fault.name())?;
     let note = session_note(alloc, atr);
     Ok(WithNote { answer, note })
-}
-
-/// Returns the answer for an answer to reset that can't be used, by the name of the reason.
-fn unusable(alloc: Global, layout: Layout, name: &str) -> Result<Answer, AllocError>
-    ensures text { IfOk result (λ answer. answer.text
-        ≡ laid layout (codes "judge") (unusable_in layout name.now)) }
-    ensures status { IfOk result (λ answer. answer.status ≡ ended.Refused) }
-{
-    let said = match layout {
-        Layout::Lines => Answer::refused_as(alloc, name)?,
-        Layout::Json => {
-            let text = format!(in alloc; "\"reason\":\"{name}\",\"verdict\":\"refused\"")?;
-            Answer::of(text, Status::Refused)
-        }
-    };
-    laid(alloc, layout, "judge", said)
 }
 
 /// Returns what the lines of a trace come to, for a card with this answer to reset.
@@ -197,19 +174,19 @@ fn lines_told(
     match lines.fault {
         None => {
             let judgment = lines.standing.conclude(alloc)?;
-            let said = answer_of(alloc, judging.layout, atr, judgment)?;
-            let answer = laid(alloc, judging.layout, "judge", said)?;
+            let account = account_of(alloc, judging.layout, atr, judgment)?;
+            let answer = laid(alloc, judging.layout, "judge", account)?;
             Ok(WithNote::alone(alloc, answer))
         }
         Some(fault) => fault_with_note(alloc, lines.line.as_slice(), fault),
     }
 }
 
-/// Returns the line of a trace's fault, with a note on the trace's line that has it.
+/// Returns the answer for a trace's fault, with a note on the trace's line that has it.
 fn fault_with_note(alloc: Global, line: &[u8], fault: ExchangeFault) -> Result<WithNote, AllocError>
     ensures other { IfOk result (λ _. fault ≢ Memory) }
     ensures made { IfOk result (AreOf
-        (λ text status. (text ≡ file_fault_text fault) × (status ≡ ended.Fault))
+        (λ said status. (said ≡ file_faulted fault) × (status ≡ ended.Fault))
         (λ note. note ≡ kept_note line.now fault)) }
 {
     let answer = refused(alloc, fault)?;

@@ -1,39 +1,35 @@
 //! Answers in each layout.
 
-ghost use Rattle.std.specs.Prelude.{◌≡◌, ◌++◌, IfOk};
-ghost use Rattle.program_octets.specs.Json.{object_line};
+ghost use Rattle.std.specs.Prelude.{◌≡◌, IfOk, string_bytes};
 ghost use Rattle.program.specs.Laid.{laid};
 
 use layouts::Layout;
-use octet_core::Octets;
-use program_octets::{Answer, object_head};
+use program_octets::{Answer, Status, object_line};
 use std::alloc::{AllocError, Global};
 
-/// Returns what is said about a subject as an answer: lines as they are, or members as an object in one line.
+/// What is said about a subject before it is laid out, with the status.
+#[derive(Drop)]
+pub(crate) struct Account {
+    /// Lines, or the members of an object.
+    pub(crate) text: String,
+    pub(crate) status: Status,
+}
+
+/// Returns an account of a subject as an answer: lines as they are, or members as an object in one line.
 pub(crate) fn laid(
     alloc: Global,
     layout: Layout,
     about: &str,
-    said: Answer,
+    account: Account,
 ) -> Result<Answer, AllocError>
-    ensures text { IfOk result (λ answer. answer.text ≡ laid layout about.now said.text) }
-    ensures status { IfOk result (λ answer. answer.status ≡ said.status) }
+    ensures said { IfOk result (λ answer. answer.said
+        ≡ laid layout about.now (string_bytes account.text)) }
+    ensures status { IfOk result (λ answer. answer.status ≡ account.status) }
 {
-    match layout {
-        Layout::Lines => Ok(said),
-        Layout::Json => Ok(Answer {
-            text: object_line(alloc, about, said.text.get())?,
-            status: said.status,
-        }),
-    }
-}
-
-/// Returns the object about a subject with these members, in one line.
-fn object_line(alloc: Global, about: &str, members: &[u8]) -> Result<Octets, AllocError>
-    ensures { IfOk result (λ text. text ≡ object_line about.now members.now) }
-{
-    let mut text = object_head(alloc, about)?.into_bytes();
-    text.extend_from_slice(members)?;
-    text.extend_from_slice(b"}\n")?;
-    Ok(Octets::of(text))
+    let Account { text, status } = account;
+    let text = match layout {
+        Layout::Lines => text,
+        Layout::Json => object_line(alloc, about, text.as_str())?,
+    };
+    Ok(Answer::laid(layout, text, status))
 }

@@ -13,13 +13,13 @@ ghost use Rattle.program_octets.specs.declared.status.Status.{Status as AnyStatu
 
 use crate::conversation::{Conversation, Streams};
 use crate::file::LARGEST_FILE;
-use crate::json::{explained, object_told};
+use crate::json::{Topic, explained};
 use crate::judged::WithNote;
 use crate::pieces::PIECE;
 use crate::telling::{Telling, line_told, with_indented};
 use layouts::Layout;
 use octet_core::{Octets, Sink, Source, WriteFault};
-use program_octets::{Answer, Status};
+use program_octets::{Said, Status};
 use program_words::{Aim, Fault, Task};
 use std::alloc::{AllocError, Global};
 
@@ -173,9 +173,9 @@ impl AnsweredLines {
         ensures line { OnOk result (self.new.line.items ≡ []) }
         ensures kept { OnErr result (self.new.text.items ≡ self.old.text.items) }
     {
-        let answer = line_answer(alloc, self.telling, self.line.as_slice())?;
-        self.text.extend_from_slice(answer.text.get())?;
-        self.status = worse(self.status, answer.status);
+        let told = line_text(alloc, self.telling, self.line.as_slice())?;
+        self.text.extend_from_slice(told.text.get())?;
+        self.status = worse(self.status, told.status);
         self.line.clear();
         Ok(())
     }
@@ -221,29 +221,35 @@ impl AnsweredLines {
     }
 }
 
-/// Returns the answer to a line of octets.
-fn line_answer(alloc: Global, telling: Telling, line: &[u8]) -> Result<Answer, AllocError>
-    ensures { IfOk result (λ answer. IsLineSaid telling line.now answer.text answer.status) }
-{
-    let task = telling.task;
-    let WithNote { answer, note } = line_told(alloc, telling, line)?;
-    let note = note?;
-    let status = answer.status;
-    let text = said_text(alloc, task, answer, note)?;
-    Ok(Answer { text, status })
+/// The text that answers a line, with the status.
+#[derive(Drop)]
+struct LineText {
+    text: Octets,
+    status: Status,
 }
 
-/// Returns the text that answers a line: the answer's text and the note. The note comes after the lines of the text, or
+/// Returns the text that answers a line of octets.
+fn line_text(alloc: Global, telling: Telling, line: &[u8]) -> Result<LineText, AllocError>
+    ensures { IfOk result (λ told. IsLineSaid telling line.now told.text told.status) }
+{
+    let WithNote { answer, note } = line_told(alloc, telling, line)?;
+    let note = note?;
+    Ok(LineText {
+        text: said_text(alloc, telling.task, answer.said, note)?,
+        status: answer.status,
+    })
+}
+
+/// Returns the text that answers a line: what is said and the note. The note comes after the lines of the text, or
 /// as a member of the JSON object. After a value, which has several lines, comes an empty line. After an object there
 /// is none.
-fn said_text(alloc: Global, task: Task, answer: Answer, note: String) -> Result<Octets, AllocError>
-    ensures { IfOk result (λ text.
-        text ≡ said_text task answer.status answer.text (string_bytes note)) }
+fn said_text(alloc: Global, task: Task, said: Said, note: String) -> Result<Octets, AllocError>
+    ensures { IfOk result (λ text. text ≡ said_text task said (string_bytes note)) }
 {
     match task.layout {
-        Layout::Lines => lines_text(task, with_indented(alloc, answer.text, note.as_str())?),
+        Layout::Lines => lines_text(task, with_indented(alloc, said.into_text(), note.as_str())?),
         Layout::Json => {
-            let object = object_told(alloc, task, answer.status, answer.text)?;
+            let object = Topic::of_task(task).object(alloc, said)?;
             explained(alloc, object, Ok(note))
         }
     }

@@ -8,20 +8,21 @@ ghost use Rattle.program.specs.InJson.{HaveAnswer, IsRightAsked, IsRightJson};
 ghost use Rattle.program.specs.Files.{IsBegun};
 ghost use Rattle.program.specs.LineAnswers.{AskForNoLines, WritesLines};
 ghost use Rattle.program.specs.LineNotes.{telling_of};
+ghost use Rattle.program_octets.specs.Sayings.{text_of};
 ghost use Rattle.program_words.specs.Texts.{fault_text};
 ghost use Rattle.program_words.specs.Words.{AskForFile, AskForLines};
 ghost use Rattle.command_line.specs.Form.{texts};
 ghost use Rattle.program_words.specs.declared.request.Task.{Task as AnyTask};
 ghost use Rattle.program_octets.specs.declared.status.Status.TheVariants as ended;
 
-use crate::json::{in_json, object_by};
+use crate::json::{Topic, in_json};
 use crate::judged::WithNote;
 use crate::lines::tell_lines;
 use crate::replies::reply;
 use crate::telling::Telling;
 use command_line::{asks_for_json, asks_to_explain};
 use octet_core::{Sink, Source, write_octets};
-use program_octets::{Answer, Status};
+use program_octets::{Answer, Said, Status};
 use program_words::{Asked, Fault, Request};
 use std::alloc::{AllocError, Global};
 
@@ -117,10 +118,11 @@ fn said(made: &WithNote) -> &[u8]
 
 /// Writes an answer and its note. Returns the answer's status, or that of a fault if the writer fails.
 fn write_made<W: Sink>(made: &WithNote, writer: &mut W) -> Status
-    ensures { IsWritten (made.now.answer.text ++ said_of made.now.note) made.now.answer.status
+    ensures { IsWritten (text_of made.now.answer.said ++ said_of made.now.note)
+        made.now.answer.status
         (calls_of W.contents W.failures writer.old writer.new) result }
 {
-    match write_octets(writer, made.answer.text.get()) {
+    match write_octets(writer, made.answer.said.text()) {
         Ok(()) => write(said(made), made.answer.status, writer),
         Err(_fault) => Status::Fault,
     }
@@ -161,14 +163,14 @@ fn answer_in_json<R: Source>(
     ensures few { (AskToJudge (texts words.now) → ⊥)
         → IsBegun (calls_of R.remaining R.failures reader.old reader.new) 4194305 }
 {
-    let object = object_by(&read);
+    let about = Topic::of(&read);
     let made = whole_reply(alloc, words, read, reader)?;
     let status = made.answer.status;
-    let text = in_json(alloc, &object, made)?;
-    Ok(WithNote::alone(alloc, Answer { text, status }))
+    let said = Said::Object(in_json(alloc, &about, made)?);
+    Ok(WithNote::alone(alloc, Answer { said, status }))
 }
 
-/// Returns the answer to the words, or the line of a fault.
+/// Returns the answer to the words, or that for a fault.
 fn whole_reply<R: Source>(
     alloc: Global,
     words: &[String],
@@ -178,7 +180,7 @@ fn whole_reply<R: Source>(
     requires { IsReadFrom (texts words.now) read }
     ensures told { IfOk result (λ made.
         IsSaid (texts words.now) (calls_of R.remaining R.failures reader.old reader.new)
-        made.answer.text
+        made.answer.said
         (said_of made.note) made.answer.status) }
     ensures failed { IfErr result (λ _.
         HaveAnswer (texts words.now) (calls_of R.remaining R.failures reader.old reader.new)) }

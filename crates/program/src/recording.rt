@@ -6,7 +6,7 @@ ghost use Rattle.exchange_text.specs.declared.fault.ExchangeFault.TheVariants.{M
 ghost use Rattle.program.specs.Files.{largest_file};
 ghost use Rattle.program.specs.Judged.{AreOf};
 ghost use Rattle.program.specs.RecordTexts as texts;
-ghost use Rattle.program.specs.RecordTexts.{IsItemsNote, IsRecordNote, IsRefusedNote, IsSizeNote, Records, RecordsItems, RefusesText, unfit_note, unfit_text};
+ghost use Rattle.program.specs.RecordTexts.{IsItemsNote, IsRecordNote, IsRefusedNote, IsSizeNote, Records, RecordsItems, RefusesText, refused_line, unfit_note};
 ghost use Rattle.traces.specs.declared.reading.TraceFault.TheVariants.{Unfit as UnfitLine};
 ghost use Rattle.program_octets.specs.declared.status.Status.TheVariants as ended;
 
@@ -15,6 +15,7 @@ use crate::file::LARGEST_FILE;
 use crate::file_notes::{shown_at, trace_note};
 use crate::judged::WithNote;
 use crate::simulation::file;
+use answer_json::{Name, Refusal};
 use exchange_core::Exchange;
 use explainer::{large_note, session_note};
 use octet_core::Named;
@@ -22,13 +23,13 @@ use program_octets::{Answer, Status};
 use std::alloc::{AllocError, Global};
 use traces::{RecordFault, Trace, TraceFault, Unfit, line_of_item, read_trace, record_trace};
 
-/// Returns the line that refuses to record a line of a text, by this name.
-fn refused_line(alloc: Global, line: usize, name: &str) -> Result<Answer, AllocError>
-    ensures text { IfOk result (λ answer. answer.text ≡ unfit_text line name.now) }
+/// Returns the answer that refuses to record a line of a text, by this name.
+fn refused_line(alloc: Global, line: usize, name: &'static str) -> Result<Answer, AllocError>
+    ensures said { IfOk result (λ answer. answer.said ≡ refused_line line name.now) }
     ensures status { IfOk result (λ answer. answer.status ≡ ended.Refused) }
 {
-    let text = format!(in alloc; "refused at line {line}: {name}\n")?;
-    Ok(Answer::of(text, Status::Refused))
+    let reason = Name::of(name);
+    Answer::refusal(alloc, Refusal::AtLine { line, reason })
 }
 
 /// Returns the file of the exchange with the blocks of a text, or the text's fault, with a note.
@@ -46,7 +47,7 @@ pub(crate) fn recorded(alloc: Global, atr: &[u8], text: &[u8]) -> Result<WithNot
     }
 }
 
-/// Returns the line that refuses to record a line of a text, with a note on it.
+/// Returns the answer that refuses to record a line of a text, with a note on it.
 fn unfit_line(alloc: Global, text: &[u8], line: usize, why: Unfit) -> Result<WithNote, AllocError>
     ensures { IfOk result (AreOf (RefusesText (UnfitLine line why))
         (IsRefusedNote (UnfitLine line why) text.now)) }

@@ -6,7 +6,7 @@
 ghost use Rattle.std.specs.Prelude.{◌≡◌, ◌≢◌, ℕ, List, Ok, true, false, IfOk, string_bytes};
 ghost use Rattle.program.specs.Calls.{calls_of};
 ghost use Rattle.program.specs.Answers.{AskToJudge, IsJudge, IsReadFrom};
-ghost use Rattle.program.specs.Explained.{octets_of, text_note, IsFaulted, IsNotedLine, IsTakenWith, Replies, RepliesTo, SaysOf};
+ghost use Rattle.program.specs.Explained.{octets_of, text_note, IsFaulted, IsNotedFault, IsTakenWith, Replies, RepliesTo, SaysOf};
 ghost use Rattle.program.specs.Files.{largest_file, IsBegun};
 ghost use Rattle.explainer.specs.Notes.{large_note};
 ghost use Rattle.explainer.specs.Words.{IsWordsNote};
@@ -171,7 +171,7 @@ fn octets_tidied<R: Source>(
 enum Taken {
     /// Octets, and the note on the text that they were taken from, if memory for it was available.
     Given(Octets, Result<String, AllocError>),
-    /// A text that isn't in its form: the line of that fault, and the note on the text.
+    /// A text that isn't in its form: the answer for that fault, and the note on the text.
     Refused(WithNote),
 }
 
@@ -236,7 +236,7 @@ fn on_form(alloc: Global, form: Form, text: Octets) -> Result<String, AllocError
     }
 }
 
-/// Returns the line of a fault of words, with what is wrong with them.
+/// Returns the answer for a fault of words, with what is wrong with them.
 fn words_faulted(alloc: Global, words: &[String], fault: Fault) -> Result<WithNote, Fault>
     ensures told { IsFaulted fault (IsWordsNote (texts words.now)) result }
     ensures other { IfOk result (λ _. fault ≢ Fault.Memory) }
@@ -248,7 +248,7 @@ fn words_faulted(alloc: Global, words: &[String], fault: Fault) -> Result<WithNo
     }
 }
 
-/// Returns the line of a fault of reading. If there are too many octets, the note says how many there may be.
+/// Returns the answer for a fault of reading. If there are too many octets, the note says how many there may be.
 fn read_faulted(alloc: Global, fault: Fault) -> Result<WithNote, Fault>
     ensures told { IsFaulted fault (λ note. note ≡ large_note largest_file) result }
     ensures large { IfOk result (λ _. fault ≡ Fault.TooLarge) }
@@ -259,13 +259,13 @@ fn read_faulted(alloc: Global, fault: Fault) -> Result<WithNote, Fault>
     }
 }
 
-/// Returns the line of a fault, and a note on it. Returns the fault if memory for the line isn't available.
+/// Returns the answer for a fault, and a note on it. Returns the fault if memory for the answer isn't available.
 fn fault_noted(
     alloc: Global,
     fault: Fault,
     note: Result<String, AllocError>,
 ) -> Result<WithNote, Fault>
-    ensures { IsNotedLine fault note result }
+    ensures { IsNotedFault fault note result }
 {
     match Answer::faulted(alloc, fault) {
         Ok(answer) => Ok(WithNote { answer, note }),

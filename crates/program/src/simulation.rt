@@ -68,10 +68,10 @@ pub(crate) fn lines_simulated(
 
 /// Returns the text of an exchange, or a fault if it is larger than a file.
 pub(crate) fn file(alloc: Global, exchange: &Exchange) -> Result<Answer, AllocError>
-    ensures { IfOk result (λ answer. IsFile exchange.now answer.text answer.status) }
+    ensures { IfOk result (λ answer. IsFile exchange.now answer.said answer.status) }
 {
     let answer = written(alloc, exchange)?;
-    if answer.text.get().len() > LARGEST_FILE {
+    if answer.said.text().len() > LARGEST_FILE {
         return Answer::faulted(alloc, Fault::TooLarge);
     }
     Ok(answer)

@@ -6,7 +6,7 @@ ghost use Rattle.program.specs.Answers.{IsTold, IsToldOf};
 ghost use Rattle.program.specs.Judged.{AreOf, SaysIf};
 ghost use Rattle.program.specs.LineNotes.{fault_note, indented, indented_from, IsNoteOfLine};
 ghost use Rattle.program.specs.Lines.{line_octets};
-ghost use Rattle.program_words.specs.Texts.{fault_text};
+ghost use Rattle.program_octets.specs.Sayings.{faulted};
 ghost use Rattle.program_octets.specs.declared.status.Status.TheVariants as status;
 
 use crate::file::LARGEST_FILE;
@@ -44,7 +44,7 @@ pub(crate) fn line_told(
     }
 }
 
-/// Returns the line of a fault, with what is wrong with the line if it `explains`.
+/// Returns the answer for a fault, with what is wrong with the line if it `explains`.
 fn fault_told(
     alloc: Global,
     explains: bool,
@@ -53,7 +53,7 @@ fn fault_told(
 ) -> Result<WithNote, AllocError>
     ensures other { IfOk result (λ _. fault ≢ Memory) }
     ensures told { IfOk result (AreOf
-        (λ text ended. (text ≡ fault_text fault) × (ended ≡ status.Fault))
+        (λ said ended. (said ≡ faulted fault) × (ended ≡ status.Fault))
         (SaysIf explains (λ note. note ≡ fault_note line.now fault))) }
 {
     if let Fault::Memory = fault {

@@ -9,3 +9,4 @@ pub mod Tds
 pub mod Pushes
 pub mod Placing
 pub mod Rendering
+pub mod Faults

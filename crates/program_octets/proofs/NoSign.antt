@@ -67,7 +67,9 @@ use Rattle.program_octets.specs.ListTexts as list_texts
 use Rattle.program_octets.specs.ListTexts.{dol_rows, entry_rows, list_codec}
 use Rattle.program_octets.specs.ResponseTexts as response_texts
 use Rattle.program_octets.specs.ResponseTexts.{name_of, response_codec, response_rows}
+use Rattle.program_octets.specs.Sayings.{text_of}
 use Rattle.program_octets.specs.Texts.{octets_text, refused_text}
+use Rattle.program_octets.specs.declared.said.Said.{Said}
 use Rattle.program_octets.specs.Rows.{Row, line_text, lines_of}
 use Rattle.program_octets.specs.Verdicts.{Shows, Tells, accepted, codec_of, refused}
 use Rattle.program_octets.specs.declared.status.Status.{Status}
@@ -392,13 +394,13 @@ refused-lacks name (Short place) h = number-then place _ refl
 refused-lacks name (At place reason) h = number-then place _ (more (name reason) _ (h reason) refl)
 
 told-lacks : {V R : Type 0} (c : Codec V R) → ((v : V) (n : ℕ) → AreRows (c.rows v n))
-    → ((reason : R) → lacks (c.name reason) ≡ true) → (b text : List ℕ) (ended : Status)
-    → Tells c (λ v n. lines_of false (c.rows v n)) b text ended → lacks text ≡ true
+    → ((reason : R) → lacks (c.name reason) ≡ true) → (b : List ℕ) (text : Said) (ended : Status)
+    → Tells c (λ v n. lines_of false (c.rows v n)) b text ended → lacks (text_of text) ≡ true
 told-lacks c rows names b text ended (accepted v n h is e) = rw is (lines-lack (c.rows v n) (rows v n))
 told-lacks c rows names b text ended (refused stop h is e) = rw is (refused-lacks c.name stop names)
 
-shown-lacks : (k : Kind) (expected : Expected) (b text : List ℕ) (ended : Status) → Shows Lines k expected b text ended
-    → lacks text ≡ true
+shown-lacks : (k : Kind) (expected : Expected) (b : List ℕ) (text : Said) (ended : Status)
+    → Shows Lines k expected b text ended → lacks (text_of text) ≡ true
 shown-lacks kind.Atr expected b text ended h = told-lacks atr_codec atr-are atr-reason b text ended h
 shown-lacks kind.Block expected b text ended h = told-lacks (block_codec expected.ifs) block-are block-reason b text
     ended h
@@ -411,9 +413,9 @@ shown-lacks kind.Tlv expected b text ended h = told-lacks forest_codec forest-ar
 shown-lacks kind.Dol expected b text ended h = told-lacks list_codec dol-are dol-reason b text ended h
 
 -- no octet of the lines of `show` is a number sign
-pub no-sign : (k : Kind) (expected : Expected) (b text : List ℕ) (ended : Status) → Shows Lines k expected b text ended
-    → All (λ x. x ≢ 35) text
-no-sign k expected b text ended h = lacking.passed 35 text (shown-lacks k expected b text ended h)
+pub no-sign : (k : Kind) (expected : Expected) (b : List ℕ) (text : Said) (ended : Status)
+    → Shows Lines k expected b text ended → All (λ x. x ≢ 35) (text_of text)
+no-sign k expected b text ended h = lacking.passed 35 (text_of text) (shown-lacks k expected b text ended h)
 
 -- ---- notes
 

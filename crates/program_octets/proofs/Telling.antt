@@ -12,22 +12,23 @@ use Rattle.program_octets.specs.Codec.{Codec, Stops, StopsUnlessMemory, Takes}
 use Rattle.layouts.specs.declared.layout.Layout.{Layout}
 use Rattle.program_words.specs.declared.request.Kind.{Kind}
 use Rattle.program_octets.specs.declared.answer.Answer.{Answer}
+use Rattle.program_octets.specs.declared.said.Said.{Said}
 use Rattle.program_octets.specs.declared.status.Status.{Status}
 use Rattle.program_octets.specs.declared.status.Status.TheVariants as status
 
--- an answer with this text and status
-pub answered : {E : Type 0} (P : List ℕ → Status → Type 0) (r : Result Answer E) (text : List ℕ) (ended : Status)
-    → P text ended → IfOk r (λ a. a.text ≡ text) → IfOk r (λ a. a.status ≡ ended)
-    → IfOk r (λ a. P a.text a.status)
-answered P (Ok a) text ended h e f = rw (e, f) h
-answered P (Err e) text ended h f g = tt
+-- an answer that says this, with this status
+pub answered : {E : Type 0} (P : Said → Status → Type 0) (r : Result Answer E) (said : Said) (ended : Status)
+    → P said ended → IfOk r (λ a. a.said ≡ said) → IfOk r (λ a. a.status ≡ ended)
+    → IfOk r (λ a. P a.said a.status)
+answered P (Ok a) said ended h e f = rw (e, f) h
+answered P (Err e) said ended h f g = tt
 
 -- what is told where a call refused the octets, and its reasons have these names
-pub is-refused : {V R : Type 0} (c : Codec V R) (told : V → ℕ → List ℕ) (untold : (R → List ℕ) → Stop R → List ℕ)
-    (b : List ℕ) (name : R → List ℕ) (answer : Refused R) (stop : Stop R) (text : List ℕ) (ended : Status)
-    → c.name ≡ name → answer ≡ refusal.Stop stop → StopsUnlessMemory c b answer → text ≡ untold name stop
-    → ended ≡ status.Refused → TellsBy c told (untold c.name) b text ended
-is-refused {V} {R} c told untold b name answer stop text ended named is h same over =
+pub is-refused : {V R : Type 0} (c : Codec V R) (told : V → ℕ → Said) (untold : (R → List ℕ) → Stop R → Said)
+    (b : List ℕ) (name : R → List ℕ) (answer : Refused R) (stop : Stop R) (said : Said) (ended : Status)
+    → c.name ≡ name → answer ≡ refusal.Stop stop → StopsUnlessMemory c b answer → said ≡ untold name stop
+    → ended ≡ status.Refused → TellsBy c told (untold c.name) b said ended
+is-refused {V} {R} c told untold b name answer stop said ended named is h same over =
     refused stop (subst (StopsUnlessMemory c b) is h)
     (same ∙ ap (λ (n : R → List ℕ). untold n stop) (sym named)) over
 

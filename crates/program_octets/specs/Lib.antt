@@ -4,6 +4,7 @@ pub mod Json
 pub mod Places
 pub mod Rows
 pub mod Codec
+pub mod Sayings
 pub mod AtrTexts
 pub mod ChainTexts
 pub mod CommandTexts

@@ -1,9 +1,13 @@
--- What the program prints about octets: the verdict on them as a text and a status.
+-- What the program prints about octets: the verdict on them as what is said, and a status.
 use Rattle.std.specs.Prelude.{◌≡◌, ◌++◌, ℕ, List, Bool, true, false, Result, Ok, Err, codes}
 use Rattle.octet_core.specs.declared.stop.Stop.{Stop}
 use Rattle.octet_core.specs.Grammar.{whole, Refuses}
-use Rattle.program_octets.specs.Texts.{accepted_text, duplicate_text, refused_text}
-use Rattle.program_octets.specs.Json.{accepted_members, object_line, refused_members}
+use Rattle.program_octets.specs.Texts.{accepted_text, refused_text, stopped}
+use Rattle.answer_json.specs.Refusals.{verdict_first}
+use Rattle.program_octets.specs.Sayings.{faulted, refused_twice, told_in}
+use Rattle.program_octets.specs.declared.said.Said.{Said}
+use Rattle.program_octets.specs.declared.said.Said.TheVariants as saying
+use Rattle.program_octets.specs.Json.{accepted_members, object_line}
 use Rattle.program_octets.specs.Codec.{Codec, said_in, Stops, Takes}
 use Rattle.program_octets.specs.Rows.{lines_of}
 use Rattle.program_octets.specs.AtrTexts.{atr_codec}
@@ -14,7 +18,6 @@ use Rattle.program_octets.specs.ResponseTexts.{response_codec}
 use Rattle.program_octets.specs.ForestTexts.{forest_codec, tidied_text}
 use Rattle.program_octets.specs.ListTexts.{list_codec, filled_text}
 use Rattle.program_octets.specs.ListTexts as list_texts
-use Rattle.program_words.specs.Texts.{fault_text}
 use Rattle.notes.specs.Noted.{noted_line}
 use Rattle.tlv_core.specs.Dol.{IsDol, IsDolReason}
 use Rattle.tlv_core.specs.Fill.{filled, HasDuplicate}
@@ -29,17 +32,18 @@ use Rattle.program_words.specs.declared.request.Expected.{Expected}
 use Rattle.layouts.specs.declared.layout.Layout.{Layout}
 use Rattle.layouts.specs.declared.layout.Layout.TheVariants.{Lines, Json}
 
--- the text and the status for the verdict on octets, with these texts of a value and of a refusal
-pub data TellsBy {V R : Type 0} (c : Codec V R) (told : V → ℕ → List ℕ) (untold : Stop R → List ℕ) (b text : List ℕ)
+-- what is said with which status for the verdict on octets, by what is said of a value and of a refusal
+pub data TellsBy {A V R : Type 0} (c : Codec V R) (told : V → ℕ → A) (untold : Stop R → A) (b : List ℕ) (said : A)
     (ended : Status) : Type 0 where
-  accepted : (v : V) (n : ℕ) → Takes c b v n → text ≡ told v n → ended ≡ status.Accepted
-      → TellsBy c told untold b text ended
-  refused : (stop : Stop R) → Stops c b stop → text ≡ untold stop → ended ≡ status.Refused
-      → TellsBy c told untold b text ended
+  accepted : (v : V) (n : ℕ) → Takes c b v n → said ≡ told v n → ended ≡ status.Accepted
+      → TellsBy c told untold b said ended
+  refused : (stop : Stop R) → Stops c b stop → said ≡ untold stop → ended ≡ status.Refused
+      → TellsBy c told untold b said ended
 
--- the text and the status for the verdict on octets, with this text of a value and the line of a refusal
-abbrev pub Tells : {V R : Type 0} → Codec V R → (V → ℕ → List ℕ) → List ℕ → List ℕ → Status → Type 0
-Tells c told b text ended = TellsBy c told (refused_text c.name) b text ended
+-- the lines of a value, or the refusal
+abbrev pub Tells : {V R : Type 0} → Codec V R → (V → ℕ → List ℕ) → List ℕ → Said → Status → Type 0
+Tells c told b said ended =
+    TellsBy c (λ v n. saying.Text (told v n)) (λ stop. saying.Refusal (stopped c.name stop)) b said ended
 
 -- a codec with its types of values and reasons
 pub record Judging : Type 1 where
@@ -73,9 +77,9 @@ kind_name Tlv = codes "tlv"
 kind_name Dol = codes "dol"
 
 -- the octets are a value of n octets, in each layout
-abbrev pub accepted_in : Layout → Kind → ℕ → List ℕ
-accepted_in Lines kind n = accepted_text n
-accepted_in Json kind n = object_line (kind_name kind) (accepted_members n)
+abbrev pub accepted_in : Layout → Kind → ℕ → Said
+accepted_in Lines kind n = saying.Text (accepted_text n)
+accepted_in Json kind n = saying.Object (object_line (kind_name kind) (accepted_members n))
 
 -- a value of n octets with this text, in each layout
 abbrev pub laid_out : Layout → Kind → List ℕ → ℕ → List ℕ
@@ -86,12 +90,12 @@ abbrev pub shown_in : {V R : Type 0} → Bool → Layout → Kind → Codec V R 
 shown_in noted layout kind c v n = laid_out layout kind (said_in noted layout c v n) n
 
 -- a refusal, in each layout
-abbrev pub refused_in : {R : Type 0} → Layout → Kind → (R → List ℕ) → Stop R → List ℕ
-refused_in Lines kind name stop = refused_text name stop
-refused_in Json kind name stop = object_line (kind_name kind) (refused_members name stop)
+abbrev pub refused_in : {R : Type 0} → Layout → Kind → (R → List ℕ) → Stop R → Said
+refused_in Lines kind name stop = saying.Refusal (stopped name stop)
+refused_in Json kind name stop = saying.Object (object_line (kind_name kind) (verdict_first (stopped name stop)))
 
 -- what is printed about octets by a codec: how many of them the value takes
-abbrev pub ChecksBy : {V R : Type 0} → Layout → Kind → Codec V R → List ℕ → List ℕ → Status → Type 0
+abbrev pub ChecksBy : {V R : Type 0} → Layout → Kind → Codec V R → List ℕ → Said → Status → Type 0
 ChecksBy layout kind c b = TellsBy c (λ v n. accepted_in layout kind n) (refused_in layout kind c.name) b
 
 -- the status for a verdict
@@ -100,8 +104,9 @@ status_of (Ok n) = status.Accepted
 status_of (Err stop) = status.Refused
 
 -- the value itself, with the notes on its lines if it is noted
-abbrev pub ShowsBy : {V R : Type 0} → Bool → Layout → Kind → Codec V R → List ℕ → List ℕ → Status → Type 0
-ShowsBy noted layout kind c b = TellsBy c (shown_in noted layout kind c) (refused_in layout kind c.name) b
+abbrev pub ShowsBy : {V R : Type 0} → Bool → Layout → Kind → Codec V R → List ℕ → Said → Status → Type 0
+ShowsBy noted layout kind c b =
+    TellsBy c (λ v n. told_in layout (shown_in noted layout kind c v n)) (refused_in layout kind c.name) b
 
 -- the value as lines with notes, or a refusal with these words as a note
 abbrev pub NotesBy : {V R : Type 0} → Codec V R → List ℕ → List ℕ → List ℕ → Status → Type 0
@@ -109,32 +114,34 @@ NotesBy c words b = TellsBy c (λ v n. lines_of true (c.rows v n)) (λ stop. not
     b
 
 -- how many octets the value takes, and the value itself, by a kind
-abbrev pub Checks : Layout → Kind → Expected → List ℕ → List ℕ → Status → Type 0
+abbrev pub Checks : Layout → Kind → Expected → List ℕ → Said → Status → Type 0
 Checks layout kind expected b = ChecksBy layout kind (codec_of kind expected).codec b
 
-abbrev pub ShowsWhere : Bool → Layout → Kind → Expected → List ℕ → List ℕ → Status → Type 0
+abbrev pub ShowsWhere : Bool → Layout → Kind → Expected → List ℕ → Said → Status → Type 0
 ShowsWhere noted layout kind expected b = ShowsBy noted layout kind (codec_of kind expected).codec b
 
-abbrev pub Shows : Layout → Kind → Expected → List ℕ → List ℕ → Status → Type 0
+abbrev pub Shows : Layout → Kind → Expected → List ℕ → Said → Status → Type 0
 Shows layout kind expected b = ShowsWhere false layout kind expected b
 
 -- the shortest encoding of a forest's objects
-abbrev pub Tidies : List ℕ → List ℕ → Status → Type 0
+abbrev pub Tidies : List ℕ → Said → Status → Type 0
 Tidies b = Tells forest_codec (λ v n. tidied_text v) b
 
 -- the answer for a list: a fault of the known values, then two of them with the same tag, else the octets that fill it
-pub data IsFilledBy (known : Result (List Known) Fault) (entries : List (List ℕ × ℕ)) (text : List ℕ) (ended : Status) :
+pub data IsFilledBy (known : Result (List Known) Fault) (entries : List (List ℕ × ℕ)) (said : Said) (ended : Status) :
     Type 0 where
-  unknown : (fault : Fault) → known ≡ Err fault → text ≡ fault_text fault → ended ≡ status.Fault
-      → IsFilledBy known entries text ended
-  duplicate : (values : List Known) → known ≡ Ok values → HasDuplicate values → text ≡ duplicate_text
-      → ended ≡ status.Refused → IsFilledBy known entries text ended
+  unknown : (fault : Fault) → known ≡ Err fault → said ≡ faulted fault → ended ≡ status.Fault
+      → IsFilledBy known entries said ended
+  duplicate : (values : List Known) → known ≡ Ok values → HasDuplicate values → said ≡ refused_twice
+      → ended ≡ status.Refused → IsFilledBy known entries said ended
   full : (values : List Known) → known ≡ Ok values → (HasDuplicate values → ⊥)
-      → text ≡ filled_text (filled values entries) → ended ≡ status.Accepted → IsFilledBy known entries text ended
+      → said ≡ saying.Text (filled_text (filled values entries)) → ended ≡ status.Accepted
+      → IsFilledBy known entries said ended
 
 -- the answer for the octets of a list, which may be refused
-pub data IsFilled (b : List ℕ) (known : Result (List Known) Fault) (text : List ℕ) (ended : Status) : Type 0 where
-  listed : (entries : List (List ℕ × ℕ)) → IsDol entries b → IsFilledBy known entries text ended
-      → IsFilled b known text ended
+pub data IsFilled (b : List ℕ) (known : Result (List Known) Fault) (said : Said) (ended : Status) : Type 0 where
+  listed : (entries : List (List ℕ × ℕ)) → IsDol entries b → IsFilledBy known entries said ended
+      → IsFilled b known said ended
   no_list : (stop : Stop DolReason) → Refuses whole IsDol IsDolReason b stop
-      → text ≡ refused_text list_texts.reason_text stop → ended ≡ status.Refused → IsFilled b known text ended
+      → said ≡ saying.Refusal (stopped list_texts.reason_text stop) → ended ≡ status.Refused
+      → IsFilled b known said ended

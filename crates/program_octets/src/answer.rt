@@ -1,36 +1,55 @@
-//! A text that the program writes, with its status.
+//! What the program says, with its status.
 
-ghost use Rattle.std.specs.Prelude.{◌≡◌, ◌++◌, IfOk, string_bytes, codes, decimal};
-ghost use Rattle.program_words.specs.Texts.{fault_text};
-ghost use Rattle.program_octets.specs.Texts.{duplicate_text, refused_as_text, refused_at_text, refused_text, short_text};
+ghost use Rattle.std.specs.Prelude.{◌≡◌, IfOk, string_bytes};
+ghost use Rattle.program_octets.specs.Sayings.{fault_name, faulted, refused_as, refused_twice, told_in};
+ghost use Rattle.program_octets.specs.Statuses.{refusal_status};
+ghost use Rattle.program_octets.specs.Texts.{stopped};
 ghost use Rattle.program_octets.specs.Verdicts.{accepted_in, refused_in};
+ghost use Rattle.program_octets.specs.declared.said.Said.TheVariants as saying;
 ghost use Rattle.program_octets.specs.declared.status.Status.TheVariants as ended;
 
 use crate::json::{accepted_object, refused_object};
+use crate::said::Said;
 use crate::status::Status;
+use answer_json::{Name, Refusal, RefusalLine};
 use layouts::Layout;
-use octet_core::{Named, Octets, Stop};
+use octet_core::{Named, Stop};
 use program_words::{Fault, Kind};
 use std::alloc::{AllocError, Global};
 
-/// A text to write, and the status with which the program then ends.
+/// What the program says, and the status with which it then ends.
 #[derive(Drop)]
 pub struct Answer {
-    /// The text's octets in UTF-8.
-    pub text: Octets,
+    pub said: Said,
     pub status: Status,
 }
 
 impl Answer {
-    /// Returns an answer with this text and this status.
-    pub fn of(text: String, status: Status) -> Answer
-        ensures text { result.text ≡ string_bytes text }
+    /// Returns the answer that is written in a layout: lines, or an object in one line.
+    pub fn laid(layout: Layout, text: String, status: Status) -> Answer
+        ensures said { result.said ≡ told_in layout (string_bytes text) }
         ensures status { result.status ≡ status }
     {
-        Answer {
-            text: Octets::of(text.into_bytes()),
-            status,
-        }
+        let said = Said::laid(layout, text);
+        Answer { said, status }
+    }
+
+    /// Returns a value's lines as an answer.
+    pub fn told(text: String) -> Answer
+        ensures said { result.said ≡ saying.Text (string_bytes text) }
+        ensures status { result.status ≡ ended.Accepted }
+    {
+        Answer::laid(Layout::Lines, text, Status::Accepted)
+    }
+
+    /// Returns a refusal or a fault as an answer.
+    pub fn refusal(alloc: Global, refusal: Refusal) -> Result<Answer, AllocError>
+        ensures said { IfOk result (λ answer. answer.said ≡ saying.Refusal refusal) }
+        ensures status { IfOk result (λ answer. answer.status ≡ refusal_status refusal) }
+    {
+        let status = status_of(&refusal);
+        let said = Said::Refusal(RefusalLine::of(alloc, refusal)?);
+        Ok(Answer { said, status })
     }
 
     /// Returns the answer for octets that are a value of a kind and take `taken` octets.
@@ -40,14 +59,14 @@ impl Answer {
         kind: Kind,
         taken: usize,
     ) -> Result<Answer, AllocError>
-        ensures text { IfOk result (λ answer. answer.text ≡ accepted_in layout kind taken) }
+        ensures said { IfOk result (λ answer. answer.said ≡ accepted_in layout kind taken) }
         ensures status { IfOk result (λ answer. answer.status ≡ ended.Accepted) }
     {
         let text = match layout {
             Layout::Lines => format!(in alloc; "ok {taken} octets\n")?,
             Layout::Json => accepted_object(alloc, kind, taken)?,
         };
-        Ok(Answer::of(text, Status::Accepted))
+        Ok(Answer::laid(layout, text, Status::Accepted))
     }
 
     /// Returns the answer for octets that are refused as a value of a kind.
@@ -57,79 +76,89 @@ impl Answer {
         kind: Kind,
         stop: Stop<R>,
     ) -> Result<Answer, AllocError>
-        ensures text { IfOk result (λ answer. answer.text ≡ refused_in layout kind R.text stop) }
+        ensures said { IfOk result (λ answer. answer.said ≡ refused_in layout kind R.text stop) }
         ensures status { IfOk result (λ answer. answer.status ≡ ended.Refused) }
     {
         match layout {
             Layout::Lines => Answer::refused(alloc, stop),
             Layout::Json => {
-                let text = refused_object(alloc, kind, stop)?;
-                Ok(Answer::of(text, Status::Refused))
+                let text = refused_object(alloc, kind, &stopped(stop))?;
+                Ok(Answer::laid(Layout::Json, text, Status::Refused))
             }
         }
     }
 
-    /// Returns the answer for octets that ended at `place`.
-    fn short(alloc: Global, place: usize) -> Result<Answer, AllocError>
-        ensures text { IfOk result (λ answer. answer.text ≡ short_text place) }
-        ensures status { IfOk result (λ answer. answer.status ≡ ended.Refused) }
-    {
-        let text = format!(in alloc; "short at {place}\n")?;
-        Ok(Answer::of(text, Status::Refused))
-    }
-
-    /// Returns the answer for a refusal of the octet at `place`.
-    fn refused_at(alloc: Global, place: usize, reason: &str) -> Result<Answer, AllocError>
-        ensures text { IfOk result (λ answer. answer.text ≡ refused_at_text place reason.now) }
-        ensures status { IfOk result (λ answer. answer.status ≡ ended.Refused) }
-    {
-        let text = format!(in alloc; "refused at {place}: {reason}\n")?;
-        Ok(Answer::of(text, Status::Refused))
-    }
-
     /// Returns the answer for octets that are refused.
     pub fn refused<R: Named>(alloc: Global, stop: Stop<R>) -> Result<Answer, AllocError>
-        ensures text { IfOk result (λ answer. answer.text ≡ refused_text R.text stop) }
+        ensures said { IfOk result (λ answer. answer.said
+            ≡ saying.Refusal (stopped R.text stop)) }
         ensures status { IfOk result (λ answer. answer.status ≡ ended.Refused) }
     {
-        match stop {
-            Stop::Short { place } => Answer::short(alloc, place),
-            Stop::At { place, reason } => Answer::refused_at(alloc, place, reason.name()),
-        }
+        Answer::refusal(alloc, stopped(stop))
     }
 
     /// Returns the answer for a refusal of the whole value, by this name.
-    pub fn refused_as(alloc: Global, name: &str) -> Result<Answer, AllocError>
-        ensures text { IfOk result (λ answer. answer.text ≡ refused_as_text name.now) }
+    pub fn refused_as(alloc: Global, name: &'static str) -> Result<Answer, AllocError>
+        ensures said { IfOk result (λ answer. answer.said ≡ refused_as name.now) }
         ensures status { IfOk result (λ answer. answer.status ≡ ended.Refused) }
     {
-        let text = format!(in alloc; "refused: {name}\n")?;
-        Ok(Answer::of(text, Status::Refused))
+        let reason = Name::of(name);
+        Answer::refusal(alloc, Refusal::Whole { reason })
     }
 
     /// Returns the answer for two known values with the same tag.
     pub fn duplicate(alloc: Global) -> Result<Answer, AllocError>
-        ensures text { IfOk result (λ answer. answer.text ≡ duplicate_text) }
+        ensures said { IfOk result (λ answer. answer.said ≡ refused_twice) }
         ensures status { IfOk result (λ answer. answer.status ≡ ended.Refused) }
     {
-        let text = String::from_str(alloc, "refused: Duplicate\n")?;
-        Ok(Answer::of(text, Status::Refused))
+        Answer::refused_as(alloc, "Duplicate")
     }
 
-    /// Returns the line of a fault.
+    /// Returns the answer for a fault.
     pub fn faulted(alloc: Global, fault: Fault) -> Result<Answer, AllocError>
-        ensures text { IfOk result (λ answer. answer.text ≡ fault_text fault) }
+        ensures said { IfOk result (λ answer. answer.said ≡ faulted fault) }
         ensures status { IfOk result (λ answer. answer.status ≡ ended.Fault) }
     {
-        let text = String::from_str(alloc, fault.text())?;
-        Ok(Answer::of(text, Status::Fault))
+        let fault = Name::of(fault_name(fault));
+        Answer::refusal(alloc, Refusal::Fault { fault })
     }
+}
 
-    /// Returns a value's text as an answer.
-    pub fn told(text: String) -> Answer
-        ensures text { result.text ≡ string_bytes text }
-        ensures status { result.status ≡ ended.Accepted }
-    {
-        Answer::of(text, Status::Accepted)
+/// Returns the refusal for octets that are refused.
+fn stopped<R: Named>(stop: Stop<R>) -> Refusal
+    ensures { result ≡ stopped R.text stop }
+{
+    match stop {
+        Stop::Short { place } => Refusal::Short { place },
+        Stop::At { place, reason } => {
+            let reason = Name::of(reason.name());
+            Refusal::At { place, reason }
+        }
+    }
+}
+
+/// Returns the status of a refusal or a fault.
+fn status_of(refusal: &Refusal) -> Status
+    ensures { result ≡ refusal_status refusal.now }
+{
+    match refusal {
+        Refusal::Short { .. }
+        | Refusal::At { .. }
+        | Refusal::AtLine { .. }
+        | Refusal::Whole { .. } => Status::Refused,
+        Refusal::FaultAt { .. } | Refusal::Fault { .. } => Status::Fault,
+    }
+}
+
+/// Returns the name of a fault.
+fn fault_name(fault: Fault) -> &'static str
+    ensures { result.now ≡ fault_name fault }
+{
+    match fault {
+        Fault::Words => "words",
+        Fault::Hex => "hex",
+        Fault::Memory => "memory",
+        Fault::Read => "read",
+        Fault::TooLarge => "TooLarge",
     }
 }

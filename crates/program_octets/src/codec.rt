@@ -7,6 +7,7 @@ ghost use Rattle.program_octets.specs.Codec.{Codec as AnyCodec, IsVerdict, Stops
 
 use crate::answer::Answer;
 use crate::shown::Shown;
+use crate::status::Status;
 use layouts::Layout;
 use octet_core::{Named, Refused, Stop};
 use program_words::{Expected, FieldSize};
@@ -77,7 +78,7 @@ pub fn check_with_verdict<C: Codec>(
     expected: Expected,
 ) -> Result<CheckedAnswer<C::Reason>, AllocError>
     ensures told { IfOk result (λ judged. ChecksBy layout expected.kind (C.codec expected)
-        octets.now judged.answer.text judged.answer.status) }
+        octets.now judged.answer.said judged.answer.status) }
     ensures verdict { IfOk result (λ judged.
         IsVerdict (C.codec expected) octets.now judged.verdict) }
 {
@@ -113,7 +114,7 @@ pub fn show_with_verdict<C: Codec>(
     expected: Expected,
 ) -> Result<CheckedAnswer<C::Reason>, AllocError>
     ensures told { IfOk result (λ judged. ShowsBy noted layout expected.kind (C.codec expected)
-        octets.now judged.answer.text judged.answer.status) }
+        octets.now judged.answer.said judged.answer.status) }
     ensures verdict { IfOk result (λ judged.
         IsVerdict (C.codec expected) octets.now judged.verdict) }
     ensures ended { IfOk result (λ judged. judged.answer.status ≡ status_of judged.verdict) }
@@ -121,7 +122,7 @@ pub fn show_with_verdict<C: Codec>(
     let Expected { kind, ifs, .. } = expected;
     match C::shown(alloc, octets, expected, layout, noted) {
         Ok(Shown { text, taken }) => Ok(CheckedAnswer {
-            answer: Answer::told(text),
+            answer: Answer::laid(layout, text, Status::Accepted),
             verdict: Ok(taken),
             note: String::new(alloc),
         }),

@@ -84,7 +84,7 @@ pub fn tidy_with_verdict(
     octets: &[u8],
 ) -> Result<CheckedAnswer<TlvReason>, AllocError>
     ensures told { IfOk result (λ judged.
-        Tells forest_codec (λ v n. tidied_text v) octets.now judged.answer.text judged.answer.status) }
+        Tells forest_codec (λ v n. tidied_text v) octets.now judged.answer.said judged.answer.status) }
     ensures verdict { IfOk result (λ judged. IsVerdict forest_codec octets.now judged.verdict) }
 {
     match decode(alloc, octets, LARGEST_FOREST) {

@@ -1,10 +1,11 @@
 //! JSON objects with what the program prints about octets.
 
 ghost use Rattle.std.specs.Prelude.{◌≡◌, ◌++◌, IfOk, OnOk, codes, string_bytes};
-ghost use Rattle.program_octets.specs.Json.{accepted_members, notes_member, object_head, object_line, refused_at_members, refused_members, short_members};
+ghost use Rattle.program_octets.specs.Json.{accepted_members, notes_member, object_head, object_line};
 ghost use Rattle.program_octets.specs.Verdicts.{kind_name};
+ghost use Rattle.answer_json.specs.Refusals.{verdict_first};
 
-use octet_core::{Named, Stop};
+use answer_json::Refusal;
 use program_words::Kind;
 use std::alloc::{AllocError, Global};
 
@@ -24,7 +25,7 @@ pub fn kind_name(kind: Kind) -> &'static str
 }
 
 /// Returns the beginning of every object: the version of its form, and its subject.
-pub fn object_head(alloc: Global, about: &str) -> Result<String, AllocError>
+pub(crate) fn object_head(alloc: Global, about: &str) -> Result<String, AllocError>
     ensures { IfOk result (λ text. string_bytes text ≡ object_head about.now) }
 {
     let mut text = String::new(alloc);
@@ -70,6 +71,16 @@ pub fn notes_member(alloc: Global, items: &str) -> Result<String, AllocError>
     format!(in alloc; ",\"notes\":[{items}]")
 }
 
+/// Returns the object about a subject with these members, in one line.
+pub fn object_line(alloc: Global, about: &str, members: &str) -> Result<String, AllocError>
+    ensures { IfOk result (λ text. string_bytes text ≡ object_line about.now members.now) }
+{
+    let mut text = object_head(alloc, about)?;
+    text.push_str(members)?;
+    text.push_str("}\n")?;
+    Ok(text)
+}
+
 /// Returns the object about octets of a kind that are a value of `taken` octets, in one line.
 pub(crate) fn accepted_object(alloc: Global, kind: Kind, taken: usize) -> Result<String, AllocError>
     ensures { IfOk result (λ text. string_bytes text
@@ -81,40 +92,15 @@ pub(crate) fn accepted_object(alloc: Global, kind: Kind, taken: usize) -> Result
     Ok(text)
 }
 
-/// Returns the object about octets of a kind that are refused, in one line.
-pub(crate) fn refused_object<R: Named>(
+/// Returns the object about octets of a kind that are refused, in one line. The verdict is its first member.
+pub(crate) fn refused_object(
     alloc: Global,
     kind: Kind,
-    stop: Stop<R>,
+    refusal: &Refusal,
 ) -> Result<String, AllocError>
     ensures { IfOk result (λ text. string_bytes text
-        ≡ object_line (kind_name kind) (refused_members R.text stop)) }
+        ≡ object_line (kind_name kind) (verdict_first refusal.now)) }
 {
-    let members = refused_members(alloc, stop)?;
-    let mut text = object_head(alloc, kind_name(kind))?;
-    text.push_str(members.as_str())?;
-    text.push_str("}\n")?;
-    Ok(text)
-}
-
-/// Returns the members for why octets are refused.
-fn refused_members<R: Named>(alloc: Global, stop: Stop<R>) -> Result<String, AllocError>
-    ensures { IfOk result (λ text. string_bytes text ≡ refused_members R.text stop) }
-{
-    match stop {
-        Stop::Short { place } => short_members(alloc, place),
-        Stop::At { place, reason } => refused_at_members(alloc, place, reason.name()),
-    }
-}
-
-fn short_members(alloc: Global, place: usize) -> Result<String, AllocError>
-    ensures { IfOk result (λ text. string_bytes text ≡ short_members place) }
-{
-    format!(in alloc; "\"verdict\":\"short\",\"at\":{place}")
-}
-
-fn refused_at_members(alloc: Global, place: usize, reason: &str) -> Result<String, AllocError>
-    ensures { IfOk result (λ text. string_bytes text ≡ refused_at_members place reason.now) }
-{
-    format!(in alloc; "\"verdict\":\"refused\",\"at\":{place},\"reason\":\"{reason}\"")
+    let members = refusal.members_by_verdict(alloc)?.into_text();
+    object_line(alloc, kind_name(kind), members.as_str())
 }

@@ -5,7 +5,10 @@ ghost use Rattle.notes.specs.Noted.{without_notes};
 ghost use Rattle.program_words.specs.declared.request.Expected.{Expected as AnyExpected};
 ghost use Rattle.program_words.specs.declared.request.Kind.{Kind as AnyKind};
 ghost use Rattle.program_octets.specs.Rows.{lines_of, places_of, with_notes_of, Row};
+ghost use Rattle.program_octets.specs.Sayings.{faulted, text_of};
 ghost use Rattle.program_octets.specs.Verdicts.{codec_of};
+ghost use Rattle.program_words.specs.Texts.{fault_text};
+ghost use Rattle.program_words.specs.declared.fault.Fault.{Fault as AnyFault};
 
 /// If the lines of a value with notes are cut at their notes, they are its lines without notes.
 pub fn notes_apart()
@@ -22,4 +25,9 @@ pub fn in_order()
         → places_of (rows ++ others) ≡ places_of rows ++ places_of others }
     ensures notes { (items : List ℕ) (rows others : List Row)
         → with_notes_of items (rows ++ others) ≡ with_notes_of (with_notes_of items rows) others }
+{}
+
+/// A fault that an answer says has the line of that fault as its text.
+pub fn fault_lines()
+    ensures { (fault : AnyFault) → text_of (faulted fault) ≡ fault_text fault }
 {}

@@ -5,8 +5,9 @@
 //! reasons and their names, and the lines of a value. `blocks`, `tidy_with_verdict` and `fill_with_verdict` return what
 //! `build` prints.
 //!
-//! An `Answer` is a text and the program's status. `specs/` defines the texts, in a file for each kind. `specs/Verdicts.antt` joins them
-//! to the verdict of the grammar.
+//! An `Answer` is what the program says and its status. What it says, a `Said`, is lines of text, a JSON object, or a
+//! refusal, and has a text and an object (`specs/Sayings.antt`). `specs/` defines the texts, in a file for each kind.
+//! `specs/Verdicts.antt` joins them to the verdict of the grammar.
 #![tactic(auto)]
 
 pub mod answer;
@@ -25,6 +26,7 @@ mod places;
 mod response;
 mod row_lines;
 mod rows;
+pub mod said;
 pub mod shown;
 pub mod status;
 mod text;
@@ -33,7 +35,8 @@ pub use answer::Answer;
 pub use chain::blocks;
 pub use codec::{CheckedAnswer, Codec, Outcome, Verdict, check_with_verdict, show_with_verdict};
 pub use forest::tidy_with_verdict;
-pub use json::{kind_name, notes_member, object_head};
+pub use json::{kind_name, notes_member, object_line};
 pub use list::fill_with_verdict;
+pub use said::Said;
 pub use shown::Shown;
 pub use status::Status;

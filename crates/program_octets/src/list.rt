@@ -123,7 +123,7 @@ pub fn fill_with_verdict(
     known: &Result<Knowns, Fault>,
 ) -> Result<CheckedAnswer<DolReason>, AllocError>
     ensures told { IfOk result (λ judged.
-        IsFilled octets.now known.now judged.answer.text judged.answer.status) }
+        IsFilled octets.now known.now judged.answer.said judged.answer.status) }
     ensures verdict { IfOk result (λ judged. IsVerdict list_codec octets.now judged.verdict) }
 {
     match Dol::decode(alloc, octets) {
@@ -146,7 +146,7 @@ pub fn fill_with_verdict(
 
 /// Returns the octets that a list requests.
 fn fill_by(alloc: Global, dol: &Dol, known: &Result<Knowns, Fault>) -> Result<Answer, AllocError>
-    ensures { IfOk result (λ answer. IsFilledBy known.now dol.now answer.text answer.status) }
+    ensures { IfOk result (λ answer. IsFilledBy known.now dol.now answer.said answer.status) }
 {
     match known {
         Ok(known) => filled(alloc, dol, known),
@@ -155,7 +155,7 @@ fn fill_by(alloc: Global, dol: &Dol, known: &Result<Knowns, Fault>) -> Result<An
 }
 
 fn filled(alloc: Global, dol: &Dol, known: &Knowns) -> Result<Answer, AllocError>
-    ensures { IfOk result (λ answer. IsFilledBy (Ok known.now) dol.now answer.text answer.status) }
+    ensures { IfOk result (λ answer. IsFilledBy (Ok known.now) dol.now answer.said answer.status) }
 {
     match tlv_core::fill(alloc, dol, known.get()) {
         Ok(octets) => Ok(Answer::told(line(alloc, octets.as_slice())?)),

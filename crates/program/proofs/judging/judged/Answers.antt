@@ -1,4 +1,4 @@
-use Rattle.std.proofs.Common.{Ok, Result, refl}
+use Rattle.std.proofs.Common.{Ok, Result}
 use Rattle.program_words.specs.declared.fault.Fault.{Fault}
 use Rattle.program.specs.declared.judged.WithNote.{WithNote}
 use Rattle.program.proofs.Judgments.{trace-replied, used-noted}
@@ -24,7 +24,7 @@ returns-in_ok-unusable_noted-in-Ok-read_past g c = λ words.
     let had = c.in-Ok-read_past.ensures in
     let made = c.in_ok-unusable_noted-in-Ok-read_past.field-0 in
     trace-replied words c.args.atr.now c.args.judging _ had.0 made had.1
-    (c.in_ok-unusable_noted-in-Ok-read_past.ensures c.in-Err.ensures.refused c.args.judging had.0 refl)
+    (c.in_ok-unusable_noted-in-Ok-read_past.ensures c.in-Err.ensures.refused c.args.judging had.0)
 
 pub returns-in-Err-read_past : goal.returns-in-Err-read_past
 returns-in-Err-read_past g c = λ words.

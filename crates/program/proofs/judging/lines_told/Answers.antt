@@ -14,11 +14,11 @@ returns-in_ok-answer-in-None c = λ offered text h.
     rw c.in-None.is at h in
     let told = concluded offered (scope_of c.args.judging) text c.args.lines.standing
     c.in_ok-judgment-in-None.judgment all c.in_ok-judgment-in-None.ensures in
-    let said = c.in_ok-answer-in-None.ensures.text
-    ∙ ap (laid c.args.judging.layout (codes "judge")) c.in_ok-said-in-None.ensures.text in
+    let said = c.in_ok-answer-in-None.ensures.said
+    ∙ ap (laid c.args.judging.layout (codes "judge")) c.in_ok-account-in-None.ensures.text in
     rw c.alone.ensures.answer (
       judged c.in_ok-judgment-in-None.judgment told said
-          (c.in_ok-answer-in-None.ensures.status ∙ c.in_ok-said-in-None.ensures.status),
+          (c.in_ok-answer-in-None.ensures.status ∙ c.in_ok-account-in-None.ensures.status),
       IfOk-weaker c.alone.result.note _ _ (λ note none. silent c.in_ok-judgment-in-None.judgment told none)
           c.alone.ensures.note,
     )

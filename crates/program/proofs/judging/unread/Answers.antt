@@ -10,7 +10,7 @@ returns-in_ok-answer-in-TooLarge c = λ words atr judging reads h.
     let had = rw c.in-TooLarge.is at h in
     alone words (Judge atr judging) reads c.alone.result (Err TooLarge) (λ need. had)
     (rw c.alone.ensures.answer
-    (c.in_ok-answer-in-TooLarge.ensures.text, c.in_ok-answer-in-TooLarge.ensures.status))
+    (c.in_ok-answer-in-TooLarge.ensures.said, c.in_ok-answer-in-TooLarge.ensures.status))
     c.alone.ensures.note
 
 pub returns-in_default : goal.returns-in_default

@@ -12,7 +12,7 @@ returns-in_ok-answer-in-Ok c =
 pub returns-in_ok-answer-in-Err-Refused : goal.returns-in_ok-answer-in-Err-Refused
 returns-in_ok-answer-in-Err-Refused c =
     let found = rw (c.in-Err-Refused.field-0-is, ← c.name.ensures) at c.in-Err-Refused.ensures in (
-      refused c.name.result.now found c.in_ok-answer-in-Err-Refused.ensures.text
+      refused c.name.result.now found c.in_ok-answer-in-Err-Refused.ensures.said
           c.in_ok-answer-in-Err-Refused.ensures.status,
       if-ok c.session_note-note.result (λ note of. unusable c.name.result.now found of) c.session_note-note.ensures,
     )
@@ -22,7 +22,7 @@ returns-in_ok-answer-in-Err-Unfit c =
     let h = rw c.in-Err-Unfit.field-0-is at c.in-Err-Unfit.ensures in
     let unfits = c.in-Err-Unfit in (
       unfit h.0 unfits.place unfits.why h.1 h.2
-          (rw (c.name-in-Err-Unfit.ensures, c.line_of_item-line.ensures) at c.in_ok-answer-in-Err-Unfit.ensures.text)
+          (rw (c.name-in-Err-Unfit.ensures, c.line_of_item-line.ensures) at c.in_ok-answer-in-Err-Unfit.ensures.said)
           c.in_ok-answer-in-Err-Unfit.ensures.status,
       if-ok c.unfit_note-note.result (λ note of. unfit_line unfits.place unfits.why h.2
           (rw c.line_of_item-line.ensures at of)) c.unfit_note-note.ensures,

@@ -1,4 +1,5 @@
-use Rattle.std.proofs.Common.{◌∙◌, [], Ok}
+use Rattle.std.proofs.Common.{◌∙◌, [], Ok, ap}
+use Rattle.program_octets.specs.declared.said.Said.TheVariants as saying
 use Rattle.command_line.specs.Form.{texts}
 use Rattle.program_words.specs.declared.request.Request.TheVariants.{BuildChain, BuildFill, Simulate, Help, Version}
 use Rattle.program.proofs.Explaining.{alone, with-note}
@@ -11,7 +12,7 @@ returns-in_ok-text-in-BuildChain-clause-told g c =
     (BuildChain c.in-BuildChain.ifs c.in-BuildChain.number c.in-BuildChain.message)
     (calls_of g.R.Source.remaining g.R.Source.failures c.args.reader.now c.args.reader.now) c.alone.result (Ok [])
     (λ needs. absurd needs) (rw c.alone.ensures.answer (
-      c.told.ensures.text ∙ rw c.get.ensures at c.in_ok-text-in-BuildChain.ensures,
+      c.told.ensures.said ∙ ap saying.Text (rw c.get.ensures at c.in_ok-text-in-BuildChain.ensures),
       c.told.ensures.status,
     )) c.alone.ensures.note)
 
@@ -38,14 +39,17 @@ returns-in-Help-clause-told g c = rw c.in-Help.is (alone (texts c.args.words.now
     (calls_of g.R.Source.remaining g.R.Source.failures c.args.reader.now c.args.reader.now) c.alone-in-Help.result
     (Ok [])
     (λ needs. absurd needs) (rw c.alone-in-Help.ensures.answer
-    (c.told-in-Help.ensures.text ∙ c.into_inner.ensures, c.told-in-Help.ensures.status)) c.alone-in-Help.ensures.note)
+    (c.told-in-Help.ensures.said ∙ ap saying.Text c.into_inner.ensures, c.told-in-Help.ensures.status))
+    c.alone-in-Help.ensures.note)
 
 pub returns-in_ok-line-in-Version-clause-told : goal.returns-in_ok-line-in-Version-clause-told
 returns-in_ok-line-in-Version-clause-told g c = rw c.in-Version.is (alone (texts c.args.words.now) Version
     (calls_of g.R.Source.remaining g.R.Source.failures c.args.reader.now c.args.reader.now) c.alone-in-Version.result
     (Ok [])
-    (λ needs. absurd needs) (rw c.alone-in-Version.ensures.answer
-    (c.told-in-Version.ensures.text ∙ c.in_ok-line-in-Version.ensures.ok, c.told-in-Version.ensures.status))
+    (λ needs. absurd needs) (rw c.alone-in-Version.ensures.answer (
+      c.told-in-Version.ensures.said ∙ ap saying.Text c.in_ok-line-in-Version.ensures.ok,
+      c.told-in-Version.ensures.status,
+    ))
     c.alone-in-Version.ensures.note)
 
 pub returns-in-Tell-clause-told : goal.returns-in-Tell-clause-told

@@ -1,7 +1,7 @@
 use Rattle.std.proofs.Common.{◌∙◌, inl, inr, sym}
 use Rattle.std.proofs.lemmas.Result.{IfOk-weaker}
 use Rattle.command_line.specs.Form.{texts}
-use Rattle.program_words.specs.Texts.{fault_text}
+use Rattle.program_octets.specs.Sayings.{faulted}
 use Rattle.program_octets.specs.declared.status.Status.TheVariants as status
 use Rattle.explainer.specs.Words.{IsWordsNote}
 use Rattle.program.proofs.Answering.{refused-words}
@@ -26,6 +26,6 @@ returns-in-Err-clause-told g c =
     c.words_faulted.ensures.other)
 
 pub returns-in-Err-2-clause-told : goal.returns-in-Err-2-clause-told
-returns-in-Err-2-clause-told g c = said-nothing (texts c.args.words.now) _ (fault_text c.in-Err-2.fault)
+returns-in-Err-2-clause-told g c = said-nothing (texts c.args.words.now) _ (faulted c.in-Err-2.fault)
     status.Fault
     (refused-words (texts c.args.words.now) _ _ c.in-Err-2.fault (rw c.in-Err-2.is at c.requires))

@@ -1,7 +1,7 @@
 use Rattle.std.proofs.Common.{◌≡◌, ◌∙◌, Ok, Err, Result, sym}
 use Rattle.std.proofs.lemmas.Result.{IfOk-weaker}
 use Rattle.command_line.specs.Form.{texts}
-use Rattle.program_words.specs.Texts.{fault_text}
+use Rattle.program_octets.specs.Sayings.{faulted}
 use Rattle.program_words.specs.declared.fault.Fault.{Fault}
 use Rattle.program_octets.specs.declared.status.Status.TheVariants as status
 use Rattle.explainer.specs.Notes.{large_note}
@@ -22,7 +22,7 @@ read-as fault = Err fault
 pub returns-in-Ok-clause-told : goal.returns-in-Ok-clause-told
 returns-in-Ok-clause-told g c = said-asked (texts c.args.words.now)
     (calls_of g.R.Source.remaining g.R.Source.failures c.args.reader.now c.replied_to.new.reader)
-    c.in-Ok.made.answer.text
+    c.in-Ok.made.answer.said
     (said_of c.in-Ok.made.note) c.in-Ok.made.answer.status
     (sym c.asks_to_explain-explains.ensures ∙ c.if-explains.true)
     (replied-words (texts c.args.words.now)
@@ -54,7 +54,7 @@ returns-in-Err-clause-told g c = said-fault (texts c.args.words.now)
 pub returns-in-Err-2-clause-told : goal.returns-in-Err-2-clause-told
 returns-in-Err-2-clause-told g c = said-nothing (texts c.args.words.now)
     (calls_of g.R.Source.remaining g.R.Source.failures c.args.reader.now c.replied_to.new.reader)
-    (fault_text c.in-Err.fault) status.Fault
+    (faulted c.in-Err.fault) status.Fault
     (replied-words (texts c.args.words.now)
     (calls_of g.R.Source.remaining g.R.Source.failures c.args.reader.now c.replied_to.new.reader) c.args.request
     (read-as c.in-Err.fault) c.requires
@@ -79,3 +79,7 @@ returns-in-Err-clause-few g c = λ free.
 pub returns-in-Err-2-clause-few : goal.returns-in-Err-2-clause-few
 returns-in-Err-2-clause-few g c = λ free.
     c.replied_to.ensures.few (λ judge. free (needs-judge (texts c.args.words.now) c.args.request c.requires judge))
+
+pub returns-in-Ok-2-clause-unread : goal.returns-in-Ok-2-clause-unread
+returns-in-Ok-2-clause-unread g c = λ free.
+    c.replied_to.ensures.unread (λ need. free (needs-file (texts c.args.words.now) c.args.request c.requires need))

@@ -1,13 +1,13 @@
 use Rattle.command_line.specs.Form.{texts}
 use Rattle.program_words.specs.declared.fault.Fault.TheVariants.{Hex, Words}
 use Rattle.explainer.specs.Words.{IsWordsNote}
-use Rattle.program.proofs.Explaining.{faulted}
+use Rattle.program.proofs.Explaining.{is-faulted}
 use Rattle.program.proofs.replies.words_faulted.Goals as goal
 
 pub returns-in-Words-clause-told : goal.returns-in-Words-clause-told
-returns-in-Words-clause-told c = rw c.in-Words.is (faulted Words (IsWordsNote (texts c.args.words.now))
+returns-in-Words-clause-told c = rw c.in-Words.is (is-faulted Words (IsWordsNote (texts c.args.words.now))
     c.words_note.result c.fault_noted.result c.fault_noted.ensures c.words_note.ensures)
 
 pub returns-in-Hex-clause-told : goal.returns-in-Hex-clause-told
-returns-in-Hex-clause-told c = rw c.in-Hex.is (faulted Hex (IsWordsNote (texts c.args.words.now))
+returns-in-Hex-clause-told c = rw c.in-Hex.is (is-faulted Hex (IsWordsNote (texts c.args.words.now))
     c.words_note-in-Hex.result c.fault_noted-in-Hex.result c.fault_noted-in-Hex.ensures c.words_note-in-Hex.ensures)

@@ -3,8 +3,8 @@ use Rattle.program.proofs.simulation.file_with_note.Goals as goal
 
 pub exchange_note-note-requires-clause-past : goal.exchange_note-note-requires-clause-past
 exchange_note-note-requires-clause-past c =
-    past c.args.exchange.now c.in_ok-answer.answer.text c.in_ok-answer.answer.status c.in_ok-answer.ensures
+    past c.args.exchange.now c.in_ok-answer.answer.said c.in_ok-answer.answer.status c.in_ok-answer.ensures
 
 pub exchange_note-note-requires-clause-inside : goal.exchange_note-note-requires-clause-inside
 exchange_note-note-requires-clause-inside c =
-    inside c.args.exchange.now c.in_ok-answer.answer.text c.in_ok-answer.answer.status c.in_ok-answer.ensures
+    inside c.args.exchange.now c.in_ok-answer.answer.said c.in_ok-answer.answer.status c.in_ok-answer.ensures

@@ -11,7 +11,7 @@ returns-in-Ok c = IfOk-weaker c.file_with_note.result _ _
 pub returns-in_ok-answer-in-Err-Refused : goal.returns-in_ok-answer-in-Err-Refused
 returns-in_ok-answer-in-Err-Refused c =
     let found = rw (c.in-Err-Refused.field-0-is, ← c.name.ensures) at c.in-Err-Refused.ensures.simulated in (
-      unusable c.name.result.now found c.in_ok-answer-in-Err-Refused.ensures.text
+      unusable c.name.result.now found c.in_ok-answer-in-Err-Refused.ensures.said
           c.in_ok-answer-in-Err-Refused.ensures.status,
       if-ok c.session_note-note.result (λ note h. refused c.name.result.now found h)
           (rw c.get.ensures at c.session_note-note.ensures),
@@ -20,7 +20,7 @@ returns-in_ok-answer-in-Err-Refused c =
 pub returns-in_ok-answer-in-Err-TooLarge : goal.returns-in_ok-answer-in-Err-TooLarge
 returns-in_ok-answer-in-Err-TooLarge c =
     let long = rw c.in-Err-TooLarge.field-0-is at c.in-Err-TooLarge.ensures.simulated in (
-      too_large long.0 long.1 long.2 c.in_ok-answer-in-Err-TooLarge.ensures.text
+      too_large long.0 long.1 long.2 c.in_ok-answer-in-Err-TooLarge.ensures.said
           c.in_ok-answer-in-Err-TooLarge.ensures.status,
       if-ok c.large_note-note.result (λ note h. too_long long.0 long.1 long.2 h) c.large_note-note.ensures,
     )

@@ -1,7 +1,7 @@
 use Rattle.std.proofs.Common.{◌∙◌, sym, ◌+◌, ◌==◌, ap}
-use Rattle.answer_json.specs.Words.{cut_at}
+use Rattle.answer_json.specs.Strings.{cut_at}
 use Rattle.answer_json.proofs.Cutting.{is-cut, all-of, none-cut}
-use Rattle.answer_json.proofs.words.parted.Goals as goal
+use Rattle.answer_json.proofs.strings.parted.Goals as goal
 
 pub returns-in-Some-clause-parted : goal.returns-in-Some-clause-parted
 returns-in-Some-clause-parted c = rw (all-of (c.in-Some.place + 1) c.args.octets.now)
