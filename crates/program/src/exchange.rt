@@ -31,19 +31,26 @@ use program_octets::{Answer, Said, Status};
 use program_words::{Drawing, Ends, FileTask};
 use std::alloc::{AllocError, Global};
 
-/// Returns the answer about a file, with a note on the first line where an end differs, or on the file's first fault.
-pub(crate) fn told(alloc: Global, file: &[u8], task: FileTask) -> Result<WithNote, AllocError>
+/// Returns the answer about a file. If it `explains`, it also returns a note on the first line where an end differs, or
+/// on the file's first fault.
+pub(crate) fn told(
+    alloc: Global,
+    explains: bool,
+    file: &[u8],
+    task: FileTask,
+) -> Result<WithNote, AllocError>
     ensures { IfOk result (AreOf (TellsFile task file.now) (IsFileNote task file.now)) }
 {
     match read_exchange(alloc, file) {
-        Ok(exchange) => told_of(alloc, file, exchange, task),
-        Err(fault) => refused_with_note(alloc, file, fault),
+        Ok(exchange) => told_of(alloc, explains, file, exchange, task),
+        Err(fault) => refused_with_note(alloc, explains, file, fault),
     }
 }
 
 /// Returns the answer about an exchange, with a note if it is replayed.
 fn told_of(
     alloc: Global,
+    explains: bool,
     file: &[u8],
     exchange: Exchange,
     task: FileTask,
@@ -52,7 +59,9 @@ fn told_of(
         (IsNoteSo task file.now exchange)) }
 {
     let answer = match task {
-        FileTask::Replay(end, layout) => return replayed(alloc, file, &exchange, end, layout),
+        FileTask::Replay(end, layout) => {
+            return replayed(alloc, explains, file, &exchange, end, layout);
+        }
         FileTask::Migrate => written(alloc, &migrate(exchange))?,
         FileTask::Apdus(layout) => listed(alloc, &exchange, layout)?,
         FileTask::Draw(drawing) => drawn(alloc, &exchange, drawing)?,
@@ -63,6 +72,7 @@ fn told_of(
 /// Replays an exchange at the end or ends that are named. Returns the answer, with a note.
 fn replayed(
     alloc: Global,
+    explains: bool,
     file: &[u8],
     exchange: &Exchange,
     end: Ends,
@@ -71,7 +81,9 @@ fn replayed(
     ensures { IfOk result (AreOf (IsReplayAnswer end layout exchange.now)
         (IsNoteAt end file.now exchange.now)) }
 {
-    let ReplayAccount { account, note } = replayed_at(alloc, file, exchange, end, layout)?;
+    let ReplayAccount { account, note } = replayed_at(
+        alloc, explains, file, exchange, end, layout,
+    )?;
     let answer = laid(alloc, layout, "replay", account)?;
     Ok(WithNote { answer, note })
 }
@@ -86,6 +98,7 @@ struct ReplayAccount {
 /// Replays an exchange at the end or ends that are named. Returns whether they agree with it, with a note.
 fn replayed_at(
     alloc: Global,
+    explains: bool,
     file: &[u8],
     exchange: &Exchange,
     end: Ends,
@@ -95,11 +108,11 @@ fn replayed_at(
         (IsNoteAt end file.now exchange.now)) }
 {
     match end {
-        Ends::Terminal => replayed_by(alloc, file, exchange, Side::Terminal, layout),
-        Ends::Card => replayed_by(alloc, file, exchange, Side::Card, layout),
+        Ends::Terminal => replayed_by(alloc, explains, file, exchange, Side::Terminal, layout),
+        Ends::Card => replayed_by(alloc, explains, file, exchange, Side::Card, layout),
         Ends::Both => {
-            let terminal = replayed_by(alloc, file, exchange, Side::Terminal, layout)?;
-            let card = replayed_by(alloc, file, exchange, Side::Card, layout)?;
+            let terminal = replayed_by(alloc, explains, file, exchange, Side::Terminal, layout)?;
+            let card = replayed_by(alloc, explains, file, exchange, Side::Card, layout)?;
             let account = both(alloc, layout, &terminal.account, &card.account)?;
             let note = joined(terminal.note, card.note);
             Ok(ReplayAccount { account, note })
@@ -110,6 +123,7 @@ fn replayed_at(
 /// Replays an exchange at one end. Returns whether the end agrees with it, with a note.
 fn replayed_by(
     alloc: Global,
+    explains: bool,
     file: &[u8],
     exchange: &Exchange,
     side: Side,
@@ -120,7 +134,7 @@ fn replayed_by(
 {
     let outcome = replay(alloc, exchange, side);
     let account = agreement(alloc, exchange, side, layout, &outcome)?;
-    let note = difference_note(alloc, file, exchange, side, &outcome);
+    let note = difference_note(alloc, explains, file, exchange, side, &outcome);
     Ok(ReplayAccount { account, note })
 }
 
@@ -201,6 +215,7 @@ fn verdict_member(status: Status) -> &'static str
 /// Returns the answer for a fault of the file, with a note on the file's line that has the fault.
 fn refused_with_note(
     alloc: Global,
+    explains: bool,
     file: &[u8],
     fault: ExchangeFault,
 ) -> Result<WithNote, AllocError>
@@ -210,7 +225,7 @@ fn refused_with_note(
         (λ note. note ≡ fault_note file.now fault)) }
 {
     let answer = refused(alloc, fault)?;
-    let note = fault_note(alloc, file, fault);
+    let note = fault_note(alloc, explains, file, fault);
     Ok(WithNote { answer, note })
 }
 

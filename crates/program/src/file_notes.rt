@@ -41,12 +41,16 @@ fn line_said(alloc: Global, number: usize, line: &str, what: &str) -> Result<Str
 /// Returns the note on the first fault of a file: its line, and what is expected there.
 pub(crate) fn fault_note(
     alloc: Global,
+    explains: bool,
     text: &[u8],
     fault: ExchangeFault,
 ) -> Result<String, AllocError>
     ensures line { IfOk result (λ note. string_bytes note ≡ fault_note text.now fault) }
     ensures other { IfOk result (λ _. fault ≢ Memory) }
 {
+    if !explains {
+        return Err(AllocError);
+    }
     match fault {
         ExchangeFault::Header => shown_at(alloc, text, 1, header_at(text)),
         ExchangeFault::End { line } => {
@@ -63,16 +67,20 @@ pub(crate) fn fault_note(
 /// Returns the note on the first fault of a trace: its line, and what is expected there.
 pub(crate) fn trace_note(
     alloc: Global,
+    explains: bool,
     text: &[u8],
     fault: ExchangeFault,
 ) -> Result<String, AllocError>
     ensures line { IfOk result (λ note. string_bytes note ≡ trace_note text.now fault) }
     ensures other { IfOk result (λ _. fault ≢ Memory) }
 {
+    if !explains {
+        return Err(AllocError);
+    }
     match fault {
         ExchangeFault::Word { line } => shown_at(alloc, text, line, WORDS_SEEN),
         ExchangeFault::Hex { line } => shown_at(alloc, text, line, HEX_SEEN),
-        other => fault_note(alloc, text, other),
+        other => fault_note(alloc, explains, text, other),
     }
 }
 
@@ -80,11 +88,15 @@ pub(crate) fn trace_note(
 /// other fault than these three.
 pub(crate) fn kept_note(
     alloc: Global,
+    explains: bool,
     line: &[u8],
     fault: ExchangeFault,
 ) -> Result<String, AllocError>
     ensures { IfOk result (λ note. string_bytes note ≡ kept_note line.now fault) }
 {
+    if !explains {
+        return Err(AllocError);
+    }
     match fault {
         ExchangeFault::Word { line: number } => kept_line(alloc, line, number, WORDS_SEEN),
         ExchangeFault::Hex { line: number } => kept_line(alloc, line, number, HEX_SEEN),
@@ -99,6 +111,7 @@ pub(crate) fn kept_note(
 /// agrees with all lines. For a file that was recorded from a trace, it also says where in the trace the line is.
 pub(crate) fn difference_note(
     alloc: Global,
+    explains: bool,
     text: &[u8],
     exchange: &Exchange,
     side: Side,
@@ -108,6 +121,9 @@ pub(crate) fn difference_note(
     ensures { IfOk result (λ note.
         IsDifferenceNote text.now exchange.now side (string_bytes note)) }
 {
+    if !explains {
+        return Err(AllocError);
+    }
     match outcome {
         Ok(()) => Ok(String::new(alloc)),
         Err(ReplayFault::Differs { line, gives }) => {

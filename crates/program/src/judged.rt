@@ -275,9 +275,10 @@ pub(crate) fn tidied(alloc: Global, explains: bool, octets: &[u8]) -> Result<Wit
     Ok(WithNote { answer, note })
 }
 
-/// Returns the octets that a list requests from known values, with a note.
+/// Returns the octets that a list requests from known values, with a note if one is asked for.
 pub(crate) fn filled(
     alloc: Global,
+    explains: bool,
     words: &[String],
     list: &[u8],
     known: &Result<Knowns, Fault>,
@@ -290,7 +291,7 @@ pub(crate) fn filled(
         verdict,
         ..
     } = fill_with_verdict(alloc, list, known)?;
-    let note = fill_note(alloc, words, list, known, verdict);
+    let note = fill_note(alloc, explains, words, list, known, verdict);
     Ok(WithNote { answer, note })
 }
 
@@ -298,6 +299,7 @@ pub(crate) fn filled(
 /// known value, or about two words with values of one tag.
 fn fill_note(
     alloc: Global,
+    explains: bool,
     words: &[String],
     list: &[u8],
     known: &Result<Knowns, Fault>,
@@ -307,6 +309,9 @@ fn fill_note(
     ensures { IfOk result (λ note.
         IsFillNote (texts words.now) list.now known.now (string_bytes note)) }
 {
+    if !explains {
+        return Err(AllocError);
+    }
     let note = verdict_note(alloc, list, verdict, None)?;
     if !note.is_empty() {
         return Ok(note);

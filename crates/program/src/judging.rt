@@ -17,6 +17,7 @@ ghost use Rattle.program_words.specs.declared.request.Judging.{Judging as AnyJud
 ghost use Rattle.program_words.specs.declared.request.Request.{Request as AnyRequest};
 ghost use Rattle.judge_times.specs.Waiting.{Offered};
 
+use crate::asked::session_note;
 use crate::exchange::refused;
 use crate::file_notes::kept_note;
 use crate::judged::WithNote;
@@ -25,7 +26,6 @@ use crate::pieces::read_past;
 use crate::trace_lines::{TraceLines, read_lines};
 use atr_core::{decode, t1_params};
 use exchange_core::{AtrFault, ExchangeFault};
-use explainer::session_note;
 use judge_core::Side;
 use layouts::Layout;
 use octet_core::{Named, Source, hex_upper};
@@ -109,12 +109,13 @@ fn status_of(is_ok: bool) -> Status
     }
 }
 
-/// Reads a trace to its end, however long it is. Returns what isn't permitted among its blocks, or its first fault. The
-/// note is on an answer to reset that can't be used, or on the line with the fault.
+/// Reads a trace to its end, however long it is. Returns what isn't permitted among its blocks, or its first fault. If it
+/// `explains`, the note is on an answer to reset that can't be used, or on the line with the fault.
 ///
 /// Of the trace, only one line is kept at a time. A fault of the reader or of memory comes before one of the trace.
 pub(crate) fn judged<R: Source>(
     alloc: Global,
+    explains: bool,
     atr: &[u8],
     judging: Judging,
     reader: &mut R,
@@ -124,11 +125,11 @@ pub(crate) fn judged<R: Source>(
 {
     match offer_of(atr) {
         Ok(offer) => match read_lines(alloc, offer, scope_of(judging), reader) {
-            Ok(lines) => Ok(lines_told(alloc, atr, judging, lines)?),
+            Ok(lines) => Ok(lines_told(alloc, explains, atr, judging, lines)?),
             Err(fault) => unread(alloc, fault),
         },
         Err(fault) => match read_past(reader) {
-            Ok(()) => Ok(unusable_noted(alloc, atr, fault)?),
+            Ok(()) => Ok(unusable_noted(alloc, explains, atr, fault)?),
             Err(fault) => unread(alloc, fault),
         },
     }
@@ -150,18 +151,24 @@ fn unread(alloc: Global, fault: Fault) -> Result<WithNote, Fault>
 }
 
 /// Returns the answer for an answer to reset that can't be used, with a note on it.
-fn unusable_noted(alloc: Global, atr: &[u8], fault: AtrFault) -> Result<WithNote, AllocError>
+fn unusable_noted(
+    alloc: Global,
+    explains: bool,
+    atr: &[u8],
+    fault: AtrFault,
+) -> Result<WithNote, AllocError>
     ensures { IsFound atr.now (Err (atr_fault_name fault)) → (judging : AnyJudging) (text : List ℕ)
         → IfOk result (AreOf (JudgesTrace atr.now judging text) (IsJudgeNote atr.now judging text)) }
 {
     let answer = Answer::refused_as(alloc, fault.name())?;
-    let note = session_note(alloc, atr);
+    let note = session_note(alloc, explains, atr);
     Ok(WithNote { answer, note })
 }
 
 /// Returns what the lines of a trace come to, for a card with this answer to reset.
 fn lines_told(
     alloc: Global,
+    explains: bool,
     atr: &[u8],
     judging: Judging,
     lines: TraceLines,
@@ -178,18 +185,23 @@ fn lines_told(
             let answer = laid(alloc, judging.layout, "judge", account)?;
             Ok(WithNote::alone(alloc, answer))
         }
-        Some(fault) => fault_with_note(alloc, lines.line.as_slice(), fault),
+        Some(fault) => fault_with_note(alloc, explains, lines.line.as_slice(), fault),
     }
 }
 
 /// Returns the answer for a trace's fault, with a note on the trace's line that has it.
-fn fault_with_note(alloc: Global, line: &[u8], fault: ExchangeFault) -> Result<WithNote, AllocError>
+fn fault_with_note(
+    alloc: Global,
+    explains: bool,
+    line: &[u8],
+    fault: ExchangeFault,
+) -> Result<WithNote, AllocError>
     ensures other { IfOk result (λ _. fault ≢ Memory) }
     ensures made { IfOk result (AreOf
         (λ said status. (said ≡ file_faulted fault) × (status ≡ ended.Fault))
         (λ note. note ≡ kept_note line.now fault)) }
 {
     let answer = refused(alloc, fault)?;
-    let note = kept_note(alloc, line, fault);
+    let note = kept_note(alloc, explains, line, fault);
     Ok(WithNote { answer, note })
 }

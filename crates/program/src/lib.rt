@@ -11,6 +11,7 @@
 #![tactic(auto)]
 
 mod annotated;
+mod asked;
 pub mod conversation;
 mod exchange;
 mod expected;

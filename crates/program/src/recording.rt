@@ -10,6 +10,7 @@ ghost use Rattle.program.specs.RecordTexts.{IsItemsNote, IsRecordNote, IsRefused
 ghost use Rattle.traces.specs.declared.reading.TraceFault.TheVariants.{Unfit as UnfitLine};
 ghost use Rattle.program_octets.specs.declared.status.Status.TheVariants as ended;
 
+use crate::asked::session_note;
 use crate::exchange::refused;
 use crate::file::LARGEST_FILE;
 use crate::file_notes::{shown_at, trace_note};
@@ -17,7 +18,7 @@ use crate::judged::WithNote;
 use crate::simulation::file;
 use answer_json::{Name, Refusal};
 use exchange_core::Exchange;
-use explainer::{large_note, session_note};
+use explainer::large_note;
 use octet_core::Named;
 use program_octets::{Answer, Status};
 use std::alloc::{AllocError, Global};
@@ -32,34 +33,46 @@ fn refused_line(alloc: Global, line: usize, name: &'static str) -> Result<Answer
     Answer::refusal(alloc, Refusal::AtLine { line, reason })
 }
 
-/// Returns the file of the exchange with the blocks of a text, or the text's fault, with a note.
-pub(crate) fn recorded(alloc: Global, atr: &[u8], text: &[u8]) -> Result<WithNote, AllocError>
+/// Returns the file of the exchange with the blocks of a text, or the text's fault, with a note if one is asked for.
+pub(crate) fn recorded(
+    alloc: Global,
+    explains: bool,
+    atr: &[u8],
+    text: &[u8],
+) -> Result<WithNote, AllocError>
     ensures { IfOk result (AreOf (Records atr.now text.now) (IsRecordNote atr.now text.now)) }
 {
     match read_trace(alloc, text) {
-        Ok(trace) => recorded_items(alloc, atr, text, &trace),
+        Ok(trace) => recorded_items(alloc, explains, atr, text, &trace),
         Err(TraceFault::Text(fault)) => {
             let answer = refused(alloc, fault)?;
-            let note = trace_note(alloc, text, fault);
+            let note = trace_note(alloc, explains, text, fault);
             Ok(WithNote { answer, note })
         }
-        Err(TraceFault::Unfit { line, why }) => unfit_line(alloc, text, line, why),
+        Err(TraceFault::Unfit { line, why }) => unfit_line(alloc, explains, text, line, why),
     }
 }
 
 /// Returns the answer that refuses to record a line of a text, with a note on it.
-fn unfit_line(alloc: Global, text: &[u8], line: usize, why: Unfit) -> Result<WithNote, AllocError>
+fn unfit_line(
+    alloc: Global,
+    explains: bool,
+    text: &[u8],
+    line: usize,
+    why: Unfit,
+) -> Result<WithNote, AllocError>
     ensures { IfOk result (AreOf (RefusesText (UnfitLine line why))
         (IsRefusedNote (UnfitLine line why) text.now)) }
 {
     let answer = refused_line(alloc, line, why.name())?;
-    let note = unfit_note(alloc, text, line, why);
+    let note = unfit_note(alloc, explains, text, line, why);
     Ok(WithNote { answer, note })
 }
 
 /// Returns the file of the exchange with the blocks of a text, or why there is none, with a note.
 fn recorded_items(
     alloc: Global,
+    explains: bool,
     atr: &[u8],
     text: &[u8],
     trace: &Trace,
@@ -70,18 +83,18 @@ fn recorded_items(
     match record_trace(alloc, atr, trace) {
         Ok(exchange) => {
             let answer = file(alloc, &exchange)?;
-            let note = size_note(alloc, &exchange, answer.status);
+            let note = size_note(alloc, explains, &exchange, answer.status);
             Ok(WithNote { answer, note })
         }
         Err(RecordFault::Refused(fault)) => {
             let answer = Answer::refused_as(alloc, fault.name())?;
-            let note = session_note(alloc, atr);
+            let note = session_note(alloc, explains, atr);
             Ok(WithNote { answer, note })
         }
         Err(RecordFault::Unfit { place, why }) => {
             let line = line_of_item(text, place);
             let answer = refused_line(alloc, line, why.name())?;
-            let note = unfit_note(alloc, text, line, why);
+            let note = unfit_note(alloc, explains, text, line, why);
             Ok(WithNote { answer, note })
         }
         Err(RecordFault::Memory) => Err(AllocError),
@@ -89,12 +102,20 @@ fn recorded_items(
 }
 
 /// Returns the note on the text of an exchange, by the status.
-fn size_note(alloc: Global, _exchange: &Exchange, status: Status) -> Result<String, AllocError>
+fn size_note(
+    alloc: Global,
+    explains: bool,
+    _exchange: &Exchange,
+    status: Status,
+) -> Result<String, AllocError>
     requires past { status ≡ ended.Fault → largest_file < length (exchange_text _exchange.now) }
     requires inside { (status ≡ ended.Fault → ⊥)
         → length (exchange_text _exchange.now) ≤ largest_file }
     ensures { IfOk result (λ note. IsSizeNote _exchange.now (string_bytes note)) }
 {
+    if !explains {
+        return Err(AllocError);
+    }
     match status {
         Status::Fault => large_note(alloc, LARGEST_FILE),
         Status::Accepted | Status::Refused => Ok(String::new(alloc)),
@@ -102,9 +123,18 @@ fn size_note(alloc: Global, _exchange: &Exchange, status: Status) -> Result<Stri
 }
 
 /// Returns the note on a line that can't be recorded: its text, and why.
-fn unfit_note(alloc: Global, text: &[u8], line: usize, why: Unfit) -> Result<String, AllocError>
+fn unfit_note(
+    alloc: Global,
+    explains: bool,
+    text: &[u8],
+    line: usize,
+    why: Unfit,
+) -> Result<String, AllocError>
     ensures { IfOk result (λ note. string_bytes note ≡ unfit_note text.now line why) }
 {
+    if !explains {
+        return Err(AllocError);
+    }
     shown_at(alloc, text, line, unfit_words(why))
 }
 

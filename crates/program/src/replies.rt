@@ -74,7 +74,7 @@ fn request_reply<R: Source>(
     }
 }
 
-/// Returns the answer to a request, with a note on its input.
+/// Returns the answer to a request, with a note on its input if it `explains`.
 fn replied_to<R: Source>(
     alloc: Global,
     words: &[String],
@@ -101,20 +101,28 @@ fn replied_to<R: Source>(
             Ok(WithNote::alone(alloc, Answer::told(text)))
         }
         Request::BuildTidy(given) => octets_tidied(alloc, explains, given, reader),
-        Request::BuildFill { list, known } => Ok(filled(alloc, words, list.get(), &known)?),
+        Request::BuildFill { list, known } => Ok(filled(
+            alloc,
+            explains,
+            words,
+            list.get(),
+            &known,
+        )?),
         Request::File(task) => {
             let file = read_whole(alloc, reader)?;
-            Ok(exchange::told(alloc, file.get(), task)?)
+            Ok(exchange::told(alloc, explains, file.get(), task)?)
         }
         Request::Record(atr) => {
             let text = read_whole(alloc, reader)?;
-            Ok(recording::recorded(alloc, atr.get(), text.get())?)
+            Ok(recording::recorded(alloc, explains, atr.get(), text.get())?)
         }
-        Request::Judge { atr, judging } => judging::judged(alloc, atr.get(), judging, reader),
-        Request::Simulate(session) => Ok(simulation::simulated(alloc, &session)?),
+        Request::Judge { atr, judging } => {
+            judging::judged(alloc, explains, atr.get(), judging, reader)
+        }
+        Request::Simulate(session) => Ok(simulation::simulated(alloc, explains, &session)?),
         Request::SimulateLines(session) => {
             let text = read_whole(alloc, reader)?;
-            Ok(simulation::lines_simulated(alloc, session, text.get())?)
+            Ok(simulation::lines_simulated(alloc, explains, session, text.get())?)
         }
         Request::Help(text) => Ok(WithNote::alone(alloc, Answer::told(text.into_inner()))),
         Request::Version => {

@@ -8,11 +8,12 @@ ghost use Rattle.program.specs.Files.{largest_file};
 ghost use Rattle.program.specs.Judged.{AreOf};
 ghost use Rattle.program.specs.SimulationTexts.{blocks_in, is_block, IsExchangeNote, IsFile, IsLinesNote, IsSimulationNote, Simulates, SimulatesLines};
 
+use crate::asked::{large_note, pairs_note, session_note};
 use crate::exchange::written;
 use crate::file::LARGEST_FILE;
 use crate::judged::WithNote;
 use exchange_core::{Exchange, Line};
-use explainer::{large_note, pairs_note, session_note, unsent_note};
+use explainer::unsent_note;
 use octet_core::Named;
 use program_octets::{Answer, Status};
 use program_words::{Fault, Session, read_pair_lines};
@@ -26,29 +27,34 @@ fn exchange_of(alloc: Global, session: &Session) -> Result<Exchange, SimulationF
     simulate(alloc, session, LARGEST_FILE)
 }
 
-/// Returns the file of a session's exchange, or why there is none, with a note.
-pub(crate) fn simulated(alloc: Global, session: &Session) -> Result<WithNote, AllocError>
+/// Returns the file of a session's exchange, or why there is none, with a note if one is asked for.
+pub(crate) fn simulated(
+    alloc: Global,
+    explains: bool,
+    session: &Session,
+) -> Result<WithNote, AllocError>
     ensures { IfOk result (AreOf (Simulates session.now) (IsSimulationNote session.now)) }
 {
     match exchange_of(alloc, session) {
-        Ok(exchange) => file_with_note(alloc, session, &exchange),
+        Ok(exchange) => file_with_note(alloc, explains, session, &exchange),
         Err(SimulationFault::Refused(fault)) => {
             let answer = Answer::refused_as(alloc, fault.name())?;
-            let note = session_note(alloc, session.atr.get());
+            let note = session_note(alloc, explains, session.atr.get());
             Ok(WithNote { answer, note })
         }
         Err(SimulationFault::TooLarge) => {
             let answer = Answer::faulted(alloc, Fault::TooLarge)?;
-            let note = large_note(alloc, LARGEST_FILE);
+            let note = large_note(alloc, explains, LARGEST_FILE);
             Ok(WithNote { answer, note })
         }
         Err(SimulationFault::Memory) => Err(AllocError),
     }
 }
 
-/// Returns the file of the exchange of a session whose pairs are the lines of a text, with a note.
+/// Returns the file of the exchange of a session whose pairs are the lines of a text, with a note if one is asked for.
 pub(crate) fn lines_simulated(
     alloc: Global,
+    explains: bool,
     session: Session,
     text: &[u8],
 ) -> Result<WithNote, AllocError>
@@ -56,11 +62,11 @@ pub(crate) fn lines_simulated(
         (IsLinesNote session text.now)) }
 {
     match read_pair_lines(alloc, text) {
-        Ok(pairs) => simulated(alloc, &session.with_pairs(pairs)),
+        Ok(pairs) => simulated(alloc, explains, &session.with_pairs(pairs)),
         Err(Fault::Memory) => Err(AllocError),
         Err(fault) => {
             let answer = Answer::faulted(alloc, fault)?;
-            let note = pairs_note(alloc, text);
+            let note = pairs_note(alloc, explains, text);
             Ok(WithNote { answer, note })
         }
     }
@@ -80,6 +86,7 @@ pub(crate) fn file(alloc: Global, exchange: &Exchange) -> Result<Answer, AllocEr
 /// Returns the text of a session's exchange, or a fault if it is larger than a file, with a note.
 fn file_with_note(
     alloc: Global,
+    explains: bool,
     session: &Session,
     exchange: &Exchange,
 ) -> Result<WithNote, AllocError>
@@ -87,13 +94,14 @@ fn file_with_note(
         (IsExchangeNote session.now exchange.now)) }
 {
     let answer = file(alloc, exchange)?;
-    let note = exchange_note(alloc, session, exchange, answer.status);
+    let note = exchange_note(alloc, explains, session, exchange, answer.status);
     Ok(WithNote { answer, note })
 }
 
 /// Returns the note on the exchange of a session, by the status of its text.
 fn exchange_note(
     alloc: Global,
+    explains: bool,
     session: &Session,
     exchange: &Exchange,
     status: Status,
@@ -103,8 +111,11 @@ fn exchange_note(
         → length (exchange_text exchange.now) ≤ largest_file }
     ensures { IfOk result (λ note. IsExchangeNote session.now exchange.now (string_bytes note)) }
 {
+    if !explains {
+        return Err(AllocError);
+    }
     match status {
-        Status::Fault => large_note(alloc, LARGEST_FILE),
+        Status::Fault => large_note(alloc, explains, LARGEST_FILE),
         Status::Accepted | Status::Refused => unsent_note(alloc, session, sent_in(exchange)),
     }
 }
