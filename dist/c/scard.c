@@ -1112,47 +1112,37 @@ KEPT void tlv_core_short_header_of_few(struct call *m, u64 v0, u64 v1, u64 v2);
 static void tlv_core_progress_Progress_next(struct call *m, u64 v0, u64 v1, u32 v2);
 static void c_lent_lent_card_turn(struct call *m, u64 v0, u64 v1, u64 v2, u64 v3, u64 v4, u64 v5, u64 v6, u64 v7, u64
     v8);
-static void c_lent_kept_CCard_fitting(struct call *m, u64 v0, u64 v1, u64 v2, u64 v3);
+KEPT void c_lent_kept_CCard_fitting(struct call *m, u64 v0, u64 v1, u64 v2, u64 v3);
 static void t1_core_lent_LentCard_received_into(struct call *m, u64 v0, u64 v1, u64 v2, u64 v3, u64 v4, u64 v5, u64
     v6);
-static void c_lent_kept_CCard_spelled(struct call *m, u64 v0, u64 v1);
 static void c_lent_card_session_host_turn(struct call *m, u64 v0, u64 v1, u64 v2, u64 v3, u64 v4, u64 v5, u64 v6, u64
     v7, u64 v8);
 static void session_core_progress_Progress_wait(struct call *m, u64 v0, u64 v1, u64 v2, u64 v3, u64 v4);
 static void session_core_card_reply(struct call *m, u64 v0, u64 v1, u64 v2, u64 v3, u64 v4, u64 v5, u64 v6, u64 v7,
     u64 v8);
-static u64 session_core_progress_Progress_left(struct call *m, u64 v0, u64 v1, u64 v2);
 static void session_core_progress_Progress_drop_octets(struct call *m, u64 v0, u64 v1, u64 v2, u32 v3, u64 v4);
-static void session_core_progress_Progress_wait_silent(struct call *m, u64 v0, u64 v1, u64 v2, u64 v3);
 static void session_core_progress_Progress_talk(struct call *m, u64 v0, u64 v1, u64 v2, u64 v3, u64 v4);
-static void session_core_progress_Progress_settle(struct call *m, u64 v0, u64 v1, u64 v2, u64 v3, u64 v4);
 static void session_core_setup_Setup_rules(struct call *m, u64 v0, u64 v1, u64 v2, u32 v3);
 static void session_core_progress_Progress_await_block(struct call *m, u64 v0, u64 v1, u64 v2, u64 v3, u64 v4);
-static void session_core_lines_Line_happen(struct call *m, u64 v0, u64 v1, u32 v2, u64 v3, u64 v4, u64 v5, u64 v6, u64
-    v7);
-static void session_core_progress_Progress_sent(struct call *m, u64 v0, u64 v1, u64 v2, u64 v3, u64 v4, u64 v5, u64
-    v6);
-static void session_core_progress_Progress_interrupted(struct call *m, u64 v0, u64 v1, u64 v2, u64 v3, u64 v4, u64 v5,
-    u64 v6);
-static void session_core_progress_Progress_take_in(struct call *m, u64 v0, u64 v1, u64 v2, u64 v3, u64 v4, u64 v5, u32
-    v6, u64 v7, u64 v8, u64 v9);
-static void session_core_progress_Progress_silent(struct call *m, u64 v0, u64 v1, u64 v2, u64 v3, u64 v4, u64 v5, u64
-    v6);
-static void session_core_progress_Progress_leave(struct call *m, u64 v0, u64 v1, u64 v2);
-static void session_core_progress_Progress_go_on(struct call *m, u64 v0, u64 v1, u64 v2, u64 v3, u64 v4, u64 v5, u64
-    v6);
-static u32 session_core_progress_Progress_judge(struct call *m, u64 v0, u64 v1, u64 v2, u64 v3, u64 v4);
+KEPT void session_core_lines_Line_sent(struct call *m, u64 v0, u64 v1, u64 v2, u64 v3, u64 v4);
+static u32 session_core_progress_Progress_judge_apart(struct call *m, u64 v0, u64 v1, u64 v2, u64 v3, u64 v4);
 KEPT u32 session_core_sending_begin_with(struct call *m, u64 v0, u64 v1, u64 v2, u64 v3);
-static u64 session_core_progress_Progress_owed_after(struct call *m, u64 v0, u64 v1, u64 v2);
-static void session_core_progress_Progress_miss(struct call *m, u64 v0, u64 v1, u64 v2, u64 v3);
+KEPT void session_core_lines_Line_interrupted(struct call *m, u64 v0, u64 v1, u64 v2);
+static void session_core_progress_Progress_leave(struct call *m, u64 v0, u64 v1, u64 v2);
+KEPT void session_core_lines_Line_came(struct call *m, u64 v0, u64 v1, u64 v2, u64 v3, u32 v4, u64 v5, u64 v6, u64 v7);
+KEPT u32 line_core_framing_sum_of(struct call *m, u64 v0, u64 v1);
+static void session_core_progress_Progress_came_unheard(struct call *m, u64 v0, u64 v1, u64 v2, u64 v3, u64 v4, u64
+    v5, u32 v6, u64 v7, u64 v8, u64 v9);
+static void session_core_progress_Progress_meet(struct call *m, u64 v0, u64 v1, u64 v2, u64 v3, u64 v4, u64 v5, u32
+    v6, u64 v7, u64 v8, u64 v9);
+static void session_core_progress_Progress_dropped(struct call *m, u64 v0, u64 v1, u64 v2, u64 v3, u64 v4);
 static void session_core_progress_Progress_echoed(struct call *m, u64 v0, u64 v1, u64 v2, u64 v3, u64 v4, u64 v5, u64
     v6, u64 v7, u64 v8);
-static void session_core_progress_Progress_hear(struct call *m, u64 v0, u64 v1, u64 v2, u64 v3, u64 v4, u64 v5, u32
-    v6, u64 v7, u64 v8, u64 v9);
-KEPT u32 line_core_framing_sum_of(struct call *m, u64 v0, u64 v1);
-KEPT void c_lent_card_session_card_session_proceed(struct call *m, u64 v0, u64 v1, u64 v2, u64 v3, u32 v4, u64 v5, u64
-    v6, u64 v7);
-static void c_lent_kept_check_CCheck_fitting(struct call *m, u64 v0, u64 v1);
+static void session_core_progress_Progress_follow(struct call *m, u64 v0, u64 v1, u64 v2, u64 v3, u64 v4, u64 v5, u64
+    v6, u64 v7, u64 v8);
+KEPT void session_core_lines_Line_silent(struct call *m, u64 v0, u64 v1, u64 v2, u64 v3, u64 v4);
+KEPT void session_core_lines_Line_failed(struct call *m, u64 v0, u64 v1);
+KEPT void c_lent_kept_check_CCheck_fitting(struct call *m, u64 v0, u64 v1);
 static void c_lent_kept_judge_CWatched_of(struct call *m, u64 v0, u64 v1);
 static void c_lent_kept_judge_CWatched_watched(struct call *m, u64 v0, u64 v1);
 static void judge_core_monitor_Monitor_block(struct call *m, u64 v0, u64 v1, u32 v2, u64 v3, u64 v4, u64 v5);
@@ -1167,15 +1157,16 @@ static void judge_core_end_End_got_whole(struct call *m, u64 v0, u64 v1, u64 v2)
 static void judge_core_end_End_sends(struct call *m, u64 v0, u64 v1, u64 v2, u64 v3, u64 v4, u64 v5, u64 v6, u64 v7);
 static void judge_core_end_End_repeats_request(struct call *m, u64 v0, u64 v1, u32 v2, u32 v3, u32 v4);
 static void judge_core_monitor_Watched_exercise(struct call *m, u64 v0, u64 v1, u32 v2, u64 v3);
-static void c_lent_kept_receiver_CReceiver_fitting(struct call *m, u64 v0, u64 v1, u64 v2);
+KEPT void c_lent_kept_receiver_CReceiver_fitting(struct call *m, u64 v0, u64 v1, u64 v2);
 static void c_lent_session_session_turn(struct call *m, u64 v0, u64 v1, u64 v2, u64 v3, u64 v4, u64 v5, u64 v6, u64
     v7, u64 v8);
-static void c_lent_kept_CTerminal_fitting(struct call *m, u64 v0, u64 v1, u64 v2, u64 v3);
-static void session_core_lines_Line_turn(struct call *m, u64 v0, u64 v1, u64 v2, u32 v3, u64 v4, u32 v5, u64 v6, u64
-    v7, u64 v8);
-static void t1_core_lent_LentTerminal_quiet_into(struct call *m, u64 v0, u64 v1, u64 v2);
-KEPT void c_lent_session_session_proceed(struct call *m, u64 v0, u64 v1, u64 v2, u64 v3, u32 v4, u64 v5, u64 v6, u64
+KEPT void c_lent_kept_CTerminal_fitting(struct call *m, u64 v0, u64 v1, u64 v2, u64 v3);
+static void session_core_lines_Line_turn_apart(struct call *m, u64 v0, u64 v1, u64 v2, u32 v3, u64 v4, u32 v5, u64 v6,
+    u64 v7, u64 v8);
+static void c_lent_kept_terminal_wait_of(struct call *m, u64 v0, u32 v1, u32 v2, u64 v3);
+static void session_core_lines_Line_send(struct call *m, u64 v0, u64 v1, u32 v2, u64 v3, u32 v4, u64 v5, u32 v6, u64
     v7);
+static void t1_core_lent_LentTerminal_quiet_into(struct call *m, u64 v0, u64 v1, u64 v2);
 static void t1_core_lent_LentTerminal_received_into(struct call *m, u64 v0, u64 v1, u64 v2, u64 v3, u64 v4, u64 v5,
     u64 v6);
 static void c_lent_lent_terminal_turn(struct call *m, u64 v0, u64 v1, u64 v2, u64 v3, u64 v4, u64 v5, u64 v6, u64 v7,
@@ -5308,34 +5299,33 @@ after1:;
     UNREACHABLE;
 }
 
-static void c_lent_kept_CCard_fitting(struct call *m, u64 v0, u64 v1, u64 v2, u64 v3)
+KEPT void c_lent_kept_CCard_fitting(struct call *m, u64 v0, u64 v1, u64 v2, u64 v3)
 {
     u64 v4 = 0;
-    u64 v7 = 0;
-    u64 v8 = 0;
-    u64 v9 = 0;
-    u64 v10 = 0;
-    u64 v11 = 0;
+    u64 v5 = 0;
+    u64 v6 = 0;
+    u64 v12 = 0;
+    u64 v14 = 0;
+    u64 v16 = 0;
     u64 v17 = 0;
+    u64 v18 = 0;
     u64 v19 = 0;
-    u64 v22 = 0;
-    u64 v30 = 0;
+    u64 v31 = 0;
     u64 v32 = 0;
     u64 v33 = 0;
     u64 v34 = 0;
     u64 v35 = 0;
     u64 v36 = 0;
-    u64 v37 = 0;
-    u32 v5 = 0;
-    u32 v6 = 0;
-    u32 v12 = 0;
+    u32 v7 = 0;
+    u32 v8 = 0;
+    u32 v9 = 0;
+    u32 v10 = 0;
+    u32 v11 = 0;
     u32 v13 = 0;
-    u32 v14 = 0;
     u32 v15 = 0;
-    u32 v16 = 0;
-    u32 v18 = 0;
     u32 v20 = 0;
     u32 v21 = 0;
+    u32 v22 = 0;
     u32 v23 = 0;
     u32 v24 = 0;
     u32 v25 = 0;
@@ -5343,193 +5333,254 @@ static void c_lent_kept_CCard_fitting(struct call *m, u64 v0, u64 v1, u64 v2, u6
     u32 v27 = 0;
     u32 v28 = 0;
     u32 v29 = 0;
-    u32 v31 = 0;
-    u8 *f37 = NULL;
-    u8 *p392 = NULL;
-    u8 *p403 = NULL;
-    u8 *p414 = NULL;
-    u8 *p425 = NULL;
-    u8 *p436 = NULL;
-    u8 *p519 = NULL;
-    v37 = m->g0 - 144ull;
-    f37 = at(m, v37, 144);
-    v4 = v37;
-    m->g0 = v4;
-    memset(f37 + 40, (int)(0u & 255u), 104);
-    put32(f37 + 35, 0u);
-    put32(f37 + 32, 0u);
-    put32(f37 + 24, 0u);
-    put32(f37 + 27, 0u);
-    put32(f37 + 16, 0u);
-    put8(f37 + 20, 0u);
-    put32(f37 + 8, 0u);
-    put8(f37 + 12, 0u);
-    put32(f37, 0u);
-    put32(f37 + 3, 0u);
-    c_lent_kept_CCard_spelled(m, v37 + 40ull, v1);
-    if (get8(f37 + 40) != 1u) { goto after5; }
-    v5 = get8(f37 + 104);
-    v6 = get8(f37 + 72);
-    v7 = get64(f37 + 136);
-    v8 = get64(f37 + 128);
-    v9 = get64(f37 + 120);
-    v10 = get64(f37 + 112);
-    v11 = get64(f37 + 96);
-    v12 = get8(f37 + 90);
-    v13 = get8(f37 + 89);
-    v14 = get8(f37 + 82);
-    v15 = get8(f37 + 81);
-    v16 = get8(f37 + 80);
-    v17 = get64(f37 + 64);
-    v18 = get8(f37 + 56);
-    v19 = get64(f37 + 48);
-    v20 = get8(f37 + 88);
-    switch ((u32)(((u64)v20) & 255ull)) {
-        case 2: goto after8;
-        case 3: goto after9;
-        case 4: goto after10;
+    u32 v30 = 0;
+    u32 t0 = 0;
+    u8 *f36 = NULL;
+    u8 *p109 = NULL;
+    u8 *p276 = NULL;
+    u8 *p311 = NULL;
+    u8 *p658 = NULL;
+    v36 = m->g0 - 80ull;
+    f36 = at(m, v36, 80);
+    v4 = v36;
+    if ((v4 ^ 0x8000000000000000ull) < (16ull ^ 0x8000000000000000ull)) { goto after4; }
+    put32(f36 + 59, 0u);
+    put32(f36 + 56, 0u);
+    put32(f36 + 48, 0u);
+    put8(f36 + 52, 0u);
+    put32(f36 + 40, 0u);
+    put8(f36 + 44, 0u);
+    put32(f36 + 32, 0u);
+    put32(f36 + 35, 0u);
+    put32(f36 + 24, 0u);
+    put32(f36 + 27, 0u);
+    put32(f36 + 16, 0u);
+    put8(f36 + 20, 0u);
+    put32(f36 + 8, 0u);
+    put8(f36 + 12, 0u);
+    put32(f36 + 3, 0u);
+    put32(f36, 0u);
+    v5 = (u64)load8(m, v1, 0);
+    if (v5 > 1ull) { goto after6; }
+    v6 = 0ull;
+    switch ((u32)v5) {
+        case 1: goto after8;
         default: goto after7;
     }
-after10:;
-    if ((v13 & 255u) == 1u) { goto after8; }
-    v21 = 0u;
-    v1 = 0ull;
-    if (((v12 + 0xFFFFFFFFu) & 255u) > 253u) { goto after3; }
-    v22 = 0ull;
-    v23 = 0u;
-    v24 = 0u;
-    v25 = 0u;
-    v26 = 0u;
-    v27 = 0u;
-    v28 = 0u;
-    v29 = 0u;
-    v30 = 0ull;
-    v31 = 0u;
-    v32 = 0ull;
-    v33 = 0ull;
-    v34 = 0ull;
-    v35 = 0ull;
-    v36 = 0ull;
-    if ((v18 & 255u) == 1u) { goto after2; }
-    goto after6;
-after9:;
-    v21 = 0u;
-    v1 = 0ull;
-    if ((v7 - v11) <= (((u64)v5) & 255ull)) { goto after3; }
-    if (((v5 + 0xFFFFFFFFu) & 255u) > 253u) { goto after3; }
-    if (v7 < v11) { goto after3; }
-    v22 = 0ull;
-    v23 = 0u;
-    v24 = 0u;
-    v25 = 0u;
-    v26 = 0u;
-    v27 = 0u;
-    v28 = 0u;
-    v29 = 0u;
-    v30 = 0ull;
-    v31 = 0u;
-    v32 = 0ull;
-    v33 = 0ull;
-    v34 = 0ull;
-    v35 = 0ull;
-    v36 = 0ull;
-    if ((v18 & 255u) != 1u) { goto after6; }
-    goto after2;
 after8:;
-    if ((v18 & 255u) != 1u) { goto after6; }
-    v21 = 0u;
-    v1 = 0ull;
-    goto after3;
+    v6 = 1ull;
 after7:;
-    if ((v18 & 255u) != 1u) { goto after6; }
-    v21 = 0u;
+    v5 = (u64)load8(m, v1 + 1ull, 0);
+    if (v5 > 1ull) { goto after16; }
+    switch ((u32)v5) {
+        case 1: goto after18;
+        default: goto after17;
+    }
+after18:;
+    v6 = v6 | 256ull;
+after17:;
+    p109 = held(m, v1 + 7ull, 2);
+    v7 = held8(p109, 1, m, v1 + 7ull);
+    v5 = 0ull;
+    v8 = held8(p109, 0, m, v1 + 7ull);
+    v9 = v8;
+    v10 = v8;
+    v11 = v8;
+    switch (v8) {
+        case 0: goto after13;
+        case 1: goto after15;
+        case 2: goto after15;
+        case 3: goto after21;
+        case 4: goto after20;
+        case 5: goto after19;
+        default: goto after12;
+    }
+after21:;
+    v5 = load64(m, v1 + 24ull, 0);
+    v8 = 3u;
+    v9 = 0u;
+    v10 = 0u;
+    v11 = v7;
+    goto after13;
+after20:;
+    v10 = 0u;
+    v9 = v7;
+    goto after14;
+after19:;
+    v11 = 0u;
+    v8 = 4u;
+    v10 = 1u;
+    v9 = v7;
+    goto after13;
+after16:;
+    put32(f36 + 59, 0u);
+    put32(f36 + 56, 0u);
+    put32(f36 + 48, 0u);
+    put8(f36 + 52, 0u);
+    put32(f36 + 40, 0u);
+    put8(f36 + 44, 0u);
+    put32(f36 + 32, 0u);
+    put32(f36 + 35, 0u);
+    goto after5;
+after15:;
+    v9 = 0u;
+    v10 = 0u;
+after14:;
+    v11 = 0u;
+after13:;
+    v12 = (u64)load8(m, v1 + 2ull, 0);
+    if (v12 > 1ull) { goto after22; }
+    switch ((u32)v12) {
+        case 1: goto after10;
+        default: goto after11;
+    }
+after22:;
+    put32(f36 + 59, 0u);
+    put32(f36 + 56, 0u);
+    put32(f36 + 48, 0u);
+    put8(f36 + 52, 0u);
+    put32(f36 + 40, 0u);
+    put8(f36 + 44, 0u);
+    put32(f36 + 32, 0u);
+    put32(f36 + 35, 0u);
+    goto after5;
+after12:;
+    put32(f36 + 59, 0u);
+    put32(f36 + 56, 0u);
+    put32(f36 + 48, 0u);
+    put8(f36 + 52, 0u);
+    put32(f36 + 40, 0u);
+    put8(f36 + 44, 0u);
+    put32(f36 + 32, 0u);
+    put32(f36 + 35, 0u);
+    goto after5;
+after11:;
+    v13 = 0u;
+    put32(f36 + 75, 0u);
+    put32(f36 + 72, 0u);
+    v14 = 0ull;
+    v15 = 0u;
+    goto after9;
+after10:;
+    p276 = held(m, v1 + 3ull, 21);
+    v15 = held8(p276, 0, m, v1 + 3ull);
+    v14 = held64(p276, 13, m, v1 + 3ull);
+    put32(f36 + 75, 0u);
+    put32(f36 + 72, 0u);
+    v13 = 1u;
+after9:;
+    put32(f36 + 67, get32(f36 + 75));
+    put32(f36 + 64, get32(f36 + 72));
+    put32(f36 + 56, get32(f36 + 64));
+    put32(f36 + 59, get32(f36 + 67));
+    p311 = held(m, v1 + 4ull, 60);
+    v16 = held64(p311, 52, m, v1 + 4ull);
+    v17 = held64(p311, 44, m, v1 + 4ull);
+    v18 = held64(p311, 36, m, v1 + 4ull);
+    v19 = held64(p311, 28, m, v1 + 4ull);
+    v20 = held8(p311, 2, m, v1 + 4ull);
+    v21 = held8(p311, 1, m, v1 + 4ull);
+    v22 = held8(p311, 0, m, v1 + 4ull);
+    v7 = 0u;
+    put8(f36 + 52, 0u);
+    put32(f36 + 48, 0u);
+    put8(f36 + 44, 0u);
+    put32(f36 + 40, 0u);
+    put32(f36 + 35, 0u);
+    put32(f36 + 32, 0u);
+    switch (v8) {
+        case 2: goto after25;
+        case 3: goto after26;
+        case 4: goto after27;
+        default: goto after24;
+    }
+after27:;
+    if (v10 == 1u) { goto after25; }
+    if ((((u32)(((v9 + 1u) & 255u) < 2u)) | v13) == 0) { goto after23; }
+    v7 = 0u;
     v1 = 0ull;
-    if ((v7 - v17) > (((u64)v6) & 255ull)) { goto after3; }
-    if (((v6 + 0xFFFFFFFFu) & 255u) > 253u) { goto after3; }
-    v22 = 0ull;
-    v23 = 0u;
-    v24 = 0u;
-    v25 = 0u;
-    v26 = 0u;
-    v27 = 0u;
-    v28 = 0u;
-    v29 = 0u;
-    v30 = 0ull;
-    v31 = 0u;
-    v32 = 0ull;
-    v33 = 0ull;
-    v34 = 0ull;
-    v35 = 0ull;
-    v36 = 0ull;
-    if (v7 < v17) { goto after2; }
-after6:;
-    v21 = 0u;
-    v1 = 0ull;
-    if (((v16 + 0xFFFFFFFFu) & 255u) > 253u) { goto after3; }
-    if (((v15 + 0xFFFFFFFFu) & 255u) > 253u) { goto after3; }
-    if (((v14 + 0xFFFFFFFFu) & 255u) > 253u) { goto after3; }
-    if (v8 > v2) { goto after3; }
-    if (v7 > v3) { goto after3; }
-    if (v10 > v2) { goto after3; }
-    v22 = 0ull;
-    v23 = 0u;
-    v24 = 0u;
-    v25 = 0u;
-    v26 = 0u;
-    v27 = 0u;
-    v28 = 0u;
-    v29 = 0u;
-    v30 = 0ull;
-    v31 = 0u;
-    v32 = 0ull;
-    v33 = 0ull;
-    v34 = 0ull;
-    v35 = 0ull;
-    v36 = 0ull;
-    if (v9 > v3) { goto after2; }
-    v1 = v37 + 57ull;
-    p392 = held(m, v1, 7);
-    put32(f37 + 35, held32(p392, 3, m, v1));
-    put32(f37 + 32, held32(p392, 0, m, v1));
-    v1 = v37 + 73ull;
-    p403 = held(m, v1, 7);
-    put32(f37 + 24, held32(p403, 0, m, v1));
-    put32(f37 + 27, held32(p403, 3, m, v1));
-    v1 = v37 + 83ull;
-    p414 = held(m, v1, 5);
-    put32(f37 + 16, held32(p414, 0, m, v1));
-    put8(f37 + 20, held8(p414, 4, m, v1));
-    v1 = v37 + 91ull;
-    p425 = held(m, v1, 5);
-    put32(f37 + 8, held32(p425, 0, m, v1));
-    put8(f37 + 12, held8(p425, 4, m, v1));
-    v1 = v37 + 105ull;
-    p436 = held(m, v1, 7);
-    put32(f37 + 3, held32(p436, 3, m, v1));
-    put32(f37, held32(p436, 0, m, v1));
-    v36 = 1ull;
-    v1 = v19;
-    v21 = v18;
-    v22 = v17;
-    v23 = v6;
-    v24 = v16;
-    v25 = v15;
-    v26 = v14;
-    v27 = v20;
-    v28 = v13;
-    v29 = v12;
-    v30 = v11;
-    v31 = v5;
-    v32 = v10;
-    v33 = v9;
-    v34 = v8;
-    v35 = v7;
     goto after2;
+after26:;
+    t0 = ((u32)((v16 - v5) <= (((u64)v11) & 255ull))) | (((u32)(((v11 + 1u) & 255u) < 2u)) | ((u32)(v16 < v5)));
+    if ((t0 | v13) == 0) { goto after23; }
+    goto after3;
+after25:;
+    if (v13) { goto after3; }
+    goto after23;
+after24:;
+    if (v13 == 0) { goto after23; }
+    v1 = 0ull;
+    if ((v16 - v14) > (((u64)v15) & 255ull)) { goto after2; }
+    if (((v15 + 0xFFFFFFFFu) & 255u) > 253u) { goto after2; }
+    if (v16 < v14) { goto after2; }
+after23:;
+    v1 = 0ull;
+    if (((v22 + 0xFFFFFFFFu) & 255u) > 253u) { goto after2; }
+    if (((v21 + 0xFFFFFFFFu) & 255u) > 253u) { goto after2; }
+    if (((v20 + 0xFFFFFFFFu) & 255u) > 253u) { goto after2; }
+    if (v18 > v3) { goto after2; }
+    if (v19 > v2) { goto after2; }
+    if (v17 > v2) { goto after2; }
+    v2 = 0ull;
+    v23 = 0u;
+    v24 = 0u;
+    v25 = 0u;
+    v26 = 0u;
+    v27 = 0u;
+    v28 = 0u;
+    v29 = 0u;
+    v12 = 0ull;
+    v30 = 0u;
+    v31 = 0ull;
+    v32 = 0ull;
+    v33 = 0ull;
+    v34 = 0ull;
+    v35 = 0ull;
+    if (v16 > v3) { goto after1; }
+    put32(f36 + 27, get32(f36 + 59));
+    put32(f36 + 24, get32(f36 + 56));
+    put32(f36 + 16, get32(f36 + 48));
+    put8(f36 + 20, get8(f36 + 52));
+    put32(f36 + 8, get32(f36 + 40));
+    put8(f36 + 12, get8(f36 + 44));
+    put32(f36, get32(f36 + 32));
+    put32(f36 + 3, get32(f36 + 35));
+    v35 = 1ull;
+    v1 = v6;
+    v7 = v13;
+    v2 = v14;
+    v23 = v15;
+    v24 = v22;
+    v25 = v21;
+    v26 = v20;
+    v27 = v8;
+    v28 = v10;
+    v29 = v9;
+    v12 = v5;
+    v30 = v11;
+    v31 = v19;
+    v32 = v18;
+    v33 = v17;
+    v34 = v16;
+    goto after1;
+after6:;
+    put32(f36 + 59, 0u);
+    put32(f36 + 56, 0u);
+    put32(f36 + 48, 0u);
+    put8(f36 + 52, 0u);
+    put32(f36 + 40, 0u);
+    put8(f36 + 44, 0u);
+    put32(f36 + 32, 0u);
+    put32(f36 + 35, 0u);
 after5:;
     fill(m, v0, 0u, 104ull);
-    goto after1;
+    return;
+after4:;
+    UNREACHABLE;
 after3:;
-    v22 = 0ull;
+    v1 = 0ull;
+after2:;
+    v2 = 0ull;
     v23 = 0u;
     v24 = 0u;
     v25 = 0u;
@@ -5537,44 +5588,43 @@ after3:;
     v27 = 0u;
     v28 = 0u;
     v29 = 0u;
-    v30 = 0ull;
-    v31 = 0u;
+    v12 = 0ull;
+    v30 = 0u;
+    v31 = 0ull;
     v32 = 0ull;
     v33 = 0ull;
     v34 = 0ull;
     v35 = 0ull;
-    v36 = 0ull;
-after2:;
-    p519 = held(m, v0, 104);
-    put_held64(p519, 0, m, v0, v36);
-    put_held8(p519, 16, m, v0, v21);
-    put_held64(p519, 8, m, v0, v1);
-    put_held32(p519, 17, m, v0, get32(f37 + 32));
-    put_held32(p519, 20, m, v0, get32(f37 + 35));
-    put_held8(p519, 32, m, v0, v23);
-    put_held64(p519, 24, m, v0, v22);
-    put_held32(p519, 33, m, v0, get32(f37 + 24));
-    put_held32(p519, 36, m, v0, get32(f37 + 27));
-    put_held8(p519, 42, m, v0, v26);
-    put_held8(p519, 41, m, v0, v25);
-    put_held8(p519, 40, m, v0, v24);
-    put_held32(p519, 43, m, v0, get32(f37 + 16));
-    put_held8(p519, 47, m, v0, get8(f37 + 20));
-    put_held8(p519, 50, m, v0, v29);
-    put_held8(p519, 49, m, v0, v28);
-    put_held8(p519, 48, m, v0, v27);
-    put_held8(p519, 64, m, v0, v31);
-    put_held64(p519, 56, m, v0, v30);
-    put_held64(p519, 96, m, v0, v35);
-    put_held64(p519, 88, m, v0, v34);
-    put_held64(p519, 80, m, v0, v33);
-    put_held64(p519, 72, m, v0, v32);
-    put_held32(p519, 51, m, v0, get32(f37 + 8));
-    put_held8(p519, 55, m, v0, get8(f37 + 12));
-    put_held32(p519, 65, m, v0, get32(f37));
-    put_held32(p519, 68, m, v0, get32(f37 + 3));
 after1:;
-    m->g0 = v37 + 144ull;
+    p658 = held(m, v0, 104);
+    put_held64(p658, 0, m, v0, v35);
+    put_held8(p658, 23, m, v0, (u32)0ull);
+    put_held16(p658, 21, m, v0, (u32)0ull);
+    put_held32(p658, 17, m, v0, (u32)0ull);
+    put_held8(p658, 32, m, v0, v23);
+    put_held64(p658, 24, m, v0, v2);
+    put_held8(p658, 16, m, v0, v7);
+    put_held64(p658, 8, m, v0, v1);
+    put_held32(p658, 33, m, v0, get32(f36 + 24));
+    put_held32(p658, 36, m, v0, get32(f36 + 27));
+    put_held8(p658, 42, m, v0, v26);
+    put_held8(p658, 41, m, v0, v25);
+    put_held8(p658, 40, m, v0, v24);
+    put_held32(p658, 43, m, v0, get32(f36 + 16));
+    put_held8(p658, 47, m, v0, get8(f36 + 20));
+    put_held8(p658, 50, m, v0, v29);
+    put_held8(p658, 49, m, v0, v28);
+    put_held8(p658, 48, m, v0, v27);
+    put_held64(p658, 56, m, v0, v12);
+    put_held8(p658, 64, m, v0, v30);
+    put_held64(p658, 72, m, v0, v31);
+    put_held64(p658, 80, m, v0, v32);
+    put_held64(p658, 88, m, v0, v33);
+    put_held64(p658, 96, m, v0, v34);
+    put_held8(p658, 55, m, v0, get8(f36 + 12));
+    put_held32(p658, 51, m, v0, get32(f36 + 8));
+    put_held32(p658, 65, m, v0, get32(f36));
+    put_held32(p658, 68, m, v0, get32(f36 + 3));
 }
 
 static void t1_core_lent_LentCard_received_into(struct call *m, u64 v0, u64 v1, u64 v2, u64 v3, u64 v4, u64 v5, u64
@@ -6145,164 +6195,6 @@ after1:;
     m->g0 = v22 + 32ull;
 }
 
-static void c_lent_kept_CCard_spelled(struct call *m, u64 v0, u64 v1)
-{
-    u64 v2 = 0;
-    u64 v3 = 0;
-    u64 v4 = 0;
-    u64 v10 = 0;
-    u64 v11 = 0;
-    u64 v12 = 0;
-    u64 v13 = 0;
-    u64 v14 = 0;
-    u64 v15 = 0;
-    u64 v18 = 0;
-    u32 v5 = 0;
-    u32 v6 = 0;
-    u32 v7 = 0;
-    u32 v8 = 0;
-    u32 v9 = 0;
-    u32 v16 = 0;
-    u32 v17 = 0;
-    u8 *f18 = NULL;
-    u8 *p62 = NULL;
-    u8 *p170 = NULL;
-    u8 *p197 = NULL;
-    u8 *p228 = NULL;
-    v18 = m->g0 - 16ull;
-    f18 = at(m, v18, 16);
-    v2 = v18;
-    if ((v2 ^ 0x8000000000000000ull) < (16ull ^ 0x8000000000000000ull)) { goto after1; }
-    v3 = (u64)load8(m, v1, 0);
-    if (v3 > 1ull) { goto after4; }
-    v4 = 0ull;
-    switch ((u32)v3) {
-        case 1: goto after3;
-        default: goto after2;
-    }
-after4:;
-    fill(m, v0, 0u, 104ull);
-    return;
-after3:;
-    v4 = 1ull;
-after2:;
-    v3 = (u64)load8(m, v1 + 1ull, 0);
-    if (v3 > 1ull) { goto after7; }
-    switch ((u32)v3) {
-        case 1: goto after6;
-        default: goto after5;
-    }
-after7:;
-    fill(m, v0, 0u, 104ull);
-    return;
-after6:;
-    v4 = v4 | 256ull;
-after5:;
-    p62 = held(m, v1 + 7ull, 2);
-    v5 = held8(p62, 1, m, v1 + 7ull);
-    v3 = 0ull;
-    v6 = held8(p62, 0, m, v1 + 7ull);
-    v7 = v6;
-    v8 = v6;
-    v9 = v6;
-    switch (v6) {
-        case 0: goto after12;
-        case 1: goto after16;
-        case 2: goto after16;
-        case 3: goto after15;
-        case 4: goto after14;
-        case 5: goto after13;
-        default: goto after11;
-    }
-after16:;
-    v7 = 0u;
-    v8 = 0u;
-    v9 = 0u;
-    goto after12;
-after15:;
-    v3 = load64(m, v1 + 24ull, 0);
-    v6 = 3u;
-    v7 = 0u;
-    v8 = 0u;
-    v9 = v5;
-    goto after12;
-after14:;
-    v8 = 0u;
-    v7 = v5;
-    v9 = 0u;
-    goto after12;
-after13:;
-    v9 = 0u;
-    v6 = 4u;
-    v8 = 1u;
-    v7 = v5;
-after12:;
-    v10 = (u64)load8(m, v1 + 2ull, 0);
-    if (v10 > 1ull) { goto after17; }
-    switch ((u32)v10) {
-        case 1: goto after9;
-        default: goto after10;
-    }
-after17:;
-    fill(m, v0, 0u, 104ull);
-    return;
-after11:;
-    fill(m, v0, 0u, 104ull);
-    return;
-after10:;
-    v5 = 0u;
-    put32(f18 + 11, 0u);
-    put32(f18 + 8, 0u);
-    v10 = 0ull;
-    v11 = 0ull;
-    goto after8;
-after9:;
-    p170 = held(m, v1 + 3ull, 21);
-    v5 = held8(p170, 0, m, v1 + 3ull);
-    v10 = held64(p170, 13, m, v1 + 3ull);
-    put32(f18 + 11, 0u);
-    put32(f18 + 8, 0u);
-    v11 = 1ull;
-after8:;
-    put32(f18 + 3, get32(f18 + 11));
-    put32(f18, get32(f18 + 8));
-    p197 = held(m, v1 + 4ull, 60);
-    v12 = held64(p197, 52, m, v1 + 4ull);
-    v13 = held64(p197, 44, m, v1 + 4ull);
-    v14 = held64(p197, 36, m, v1 + 4ull);
-    v15 = held64(p197, 28, m, v1 + 4ull);
-    v16 = held16(p197, 0, m, v1 + 4ull);
-    v17 = held8(p197, 2, m, v1 + 4ull);
-    p228 = held(m, v0, 104);
-    put_held8(p228, 32, m, v0, v5);
-    put_held64(p228, 24, m, v0, v10);
-    put_held64(p228, 16, m, v0, v11);
-    put_held64(p228, 8, m, v0, v4);
-    put_held64(p228, 0, m, v0, 1ull);
-    put_held32(p228, 33, m, v0, get32(f18));
-    put_held32(p228, 36, m, v0, get32(f18 + 3));
-    put_held32(p228, 43, m, v0, 0u);
-    put_held8(p228, 42, m, v0, v17);
-    put_held16(p228, 40, m, v0, v16);
-    put_held8(p228, 47, m, v0, 0u);
-    put_held8(p228, 50, m, v0, v7);
-    put_held8(p228, 49, m, v0, v8);
-    put_held8(p228, 48, m, v0, v6);
-    put_held8(p228, 55, m, v0, 0u);
-    put_held32(p228, 51, m, v0, 0u);
-    put_held8(p228, 64, m, v0, v9);
-    put_held64(p228, 56, m, v0, v3);
-    put_held32(p228, 65, m, v0, 0u);
-    put_held32(p228, 68, m, v0, 0u);
-    put_held64(p228, 72, m, v0, v15);
-    put_held64(p228, 80, m, v0, v14);
-    put_held64(p228, 88, m, v0, v13);
-    put_held64(p228, 96, m, v0, v12);
-    return;
-after1:;
-    UNREACHABLE;
-}
-
 static void c_lent_card_session_host_turn(struct call *m, u64 v0, u64 v1, u64 v2, u64 v3, u64 v4, u64 v5, u64 v6, u64
     v7, u64 v8)
 {
@@ -6553,29 +6445,36 @@ after1:;
 static void session_core_progress_Progress_wait(struct call *m, u64 v0, u64 v1, u64 v2, u64 v3, u64 v4)
 {
     u64 v5 = 0;
-    u32 v6 = 0;
+    u64 v6 = 0;
+    u32 v7 = 0;
     u64 w0 = 0;
-    u8 *p15 = NULL;
-    u8 *p40 = NULL;
-    v5 = m->g0;
-    if ((v5 ^ 0x8000000000000000ull) < (16ull ^ 0x8000000000000000ull)) { goto after1; }
-    w0 = session_core_progress_Progress_left(m, v1, v2, v4);
-    v2 = w0;
-    p15 = held(m, v1 + 24ull, 54);
-    put_held32(p15, 40, m, v1 + 24ull, 0u);
-    put_held64(p15, 0, m, v1 + 24ull, v4);
-    v6 = (u32)(v2 < v3);
-    put_held8(p15, 53, m, v1 + 24ull, v6);
+    u8 *p63 = NULL;
+    u8 *p85 = NULL;
+    v5 = 0xFFFFFFFFFFFFFFFFull;
+    v6 = load64(m, v2 + 40ull, 0);
+    if (v6 == 0xFFFFFFFFFFFFFFFFull) { goto after2; }
+    if (load8(m, v2 + 52ull, 0) == 0) { goto after4; }
+    v5 = v4 - load64(m, v1 + 32ull, 0);
+    v5 = ((v5 ^ 0x8000000000000000ull) > (0ull ^ 0x8000000000000000ull)) ? v5 : 0ull;
+    goto after3;
+after4:;
+    v5 = load64(m, v1 + 40ull, 0);
+after3:;
+    v5 = v6 - v5;
+    v5 = (v5 > v6) ? 0ull : v5;
+after2:;
+    v7 = (u32)(v5 < v3);
+    p63 = held(m, v1 + 24ull, 54);
+    put_held8(p63, 53, m, v1 + 24ull, v7);
+    put_held32(p63, 40, m, v1 + 24ull, 0u);
+    put_held64(p63, 0, m, v1 + 24ull, v4);
     w0 = v1 + 16ull;
-    v1 = v6 ? v2 : v3;
+    v1 = v7 ? v5 : v3;
     store64(m, w0, 0, v1);
-    p40 = held(m, v0, 16);
-    put_held64(p40, 8, m, v0, v1);
-    put_held8(p40, 0, m, v0, 1u);
-    m->g0 = v5;
+    p85 = held(m, v0, 16);
+    put_held64(p85, 8, m, v0, v1);
+    put_held8(p85, 0, m, v0, 1u);
     return;
-after1:;
-    UNREACHABLE;
 }
 
 static void session_core_card_reply(struct call *m, u64 v0, u64 v1, u64 v2, u64 v3, u64 v4, u64 v5, u64 v6, u64 v7,
@@ -6740,93 +6639,53 @@ after1:;
     UNREACHABLE;
 }
 
-static u64 session_core_progress_Progress_left(struct call *m, u64 v0, u64 v1, u64 v2)
-{
-    u64 v3 = 0;
-    u64 v4 = 0;
-    v3 = 0xFFFFFFFFFFFFFFFFull;
-    v4 = load64(m, v1 + 40ull, 0);
-    if (v4 == 0xFFFFFFFFFFFFFFFFull) { goto after2; }
-    if (load8(m, v1 + 52ull, 0) == 0) { goto after4; }
-    v1 = v2 - load64(m, v0 + 32ull, 0);
-    v1 = ((v1 ^ 0x8000000000000000ull) > (0ull ^ 0x8000000000000000ull)) ? v1 : 0ull;
-    goto after3;
-after4:;
-    v1 = load64(m, v0 + 40ull, 0);
-after3:;
-    v1 = v4 - v1;
-    v3 = (v1 > v4) ? 0ull : v1;
-after2:;
-    return v3;
-}
-
 static void session_core_progress_Progress_drop_octets(struct call *m, u64 v0, u64 v1, u64 v2, u32 v3, u64 v4)
 {
     u64 v5 = 0;
     u64 v6 = 0;
-    u8 *f6 = NULL;
+    u64 v7 = 0;
+    u64 v8 = 0;
+    u8 *f8 = NULL;
     u8 *p15 = NULL;
-    u8 *p32 = NULL;
-    v6 = m->g0 - 16ull;
-    f6 = at(m, v6, 16);
-    v5 = v6;
+    u8 *p47 = NULL;
+    u8 *p100 = NULL;
+    v8 = m->g0 - 16ull;
+    f8 = at(m, v8, 16);
+    v5 = v8;
     m->g0 = v5;
     p15 = held(m, v1 + 72ull, 5);
     put_held32(p15, 0, m, v1 + 72ull, 0x10000u);
     put_held8(p15, 4, m, v1 + 72ull, v3);
-    session_core_progress_Progress_wait_silent(m, v6, v1, v2, v4);
-    v3 = get8(f6);
-    p32 = held(m, v0, 16);
-    put_held64(p32, 8, m, v0, get64(f6 + 8));
-    put_held8(p32, 0, m, v0, v3);
-    m->g0 = v6 + 16ull;
-    return;
-}
-
-static void session_core_progress_Progress_wait_silent(struct call *m, u64 v0, u64 v1, u64 v2, u64 v3)
-{
-    u64 v4 = 0;
-    u64 v5 = 0;
-    u64 v6 = 0;
-    u64 v8 = 0;
-    u32 v7 = 0;
-    u8 *f8 = NULL;
-    u8 *p38 = NULL;
-    u8 *p91 = NULL;
-    v8 = m->g0 - 16ull;
-    f8 = at(m, v8, 16);
-    v4 = v8;
-    m->g0 = v4;
-    switch (load8(m, v1 + 76ull, 0) + 0xFFFFFFFDu) {
+    switch ((v3 & 255u) + 0xFFFFFFFDu) {
         case 0: goto after5;
         case 4: goto after4;
         default: goto after3;
     }
 after5:;
-    v5 = load64(m, v1, 0);
+    v6 = load64(m, v1, 0);
     goto after2;
 after4:;
     if (load8(m, v2 + 55ull, 0) == 0) { goto after6; }
-    p38 = held(m, v2, 16);
-    v5 = held64(p38, 8, m, v2);
-    v6 = (held64(p38, 0, m, v2) >> 2) * 3ull;
-    v5 = (v5 > v6) ? v5 : v6;
+    p47 = held(m, v2, 16);
+    v6 = held64(p47, 8, m, v2);
+    v7 = (held64(p47, 0, m, v2) >> 2) * 3ull;
+    v6 = (v6 > v7) ? v6 : v7;
     goto after2;
 after6:;
-    v5 = load64(m, v1 + 8ull, 0);
+    v6 = load64(m, v1 + 8ull, 0);
     goto after2;
 after3:;
     if (load8(m, v2 + 55ull, 0) == 0) { goto after7; }
-    v5 = load64(m, v2 + 16ull, 0);
+    v6 = load64(m, v2 + 16ull, 0);
     goto after2;
 after7:;
-    v5 = load64(m, v2, 0);
+    v6 = load64(m, v2, 0);
 after2:;
-    session_core_progress_Progress_wait(m, v8, v1, v2, v5, v3);
-    v7 = get8(f8);
-    p91 = held(m, v0, 16);
-    put_held64(p91, 8, m, v0, get64(f8 + 8));
-    put_held8(p91, 0, m, v0, v7);
+    session_core_progress_Progress_wait(m, v8, v1, v2, v6, v4);
+    v3 = get8(f8);
+    p100 = held(m, v0, 16);
+    put_held64(p100, 8, m, v0, get64(f8 + 8));
+    put_held8(p100, 0, m, v0, v3);
     m->g0 = v8 + 16ull;
     return;
 }
@@ -6835,13 +6694,17 @@ static void session_core_progress_Progress_talk(struct call *m, u64 v0, u64 v1, 
 {
     u64 v5 = 0;
     u64 v7 = 0;
+    u64 v8 = 0;
+    u64 v10 = 0;
     u32 v6 = 0;
-    u64 w0 = 0;
-    u8 *f7 = NULL;
-    u8 *p86 = NULL;
-    v7 = m->g0 - 16ull;
-    f7 = at(m, v7, 16);
-    v5 = v7;
+    u32 v9 = 0;
+    u8 *f10 = NULL;
+    u8 *p106 = NULL;
+    u8 *p124 = NULL;
+    u8 *p154 = NULL;
+    v10 = m->g0 - 16ull;
+    f10 = at(m, v10, 16);
+    v5 = v10;
     m->g0 = v5;
     if (load8(m, v2 + 55ull, 0) == 0) { goto after4; }
     v6 = load32(m, v1 + 68ull, 0);
@@ -6849,59 +6712,44 @@ static void session_core_progress_Progress_talk(struct call *m, u64 v0, u64 v1, 
 after4:;
     v6 = load32(m, v1 + 68ull, 0);
     if (load32(m, v2 + 48ull, 0) <= v6) { goto after5; }
-    w0 = session_core_progress_Progress_left(m, v1, v2, v4);
-    if (w0 != 0ull) { goto after2; }
+    v7 = load64(m, v2 + 40ull, 0);
+    if (v7 == 0xFFFFFFFFFFFFFFFFull) { goto after2; }
+    if (load8(m, v2 + 52ull, 0) == 0) { goto after7; }
+    v8 = v4 - load64(m, v1 + 32ull, 0);
+    v8 = ((v8 ^ 0x8000000000000000ull) > (0ull ^ 0x8000000000000000ull)) ? v8 : 0ull;
+    goto after6;
+after7:;
+    v8 = load64(m, v1 + 40ull, 0);
+after6:;
+    if (v7 > v8) { goto after2; }
 after5:;
     store8(m, v1 + 76ull, 0, 0u);
-    v1 = 0ull;
-    v6 = 5u;
+    v7 = 0ull;
+    v9 = 5u;
     goto after1;
 after2:;
+    v9 = 1u;
     v6 = v6 + 1u;
-    store32(m, v1 + 68ull, 0, v6 ? v6 : 0xFFFFFFFFu);
-    session_core_progress_Progress_settle(m, v7, v1, v2, v3, v4);
-    v1 = get64(f7 + 8);
-    v6 = get8(f7);
-after1:;
-    p86 = held(m, v0, 16);
-    put_held64(p86, 8, m, v0, v1);
-    put_held8(p86, 0, m, v0, v6);
-    m->g0 = v7 + 16ull;
-}
-
-static void session_core_progress_Progress_settle(struct call *m, u64 v0, u64 v1, u64 v2, u64 v3, u64 v4)
-{
-    u64 v5 = 0;
-    u64 v6 = 0;
-    u64 v8 = 0;
-    u32 v7 = 0;
-    u8 *f8 = NULL;
-    u8 *p29 = NULL;
-    u8 *p61 = NULL;
-    v8 = m->g0 - 16ull;
-    f8 = at(m, v8, 16);
-    v5 = v8;
-    m->g0 = v5;
-    v6 = 0ull;
-    if (load64(m, v1, 0) != 0ull) { goto after3; }
+    p106 = held(m, v1, 72);
+    put_held32(p106, 68, m, v1, v6 ? v6 : 0xFFFFFFFFu);
+    v7 = 0ull;
+    if (held64(p106, 0, m, v1) != 0ull) { goto after8; }
     store64(m, v3, 0, 0ull);
-    v7 = 0u;
-    p29 = held(m, v1 + 24ull, 58);
-    put_held8(p29, 57, m, v1 + 24ull, 0u);
-    put_held64(p29, 0, m, v1 + 24ull, v4);
-    put_held8(p29, 52, m, v1 + 24ull, 4u);
-    put_held16(p29, 55, m, v1 + 24ull, 0u);
-    goto after2;
-after3:;
-    session_core_progress_Progress_drop_octets(m, v8, v1, v2, 3u, v4);
-    v7 = 1u;
-    v6 = get64(f8 + 8);
-after2:;
-    p61 = held(m, v0, 16);
-    put_held64(p61, 8, m, v0, v6);
-    put_held8(p61, 0, m, v0, v7);
-    m->g0 = v8 + 16ull;
-    return;
+    v9 = 0u;
+    p124 = held(m, v1 + 24ull, 58);
+    put_held8(p124, 57, m, v1 + 24ull, 0u);
+    put_held64(p106, 24, m, v1, v4);
+    put_held8(p124, 52, m, v1 + 24ull, 4u);
+    put_held16(p124, 55, m, v1 + 24ull, 0u);
+    goto after1;
+after8:;
+    session_core_progress_Progress_drop_octets(m, v10, v1, v2, 3u, v4);
+    v7 = get64(f10 + 8);
+after1:;
+    p154 = held(m, v0, 16);
+    put_held64(p154, 8, m, v0, v7);
+    put_held8(p154, 0, m, v0, v9);
+    m->g0 = v10 + 16ull;
 }
 
 static void session_core_setup_Setup_rules(struct call *m, u64 v0, u64 v1, u64 v2, u32 v3)
@@ -7026,605 +6874,250 @@ static void session_core_progress_Progress_await_block(struct call *m, u64 v0, u
     return;
 }
 
-static void session_core_lines_Line_happen(struct call *m, u64 v0, u64 v1, u32 v2, u64 v3, u64 v4, u64 v5, u64 v6, u64
-    v7)
+KEPT void session_core_lines_Line_sent(struct call *m, u64 v0, u64 v1, u64 v2, u64 v3, u64 v4)
 {
-    u64 v8 = 0;
-    u64 v9 = 0;
-    u64 v10 = 0;
-    u64 v12 = 0;
-    u64 v13 = 0;
-    u64 v14 = 0;
-    u32 v11 = 0;
-    u64 w0 = 0;
-    u8 *f14 = NULL;
-    u8 *p349 = NULL;
-    u8 *p384 = NULL;
-    v14 = m->g0 - 128ull;
-    f14 = at(m, v14, 128);
-    v8 = v14;
-    m->g0 = v8;
-    v9 = v1 + 56ull;
-    v10 = v1 + 144ull;
-    v11 = 7u;
-    switch ((u32)(((u64)v2) & 255ull)) {
-        case 0: goto after9;
-        case 1: goto after8;
-        case 2: goto after7;
-        case 3: goto after6;
-        case 4: goto after4;
-        default: goto after3;
-    }
-after9:;
-    if (load8(m, v1 + 132ull, 0) != 4u) { goto after3; }
-    session_core_progress_Progress_sent(m, v14, v9, v1, v10, v5, v6, v7);
-    v9 = get64(f14 + 8);
-    v11 = get8(f14);
-    goto after5;
-after8:;
-    v2 = load8(m, v1 + 132ull, 0);
-    if (v2 == 0) { goto after3; }
-    if (v2 < 4u) { goto after10; }
-    if (v2 == 4u) { goto after3; }
-    if (v2 > 7u) { goto after3; }
-after10:;
-    v12 = 0ull;
-    if (v4 != 0ull) { goto after11; }
-    session_core_progress_Progress_interrupted(m, v14 + 16ull, v9, v1, v10, v5, v6, v7);
-    v9 = get64(f14 + 24);
-    v11 = get8(f14 + 16);
-    goto after5;
-after11:;
-    if (load64(m, v1 + 24ull, 0) == 0xFFFFFFFFFFFFFFFFull) { goto after12; }
-    v12 = load64(m, v1 + 32ull, 0);
-    multi3(m, v14 + 48ull, v12, 0ull, v4, 0ull);
-    v12 = (v12 == 0) ? 0ull : ((get64(f14 + 56) != 0ull) ? 0xFFFFFFFFFFFFFFFFull : (v12 * v4));
-after12:;
-    v13 = v1 + 96ull;
-    w0 = v13;
-    v13 = v12 + load64(m, v13, 0);
-    store64(m, w0, 0, (v13 < v12) ? 0xFFFFFFFFFFFFFFFFull : v13);
-    session_core_progress_Progress_take_in(m, v14 + 32ull, v9, v1, v10, v3, v4, 0u, v5, v6, v7);
-    v9 = get64(f14 + 40);
-    v11 = get8(f14 + 32);
-    goto after5;
-after7:;
-    v2 = load8(m, v1 + 132ull, 0);
-    if (v2 == 0) { goto after3; }
-    if (v2 < 4u) { goto after13; }
-    if (v2 == 4u) { goto after3; }
-    if (v2 > 7u) { goto after3; }
-after13:;
-    v12 = 0ull;
-    if (v4 != 0ull) { goto after14; }
-    session_core_progress_Progress_interrupted(m, v14 + 64ull, v9, v1, v10, v5, v6, v7);
-    v9 = get64(f14 + 72);
-    v11 = get8(f14 + 64);
-    goto after5;
-after14:;
-    if (load64(m, v1 + 24ull, 0) == 0xFFFFFFFFFFFFFFFFull) { goto after15; }
-    v12 = load64(m, v1 + 32ull, 0);
-    multi3(m, v14 + 96ull, v12, 0ull, v4, 0ull);
-    v12 = (v12 == 0) ? 0ull : ((get64(f14 + 104) != 0ull) ? 0xFFFFFFFFFFFFFFFFull : (v12 * v4));
-after15:;
-    v13 = v1 + 96ull;
-    w0 = v13;
-    v13 = v12 + load64(m, v13, 0);
-    store64(m, w0, 0, (v13 < v12) ? 0xFFFFFFFFFFFFFFFFull : v13);
-    session_core_progress_Progress_take_in(m, v14 + 80ull, v9, v1, v10, v3, v4, 1u, v5, v6, v7);
-    v9 = get64(f14 + 88);
-    v11 = get8(f14 + 80);
-    goto after5;
-after6:;
-    v2 = load8(m, v1 + 132ull, 0);
-    if (v2 == 0) { goto after3; }
-    if (v2 < 4u) { goto after16; }
-    if (v2 == 4u) { goto after3; }
-    if (v2 > 7u) { goto after3; }
-after16:;
-    session_core_progress_Progress_silent(m, v14 + 112ull, v9, v1, v10, v5, v6, v7);
-    v9 = get64(f14 + 120);
-    v11 = get8(f14 + 112);
-after5:;
-    if ((v11 & 255u) != 2u) { goto after2; }
-    if ((load8(m, v1 + 136ull, 0) & 255u) == 0) { goto after2; }
-    p349 = held(m, v1 + 144ull, 12);
-    put_held64(p349, 0, m, v1 + 144ull, 4ull);
-    put_held32(p349, 8, m, v1 + 144ull, 0x1000000u);
-    goto after2;
-after4:;
-    v4 = v1 + 132ull;
-    if (((load8(m, v4, 0) + 0xFFFFFFF8u) & 255u) < 249u) { goto after3; }
-    session_core_progress_Progress_leave(m, v9, v1, v10);
-    store8(m, v4, 0, 0u);
-    v11 = 4u;
-after3:;
-    v9 = 0ull;
-after2:;
-    p384 = held(m, v0, 16);
-    put_held8(p384, 0, m, v0, v11);
-    put_held64(p384, 8, m, v0, v9);
-    m->g0 = v14 + 128ull;
-    return;
-}
-
-static void session_core_progress_Progress_sent(struct call *m, u64 v0, u64 v1, u64 v2, u64 v3, u64 v4, u64 v5, u64
-    v6)
-{
-    u64 v7 = 0;
+    u64 v5 = 0;
+    u64 v6 = 0;
     u64 v8 = 0;
     u64 v9 = 0;
     u64 v10 = 0;
     u64 v11 = 0;
+    u64 v12 = 0;
     u64 v13 = 0;
-    u32 v12 = 0;
+    u32 v7 = 0;
+    u32 t0 = 0;
     u64 w0 = 0;
     u64 w1 = 0;
-    u64 w4 = 0;
+    u64 w3 = 0;
     u8 *f13 = NULL;
-    u8 *p30 = NULL;
-    u8 *p214 = NULL;
+    u8 *p78 = NULL;
+    u8 *p315 = NULL;
     v13 = m->g0 - 80ull;
     f13 = at(m, v13, 80);
-    v7 = v13;
-    m->g0 = v7;
-    v8 = 0ull;
-    v9 = v2 + 32ull;
-    v10 = load64(m, v9, 0);
-    multi3(m, v13 + 64ull, v10, 0ull, v6, 0ull);
-    p30 = held(m, v1 + 24ull, 55);
-    put_held64(p30, 32, m, v1 + 24ull, 0ull);
-    v11 = v4 - held64(p30, 0, m, v1 + 24ull);
-    w1 = ((v11 ^ 0x8000000000000000ull) > (0xFFFFFFFFFFFFFFFFull ^ 0x8000000000000000ull)) ? v11 :
-        0xFFFFFFFFFFFFFFFFull;
-    v11 = w1;
-    v10 = (v10 == 0) ? 0ull : ((get64(f13 + 72) != 0ull) ? 0xFFFFFFFFFFFFFFFFull : (v10 * v6));
-    put_held8(p30, 54, m, v1 + 24ull, (u32)(v11 < (v10 >> 1)));
-    v10 = v11 - v10;
-    put_held64(p30, 24, m, v1 + 24ull, (v10 > v11) ? 0ull : v10);
-    if (load8(m, v2 + 53ull, 0) == 0) { goto after3; }
-    v10 = load64(m, v9, 0);
-    multi3(m, v13 + 32ull, v10, 0ull, v6, 0ull);
-    v11 = load64(m, v2 + 8ull, 0);
-    put_held8(p30, 52, m, v1 + 24ull, 5u);
-    v6 = v10 * v6;
-    v8 = v11 + v6;
-    w4 = (get64(f13 + 40) != 0ull) ? 0xFFFFFFFFFFFFFFFFull : ((v8 < v6) ? 0xFFFFFFFFFFFFFFFFull : v8);
-    session_core_progress_Progress_wait(m, v13 + 48ull, v1, v2, (v10 == 0) ? v11 : w4, v4);
-    v12 = 1u;
-    v1 = get64(f13 + 56);
+    v5 = v13;
+    m->g0 = v5;
+    if (load8(m, v1 + 132ull, 0) == 4u) { goto after3; }
+    v6 = 0ull;
+    v7 = 7u;
     goto after2;
 after3:;
-    if (load64(m, v2 + 24ull, 0) == 0xFFFFFFFFFFFFFFFFull) { goto after4; }
-    v10 = load64(m, v2 + 32ull, 0);
-    multi3(m, v13 + 16ull, v10, 0ull, v6, 0ull);
-    v8 = (v10 == 0) ? 0ull : ((get64(f13 + 24) != 0ull) ? 0xFFFFFFFFFFFFFFFFull : (v10 * v6));
+    v6 = load64(m, v1 + 32ull, 0);
+    v8 = v6 | v4;
+    if (v8 > 0xFFFFFFFFull) { goto after5; }
+    v9 = v6 * v4;
+    goto after4;
+after5:;
+    multi3(m, v13 + 64ull, v6, 0ull, v4, 0ull);
+    v9 = (v6 == 0) ? 0ull : ((get64(f13 + 72) != 0ull) ? 0xFFFFFFFFFFFFFFFFull : (v6 * v4));
 after4:;
-    put_held8(p30, 52, m, v1 + 24ull, 6u);
-    v10 = v1 + 40ull;
-    w0 = v10;
-    v10 = v8 + load64(m, v10, 0);
-    store64(m, w0, 0, (v10 < v8) ? 0xFFFFFFFFFFFFFFFFull : v10);
-    session_core_progress_Progress_go_on(m, v13, v1, v2, v3, v4, v5, v6);
-    v1 = get64(f13 + 8);
-    v12 = get8(f13);
+    v10 = v1 + 56ull;
+    v11 = 0ull;
+    p78 = held(m, v1 + 53ull, 82);
+    put_held64(p78, 59, m, v1 + 53ull, 0ull);
+    v12 = v2 - held64(p78, 27, m, v1 + 53ull);
+    w1 = ((v12 ^ 0x8000000000000000ull) > (0xFFFFFFFFFFFFFFFFull ^ 0x8000000000000000ull)) ? v12 :
+        0xFFFFFFFFFFFFFFFFull;
+    v12 = w1;
+    put_held8(p78, 81, m, v1 + 53ull, (u32)(v12 < (v9 >> 1)));
+    v9 = v12 - v9;
+    put_held64(p78, 51, m, v1 + 53ull, (v9 > v12) ? 0ull : v9);
+    if (held8(p78, 0, m, v1 + 53ull) == 0) { goto after6; }
+    v9 = load64(m, v1 + 8ull, 0);
+    if (v8 > 0xFFFFFFFFull) { goto after8; }
+    v4 = v6 * v4;
+    goto after7;
+after8:;
+    multi3(m, v13 + 48ull, v6, 0ull, v4, 0ull);
+    v4 = (v6 == 0) ? 0ull : ((get64(f13 + 56) != 0ull) ? 0xFFFFFFFFFFFFFFFFull : (v6 * v4));
+after7:;
+    put_held8(p78, 79, m, v1 + 53ull, 5u);
+    v6 = v4 + v9;
+    session_core_progress_Progress_wait(m, v13 + 32ull, v10, v1, (v6 < v4) ? 0xFFFFFFFFFFFFFFFFull : v6, v2);
+    v7 = 1u;
+    v6 = get64(f13 + 40);
+    goto after2;
+after6:;
+    v9 = load64(m, v1 + 24ull, 0);
+    if (v9 == 0xFFFFFFFFFFFFFFFFull) { goto after9; }
+    if (v8 > 0xFFFFFFFFull) { goto after10; }
+    v11 = v6 * v4;
+    goto after9;
+after10:;
+    multi3(m, v13 + 16ull, v6, 0ull, v4, 0ull);
+    v11 = (v6 == 0) ? 0ull : ((get64(f13 + 24) != 0ull) ? 0xFFFFFFFFFFFFFFFFull : (v6 * v4));
+after9:;
+    put_held8(p78, 79, m, v1 + 53ull, 6u);
+    v6 = v1 + 96ull;
+    w0 = v6;
+    v6 = v11 + load64(m, v6, 0);
+    store64(m, w0, 0, (v6 < v11) ? 0xFFFFFFFFFFFFFFFFull : v6);
+    v6 = load64(m, v1 + 144ull, 0);
+    if (v6 > 65535ull) { goto after12; }
+    v7 = load8(m, v1 + 137ull, 0);
+    if (v9 != 0xFFFFFFFFFFFFFFFFull) { goto after11; }
+    if ((v7 & 255u) == 0) { goto after11; }
+after12:;
+    v6 = 0ull;
+    t0 = session_core_progress_Progress_judge_apart(m, v10, v1, v1 + 144ull, v3, v4);
+    v7 = t0;
+    goto after2;
+after11:;
+    w3 = load64(m, v1 + ((v6 == 0) ? 64ull : ((v7 & 255u) ? 24ull : 8ull)), 0);
+    session_core_progress_Progress_wait(m, v13, v10, v1, w3, v2);
+    v7 = 1u;
+    v6 = get64(f13 + 8);
 after2:;
-    p214 = held(m, v0, 16);
-    put_held8(p214, 0, m, v0, v12);
-    put_held64(p214, 8, m, v0, v1);
+    p315 = held(m, v0, 16);
+    put_held64(p315, 8, m, v0, v6);
+    put_held8(p315, 0, m, v0, v7);
     m->g0 = v13 + 80ull;
     return;
 }
 
-static void session_core_progress_Progress_interrupted(struct call *m, u64 v0, u64 v1, u64 v2, u64 v3, u64 v4, u64 v5,
-    u64 v6)
-{
-    u64 v7 = 0;
-    u64 v8 = 0;
-    u64 v10 = 0;
-    u64 v12 = 0;
-    u32 v9 = 0;
-    u32 v11 = 0;
-    u8 *f8 = NULL;
-    u8 *p115 = NULL;
-    v12 = m->g0 - 16ull;
-    v7 = v12;
-    m->g0 = v7;
-    v8 = v12;
-    f8 = at(m, v8, 16);
-    v7 = 0xFFFFFFFFFFFFFFFFull;
-    v9 = 1u;
-    v10 = load64(m, v1 + 16ull, 0);
-    if (v10 == 0xFFFFFFFFFFFFFFFFull) { goto after2; }
-    v11 = load32(m, v1 + 64ull, 0);
-    if (v11 != 0xFFFFFFFFu) { goto after3; }
-    session_core_progress_Progress_silent(m, v8, v1, v2, v3, v4, v5, v6);
-    v7 = get64(f8 + 8);
-    v9 = get8(f8);
-    goto after2;
-after3:;
-    if (load8(m, v2 + 52ull, 0) == 0) { goto after4; }
-    v7 = 0ull;
-    v4 = v4 - load64(m, v1 + 24ull, 0);
-    if (v10 > (((v4 ^ 0x8000000000000000ull) > (0ull ^ 0x8000000000000000ull)) ? v4 : 0ull)) { goto after4; }
-    store32(m, v1 + 64ull, 0, 0xFFFFFFFFu);
-    goto after2;
-after4:;
-    if (v11 < 0xF4240u) { goto after5; }
-    session_core_progress_Progress_leave(m, v1, v2, v3);
-    store8(m, v1 + 76ull, 0, 0u);
-    v9 = 4u;
-    v7 = 0ull;
-    goto after2;
-after5:;
-    v9 = 1u;
-    store32(m, v1 + 64ull, 0, v11 + 1u);
-    v7 = v10;
-after2:;
-    p115 = held(m, v0, 16);
-    put_held64(p115, 8, m, v0, v7);
-    put_held8(p115, 0, m, v0, v9);
-    m->g0 = v8 + 16ull;
-    return;
-}
-
-static void session_core_progress_Progress_take_in(struct call *m, u64 v0, u64 v1, u64 v2, u64 v3, u64 v4, u64 v5, u32
-    v6, u64 v7, u64 v8, u64 v9)
-{
-    u64 v10 = 0;
-    u64 v11 = 0;
-    u64 v14 = 0;
-    u32 v12 = 0;
-    u32 v13 = 0;
-    u8 *f14 = NULL;
-    u8 *p178 = NULL;
-    v14 = m->g0 - 80ull;
-    f14 = at(m, v14, 80);
-    v10 = v14;
-    m->g0 = v10;
-    if (load8(m, v1 + 77ull, 0) == 0) { goto after3; }
-    if (load64(m, v1 + 16ull, 0) != 0ull) { goto after3; }
-    session_core_progress_Progress_leave(m, v1, v2, v3);
-    store8(m, v1 + 76ull, 0, 0u);
-    v11 = 0ull;
-    v12 = 5u;
-    goto after2;
-after3:;
-    v12 = 7u;
-    v11 = 0ull;
-    v13 = load8(m, v1 + 76ull, 0);
-    switch (v13) {
-        case 0: goto after2;
-        case 1: goto after8;
-        case 5: goto after7;
-        case 6: goto after6;
-        case 7: goto after4;
-        default: goto after5;
-    }
-after8:;
-    session_core_progress_Progress_drop_octets(m, v14 + 16ull, v1, v2, 2u, v7);
-    v12 = 1u;
-    v11 = get64(f14 + 24);
-    goto after2;
-after7:;
-    if (v6 == 0) { goto after9; }
-    session_core_progress_Progress_miss(m, v14 + 32ull, v1, v2, v7);
-    v12 = 1u;
-    v11 = get64(f14 + 40);
-    goto after2;
-after9:;
-    session_core_progress_Progress_echoed(m, v14 + 48ull, v1, v2, v3, v4, v5, v7, v8, v9);
-    v11 = get64(f14 + 56);
-    v12 = get8(f14 + 48);
-    goto after2;
-after6:;
-    session_core_progress_Progress_hear(m, v14 + 64ull, v1, v2, v3, v4, v5, v6, v7, v8, v9);
-    v11 = get64(f14 + 72);
-    v12 = get8(f14 + 64);
-    goto after2;
-after5:;
-    if (v13 > 3u) { goto after2; }
-after4:;
-    v3 = v1 + 72ull;
-    v12 = load32(m, v3, 0);
-    if (v5 < ((u64)v12)) { goto after10; }
-    store8(m, v1 + 76ull, 0, 0u);
-    store32(m, v3, 0, 0u);
-    v12 = 4u;
-    goto after2;
-after10:;
-    store32(m, v3, 0, v12 - ((u32)v5));
-    session_core_progress_Progress_wait_silent(m, v14, v1, v2, v7);
-    v12 = 1u;
-    v11 = get64(f14 + 8);
-after2:;
-    p178 = held(m, v0, 16);
-    put_held64(p178, 8, m, v0, v11);
-    put_held8(p178, 0, m, v0, v12);
-    m->g0 = v14 + 80ull;
-    return;
-}
-
-static void session_core_progress_Progress_silent(struct call *m, u64 v0, u64 v1, u64 v2, u64 v3, u64 v4, u64 v5, u64
-    v6)
-{
-    u64 v7 = 0;
-    u64 v8 = 0;
-    u64 v9 = 0;
-    u64 v11 = 0;
-    u32 v10 = 0;
-    u32 t0 = 0;
-    u64 w0 = 0;
-    u8 *f11 = NULL;
-    u8 *p19 = NULL;
-    u8 *p126 = NULL;
-    u8 *p224 = NULL;
-    u8 *p292 = NULL;
-    v11 = m->g0 - 64ull;
-    f11 = at(m, v11, 64);
-    v7 = v11;
-    m->g0 = v7;
-    v8 = v1 + 40ull;
-    p19 = held(m, v1 + 16ull, 62);
-    v9 = held64(p19, 0, m, v1 + 16ull);
-    w0 = v8;
-    v8 = v9 + load64(m, v8, 0);
-    store64(m, w0, 0, (v8 < v9) ? 0xFFFFFFFFFFFFFFFFull : v8);
-    if (held8(p19, 61, m, v1 + 16ull) == 0) { goto after3; }
-    session_core_progress_Progress_leave(m, v1, v2, v3);
-    put_held8(p19, 60, m, v1 + 16ull, 0u);
-    v8 = 0ull;
-    v10 = 5u;
-    goto after2;
-after3:;
-    v10 = 7u;
-    v8 = 0ull;
-    v9 = v1 + 76ull;
-    switch (load8(m, v9, 0) + 0xFFFFFFFFu) {
-        case 0: goto after10;
-        case 1: goto after9;
-        case 2: goto after8;
-        case 4: goto after7;
-        case 5: goto after6;
-        case 6: goto after5;
-        default: goto after2;
-    }
-after10:;
-    session_core_progress_Progress_talk(m, v11, v1, v2, v3, v4);
-    v8 = get64(f11 + 8);
-    v10 = get8(f11);
-    goto after2;
-after9:;
-    if (load64(m, v1, 0) > load64(m, v2 + ((load8(m, v2 + 55ull, 0)) ? 16ull : 0ull), 0)) { goto after11; }
-    store64(m, v1, 0, 0ull);
-after11:;
-    session_core_progress_Progress_talk(m, v11 + 16ull, v1, v2, v3, v4);
-    v8 = get64(f11 + 24);
-    v10 = get8(f11 + 16);
-    goto after2;
-after8:;
-    v8 = 0ull;
-    p126 = held(m, v1, 82);
-    put_held64(p126, 0, m, v1, 0ull);
-    store64(m, v3, 0, 0ull);
-    v10 = 0u;
-    put_held8(p126, 81, m, v1, 0u);
-    put_held64(p126, 24, m, v1, v4);
-    store8(m, v9, 0, 4u);
-    put_held16(p126, 79, m, v1, 0u);
-    goto after2;
-after7:;
-    v8 = 0ull;
-    if (held64(p19, 40, m, v1 + 16ull) != 0ull) { goto after12; }
-    put_held8(p19, 60, m, v1 + 16ull, 0u);
-    v10 = 4u;
-    goto after2;
-after12:;
-    session_core_progress_Progress_miss(m, v11 + 32ull, v1, v2, v4);
-    v10 = 1u;
-    v8 = get64(f11 + 40);
-    goto after2;
-after6:;
-    v8 = 0ull;
-    if (load64(m, v3, 0) != 0ull) { goto after13; }
-    put_held8(p19, 60, m, v1 + 16ull, 0u);
-    goto after4;
-after13:;
-    t0 = session_core_progress_Progress_judge(m, v1, v2, v3, v5, v6);
-    v10 = t0;
-    goto after2;
-after5:;
-    v9 = load64(m, v1, 0);
-    v10 = load8(m, v2 + 55ull, 0);
-    if (v10 == 0) { goto after15; }
-    p224 = held(m, v2, 16);
-    v6 = held64(p224, 8, m, v2);
-    v5 = (held64(p224, 0, m, v2) >> 2) * 3ull;
-    v6 = (v6 > v5) ? v6 : v5;
-    goto after14;
-after15:;
-    v6 = load64(m, v1 + 8ull, 0);
-after14:;
-    if (v9 > v6) { goto after16; }
-    store64(m, v1, 0, 0ull);
-    v10 = load8(m, v2 + 55ull, 0);
-after16:;
-    if ((v10 & 255u) == 0) { goto after17; }
-    session_core_progress_Progress_await_block(m, v11 + 48ull, v1, v2, v3, v4);
-    v10 = 1u;
-    v8 = get64(f11 + 56);
-    goto after2;
-after17:;
-    put_held8(p19, 60, m, v1 + 16ull, 0u);
-after4:;
-    v10 = 3u;
-after2:;
-    p292 = held(m, v0, 16);
-    put_held64(p292, 8, m, v0, v8);
-    put_held8(p292, 0, m, v0, v10);
-    m->g0 = v11 + 64ull;
-    return;
-}
-
-static void session_core_progress_Progress_leave(struct call *m, u64 v0, u64 v1, u64 v2)
-{
-    u64 v3 = 0;
-    u64 w1 = 0;
-    v3 = m->g0;
-    if ((v3 ^ 0x8000000000000000ull) < (16ull ^ 0x8000000000000000ull)) { goto after1; }
-    if (load8(m, v0 + 76ull, 0) != 6u) { goto after2; }
-    w1 = session_core_progress_Progress_owed_after(m, v0, v1, v2);
-    store64(m, v0, 0, w1);
-after2:;
-    m->g0 = v3;
-    return;
-after1:;
-    UNREACHABLE;
-}
-
-static void session_core_progress_Progress_go_on(struct call *m, u64 v0, u64 v1, u64 v2, u64 v3, u64 v4, u64 v5, u64
-    v6)
-{
-    u64 v7 = 0;
-    u64 v8 = 0;
-    u64 v9 = 0;
-    u64 v11 = 0;
-    u32 v10 = 0;
-    u32 t0 = 0;
-    u64 w3 = 0;
-    u8 *f11 = NULL;
-    u8 *p72 = NULL;
-    v11 = m->g0 - 16ull;
-    f11 = at(m, v11, 16);
-    v7 = v11;
-    m->g0 = v7;
-    v8 = load64(m, v3, 0);
-    if (v8 > 65535ull) { goto after4; }
-    v9 = 8ull;
-    if (load8(m, v1 + 81ull, 0) == 0) { goto after3; }
-    v9 = 24ull;
-    if (load64(m, v2 + 24ull, 0) != 0xFFFFFFFFFFFFFFFFull) { goto after3; }
-after4:;
-    v4 = 0ull;
-    t0 = session_core_progress_Progress_judge(m, v1, v2, v3, v5, v6);
-    v10 = t0;
-    goto after2;
-after3:;
-    w3 = load64(m, (v8 == 0) ? (v1 + 8ull) : (v2 + v9), 0);
-    session_core_progress_Progress_wait(m, v11, v1, v2, w3, v4);
-    v10 = 1u;
-    v4 = get64(f11 + 8);
-after2:;
-    p72 = held(m, v0, 16);
-    put_held64(p72, 8, m, v0, v4);
-    put_held8(p72, 0, m, v0, v10);
-    m->g0 = v11 + 16ull;
-    return;
-}
-
-static u32 session_core_progress_Progress_judge(struct call *m, u64 v0, u64 v1, u64 v2, u64 v3, u64 v4)
+static u32 session_core_progress_Progress_judge_apart(struct call *m, u64 v0, u64 v1, u64 v2, u64 v3, u64 v4)
 {
     u64 v5 = 0;
     u64 v6 = 0;
     u32 v7 = 0;
     u32 v8 = 0;
     u32 t0 = 0;
-    u64 w0 = 0;
-    u8 *p86 = NULL;
-    u8 *p106 = NULL;
-    u8 *p248 = NULL;
-    u8 *p272 = NULL;
-    u8 *p300 = NULL;
+    u8 *p119 = NULL;
+    u8 *p141 = NULL;
+    u8 *p166 = NULL;
+    u8 *p200 = NULL;
+    u8 *p229 = NULL;
+    u8 *p241 = NULL;
+    u8 *p247 = NULL;
+    u8 *p390 = NULL;
+    u8 *p414 = NULL;
     v5 = m->g0;
-    if ((v5 ^ 0x8000000000000000ull) < (16ull ^ 0x8000000000000000ull)) { goto after4; }
+    if ((v5 ^ 0x8000000000000000ull) < (16ull ^ 0x8000000000000000ull)) { goto after6; }
     v6 = load64(m, v2, 0);
-    if (v4 == 0) { goto after7; }
-    if (load8(m, v1 + 53ull, 0) & 255u) { goto after7; }
-    t0 = session_core_sending_begin_with(m, v2 + 8ull, (v6 < 259ull) ? v6 : 259ull, v3, v4);
-    if (t0 == 0) { goto after7; }
-    if (v6 < 2ull) { goto after6; }
-    if ((spread32(load8(m, v2 + 9ull, 0), 8) ^ 0x80000000u) > (0xFFFFFFFFu ^ 0x80000000u)) { goto after6; }
-    w0 = session_core_progress_Progress_owed_after(m, v0, v1, v2);
-    v4 = w0;
-    v7 = load8(m, v0 + 79ull, 0);
-    goto after3;
-after7:;
-    w0 = session_core_progress_Progress_owed_after(m, v0, v1, v2);
-    v4 = w0;
-    goto after5;
-after6:;
-    v7 = load8(m, v0 + 79ull, 0);
-    w0 = session_core_progress_Progress_owed_after(m, v0, v1, v2);
-    v4 = w0;
-    if (v7 != 2u) { goto after3; }
-after5:;
-    p86 = held(m, v0, 83);
-    put_held64(p86, 0, m, v0, v4);
     v7 = 0u;
-    put_held8(p86, 82, m, v0, 0u);
-    goto after2;
-after4:;
-    UNREACHABLE;
-after3:;
-    store64(m, v0, 0, v4);
-    v4 = v0 + 82ull;
-    p106 = held(m, v4, 1);
-    v8 = held8(p106, 0, m, v4) + 1u;
-    put_held8(p106, 0, m, v4, (v8 < 8u) ? v8 : 8u);
-    v8 = (v8 < 255u) ? v8 : 255u;
-    if ((v7 & 255u) != 1u) { goto after11; }
-    if (v6 < 2ull) { goto after1; }
-    v7 = spread32(load8(m, v2 + 9ull, 0), 8);
-    if ((v7 ^ 0x80000000u) > (0xFFFFFFFFu ^ 0x80000000u)) { goto after1; }
-    if (load8(m, v0 + 78ull, 0)) { goto after10; }
-    goto after1;
+    if (v4 == 0) { goto after10; }
+    if (load8(m, v1 + 53ull, 0) & 255u) { goto after10; }
+    if (v4 == 1ull) { goto after11; }
+    v7 = 0u;
+    v8 = 0u;
+    if (v6 < 2ull) { goto after12; }
+    v8 = load8(m, v2 + 9ull, 0);
+after12:;
+    if ((v8 & 255u) != load8(m, v3 + 1ull, 0)) { goto after10; }
 after11:;
-    if (v6 < 2ull) { goto after9; }
-    v7 = load8(m, v2 + 9ull, 0);
+    v7 = 0u;
+    t0 = session_core_sending_begin_with(m, v2 + 8ull, (v6 < 259ull) ? v6 : 259ull, v3, v4);
+    if (t0 == 0) { goto after10; }
+    if (v6 < 2ull) { goto after13; }
+    if ((spread32(load8(m, v2 + 9ull, 0), 8) ^ 0x80000000u) < (0u ^ 0x80000000u)) { goto after9; }
+after13:;
+    v7 = (u32)(load8(m, v0 + 79ull, 0) != 2u);
 after10:;
-    if ((v8 & 255u) > 7u) { goto after1; }
-    if ((v7 & 255u) > 191u) { goto after1; }
-    goto after8;
+    if (v6 != 0ull) { goto after8; }
+    v4 = load64(m, v0, 0);
+    if (v7 == 0) { goto after4; }
+    goto after3;
 after9:;
-    if ((v8 & 255u) >= 8u) { goto after1; }
+    if (load8(m, v0 + 81ull, 0) == 0) { goto after14; }
+    p119 = held(m, v1 + 16ull, 16);
+    v4 = held64(p119, 0, m, v1 + 16ull);
+    v4 = (held64(p119, 8, m, v1 + 16ull) < v4) ? v4 : 0ull;
+    goto after3;
+after14:;
+    if (load8(m, v1 + 55ull, 0) == 0) { goto after7; }
+    p141 = held(m, v1, 16);
+    v4 = held64(p141, 8, m, v1);
+    v3 = (held64(p141, 0, m, v1) >> 2) * 3ull;
+    v4 = (v4 > v3) ? v4 : v3;
+    goto after3;
 after8:;
+    if (load8(m, v0 + 81ull, 0) == 0) { goto after5; }
+    p166 = held(m, v1 + 16ull, 16);
+    v4 = held64(p166, 0, m, v1 + 16ull);
+    v4 = (held64(p166, 8, m, v1 + 16ull) < v4) ? v4 : 0ull;
+    if (v7) { goto after3; }
+    goto after4;
+after7:;
+    v4 = load64(m, v0 + 8ull, 0);
+    goto after3;
+after6:;
+    UNREACHABLE;
+after5:;
+    if (load8(m, v1 + 55ull, 0) == 0) { goto after15; }
+    p200 = held(m, v1, 16);
+    v4 = held64(p200, 8, m, v1);
+    v3 = (held64(p200, 0, m, v1) >> 2) * 3ull;
+    v4 = (v4 > v3) ? v4 : v3;
+    if (v7 == 0) { goto after4; }
+    goto after3;
+after15:;
+    v4 = load64(m, v0 + 8ull, 0);
+    if (v7) { goto after3; }
+after4:;
+    p229 = held(m, v0, 83);
+    put_held64(p229, 0, m, v0, v4);
+    v7 = 0u;
+    put_held8(p229, 82, m, v0, 0u);
+    goto after2;
+after3:;
+    p241 = held(m, v0, 80);
+    put_held64(p241, 0, m, v0, v4);
+    v4 = v0 + 82ull;
+    p247 = held(m, v4, 1);
+    v7 = held8(p247, 0, m, v4) + 1u;
+    put_held8(p247, 0, m, v4, (v7 < 8u) ? v7 : 8u);
+    v7 = (v7 < 255u) ? v7 : 255u;
+    if (held8(p241, 79, m, v0) != 1u) { goto after19; }
+    if (v6 < 2ull) { goto after1; }
+    v8 = spread32(load8(m, v2 + 9ull, 0), 8);
+    if ((v8 ^ 0x80000000u) > (0xFFFFFFFFu ^ 0x80000000u)) { goto after1; }
+    if (held8(p241, 78, m, v0)) { goto after18; }
+    goto after1;
+after19:;
+    if (v6 < 2ull) { goto after17; }
+    v8 = load8(m, v2 + 9ull, 0);
+after18:;
+    if ((v7 & 255u) > 7u) { goto after1; }
+    if ((v8 & 255u) > 191u) { goto after1; }
+    goto after16;
+after17:;
+    if ((v7 & 255u) >= 8u) { goto after1; }
+after16:;
     v7 = 1u;
 after2:;
-    if (load8(m, v0 + 81ull, 0) == 0) { goto after13; }
+    if (load8(m, v0 + 81ull, 0) == 0) { goto after21; }
     v8 = 1u;
-    if (v6 < 2ull) { goto after14; }
+    if (v6 < 2ull) { goto after22; }
     v8 = (u32)((spread32(load8(m, v2 + 9ull, 0), 8) ^ 0x80000000u) > (0xFFFFFFFFu ^ 0x80000000u));
-after14:;
-    if (v7 | (v8 ^ 1u)) { goto after16; }
-    if (v6 != 4ull) { goto after13; }
-    if (load8(m, v1 + 54ull, 0) & 255u) { goto after15; }
-    goto after13;
-after16:;
-    if ((v7 & v8) != 1u) { goto after13; }
-after15:;
-    if (load8(m, v1 + 55ull, 0) == 0) { goto after18; }
-    p248 = held(m, v1, 16);
-    v2 = held64(p248, 8, m, v1);
-    v1 = (held64(p248, 0, m, v1) >> 2) * 3ull;
-    v2 = (v2 > v1) ? v2 : v1;
-    goto after17;
-after18:;
-    v2 = load64(m, v0 + 8ull, 0);
-after17:;
-    p272 = held(m, v0, 81);
-    put_held64(p272, 0, m, v0, v2);
-    put_held8(p272, 80, m, v0, 1u);
-    put_held8(p272, 76, m, v0, 0u);
-    goto after12;
-after13:;
+after22:;
+    if (v7 | (v8 ^ 1u)) { goto after24; }
+    if (v6 != 4ull) { goto after21; }
+    if (load8(m, v1 + 54ull, 0) & 255u) { goto after23; }
+    goto after21;
+after24:;
+    if ((v7 & v8) != 1u) { goto after21; }
+after23:;
+    if (load8(m, v1 + 55ull, 0) == 0) { goto after26; }
+    p390 = held(m, v1, 16);
+    v6 = held64(p390, 8, m, v1);
+    v1 = (held64(p390, 0, m, v1) >> 2) * 3ull;
+    v6 = (v6 > v1) ? v6 : v1;
+    goto after25;
+after26:;
+    v6 = load64(m, v0 + 8ull, 0);
+after25:;
+    p414 = held(m, v0, 81);
+    put_held64(p414, 0, m, v0, v6);
+    put_held8(p414, 80, m, v0, 1u);
+    put_held8(p414, 76, m, v0, 0u);
+    goto after20;
+after21:;
     store8(m, v0 + 76ull, 0, 0u);
-after12:;
+after20:;
     m->g0 = v5;
     return 2u;
 after1:;
-    p300 = held(m, v0 + 76ull, 7);
-    put_held8(p300, 0, m, v0 + 76ull, 0u);
-    put_held8(p300, 6, m, v0 + 76ull, 0u);
+    put_held8(p241, 76, m, v0, 0u);
+    store8(m, v0 + 82ull, 0, 0u);
     m->g0 = v5;
     return 6u;
 }
@@ -7657,180 +7150,97 @@ after1:;
     return v4;
 }
 
-static u64 session_core_progress_Progress_owed_after(struct call *m, u64 v0, u64 v1, u64 v2)
+KEPT void session_core_lines_Line_interrupted(struct call *m, u64 v0, u64 v1, u64 v2)
 {
-    u8 *p31 = NULL;
-    u8 *p55 = NULL;
-    if (load64(m, v2, 0) != 0ull) { goto after2; }
-    return load64(m, v0, 0);
-after2:;
-    if (load8(m, v0 + 81ull, 0)) { goto after3; }
-    if (load8(m, v1 + 55ull, 0) == 0) { goto after4; }
-    p31 = held(m, v1, 16);
-    v0 = held64(p31, 8, m, v1);
-    v1 = (held64(p31, 0, m, v1) >> 2) * 3ull;
-    return (v0 > v1) ? v0 : v1;
+    u64 v3 = 0;
+    u64 v5 = 0;
+    u64 v7 = 0;
+    u32 v4 = 0;
+    u32 v6 = 0;
+    u8 *p110 = NULL;
+    v3 = m->g0;
+    if ((v3 ^ 0x8000000000000000ull) < (16ull ^ 0x8000000000000000ull)) { goto after1; }
+    v4 = 7u;
+    v5 = 0ull;
+    v6 = load8(m, v1 + 132ull, 0);
+    switch (v6) {
+        case 0: goto after2;
+        case 5: goto after3;
+        case 6: goto after3;
+        case 7: goto after3;
+        default: goto after4;
+    }
 after4:;
-    return load64(m, v0 + 8ull, 0);
+    if (v6 > 3u) { goto after2; }
 after3:;
-    p55 = held(m, v1 + 16ull, 16);
-    v0 = held64(p55, 0, m, v1 + 16ull);
-    return (held64(p55, 8, m, v1 + 16ull) < v0) ? v0 : 0ull;
+    v4 = 1u;
+    v7 = load64(m, v1 + 72ull, 0);
+    if (v7 != 0xFFFFFFFFFFFFFFFFull) { goto after5; }
+    v5 = 0xFFFFFFFFFFFFFFFFull;
+    goto after2;
+after5:;
+    if (load8(m, v1 + 52ull, 0) == 0) { goto after6; }
+    v2 = v2 - load64(m, v1 + 80ull, 0);
+    if (v7 > (((v2 ^ 0x8000000000000000ull) > (0ull ^ 0x8000000000000000ull)) ? v2 : 0ull)) { goto after6; }
+    store32(m, v1 + 120ull, 0, 0xFFFFFFFFu);
+    v5 = 0ull;
+    goto after2;
+after6:;
+    v2 = v1 + 120ull;
+    v6 = load32(m, v2, 0);
+    if (v6 < 0xF4240u) { goto after7; }
+    session_core_progress_Progress_leave(m, v1 + 56ull, v1, v1 + 144ull);
+    store8(m, v1 + 132ull, 0, 0u);
+    v4 = 4u;
+    goto after2;
+after7:;
+    v4 = 1u;
+    store32(m, v2, 0, v6 + 1u);
+    v5 = v7;
+after2:;
+    p110 = held(m, v0, 16);
+    put_held64(p110, 8, m, v0, v5);
+    put_held8(p110, 0, m, v0, v4);
+    m->g0 = v3;
+    return;
+after1:;
+    UNREACHABLE;
 }
 
-static void session_core_progress_Progress_miss(struct call *m, u64 v0, u64 v1, u64 v2, u64 v3)
+static void session_core_progress_Progress_leave(struct call *m, u64 v0, u64 v1, u64 v2)
 {
-    u64 v4 = 0;
-    u64 v6 = 0;
-    u32 v5 = 0;
-    u8 *f6 = NULL;
-    u8 *p23 = NULL;
-    v6 = m->g0 - 16ull;
-    f6 = at(m, v6, 16);
-    v4 = v6;
-    m->g0 = v4;
-    session_core_progress_Progress_drop_octets(m, v6, v1, v2, 7u, v3);
-    v5 = get8(f6);
-    p23 = held(m, v0, 16);
-    put_held64(p23, 8, m, v0, get64(f6 + 8));
-    put_held8(p23, 0, m, v0, v5);
-    m->g0 = v6 + 16ull;
+    u8 *p41 = NULL;
+    u8 *p67 = NULL;
+    if (load8(m, v0 + 76ull, 0) != 6u) { goto after2; }
+    if (load64(m, v2, 0) != 0ull) { goto after4; }
+    v1 = load64(m, v0, 0);
+    goto after3;
+after4:;
+    if (load8(m, v0 + 81ull, 0)) { goto after5; }
+    if (load8(m, v1 + 55ull, 0) == 0) { goto after6; }
+    p41 = held(m, v1, 16);
+    v2 = held64(p41, 8, m, v1);
+    v1 = (held64(p41, 0, m, v1) >> 2) * 3ull;
+    v1 = (v2 > v1) ? v2 : v1;
+    goto after3;
+after6:;
+    v1 = load64(m, v0 + 8ull, 0);
+    goto after3;
+after5:;
+    p67 = held(m, v1 + 16ull, 16);
+    v2 = held64(p67, 0, m, v1 + 16ull);
+    v1 = (held64(p67, 8, m, v1 + 16ull) < v2) ? v2 : 0ull;
+after3:;
+    store64(m, v0, 0, v1);
+after2:;
     return;
 }
 
-static void session_core_progress_Progress_echoed(struct call *m, u64 v0, u64 v1, u64 v2, u64 v3, u64 v4, u64 v5, u64
-    v6, u64 v7, u64 v8)
+KEPT void session_core_lines_Line_came(struct call *m, u64 v0, u64 v1, u64 v2, u64 v3, u32 v4, u64 v5, u64 v6, u64 v7)
 {
+    u64 v8 = 0;
     u64 v9 = 0;
-    u64 v10 = 0;
-    u64 v11 = 0;
     u64 v12 = 0;
-    u64 v13 = 0;
-    u64 v15 = 0;
-    u64 v16 = 0;
-    u64 v17 = 0;
-    u64 v18 = 0;
-    u64 v19 = 0;
-    u64 v20 = 0;
-    u64 v21 = 0;
-    u64 v22 = 0;
-    u32 v14 = 0;
-    u32 t0 = 0;
-    u64 w4 = 0;
-    u8 *f10 = NULL;
-    u8 *p48 = NULL;
-    u8 *p200 = NULL;
-    u8 *p201 = NULL;
-    u8 *p309 = NULL;
-    u8 *p324 = NULL;
-    u8 *p366 = NULL;
-    v22 = m->g0 - 64ull;
-    v9 = v22;
-    m->g0 = v9;
-    v10 = v22;
-    f10 = at(m, v10, 64);
-    v11 = load64(m, v1 + 56ull, 0);
-    v12 = (v8 < v11) ? v8 : v11;
-    v13 = v7 + v12;
-    v9 = v8 - v12;
-    if (v5 >= v9) { goto after5; }
-    t0 = session_core_sending_begin_with(m, v13, v9, v4, v5);
-    if (t0 == 0) { goto after4; }
-    p48 = held(m, v2 + 8ull, 32);
-    v9 = held64(p48, 24, m, v2 + 8ull);
-    multi3(m, v10, v9, 0ull, v8, 0ull);
-    v3 = held64(p48, 0, m, v2 + 8ull);
-    v11 = v5 + v11;
-    store64(m, v1 + 56ull, 0, (v11 < v5) ? 0xFFFFFFFFFFFFFFFFull : v11);
-    v5 = v9 * v8;
-    v11 = v3 + v5;
-    w4 = (get64(f10 + 8) != 0ull) ? 0xFFFFFFFFFFFFFFFFull : ((v11 < v5) ? 0xFFFFFFFFFFFFFFFFull : v11);
-    session_core_progress_Progress_wait(m, v10 + 16ull, v1, v2, (v9 == 0) ? v3 : w4, v6);
-    v14 = 1u;
-    v5 = get64(f10 + 24);
-    goto after1;
-after5:;
-    t0 = session_core_sending_begin_with(m, v4, v5, v13, v9);
-    if (t0) { goto after2; }
-after4:;
-    session_core_progress_Progress_miss(m, v10 + 32ull, v1, v2, v6);
-    v14 = 1u;
-    v5 = get64(f10 + 40);
-    goto after1;
-after2:;
-    v15 = v3 + 8ull;
-    v16 = load64(m, v3, 0);
-    v17 = (v16 < 259ull) ? v16 : 259ull;
-    v18 = v15 + v17;
-    v13 = v4 + v9;
-    v11 = 259ull - v17;
-    v19 = v5 - v9;
-    v5 = (v11 < v19) ? v11 : v19;
-    if ((v18 - v13) >= v5) { goto after7; }
-    v20 = v5 & 3ull;
-    v9 = 0ull;
-    if (v5 < 4ull) { goto after8; }
-    v18 = v3 + v17;
-    v21 = v5 & 508ull;
-    v9 = 0ull;
-again9:;
-    v5 = v18 + v9;
-    v11 = v13 + v9;
-    p200 = held(m, v11, 4);
-    p201 = held(m, v5 + 8ull, 4);
-    put_held8(p201, 0, m, v5 + 8ull, held8(p200, 0, m, v11));
-    put_held8(p201, 1, m, v5 + 8ull, held8(p200, 1, m, v11));
-    put_held8(p201, 2, m, v5 + 8ull, held8(p200, 2, m, v11));
-    put_held8(p201, 3, m, v5 + 8ull, held8(p200, 3, m, v11));
-    v9 = v9 + 4ull;
-    if (v21 != v9) { goto again9; }
-    if (v20 == 0) { goto after6; }
-after8:;
-    v11 = 0ull - v20;
-    v5 = ((v9 + v17) + v3) + 8ull;
-    v9 = v4 + ((v9 + v8) - v12);
-again10:;
-    store8(m, v5, 0, load8(m, v9, 0));
-    v5 = v5 + 1ull;
-    v9 = v9 + 1ull;
-    v11 = v11 + 1ull;
-    if (v11 != 0ull) { goto again10; }
-    goto after6;
-after7:;
-    if (v5 == 0) { goto after11; }
-    copy(m, v18, v13, v5);
-after11:;
-    v16 = load64(m, v3, 0);
-after6:;
-    v5 = v19 + v16;
-    store64(m, v3, 0, (v5 < v19) ? 0xFFFFFFFFFFFFFFFFull : v5);
-    p309 = held(m, v1 + 56ull, 25);
-    put_held64(p309, 0, m, v1 + 56ull, v8);
-    put_held8(p309, 20, m, v1 + 56ull, 6u);
-    v14 = 0u;
-    if (held8(p309, 24, m, v1 + 56ull)) { goto after12; }
-    p324 = held(m, v3, 11);
-    v5 = held64(p324, 0, m, v3);
-    if (v5 != ((u64)held8(p324, 10, m, v3) + 4ull)) { goto after12; }
-    t0 = line_core_framing_sum_of(m, v15, v5);
-    v14 = (u32)((t0 & 255u) == 0);
-after12:;
-    store8(m, v1 + 81ull, 0, v14);
-    session_core_progress_Progress_go_on(m, v10 + 48ull, v1, v2, v3, v6, v7, v8);
-    v5 = get64(f10 + 56);
-    v14 = get8(f10 + 48);
-after1:;
-    p366 = held(m, v0, 16);
-    put_held8(p366, 0, m, v0, v14);
-    put_held64(p366, 8, m, v0, v5);
-    m->g0 = v10 + 64ull;
-}
-
-static void session_core_progress_Progress_hear(struct call *m, u64 v0, u64 v1, u64 v2, u64 v3, u64 v4, u64 v5, u32
-    v6, u64 v7, u64 v8, u64 v9)
-{
-    u64 v10 = 0;
-    u64 v11 = 0;
     u64 v13 = 0;
     u64 v14 = 0;
     u64 v15 = 0;
@@ -7840,94 +7250,289 @@ static void session_core_progress_Progress_hear(struct call *m, u64 v0, u64 v1, 
     u64 v19 = 0;
     u64 v20 = 0;
     u64 v21 = 0;
-    u32 v12 = 0;
+    u64 v23 = 0;
+    u32 v10 = 0;
+    u32 v11 = 0;
+    u32 v22 = 0;
     u32 t0 = 0;
-    u8 *f11 = NULL;
-    u8 *p88 = NULL;
-    u8 *p156 = NULL;
-    u8 *p157 = NULL;
-    u8 *p302 = NULL;
-    v21 = m->g0 - 16ull;
-    v10 = v21;
-    m->g0 = v10;
-    v11 = v21;
-    f11 = at(m, v11, 16);
-    if (load64(m, v3, 0) != 0ull) { goto after2; }
-    v12 = 0u;
-    if (load8(m, v2 + 52ull, 0) == 0) { goto after3; }
-    if (load64(m, v2 + 24ull, 0) == 0xFFFFFFFFFFFFFFFFull) { goto after3; }
-    v12 = 2u;
-    v10 = load64(m, v2 + 32ull, 0);
-    v13 = quotient64(((v10 < 0x3333333333333333ull) ? v10 : 0x3333333333333333ull) * 5ull, 3ull);
-    v10 = v7 - load64(m, v1 + 24ull, 0);
-    v10 = ((v10 ^ 0x8000000000000000ull) > (0ull ^ 0x8000000000000000ull)) ? v10 : 0ull;
-    if (v13 <= v10) { goto after3; }
-    v12 = (u32)(load64(m, v1 + 48ull, 0) < (v13 - v10));
-after3:;
-    store8(m, v1 + 79ull, 0, v12);
-after2:;
-    v10 = v1 + 80ull;
-    p88 = held(m, v10, 1);
-    put_held8(p88, 0, m, v10, v6 | ((u32)(held8(p88, 0, m, v10) != 0u)));
-    v14 = v3 + 8ull;
-    v15 = load64(m, v3, 0);
-    v16 = (v15 < 259ull) ? v15 : 259ull;
-    v13 = v14 + v16;
-    v10 = 259ull - v16;
-    v10 = (v10 < v5) ? v10 : v5;
-    if ((v13 - v4) >= v10) { goto after5; }
-    v17 = v10 & 3ull;
-    v13 = 0ull;
-    if (v10 < 4ull) { goto after6; }
-    v18 = v3 + v16;
-    v19 = v10 & 508ull;
-    v13 = 0ull;
-again7:;
-    v10 = v18 + v13;
-    v20 = v4 + v13;
-    p156 = held(m, v20, 4);
-    p157 = held(m, v10 + 8ull, 4);
-    put_held8(p157, 0, m, v10 + 8ull, held8(p156, 0, m, v20));
-    put_held8(p157, 1, m, v10 + 8ull, held8(p156, 1, m, v20));
-    put_held8(p157, 2, m, v10 + 8ull, held8(p156, 2, m, v20));
-    put_held8(p157, 3, m, v10 + 8ull, held8(p156, 3, m, v20));
-    v13 = v13 + 4ull;
-    if (v19 != v13) { goto again7; }
-    if (v17 == 0) { goto after4; }
+    u32 t1 = 0;
+    u64 w0 = 0;
+    u64 w3 = 0;
+    u8 *f9 = NULL;
+    u8 *p172 = NULL;
+    u8 *p221 = NULL;
+    u8 *p288 = NULL;
+    u8 *p289 = NULL;
+    u8 *p377 = NULL;
+    u8 *p564 = NULL;
+    u8 *p590 = NULL;
+    u8 *p609 = NULL;
+    u8 *p621 = NULL;
+    u8 *p627 = NULL;
+    u8 *p835 = NULL;
+    u8 *p861 = NULL;
+    u8 *p887 = NULL;
+    v23 = m->g0 - 48ull;
+    v8 = v23;
+    m->g0 = v8;
+    v9 = v23;
+    f9 = at(m, v9, 48);
+    v10 = 7u;
+    v8 = 0ull;
+    v11 = load8(m, v1 + 132ull, 0);
+    switch (v11) {
+        case 0: goto after1;
+        case 5: goto after6;
+        case 6: goto after6;
+        case 7: goto after6;
+        default: goto after7;
+    }
+after7:;
+    if (v11 > 3u) { goto after1; }
 after6:;
-    v20 = 0ull - v17;
-    v10 = v4 + v13;
-    v13 = ((v13 + v16) + v3) + 8ull;
-again8:;
-    store8(m, v13, 0, load8(m, v10, 0));
-    v13 = v13 + 1ull;
-    v10 = v10 + 1ull;
-    v20 = v20 + 1ull;
-    if (v20 != 0ull) { goto again8; }
-    goto after4;
-after5:;
-    if (v10 == 0) { goto after9; }
-    copy(m, v13, v4, v10);
+    v12 = load64(m, v1 + 24ull, 0);
+    if (v12 != 0xFFFFFFFFFFFFFFFFull) { goto after9; }
+    v8 = 0ull;
+    goto after8;
 after9:;
-    v15 = load64(m, v3, 0);
-after4:;
-    v10 = v5 + v15;
-    v10 = (v10 < v5) ? 0xFFFFFFFFFFFFFFFFull : v10;
-    store64(m, v3, 0, v10);
-    v6 = 0u;
-    if (load8(m, v1 + 80ull, 0)) { goto after10; }
-    if (v10 != ((u64)load8(m, v3 + 10ull, 0) + 4ull)) { goto after10; }
-    t0 = line_core_framing_sum_of(m, v14, v10);
-    v6 = (u32)((t0 & 255u) == 0);
+    v8 = load64(m, v1 + 32ull, 0);
+    if ((v8 | v3) > 0xFFFFFFFFull) { goto after10; }
+    v8 = v8 * v3;
+    goto after8;
 after10:;
-    store8(m, v1 + 81ull, 0, v6);
-    session_core_progress_Progress_go_on(m, v11, v1, v2, v3, v7, v8, v9);
-    v6 = get8(f11);
-    p302 = held(m, v0, 16);
-    put_held64(p302, 8, m, v0, get64(f11 + 8));
-    put_held8(p302, 0, m, v0, v6);
-    m->g0 = v11 + 16ull;
-    return;
+    multi3(m, v9 + 32ull, v8, 0ull, v3, 0ull);
+    v8 = (v8 == 0) ? 0ull : ((get64(f9 + 40) != 0ull) ? 0xFFFFFFFFFFFFFFFFull : (v8 * v3));
+after8:;
+    v13 = v1 + 144ull;
+    v14 = v1 + 56ull;
+    v15 = v1 + 96ull;
+    w0 = v15;
+    v15 = v8 + load64(m, v15, 0);
+    store64(m, w0, 0, (v15 < v8) ? 0xFFFFFFFFFFFFFFFFull : v15);
+    if (load8(m, v1 + 133ull, 0) == 0) { goto after11; }
+    v8 = 0ull;
+    if (load64(m, v1 + 72ull, 0) != 0ull) { goto after11; }
+    session_core_progress_Progress_leave(m, v14, v1, v13);
+    store8(m, v1 + 132ull, 0, 0u);
+    v10 = 5u;
+    goto after1;
+after11:;
+    if (v11 != 6u) { goto after12; }
+    v16 = load64(m, v13, 0);
+    if (v16 != 0ull) { goto after13; }
+    v10 = 0u;
+    if (v12 == 0xFFFFFFFFFFFFFFFFull) { goto after14; }
+    if ((load8(m, v1 + 52ull, 0) & 255u) == 0) { goto after14; }
+    v10 = 2u;
+    p172 = held(m, v1 + 32ull, 56);
+    v8 = held64(p172, 0, m, v1 + 32ull);
+    v15 = quotient64(((v8 < 0x3333333333333333ull) ? v8 : 0x3333333333333333ull) * 5ull, 3ull);
+    v8 = v5 - held64(p172, 48, m, v1 + 32ull);
+    v8 = ((v8 ^ 0x8000000000000000ull) > (0ull ^ 0x8000000000000000ull)) ? v8 : 0ull;
+    if (v15 <= v8) { goto after14; }
+    v10 = (u32)(load64(m, v1 + 104ull, 0) < (v15 - v8));
+after14:;
+    store8(m, v1 + 135ull, 0, v10);
+after13:;
+    v8 = v1 + 136ull;
+    p221 = held(m, v8, 1);
+    v10 = v4 | ((u32)(held8(p221, 0, m, v8) != 0u));
+    put_held8(p221, 0, m, v8, v10);
+    v17 = v1 + 152ull;
+    v18 = (v16 < 259ull) ? v16 : 259ull;
+    v15 = v17 + v18;
+    v8 = 259ull - v18;
+    v8 = (v8 < v3) ? v8 : v3;
+    if ((v15 - v2) >= v8) { goto after16; }
+    v19 = v8 & 3ull;
+    v15 = 0ull;
+    if (v8 < 4ull) { goto after17; }
+    v20 = v1 + v18;
+    v21 = v8 & 508ull;
+    v15 = 0ull;
+again18:;
+    v8 = v20 + v15;
+    v12 = v2 + v15;
+    p288 = held(m, v12, 4);
+    p289 = held(m, v8 + 152ull, 4);
+    put_held8(p289, 0, m, v8 + 152ull, held8(p288, 0, m, v12));
+    put_held8(p289, 1, m, v8 + 152ull, held8(p288, 1, m, v12));
+    put_held8(p289, 2, m, v8 + 152ull, held8(p288, 2, m, v12));
+    put_held8(p289, 3, m, v8 + 152ull, held8(p288, 3, m, v12));
+    v15 = v15 + 4ull;
+    if (v21 != v15) { goto again18; }
+    if (v19 == 0) { goto after15; }
+after17:;
+    v12 = 0ull - v19;
+    v8 = v2 + v15;
+    v15 = ((v15 + v18) + v1) + 152ull;
+again19:;
+    store8(m, v15, 0, load8(m, v8, 0));
+    v15 = v15 + 1ull;
+    v8 = v8 + 1ull;
+    v12 = v12 + 1ull;
+    if (v12 != 0ull) { goto again19; }
+    goto after15;
+after16:;
+    if (v8 == 0) { goto after20; }
+    copy(m, v15, v2, v8);
+after20:;
+    p377 = held(m, v1 + 136ull, 16);
+    v10 = held8(p377, 0, m, v1 + 136ull);
+    v16 = held64(p377, 8, m, v1 + 136ull);
+after15:;
+    v8 = v3 + v16;
+    v8 = (v8 < v3) ? 0xFFFFFFFFFFFFFFFFull : v8;
+    store64(m, v13, 0, v8);
+    if (v10 & 255u) { goto after26; }
+    if (v8 == ((u64)load8(m, v1 + 154ull, 0) + 4ull)) { goto after25; }
+after26:;
+    v11 = 0u;
+    store8(m, v1 + 137ull, 0, 0u);
+    if (v8 <= 65535ull) { goto after23; }
+    v4 = 1u;
+    goto after24;
+after25:;
+    t1 = line_core_framing_sum_of(m, v17, v8);
+    v10 = t1 & 255u;
+    store8(m, v1 + 137ull, 0, (u32)(v10 == 0));
+    if (v10) { goto after22; }
+    v15 = 24ull;
+    if (load64(m, v1 + 24ull, 0) != 0xFFFFFFFFFFFFFFFFull) { goto after21; }
+    v4 = 0u;
+    v11 = 1u;
+after24:;
+    v10 = 0u;
+    if (v7 == 0) { goto after27; }
+    if (load8(m, v1 + 53ull, 0) & 255u) { goto after27; }
+    if (v7 == 1ull) { goto after28; }
+    v10 = 0u;
+    v22 = 0u;
+    if (v8 < 2ull) { goto after29; }
+    v22 = load8(m, v1 + 153ull, 0);
+after29:;
+    if ((v22 & 255u) != load8(m, v6 + 1ull, 0)) { goto after27; }
+after28:;
+    v10 = 0u;
+    t0 = session_core_sending_begin_with(m, v17, (v8 < 259ull) ? v8 : 259ull, v6, v7);
+    if (t0 == 0) { goto after27; }
+    if (v8 < 2ull) { goto after30; }
+    if ((spread32(load8(m, v1 + 153ull, 0), 8) ^ 0x80000000u) >= (0u ^ 0x80000000u)) { goto after30; }
+    v10 = 1u;
+    goto after27;
+after30:;
+    v10 = (u32)(load8(m, v1 + 135ull, 0) != 2u);
+after27:;
+    if (v8 != 0ull) { goto after32; }
+    v15 = load64(m, v14, 0);
+    goto after31;
+after32:;
+    if (v11) { goto after33; }
+    if (load8(m, v1 + 55ull, 0) == 0) { goto after34; }
+    p564 = held(m, v1, 16);
+    v15 = held64(p564, 8, m, v1);
+    v12 = (held64(p564, 0, m, v1) >> 2) * 3ull;
+    v15 = (v15 > v12) ? v15 : v12;
+    goto after31;
+after34:;
+    v15 = load64(m, v1 + 64ull, 0);
+    goto after31;
+after33:;
+    p590 = held(m, v1 + 16ull, 16);
+    v15 = held64(p590, 0, m, v1 + 16ull);
+    v15 = (held64(p590, 8, m, v1 + 16ull) < v15) ? v15 : 0ull;
+after31:;
+    if (v10) { goto after35; }
+    p609 = held(m, v1 + 56ull, 83);
+    put_held64(p609, 0, m, v1 + 56ull, v15);
+    put_held8(p609, 82, m, v1 + 56ull, 0u);
+    goto after2;
+after35:;
+    p621 = held(m, v1 + 56ull, 80);
+    put_held64(p621, 0, m, v1 + 56ull, v15);
+    v15 = v1 + 138ull;
+    p627 = held(m, v15, 1);
+    v11 = held8(p627, 0, m, v15) + 1u;
+    put_held8(p627, 0, m, v15, (v11 < 8u) ? v11 : 8u);
+    v11 = (v11 < 255u) ? v11 : 255u;
+    if (held8(p621, 79, m, v1 + 56ull) != 1u) { goto after39; }
+    if (v8 < 2ull) { goto after36; }
+    v22 = spread32(load8(m, v1 + 153ull, 0), 8);
+    if ((v22 ^ 0x80000000u) > (0xFFFFFFFFu ^ 0x80000000u)) { goto after36; }
+    if (held8(p621, 78, m, v1 + 56ull)) { goto after38; }
+    goto after36;
+after39:;
+    if (v8 < 2ull) { goto after37; }
+    v22 = load8(m, v1 + 153ull, 0);
+after38:;
+    if ((v11 & 255u) > 7u) { goto after36; }
+    if ((v22 & 255u) <= 191u) { goto after2; }
+    goto after36;
+after37:;
+    if ((v11 & 255u) < 8u) { goto after2; }
+after36:;
+    put_held8(p621, 76, m, v1 + 56ull, 0u);
+    store8(m, v1 + 138ull, 0, 0u);
+    v8 = 0ull;
+    v10 = 6u;
+    goto after1;
+after23:;
+    if (v8 == 0ull) { goto after4; }
+after22:;
+    v15 = 8ull;
+after21:;
+    v8 = v1 + v15;
+    goto after3;
+after12:;
+    session_core_progress_Progress_came_unheard(m, v9 + 16ull, v14, v1, v13, v2, v3, v4, v5, v6, v7);
+    v8 = get64(f9 + 24);
+    v10 = get8(f9 + 16);
+    goto after1;
+after4:;
+    v8 = v1 + 64ull;
+after3:;
+    w3 = load64(m, v8, 0);
+    session_core_progress_Progress_wait(m, v9, v14, v1, w3, v5);
+    v10 = 1u;
+    v8 = get64(f9 + 8);
+    goto after1;
+after2:;
+    if (v4) { goto after41; }
+    v11 = 1u;
+    if (v8 < 2ull) { goto after42; }
+    v11 = (u32)((spread32(load8(m, v1 + 153ull, 0), 8) ^ 0x80000000u) > (0xFFFFFFFFu ^ 0x80000000u));
+after42:;
+    if (v10 | (v11 ^ 1u)) { goto after44; }
+    if (v8 != 4ull) { goto after41; }
+    if (load8(m, v1 + 54ull, 0) & 255u) { goto after43; }
+    goto after41;
+after44:;
+    if ((v10 & v11) != 1u) { goto after41; }
+after43:;
+    if (load8(m, v1 + 55ull, 0) == 0) { goto after46; }
+    p835 = held(m, v1, 16);
+    v8 = held64(p835, 8, m, v1);
+    v15 = (held64(p835, 0, m, v1) >> 2) * 3ull;
+    v8 = (v8 > v15) ? v8 : v15;
+    goto after45;
+after46:;
+    v8 = load64(m, v1 + 64ull, 0);
+after45:;
+    p861 = held(m, v1 + 56ull, 81);
+    put_held8(p861, 80, m, v1 + 56ull, 1u);
+    put_held64(p861, 0, m, v1 + 56ull, v8);
+    put_held8(p861, 76, m, v1 + 56ull, 0u);
+    goto after40;
+after41:;
+    store8(m, v1 + 132ull, 0, 0u);
+after40:;
+    v8 = 0ull;
+    v10 = 2u;
+after1:;
+    p887 = held(m, v0, 16);
+    put_held64(p887, 8, m, v0, v8);
+    put_held8(p887, 0, m, v0, v10);
+    m->g0 = v9 + 48ull;
 }
 
 KEPT u32 line_core_framing_sum_of(struct call *m, u64 v0, u64 v1)
@@ -7985,317 +7590,473 @@ after3:;
     return v3;
 }
 
-KEPT void c_lent_card_session_card_session_proceed(struct call *m, u64 v0, u64 v1, u64 v2, u64 v3, u32 v4, u64 v5, u64
-    v6, u64 v7)
+static void session_core_progress_Progress_came_unheard(struct call *m, u64 v0, u64 v1, u64 v2, u64 v3, u64 v4, u64
+    v5, u32 v6, u64 v7, u64 v8, u64 v9)
 {
-    u64 v8 = 0;
-    u64 v9 = 0;
     u64 v10 = 0;
+    u64 v12 = 0;
     u64 v14 = 0;
-    u64 v15 = 0;
-    u64 v17 = 0;
     u32 v11 = 0;
-    u32 v12 = 0;
     u32 v13 = 0;
-    u32 v16 = 0;
-    u64 w0 = 0;
-    u8 *f17 = NULL;
-    u8 *p122 = NULL;
-    u8 *p293 = NULL;
-    u8 *p395 = NULL;
-    u8 *p482 = NULL;
-    u8 *p682 = NULL;
-    v17 = m->g0 - 320ull;
-    f17 = at(m, v17, 320);
-    v8 = v17;
-    m->g0 = v8;
-    memset(f17 + 56, (int)(0u & 255u), 104);
-    c_lent_kept_CCard_spelled(m, v17 + 56ull, v1);
-    if (get8(f17 + 56) != 1u) { goto after7; }
-    copy(m, v17 + 160ull, v17 + 64ull, 96ull);
-    v9 = v1 + 480ull;
-    v10 = v1 + 64ull;
-    v11 = load8(m, v1 + 496ull, 0);
-    v12 = 1u;
-    v13 = v4 & 255u;
-    if ((1u << (v13 & 31)) & 243u) { goto after8; }
-    if (v13 != 2u) { goto after9; }
-    put64(f17 + 280, 0ull);
-    put64(f17 + 272, 0ull);
-    put64(f17 + 264, 0ull);
-    v4 = get8(f17 + 200);
-    v14 = v1 + 216ull;
-    v15 = v1 + 208ull;
-    v5 = load64(m, v15, 0);
-    t1_core_lent_LentCard_received_into(m, v17 + 264ull, v17 + 160ull, v2, v3, v14, (v5 < 259ull) ? v5 : 259ull, v7);
-    if (get8(f17 + 264)) { goto after5; }
-    if (get8(f17 + 272)) { goto after10; }
-    v2 = get64(f17 + 280);
-    p122 = held(m, v1 + 128ull, 360);
-    put_held64(p122, 0, m, v1 + 128ull, 0xFFFFFFFFFFFFFFFFull);
-    put_held64(p122, 352, m, v1 + 128ull, v2);
-    session_core_progress_Progress_talk(m, v17 + 8ull, v1 + 120ull, v10, v15, v6);
-    v6 = get64(f17 + 16);
-    v16 = get8(f17 + 8);
-    if (v16 != 2u) { goto after11; }
-    if ((held8(p122, 72, m, v1 + 128ull) & 255u) == 0) { goto after11; }
-    store64(m, v15, 0, 4ull);
-    store32(m, v14, 0, 0x1000000u);
-    goto after3;
-after11:;
-    v12 = 1u;
-    v4 = v16;
-    switch (v16) {
-        case 1: goto after15;
-        case 2: goto after3;
-        case 3: goto after3;
-        case 4: goto after14;
-        case 5: goto after13;
-        case 6: goto after12;
+    u8 *f14 = NULL;
+    u8 *p83 = NULL;
+    v14 = m->g0 - 48ull;
+    f14 = at(m, v14, 48);
+    v10 = v14;
+    m->g0 = v10;
+    v11 = 7u;
+    v12 = 0ull;
+    v13 = load8(m, v1 + 76ull, 0);
+    switch (v13) {
+        case 0: goto after2;
+        case 1: goto after6;
+        case 5: goto after5;
         case 7: goto after3;
-        default: goto after2;
+        default: goto after4;
     }
-after15:;
-    v12 = 1u;
-    v16 = 0u;
-    v4 = 1u;
-    v2 = v6;
+after6:;
+    session_core_progress_Progress_drop_octets(m, v14 + 16ull, v1, v2, 2u, v7);
+    v11 = 1u;
+    v12 = get64(f14 + 24);
     goto after2;
-after14:;
-    v4 = 8u;
-    goto after4;
-after13:;
-    v4 = 9u;
-    goto after4;
-after12:;
-    v4 = 10u;
-    goto after4;
-after10:;
-    v2 = 0ull;
-    v5 = v1 + 488ull;
-    w0 = v5;
-    v5 = load64(m, v5, 0) + 1ull;
-    store64(m, w0, 0, ((v4 & 255u) == 4u) ? ((v5 == 0) ? 0xFFFFFFFFFFFFFFFFull : v5) : 0ull);
-    put64(f17 + 296, 0ull);
-    put64(f17 + 304, 0ull);
-    put64(f17 + 312, 0ull);
-    put16(f17 + 294, 103u);
-    v12 = 1u;
-    if ((1u << (get8(f17 + 200) & 31)) & 11u) { goto after16; }
-    v2 = get64(f17 + 240);
-after16:;
-    v4 = 7u;
-    v16 = 0u;
-    if (v11 & 255u) { goto after2; }
-    if (v2 > 3ull) { goto after2; }
-    session_core_card_reply(m, v17 + 296ull, v17 + 160ull, v10, v9, v3, v17 + 294ull, 2ull, v6, v7);
-    v12 = (u32)(get8(f17 + 296) == 0);
-    v2 = get64(f17 + 312);
-    v4 = get8(f17 + 304);
-    v16 = get8(f17 + 297);
-    goto after2;
-after9:;
-    p293 = held(m, v1 + 80ull, 56);
-    put_held64(p293, 48, m, v1 + 80ull, 0xFFFFFFFFFFFFFFFFull);
-    v2 = v1 + 120ull;
-    if (held64(p293, 0, m, v1 + 80ull) >= load64(m, v2, 0)) { goto after18; }
-    session_core_progress_Progress_drop_octets(m, v17 + 24ull, v2, v10, 7u, v6);
-    v2 = get64(f17 + 32);
-    goto after17;
-after18:;
-    session_core_progress_Progress_await_block(m, v17 + 40ull, v2, v10, v1 + 208ull, v6);
-    v2 = get64(f17 + 48);
-after17:;
-    v12 = 1u;
-    v16 = 0u;
-    v4 = 1u;
-    goto after2;
-after8:;
-    v2 = load64(m, v9, 0);
-    v16 = v4;
-    switch ((u32)(((u64)v4) & 255ull)) {
-        case 1: goto after24;
-        case 2: goto after20;
-        case 3: goto after20;
-        case 4: goto after23;
-        case 5: goto after22;
-        case 6: goto after21;
-        case 7: goto after20;
-        default: goto after2;
-    }
-after24:;
-    v16 = 0u;
-    v2 = v5;
-    goto after2;
-after23:;
-    v2 = 0ull;
-    v4 = 8u;
-    goto after19;
-after22:;
-    v2 = 0ull;
-    v4 = 9u;
-    goto after19;
-after21:;
-    v2 = 0ull;
-    v4 = 10u;
-    goto after19;
-after20:;
-    v2 = 0ull;
-    v4 = 11u;
-after19:;
-    v16 = 0u;
-    goto after2;
-after7:;
-    p395 = held(m, v0, 24);
-    put_held64(p395, 1, m, v0, 0ull);
-    put_held8(p395, 0, m, v0, 32u);
-    put_held64(p395, 9, m, v0, 0ull);
-    put_held64(p395, 16, m, v0, 0ull);
-    goto after1;
 after5:;
-    v12 = 0u;
-    v16 = get8(f17 + 265);
-    v4 = 0u;
-    v2 = 0ull;
+    session_core_progress_Progress_meet(m, v14 + 32ull, v1, v2, v3, v4, v5, v6, v7, v8, v9);
+    v12 = get64(f14 + 40);
+    v11 = get8(f14 + 32);
     goto after2;
 after4:;
-    v16 = 0u;
-    v2 = 0ull;
-    goto after2;
+    if (v13 > 3u) { goto after2; }
 after3:;
-    v4 = 11u;
-    v16 = 0u;
-    v12 = 1u;
-    v2 = 0ull;
+    session_core_progress_Progress_dropped(m, v14, v1, v2, v5, v7);
+    v12 = get64(f14 + 8);
+    v11 = get8(f14);
 after2:;
-    v13 = get8(f17 + 200);
-    v11 = v13;
-    v6 = 0ull;
-    switch ((u32)(((u64)v13) & 255ull)) {
-        case 1: goto after29;
-        case 2: goto after29;
-        case 3: goto after28;
-        case 4: goto after27;
-        default: goto after25;
-    }
-after29:;
-    v11 = 0u;
-    goto after26;
-after28:;
-    v13 = 3u;
-    v6 = get64(f17 + 208);
-    v11 = get8(f17 + 216);
-    goto after25;
-after27:;
-    v13 = (get8(f17 + 201)) ? 5u : 4u;
-    v11 = get8(f17 + 202);
-after26:;
-    v6 = 0ull;
-after25:;
-    p482 = held(m, v1, 64);
-    put_held8(p482, 8, m, v1, v11);
-    put_held8(p482, 7, m, v1, v13);
-    put_held8(p482, 6, m, v1, get8(f17 + 194));
-    put_held16(p482, 4, m, v1, get16(f17 + 192));
-    put_held16(p482, 0, m, v1, get16(f17 + 160));
-    v13 = get8(f17 + 168);
-    put_held8(p482, 2, m, v1, v13 & 1u);
-    v13 = (u32)(v13 == 1u);
-    put_held8(p482, 3, m, v1, v13 ? get8(f17 + 184) : 0u);
-    v7 = get64(f17 + 248);
-    v3 = get64(f17 + 240);
-    v5 = get64(f17 + 232);
-    v9 = get64(f17 + 224);
-    v10 = get64(f17 + 176);
-    put_held32(p482, 12, m, v1, 0u);
-    put_held32(p482, 9, m, v1, 0u);
-    put_held64(p482, 16, m, v1, v13 ? v10 : 0ull);
-    put_held64(p482, 24, m, v1, v6);
-    put_held64(p482, 32, m, v1, v9);
-    put_held64(p482, 40, m, v1, v5);
-    put_held64(p482, 48, m, v1, v3);
-    put_held64(p482, 56, m, v1, v7);
-    if (v12 == 0) { goto after31; }
-    v1 = 0ull;
-    v13 = 68u;
-    switch ((u32)(((u64)v4) & 255ull)) {
-        case 1: goto after32;
-        case 2: goto after35;
-        case 3: goto after37;
-        case 4: goto after43;
-        case 5: goto after42;
-        case 6: goto after41;
-        case 7: goto after35;
-        case 8: goto after39;
-        case 9: goto after38;
-        case 10: goto after36;
-        case 11: goto after40;
-        default: goto after44;
-    }
-after44:;
-    v13 = 0u;
-    goto after34;
-after43:;
-    v1 = 0ull;
-    v13 = 2u;
-    goto after33;
-after42:;
-    v1 = 0ull;
-    v13 = 3u;
-    goto after33;
-after41:;
-    v1 = 0ull;
-    v13 = 4u;
-    goto after33;
-after40:;
-    v1 = 0ull;
-    v13 = 21u;
-    goto after33;
-after39:;
-    v1 = 0ull;
-    v13 = 64u;
-    goto after33;
-after38:;
-    v1 = 0ull;
-    v13 = 65u;
-    goto after33;
-after37:;
-    v13 = 66u;
-    goto after34;
-after36:;
-    v1 = 0ull;
-    v13 = 67u;
-    goto after33;
-after35:;
-    v13 = 1u;
-after34:;
-    v1 = v2;
-after33:;
-    v2 = 0ull;
-after32:;
-    put32(f17 + 299, 0u);
-    put32(f17 + 296, 0u);
-    goto after30;
-after31:;
-    put32(f17 + 299, 0u);
-    put32(f17 + 296, 0u);
-    v13 = 0x131215u >> (((v16 & 255u) << 3) & 31);
-    v1 = 0ull;
-    v2 = 0ull;
-after30:;
-    put32(f17 + 259, get32(f17 + 299));
-    put32(f17 + 256, get32(f17 + 296));
-    p682 = held(m, v0, 24);
-    put_held8(p682, 0, m, v0, v13);
-    put_held32(p682, 1, m, v0, get32(f17 + 256));
-    put_held32(p682, 4, m, v0, get32(f17 + 259));
-    put_held64(p682, 16, m, v0, v2);
-    put_held64(p682, 8, m, v0, v1);
-after1:;
-    m->g0 = v17 + 320ull;
+    p83 = held(m, v0, 16);
+    put_held64(p83, 8, m, v0, v12);
+    put_held8(p83, 0, m, v0, v11);
+    m->g0 = v14 + 48ull;
+    return;
 }
 
-static void c_lent_kept_check_CCheck_fitting(struct call *m, u64 v0, u64 v1)
+static void session_core_progress_Progress_meet(struct call *m, u64 v0, u64 v1, u64 v2, u64 v3, u64 v4, u64 v5, u32
+    v6, u64 v7, u64 v8, u64 v9)
+{
+    u64 v10 = 0;
+    u64 v11 = 0;
+    u8 *f11 = NULL;
+    u8 *p50 = NULL;
+    v11 = m->g0 - 32ull;
+    f11 = at(m, v11, 32);
+    v10 = v11;
+    m->g0 = v10;
+    if (v6 == 0) { goto after3; }
+    session_core_progress_Progress_drop_octets(m, v11, v1, v2, 7u, v7);
+    v6 = 1u;
+    v7 = get64(f11 + 8);
+    goto after2;
+after3:;
+    session_core_progress_Progress_echoed(m, v11 + 16ull, v1, v2, v3, v4, v5, v7, v8, v9);
+    v7 = get64(f11 + 24);
+    v6 = get8(f11 + 16);
+after2:;
+    p50 = held(m, v0, 16);
+    put_held8(p50, 0, m, v0, v6);
+    put_held64(p50, 8, m, v0, v7);
+    m->g0 = v11 + 32ull;
+    return;
+}
+
+static void session_core_progress_Progress_dropped(struct call *m, u64 v0, u64 v1, u64 v2, u64 v3, u64 v4)
+{
+    u64 v5 = 0;
+    u64 v6 = 0;
+    u64 v8 = 0;
+    u32 v7 = 0;
+    u8 *f8 = NULL;
+    u8 *p70 = NULL;
+    u8 *p125 = NULL;
+    v8 = m->g0 - 16ull;
+    f8 = at(m, v8, 16);
+    v5 = v8;
+    m->g0 = v5;
+    v6 = v1 + 72ull;
+    v7 = load32(m, v6, 0);
+    if (v3 < ((u64)v7)) { goto after3; }
+    store8(m, v1 + 76ull, 0, 0u);
+    store32(m, v6, 0, 0u);
+    v7 = 4u;
+    v1 = 0ull;
+    goto after2;
+after3:;
+    store32(m, v6, 0, v7 - ((u32)v3));
+    switch (load8(m, v1 + 76ull, 0) + 0xFFFFFFFDu) {
+        case 0: goto after7;
+        case 4: goto after6;
+        default: goto after5;
+    }
+after7:;
+    v3 = load64(m, v1, 0);
+    goto after4;
+after6:;
+    if (load8(m, v2 + 55ull, 0) == 0) { goto after8; }
+    p70 = held(m, v2, 16);
+    v3 = held64(p70, 8, m, v2);
+    v6 = (held64(p70, 0, m, v2) >> 2) * 3ull;
+    v3 = (v3 > v6) ? v3 : v6;
+    goto after4;
+after8:;
+    v3 = load64(m, v1 + 8ull, 0);
+    goto after4;
+after5:;
+    if (load8(m, v2 + 55ull, 0) == 0) { goto after9; }
+    v3 = load64(m, v2 + 16ull, 0);
+    goto after4;
+after9:;
+    v3 = load64(m, v2, 0);
+after4:;
+    session_core_progress_Progress_wait(m, v8, v1, v2, v3, v4);
+    v7 = 1u;
+    v1 = get64(f8 + 8);
+after2:;
+    p125 = held(m, v0, 16);
+    put_held64(p125, 8, m, v0, v1);
+    put_held8(p125, 0, m, v0, v7);
+    m->g0 = v8 + 16ull;
+    return;
+}
+
+static void session_core_progress_Progress_echoed(struct call *m, u64 v0, u64 v1, u64 v2, u64 v3, u64 v4, u64 v5, u64
+    v6, u64 v7, u64 v8)
+{
+    u64 v9 = 0;
+    u64 v10 = 0;
+    u64 v11 = 0;
+    u64 v12 = 0;
+    u64 v14 = 0;
+    u32 v13 = 0;
+    u32 t0 = 0;
+    u8 *f14 = NULL;
+    u8 *p46 = NULL;
+    u8 *p172 = NULL;
+    v14 = m->g0 - 64ull;
+    f14 = at(m, v14, 64);
+    v9 = v14;
+    m->g0 = v9;
+    v10 = load64(m, v1 + 56ull, 0);
+    v11 = (v8 < v10) ? v8 : v10;
+    v12 = v7 + v11;
+    v11 = v8 - v11;
+    if (v5 >= v11) { goto after5; }
+    t0 = session_core_sending_begin_with(m, v12, v11, v4, v5);
+    if (t0 == 0) { goto after4; }
+    p46 = held(m, v2 + 8ull, 32);
+    v7 = held64(p46, 0, m, v2 + 8ull);
+    v11 = held64(p46, 24, m, v2 + 8ull);
+    if ((v11 | v8) > 0xFFFFFFFFull) { goto after7; }
+    v8 = v11 * v8;
+    goto after6;
+after7:;
+    multi3(m, v14 + 16ull, v11, 0ull, v8, 0ull);
+    v8 = (v11 == 0) ? 0ull : ((get64(f14 + 24) != 0ull) ? 0xFFFFFFFFFFFFFFFFull : (v11 * v8));
+after6:;
+    v11 = v5 + v10;
+    store64(m, v1 + 56ull, 0, (v11 < v5) ? 0xFFFFFFFFFFFFFFFFull : v11);
+    v5 = v8 + v7;
+    session_core_progress_Progress_wait(m, v14, v1, v2, (v5 < v8) ? 0xFFFFFFFFFFFFFFFFull : v5, v6);
+    v13 = 1u;
+    v8 = get64(f14 + 8);
+    goto after1;
+after5:;
+    t0 = session_core_sending_begin_with(m, v4, v5, v12, v11);
+    if (t0) { goto after2; }
+after4:;
+    session_core_progress_Progress_drop_octets(m, v14 + 32ull, v1, v2, 7u, v6);
+    v13 = 1u;
+    v8 = get64(f14 + 40);
+    goto after1;
+after2:;
+    session_core_progress_Progress_follow(m, v14 + 48ull, v1, v2, v3, v4 + v11, v5 - v11, v6, v7, v8);
+    v8 = get64(f14 + 56);
+    v13 = get8(f14 + 48);
+after1:;
+    p172 = held(m, v0, 16);
+    put_held8(p172, 0, m, v0, v13);
+    put_held64(p172, 8, m, v0, v8);
+    m->g0 = v14 + 64ull;
+}
+
+static void session_core_progress_Progress_follow(struct call *m, u64 v0, u64 v1, u64 v2, u64 v3, u64 v4, u64 v5, u64
+    v6, u64 v7, u64 v8)
+{
+    u64 v9 = 0;
+    u64 v10 = 0;
+    u64 v11 = 0;
+    u64 v12 = 0;
+    u64 v13 = 0;
+    u64 v14 = 0;
+    u64 v15 = 0;
+    u64 v16 = 0;
+    u64 v17 = 0;
+    u64 v18 = 0;
+    u64 v20 = 0;
+    u32 v19 = 0;
+    u32 t0 = 0;
+    u64 w3 = 0;
+    u8 *f10 = NULL;
+    u8 *p75 = NULL;
+    u8 *p76 = NULL;
+    u8 *p180 = NULL;
+    u8 *p195 = NULL;
+    u8 *p276 = NULL;
+    v20 = m->g0 - 16ull;
+    v9 = v20;
+    m->g0 = v9;
+    v10 = v20;
+    f10 = at(m, v10, 16);
+    v11 = v3 + 8ull;
+    v12 = load64(m, v3, 0);
+    v13 = (v12 < 259ull) ? v12 : 259ull;
+    v14 = v11 + v13;
+    v9 = 259ull - v13;
+    v9 = (v9 < v5) ? v9 : v5;
+    if ((v14 - v4) >= v9) { goto after3; }
+    v15 = v9 & 3ull;
+    v14 = 0ull;
+    if (v9 < 4ull) { goto after4; }
+    v16 = v3 + v13;
+    v17 = v9 & 508ull;
+    v14 = 0ull;
+again5:;
+    v9 = v16 + v14;
+    v18 = v4 + v14;
+    p75 = held(m, v18, 4);
+    p76 = held(m, v9 + 8ull, 4);
+    put_held8(p76, 0, m, v9 + 8ull, held8(p75, 0, m, v18));
+    put_held8(p76, 1, m, v9 + 8ull, held8(p75, 1, m, v18));
+    put_held8(p76, 2, m, v9 + 8ull, held8(p75, 2, m, v18));
+    put_held8(p76, 3, m, v9 + 8ull, held8(p75, 3, m, v18));
+    v14 = v14 + 4ull;
+    if (v17 != v14) { goto again5; }
+    if (v15 == 0) { goto after2; }
+after4:;
+    v18 = 0ull - v15;
+    v9 = v4 + v14;
+    v14 = ((v14 + v13) + v3) + 8ull;
+again6:;
+    store8(m, v14, 0, load8(m, v9, 0));
+    v14 = v14 + 1ull;
+    v9 = v9 + 1ull;
+    v18 = v18 + 1ull;
+    if (v18 != 0ull) { goto again6; }
+    goto after2;
+after3:;
+    if (v9 == 0) { goto after7; }
+    copy(m, v14, v4, v9);
+after7:;
+    v12 = load64(m, v3, 0);
+after2:;
+    v9 = v5 + v12;
+    store64(m, v3, 0, (v9 < v5) ? 0xFFFFFFFFFFFFFFFFull : v9);
+    p180 = held(m, v1 + 56ull, 25);
+    put_held64(p180, 0, m, v1 + 56ull, v8);
+    put_held8(p180, 20, m, v1 + 56ull, 6u);
+    v19 = 0u;
+    if (held8(p180, 24, m, v1 + 56ull)) { goto after8; }
+    p195 = held(m, v3, 11);
+    v9 = held64(p195, 0, m, v3);
+    if (v9 != ((u64)held8(p195, 10, m, v3) + 4ull)) { goto after8; }
+    t0 = line_core_framing_sum_of(m, v11, v9);
+    v19 = (u32)((t0 & 255u) == 0);
+after8:;
+    store8(m, v1 + 81ull, 0, v19);
+    v9 = load64(m, v3, 0);
+    if (v9 > 65535ull) { goto after11; }
+    v14 = 8ull;
+    if (v19 == 0) { goto after10; }
+    v14 = 24ull;
+    if (load64(m, v2 + 24ull, 0) != 0xFFFFFFFFFFFFFFFFull) { goto after10; }
+after11:;
+    v9 = 0ull;
+    t0 = session_core_progress_Progress_judge_apart(m, v1, v2, v3, v7, v8);
+    v19 = t0;
+    goto after9;
+after10:;
+    w3 = load64(m, (v9 == 0) ? (v1 + 8ull) : (v2 + v14), 0);
+    session_core_progress_Progress_wait(m, v10, v1, v2, w3, v6);
+    v19 = 1u;
+    v9 = get64(f10 + 8);
+after9:;
+    p276 = held(m, v0, 16);
+    put_held64(p276, 8, m, v0, v9);
+    put_held8(p276, 0, m, v0, v19);
+    m->g0 = v10 + 16ull;
+    return;
+}
+
+KEPT void session_core_lines_Line_silent(struct call *m, u64 v0, u64 v1, u64 v2, u64 v3, u64 v4)
+{
+    u64 v5 = 0;
+    u64 v7 = 0;
+    u64 v9 = 0;
+    u64 v10 = 0;
+    u64 v11 = 0;
+    u64 v12 = 0;
+    u64 v13 = 0;
+    u32 v6 = 0;
+    u32 v8 = 0;
+    u32 t0 = 0;
+    u64 w0 = 0;
+    u8 *f13 = NULL;
+    u8 *p46 = NULL;
+    u8 *p107 = NULL;
+    u8 *p146 = NULL;
+    u8 *p237 = NULL;
+    u8 *p251 = NULL;
+    u8 *p312 = NULL;
+    v13 = m->g0 - 64ull;
+    f13 = at(m, v13, 64);
+    v5 = v13;
+    m->g0 = v5;
+    v6 = 7u;
+    v7 = 0ull;
+    v8 = load8(m, v1 + 132ull, 0);
+    switch (v8) {
+        case 0: goto after2;
+        case 5: goto after3;
+        case 6: goto after3;
+        case 7: goto after3;
+        default: goto after4;
+    }
+after4:;
+    if (v8 > 3u) { goto after2; }
+after3:;
+    v9 = v1 + 144ull;
+    v10 = v1 + 56ull;
+    v11 = v1 + 96ull;
+    p46 = held(m, v1 + 72ull, 62);
+    v12 = held64(p46, 0, m, v1 + 72ull);
+    w0 = v11;
+    v11 = v12 + load64(m, v11, 0);
+    store64(m, w0, 0, (v11 < v12) ? 0xFFFFFFFFFFFFFFFFull : v11);
+    if (held8(p46, 61, m, v1 + 72ull) == 0) { goto after5; }
+    session_core_progress_Progress_leave(m, v10, v1, v9);
+    put_held8(p46, 60, m, v1 + 72ull, 0u);
+    v6 = 5u;
+    goto after2;
+after5:;
+    switch (v8 + 0xFFFFFFFFu) {
+        case 0: goto after12;
+        case 1: goto after11;
+        case 2: goto after10;
+        case 4: goto after9;
+        case 5: goto after8;
+        case 6: goto after7;
+        default: goto after2;
+    }
+after12:;
+    session_core_progress_Progress_talk(m, v13, v10, v1, v9, v2);
+    v7 = get64(f13 + 8);
+    v6 = get8(f13);
+    goto after2;
+after11:;
+    p107 = held(m, v1 + 55ull, 9);
+    t0 = (u32)(held64(p107, 1, m, v1 + 55ull) > load64(m, v1 + ((held8(p107, 0, m, v1 + 55ull)) ? 16ull : 0ull), 0));
+    if (t0) { goto after13; }
+    store64(m, v10, 0, 0ull);
+after13:;
+    session_core_progress_Progress_talk(m, v13 + 16ull, v10, v1, v9, v2);
+    v7 = get64(f13 + 24);
+    v6 = get8(f13 + 16);
+    goto after2;
+after10:;
+    v7 = 0ull;
+    p146 = held(m, v1 + 56ull, 96);
+    put_held64(p146, 88, m, v1 + 56ull, 0ull);
+    put_held64(p146, 0, m, v1 + 56ull, 0ull);
+    put_held8(p146, 76, m, v1 + 56ull, 4u);
+    v6 = 0u;
+    put_held8(p146, 81, m, v1 + 56ull, 0u);
+    put_held64(p146, 24, m, v1 + 56ull, v2);
+    put_held16(p146, 79, m, v1 + 56ull, 0u);
+    goto after2;
+after9:;
+    v7 = 0ull;
+    if (held64(p46, 40, m, v1 + 72ull) != 0ull) { goto after14; }
+    put_held8(p46, 60, m, v1 + 72ull, 0u);
+    v6 = 4u;
+    goto after2;
+after14:;
+    session_core_progress_Progress_drop_octets(m, v13 + 32ull, v10, v1, 7u, v2);
+    v6 = 1u;
+    v7 = get64(f13 + 40);
+    goto after2;
+after8:;
+    v7 = 0ull;
+    if (load64(m, v9, 0) != 0ull) { goto after15; }
+    put_held8(p46, 60, m, v1 + 72ull, 0u);
+    goto after6;
+after15:;
+    t0 = session_core_progress_Progress_judge_apart(m, v10, v1, v9, v3, v4);
+    v6 = t0;
+    goto after2;
+after7:;
+    p237 = held(m, v1 + 55ull, 9);
+    v11 = held64(p237, 1, m, v1 + 55ull);
+    v6 = held8(p237, 0, m, v1 + 55ull);
+    if (v6 == 0) { goto after17; }
+    p251 = held(m, v1, 16);
+    v12 = held64(p251, 8, m, v1);
+    v4 = (held64(p251, 0, m, v1) >> 2) * 3ull;
+    v12 = (v12 > v4) ? v12 : v4;
+    goto after16;
+after17:;
+    v12 = load64(m, v1 + 64ull, 0);
+after16:;
+    if (v11 > v12) { goto after18; }
+    store64(m, v10, 0, 0ull);
+after18:;
+    if (v6 == 0) { goto after19; }
+    session_core_progress_Progress_await_block(m, v13 + 48ull, v10, v1, v9, v2);
+    v6 = 1u;
+    v7 = get64(f13 + 56);
+    goto after2;
+after19:;
+    put_held8(p46, 60, m, v1 + 72ull, 0u);
+after6:;
+    v6 = 3u;
+after2:;
+    p312 = held(m, v0, 16);
+    put_held64(p312, 8, m, v0, v7);
+    put_held8(p312, 0, m, v0, v6);
+    m->g0 = v13 + 64ull;
+    return;
+}
+
+KEPT void session_core_lines_Line_failed(struct call *m, u64 v0, u64 v1)
+{
+    u64 v2 = 0;
+    u64 v4 = 0;
+    u32 v3 = 0;
+    u8 *p37 = NULL;
+    v2 = m->g0;
+    if ((v2 ^ 0x8000000000000000ull) < (16ull ^ 0x8000000000000000ull)) { goto after1; }
+    v3 = 7u;
+    v4 = v1 + 132ull;
+    if (((load8(m, v4, 0) + 0xFFFFFFF8u) & 255u) < 249u) { goto after2; }
+    session_core_progress_Progress_leave(m, v1 + 56ull, v1, v1 + 144ull);
+    store8(m, v4, 0, 0u);
+    v3 = 4u;
+after2:;
+    p37 = held(m, v0, 16);
+    put_held64(p37, 8, m, v0, 0ull);
+    put_held8(p37, 0, m, v0, v3);
+    m->g0 = v2;
+    return;
+after1:;
+    UNREACHABLE;
+}
+
+KEPT void c_lent_kept_check_CCheck_fitting(struct call *m, u64 v0, u64 v1)
 {
     u64 v2 = 0;
     u64 v19 = 0;
@@ -15446,7 +15207,7 @@ after24:;
     m->g0 = v55 + 240ull;
 }
 
-static void c_lent_kept_receiver_CReceiver_fitting(struct call *m, u64 v0, u64 v1, u64 v2)
+KEPT void c_lent_kept_receiver_CReceiver_fitting(struct call *m, u64 v0, u64 v1, u64 v2)
 {
     u64 v3 = 0;
     u64 v6 = 0;
@@ -16152,7 +15913,7 @@ after23:;
     v4 = 0ull;
     put64(f34 + 128, 0ull);
     v22 = 0u;
-    session_core_lines_Line_turn(m, v34 + 8ull, v16, v15, 0u, v14, v19, v34 + 128ull, 0ull, v6);
+    session_core_lines_Line_turn_apart(m, v34 + 8ull, v16, v15, 0u, v14, v19, v34 + 128ull, 0ull, v6);
     v5 = get64(f34 + 16);
     v30 = get8(f34 + 8);
     v20 = v10;
@@ -16205,7 +15966,8 @@ after31:;
     put64(f34 + 136, 5ull);
     put64(f34 + 128, 0ull);
     v27 = 0u;
-    session_core_lines_Line_turn(m, v34 + 24ull, v16, v15, 0u, v14, v19, v34 + 128ull, (v22 & 1u) ? v4 : 0ull, v6);
+    session_core_lines_Line_turn_apart(m, v34 + 24ull, v16, v15, 0u, v14, v19, v34 + 128ull, (v22 & 1u) ? v4 : 0ull,
+        v6);
     v18 = 4u;
     v5 = get64(f34 + 32);
     v30 = get8(f34 + 24);
@@ -16328,10 +16090,10 @@ after1:;
     m->g0 = v34 + 160ull;
 }
 
-static void c_lent_kept_CTerminal_fitting(struct call *m, u64 v0, u64 v1, u64 v2, u64 v3)
+KEPT void c_lent_kept_CTerminal_fitting(struct call *m, u64 v0, u64 v1, u64 v2, u64 v3)
 {
     u64 v4 = 0;
-    u64 v8 = 0;
+    u64 v12 = 0;
     u64 v16 = 0;
     u64 v17 = 0;
     u64 v18 = 0;
@@ -16345,10 +16107,10 @@ static void c_lent_kept_CTerminal_fitting(struct call *m, u64 v0, u64 v1, u64 v2
     u32 v5 = 0;
     u32 v6 = 0;
     u32 v7 = 0;
+    u32 v8 = 0;
     u32 v9 = 0;
     u32 v10 = 0;
     u32 v11 = 0;
-    u32 v12 = 0;
     u32 v13 = 0;
     u32 v14 = 0;
     u32 v15 = 0;
@@ -16363,8 +16125,9 @@ static void c_lent_kept_CTerminal_fitting(struct call *m, u64 v0, u64 v1, u64 v2
     u32 v28 = 0;
     u32 v29 = 0;
     u8 *f35 = NULL;
-    u8 *p103 = NULL;
-    u8 *p468 = NULL;
+    u8 *p48 = NULL;
+    u8 *p120 = NULL;
+    u8 *p465 = NULL;
     v35 = m->g0 - 32ull;
     f35 = at(m, v35, 32);
     v4 = v35;
@@ -16379,48 +16142,61 @@ static void c_lent_kept_CTerminal_fitting(struct call *m, u64 v0, u64 v1, u64 v2
     if (v5 > 1u) { goto after4; }
     v6 = load8(m, v1 + 1ull, 0);
     if (v6 > 1u) { goto after4; }
-    v7 = load8(m, v1 + 6ull, 0);
-    if (v7 > 6u) { goto after4; }
-    v8 = 0ull;
-    v9 = 0u;
-    v10 = 1u << (v7 & 31);
-    if (v10 & 73u) { goto after7; }
-    v11 = load8(m, v1 + 7ull, 0);
-    if ((v10 & 6u) == 0) { goto after8; }
-    v8 = load64(m, v1 + 16ull, 0);
-    v9 = 0u;
+    p48 = held(m, v1 + 2ull, 6);
+    v7 = held8(p48, 5, m, v1 + 2ull);
+    v8 = held8(p48, 3, m, v1 + 2ull);
+    v9 = held8(p48, 2, m, v1 + 2ull);
+    v10 = held8(p48, 1, m, v1 + 2ull);
+    v11 = held8(p48, 0, m, v1 + 2ull);
+    v12 = 0ull;
+    v13 = held8(p48, 4, m, v1 + 2ull);
+    v14 = v13;
+    v15 = v13;
+    switch (v13) {
+        case 0: goto after6;
+        case 1: goto after9;
+        case 2: goto after9;
+        case 3: goto after8;
+        case 4: goto after7;
+        case 5: goto after7;
+        case 6: goto after8;
+        default: goto after4;
+    }
+after9:;
+    v12 = load64(m, v1 + 16ull, 0);
+    v14 = 0u;
+    v15 = v7;
     goto after6;
 after8:;
-    v9 = v11;
+    v14 = 0u;
+    v15 = 0u;
+    goto after6;
 after7:;
-    v11 = 0u;
+    v15 = 0u;
+    v14 = v7;
 after6:;
-    v10 = load8(m, v1 + 8ull, 0);
-    if (v10 > 1u) { goto after4; }
-    p103 = held(m, v1 + 2ull, 54);
-    v12 = held8(p103, 3, m, v1 + 2ull);
-    v13 = held8(p103, 2, m, v1 + 2ull);
-    v14 = held8(p103, 1, m, v1 + 2ull);
-    v15 = held8(p103, 0, m, v1 + 2ull);
-    v16 = held64(p103, 46, m, v1 + 2ull);
-    v17 = held64(p103, 38, m, v1 + 2ull);
-    v18 = held64(p103, 30, m, v1 + 2ull);
-    v19 = held64(p103, 22, m, v1 + 2ull);
-    switch (v7) {
-        case 1: goto after14;
-        case 2: goto after10;
-        case 3: goto after13;
-        case 4: goto after12;
-        case 5: goto after11;
-        default: goto after9;
+    v7 = load8(m, v1 + 8ull, 0);
+    if (v7 > 1u) { goto after4; }
+    p120 = held(m, v1 + 24ull, 32);
+    v16 = held64(p120, 24, m, v1 + 24ull);
+    v17 = held64(p120, 16, m, v1 + 24ull);
+    v18 = held64(p120, 8, m, v1 + 24ull);
+    v19 = held64(p120, 0, m, v1 + 24ull);
+    switch (v13) {
+        case 1: goto after15;
+        case 2: goto after11;
+        case 3: goto after14;
+        case 4: goto after13;
+        case 5: goto after12;
+        default: goto after10;
     }
-after14:;
+after15:;
     v1 = 0ull;
     v20 = 0u;
     if (v16 != 0ull) { goto after2; }
-    if ((v17 - v8) <= (((u64)v11) & 255ull)) { goto after2; }
-    if (((v11 + 1u) & 255u) < 2u) { goto after2; }
-    if (v17 < v8) { goto after2; }
+    if ((v17 - v12) <= (((u64)v15) & 255ull)) { goto after2; }
+    if (((v15 + 1u) & 255u) < 2u) { goto after2; }
+    if (v17 < v12) { goto after2; }
     v21 = 0u;
     v22 = 0u;
     v23 = 0u;
@@ -16435,48 +16211,48 @@ after14:;
     v32 = 0ull;
     v33 = 0ull;
     v34 = 0ull;
-    if ((v10 & 1u) == 0) { goto after9; }
+    if ((v7 & 1u) == 0) { goto after10; }
     goto after1;
-after13:;
-    if ((v10 & 1u) == 0) { goto after9; }
+after14:;
+    if ((v7 & 1u) == 0) { goto after10; }
     goto after3;
+after13:;
+    if (((v14 + 0xFFFFFFFFu) & 255u) >= 254u) { goto after3; }
+    goto after10;
 after12:;
-    if (((v9 + 0xFFFFFFFFu) & 255u) >= 254u) { goto after3; }
-    goto after9;
+    if ((v14 & 255u) >= 4u) { goto after3; }
+    goto after10;
 after11:;
-    if ((v9 & 255u) >= 4u) { goto after3; }
-    goto after9;
+    v1 = 0ull;
+    v20 = 0u;
+    if (v16 != 0ull) { goto after2; }
+    if ((v17 - v12) > (((u64)v15) & 255ull)) { goto after2; }
+    if (((v15 + 1u) & 255u) < 2u) { goto after2; }
+    if (v17 < v12) { goto after2; }
+    v21 = 0u;
+    v22 = 0u;
+    v23 = 0u;
+    v24 = 0u;
+    v25 = 0u;
+    v26 = 0u;
+    v27 = 0u;
+    v28 = 0u;
+    v29 = 0u;
+    v30 = 0ull;
+    v31 = 0ull;
+    v32 = 0ull;
+    v33 = 0ull;
+    v34 = 0ull;
+    if (v7 & 1u) { goto after1; }
 after10:;
     v1 = 0ull;
     v20 = 0u;
-    if (v16 != 0ull) { goto after2; }
-    if ((v17 - v8) > (((u64)v11) & 255ull)) { goto after2; }
-    if (((v11 + 1u) & 255u) < 2u) { goto after2; }
-    if (v17 < v8) { goto after2; }
-    v21 = 0u;
-    v22 = 0u;
-    v23 = 0u;
-    v24 = 0u;
-    v25 = 0u;
-    v26 = 0u;
-    v27 = 0u;
-    v28 = 0u;
-    v29 = 0u;
-    v30 = 0ull;
-    v31 = 0ull;
-    v32 = 0ull;
-    v33 = 0ull;
-    v34 = 0ull;
-    if (v10 & 1u) { goto after1; }
-after9:;
-    v1 = 0ull;
-    v20 = 0u;
-    if (((v14 + 0xFFFFFFFFu) & 255u) > 253u) { goto after2; }
-    if (((v13 + 0xFFFFFFFFu) & 255u) > 253u) { goto after2; }
+    if (((v10 + 0xFFFFFFFFu) & 255u) > 253u) { goto after2; }
+    if (((v9 + 0xFFFFFFFFu) & 255u) > 253u) { goto after2; }
     if (v18 > v3) { goto after2; }
     if (v19 > v2) { goto after2; }
     if (v16 > v3) { goto after2; }
-    if (((v12 + 0xFFFFFFFFu) & 255u) > 253u) { goto after2; }
+    if (((v8 + 0xFFFFFFFFu) & 255u) > 253u) { goto after2; }
     v21 = 0u;
     v22 = 0u;
     v23 = 0u;
@@ -16501,15 +16277,15 @@ after9:;
     v34 = 1ull;
     v20 = v5;
     v21 = v6;
-    v22 = v15;
-    v23 = v14;
-    v24 = v13;
-    v25 = v12;
-    v26 = v7;
-    v27 = v9;
-    v1 = v8;
-    v28 = v11;
-    v29 = v10;
+    v22 = v11;
+    v23 = v10;
+    v24 = v9;
+    v25 = v8;
+    v26 = v13;
+    v27 = v14;
+    v1 = v12;
+    v28 = v15;
+    v29 = v7;
     v30 = v19;
     v31 = v18;
     v32 = v17;
@@ -16539,34 +16315,34 @@ after2:;
     v33 = 0ull;
     v34 = 0ull;
 after1:;
-    p468 = held(m, v0, 80);
-    put_held64(p468, 0, m, v0, v34);
-    put_held8(p468, 17, m, v0, v27);
-    put_held8(p468, 16, m, v0, v26);
-    put_held16(p468, 14, m, v0, 0u);
-    put_held8(p468, 13, m, v0, v25);
-    put_held8(p468, 12, m, v0, v24);
-    put_held8(p468, 11, m, v0, v23);
-    put_held8(p468, 10, m, v0, v22);
-    put_held8(p468, 9, m, v0, v21);
-    put_held8(p468, 8, m, v0, v20);
-    put_held32(p468, 18, m, v0, get32(f35 + 24));
-    put_held16(p468, 22, m, v0, get16(f35 + 28));
-    put_held8(p468, 32, m, v0, v28);
-    put_held64(p468, 24, m, v0, v1);
-    put_held32(p468, 33, m, v0, get32(f35 + 16));
-    put_held32(p468, 36, m, v0, get32(f35 + 19));
-    put_held8(p468, 40, m, v0, v29);
-    put_held64(p468, 48, m, v0, v30);
-    put_held64(p468, 56, m, v0, v31);
-    put_held64(p468, 64, m, v0, v32);
-    put_held64(p468, 72, m, v0, v33);
-    put_held32(p468, 41, m, v0, get32(f35 + 8));
-    put_held32(p468, 44, m, v0, get32(f35 + 11));
+    p465 = held(m, v0, 80);
+    put_held64(p465, 0, m, v0, v34);
+    put_held8(p465, 17, m, v0, v27);
+    put_held8(p465, 16, m, v0, v26);
+    put_held16(p465, 14, m, v0, 0u);
+    put_held8(p465, 13, m, v0, v25);
+    put_held8(p465, 12, m, v0, v24);
+    put_held8(p465, 11, m, v0, v23);
+    put_held8(p465, 10, m, v0, v22);
+    put_held8(p465, 9, m, v0, v21);
+    put_held8(p465, 8, m, v0, v20);
+    put_held32(p465, 18, m, v0, get32(f35 + 24));
+    put_held16(p465, 22, m, v0, get16(f35 + 28));
+    put_held8(p465, 32, m, v0, v28);
+    put_held64(p465, 24, m, v0, v1);
+    put_held32(p465, 33, m, v0, get32(f35 + 16));
+    put_held32(p465, 36, m, v0, get32(f35 + 19));
+    put_held8(p465, 40, m, v0, v29);
+    put_held64(p465, 48, m, v0, v30);
+    put_held64(p465, 56, m, v0, v31);
+    put_held64(p465, 64, m, v0, v32);
+    put_held64(p465, 72, m, v0, v33);
+    put_held32(p465, 41, m, v0, get32(f35 + 8));
+    put_held32(p465, 44, m, v0, get32(f35 + 11));
 }
 
-static void session_core_lines_Line_turn(struct call *m, u64 v0, u64 v1, u64 v2, u32 v3, u64 v4, u32 v5, u64 v6, u64
-    v7, u64 v8)
+static void session_core_lines_Line_turn_apart(struct call *m, u64 v0, u64 v1, u64 v2, u32 v3, u64 v4, u32 v5, u64 v6,
+    u64 v7, u64 v8)
 {
     u64 v9 = 0;
     u64 v10 = 0;
@@ -16574,13 +16350,9 @@ static void session_core_lines_Line_turn(struct call *m, u64 v0, u64 v1, u64 v2,
     u32 v11 = 0;
     u8 *f12 = NULL;
     u8 *p28 = NULL;
-    u8 *p41 = NULL;
-    u8 *p98 = NULL;
-    u8 *p136 = NULL;
-    u8 *p198 = NULL;
-    u8 *p267 = NULL;
-    v12 = m->g0 - 64ull;
-    f12 = at(m, v12, 64);
+    u8 *p74 = NULL;
+    v12 = m->g0 - 16ull;
+    f12 = at(m, v12, 16);
     v9 = v12;
     m->g0 = v9;
     v10 = 0ull;
@@ -16595,81 +16367,11 @@ static void session_core_lines_Line_turn(struct call *m, u64 v0, u64 v1, u64 v2,
 after6:;
     p28 = held(m, v6 + 8ull, 9);
     v11 = held8(p28, 8, m, v6 + 8ull);
-    v10 = held64(p28, 0, m, v6 + 8ull);
-    store64(m, v2, 0, v10);
-    p41 = held(m, v1, 72);
-    put_held32(p41, 48, m, v1, v5);
-    put_held64(p41, 40, m, v1, v4);
-    v6 = ((u64)v11) & 255ull;
-    v7 = held64(p41, 0, m, v1);
-    multi3(m, v12 + 48ull, v6, 0ull, v7, 0ull);
-    put_held64(p41, 64, m, v1, (v11 & 255u) ? ((get64(f12 + 56) != 0ull) ? 0xFFFFFFFFFFFFFFFFull : (v7 * v6)) : 0ull);
-    v6 = v1 + 56ull;
-    switch ((u32)(((u64)v3) & 255ull)) {
-        case 1: goto after9;
-        case 2: goto after8;
-        default: goto after10;
-    }
-after10:;
-    p98 = held(m, v1 + 88ull, 51);
-    put_held8(p98, 50, m, v1 + 88ull, 0u);
-    put_held64(p98, 8, m, v1 + 88ull, 0ull);
-    put_held32(p98, 36, m, v1 + 88ull, 0u);
-    put_held8(p98, 44, m, v1 + 88ull, 1u);
-    put_held64(p98, 0, m, v1 + 88ull, v8);
-    session_core_progress_Progress_wait(m, v12, v6, v1, 0ull, v8);
-    v6 = get64(f12 + 8);
-    v11 = 1u;
-    goto after7;
-after9:;
-    p136 = held(m, v1 + 88ull, 51);
-    put_held8(p136, 50, m, v1 + 88ull, 0u);
-    put_held64(p136, 8, m, v1 + 88ull, 0ull);
-    put_held32(p136, 36, m, v1 + 88ull, 0u);
-    put_held64(p136, 0, m, v1 + 88ull, v8);
-    session_core_progress_Progress_drop_octets(m, v12 + 16ull, v6, v1, 2u, v8);
-    v6 = get64(f12 + 24);
-    v11 = 1u;
-    goto after7;
-after8:;
-    session_core_progress_Progress_talk(m, v12 + 32ull, v6, v1, v1 + 144ull, v8);
-    v6 = get64(f12 + 40);
-    v11 = get8(f12 + 32);
-    if (v11 != 2u) { goto after7; }
-    if ((load8(m, v1 + 136ull, 0) & 255u) == 0) { goto after7; }
-    p198 = held(m, v1 + 144ull, 12);
-    put_held64(p198, 0, m, v1 + 144ull, 4ull);
-    put_held32(p198, 8, m, v1 + 144ull, 0x1000000u);
-after7:;
-    switch ((u32)(((u64)v11) & 255ull)) {
-        case 1: goto after15;
-        case 2: goto after11;
-        case 3: goto after11;
-        case 4: goto after14;
-        case 5: goto after13;
-        case 6: goto after12;
-        case 7: goto after11;
-        default: goto after2;
-    }
-after15:;
-    v11 = 1u;
-    v10 = v6;
-    goto after2;
-after14:;
-    v10 = 0ull;
-    v11 = 8u;
-    goto after2;
-after13:;
-    v10 = 0ull;
-    v11 = 9u;
-    goto after2;
-after12:;
-    v10 = 0ull;
-    v11 = 10u;
-    goto after2;
-after11:;
-    v10 = 0ull;
-    v11 = 11u;
+    v6 = held64(p28, 0, m, v6 + 8ull);
+    store64(m, v2, 0, v6);
+    session_core_lines_Line_send(m, v12, v1, v3, v4, v5, v6, v11, v8);
+    v10 = get64(f12 + 8);
+    v11 = get8(f12);
     goto after2;
 after5:;
     v11 = (v7 < 2ull) ? 3u : 2u;
@@ -16681,10 +16383,180 @@ after4:;
 after3:;
     v11 = 6u;
 after2:;
-    p267 = held(m, v0, 16);
-    put_held64(p267, 8, m, v0, v10);
-    put_held8(p267, 0, m, v0, v11);
-    m->g0 = v12 + 64ull;
+    p74 = held(m, v0, 16);
+    put_held64(p74, 8, m, v0, v10);
+    put_held8(p74, 0, m, v0, v11);
+    m->g0 = v12 + 16ull;
+    return;
+}
+
+static void c_lent_kept_terminal_wait_of(struct call *m, u64 v0, u32 v1, u32 v2, u64 v3)
+{
+    u64 v4 = 0;
+    u64 v6 = 0;
+    u64 v9 = 0;
+    u64 v10 = 0;
+    u32 v5 = 0;
+    u32 v7 = 0;
+    u32 v8 = 0;
+    u8 *f10 = NULL;
+    u8 *p74 = NULL;
+    v10 = m->g0 - 16ull;
+    f10 = at(m, v10, 16);
+    v4 = v10;
+    if ((v4 ^ 0x8000000000000000ull) < (16ull ^ 0x8000000000000000ull)) { goto after1; }
+    v5 = 0u;
+    put32(f10 + 11, 0u);
+    put32(f10 + 8, 0u);
+    v6 = 0ull;
+    v7 = 0u;
+    v8 = 0u;
+    v9 = 0ull;
+    switch ((u32)(((u64)v1) & 255ull)) {
+        case 0: goto after7;
+        case 1: goto after6;
+        case 2: goto after6;
+        case 3: goto after5;
+        case 4: goto after4;
+        case 5: goto after4;
+        case 6: goto after5;
+        default: goto after2;
+    }
+after7:;
+    v9 = 1ull;
+    v7 = 0u;
+    v8 = 0u;
+    goto after2;
+after6:;
+    v9 = 1ull;
+    v7 = 0u;
+    v8 = v1;
+    v6 = v3;
+    v5 = v2;
+    goto after2;
+after5:;
+    v9 = 1ull;
+    v7 = 0u;
+    goto after3;
+after4:;
+    v9 = 1ull;
+    v7 = v2;
+after3:;
+    v8 = v1;
+after2:;
+    p74 = held(m, v0, 32);
+    put_held64(p74, 0, m, v0, v9);
+    put_held8(p74, 24, m, v0, v5);
+    put_held64(p74, 16, m, v0, v6);
+    put_held8(p74, 9, m, v0, v7);
+    put_held8(p74, 8, m, v0, v8);
+    put_held32(p74, 25, m, v0, get32(f10 + 8));
+    put_held32(p74, 28, m, v0, get32(f10 + 11));
+    return;
+after1:;
+    UNREACHABLE;
+}
+
+static void session_core_lines_Line_send(struct call *m, u64 v0, u64 v1, u32 v2, u64 v3, u32 v4, u64 v5, u32 v6, u64
+    v7)
+{
+    u64 v8 = 0;
+    u64 v9 = 0;
+    u64 v10 = 0;
+    u8 *f10 = NULL;
+    u8 *p15 = NULL;
+    u8 *p88 = NULL;
+    u8 *p126 = NULL;
+    u8 *p188 = NULL;
+    u8 *p239 = NULL;
+    v10 = m->g0 - 64ull;
+    f10 = at(m, v10, 64);
+    v8 = v10;
+    m->g0 = v8;
+    p15 = held(m, v1, 52);
+    put_held32(p15, 48, m, v1, v4);
+    put_held64(p15, 40, m, v1, v3);
+    v3 = ((u64)v6) & 255ull;
+    v9 = held64(p15, 0, m, v1);
+    if (v9 > 0xFFFFFFFFull) { goto after3; }
+    v3 = v9 * v3;
+    goto after2;
+after3:;
+    multi3(m, v10 + 48ull, v3, 0ull, v9, 0ull);
+    v3 = (v6 & 255u) ? ((get64(f10 + 56) != 0ull) ? 0xFFFFFFFFFFFFFFFFull : (v9 * v3)) : 0ull;
+after2:;
+    store64(m, v1 + 64ull, 0, v3);
+    v3 = v1 + 56ull;
+    switch ((u32)(((u64)v2) & 255ull)) {
+        case 1: goto after6;
+        case 2: goto after5;
+        default: goto after7;
+    }
+after7:;
+    p88 = held(m, v1 + 88ull, 51);
+    put_held8(p88, 50, m, v1 + 88ull, 0u);
+    put_held64(p88, 8, m, v1 + 88ull, 0ull);
+    put_held32(p88, 36, m, v1 + 88ull, 0u);
+    put_held8(p88, 44, m, v1 + 88ull, 1u);
+    put_held64(p88, 0, m, v1 + 88ull, v7);
+    session_core_progress_Progress_wait(m, v10, v3, v1, 0ull, v7);
+    v7 = get64(f10 + 8);
+    v6 = 1u;
+    goto after4;
+after6:;
+    p126 = held(m, v1 + 88ull, 51);
+    put_held8(p126, 50, m, v1 + 88ull, 0u);
+    put_held64(p126, 8, m, v1 + 88ull, 0ull);
+    put_held32(p126, 36, m, v1 + 88ull, 0u);
+    put_held64(p126, 0, m, v1 + 88ull, v7);
+    session_core_progress_Progress_drop_octets(m, v10 + 16ull, v3, v1, 2u, v7);
+    v7 = get64(f10 + 24);
+    v6 = 1u;
+    goto after4;
+after5:;
+    session_core_progress_Progress_talk(m, v10 + 32ull, v3, v1, v1 + 144ull, v7);
+    v7 = get64(f10 + 40);
+    v6 = get8(f10 + 32);
+    if (v6 != 2u) { goto after4; }
+    if ((load8(m, v1 + 136ull, 0) & 255u) == 0) { goto after4; }
+    p188 = held(m, v1 + 144ull, 12);
+    put_held64(p188, 0, m, v1 + 144ull, 4ull);
+    put_held32(p188, 8, m, v1 + 144ull, 0x1000000u);
+after4:;
+    switch ((u32)(((u64)v6) & 255ull)) {
+        case 1: goto after13;
+        case 2: goto after9;
+        case 3: goto after9;
+        case 4: goto after12;
+        case 5: goto after11;
+        case 6: goto after10;
+        case 7: goto after9;
+        default: goto after8;
+    }
+after13:;
+    v6 = 1u;
+    v5 = v7;
+    goto after8;
+after12:;
+    v5 = 0ull;
+    v6 = 8u;
+    goto after8;
+after11:;
+    v5 = 0ull;
+    v6 = 9u;
+    goto after8;
+after10:;
+    v5 = 0ull;
+    v6 = 10u;
+    goto after8;
+after9:;
+    v5 = 0ull;
+    v6 = 11u;
+after8:;
+    p239 = held(m, v0, 16);
+    put_held64(p239, 8, m, v0, v5);
+    put_held8(p239, 0, m, v0, v6);
+    m->g0 = v10 + 64ull;
     return;
 }
 
@@ -16845,297 +16717,6 @@ after1:;
     put_held64(p354, 8, m, v0, v1);
     put_held8(p354, 1, m, v0, v5);
     m->g0 = v4 + 16ull;
-}
-
-KEPT void c_lent_session_session_proceed(struct call *m, u64 v0, u64 v1, u64 v2, u64 v3, u32 v4, u64 v5, u64 v6, u64
-    v7)
-{
-    u64 v8 = 0;
-    u64 v12 = 0;
-    u64 v20 = 0;
-    u64 v21 = 0;
-    u64 v22 = 0;
-    u64 v23 = 0;
-    u32 v9 = 0;
-    u32 v10 = 0;
-    u32 v11 = 0;
-    u32 v13 = 0;
-    u32 v14 = 0;
-    u32 v15 = 0;
-    u32 v16 = 0;
-    u32 v17 = 0;
-    u32 v18 = 0;
-    u32 v19 = 0;
-    u32 t5 = 0;
-    u64 w4 = 0;
-    u64 w7 = 0;
-    u8 *f23 = NULL;
-    u8 *p85 = NULL;
-    u8 *p278 = NULL;
-    u8 *p353 = NULL;
-    u8 *p480 = NULL;
-    u8 *p658 = NULL;
-    u8 *p677 = NULL;
-    v23 = m->g0 - 176ull;
-    f23 = at(m, v23, 176);
-    v8 = v23;
-    m->g0 = v8;
-    v9 = load8(m, v1, 0);
-    if (v9 > 1u) { goto after3; }
-    v10 = load8(m, v1 + 1ull, 0);
-    if (v10 > 1u) { goto after3; }
-    v11 = load8(m, v1 + 6ull, 0);
-    if (v11 > 6u) { goto after3; }
-    v12 = 0ull;
-    v13 = 0u;
-    v14 = 1u << (v11 & 31);
-    if (v14 & 73u) { goto after5; }
-    v15 = load8(m, v1 + 7ull, 0);
-    if ((v14 & 6u) == 0) { goto after6; }
-    v12 = load64(m, v1 + 16ull, 0);
-    v13 = 0u;
-    goto after4;
-after6:;
-    v13 = v15;
-after5:;
-    v15 = 0u;
-after4:;
-    v14 = load8(m, v1 + 8ull, 0);
-    if (v14 > 1u) { goto after3; }
-    p85 = held(m, v1 + 2ull, 54);
-    v16 = held8(p85, 3, m, v1 + 2ull);
-    v17 = held8(p85, 2, m, v1 + 2ull);
-    v18 = held8(p85, 1, m, v1 + 2ull);
-    v19 = held8(p85, 0, m, v1 + 2ull);
-    put32(f23 + 50, 0u);
-    put8(f23 + 49, v13);
-    put8(f23 + 48, v11);
-    put16(f23 + 46, 0u);
-    put8(f23 + 45, v16);
-    put8(f23 + 44, v17);
-    put8(f23 + 43, v18);
-    put8(f23 + 42, v19);
-    put8(f23 + 41, v10);
-    put8(f23 + 40, v9);
-    put16(f23 + 54, 0u);
-    put8(f23 + 64, v15);
-    put64(f23 + 56, v12);
-    v12 = held64(p85, 46, m, v1 + 2ull);
-    v20 = held64(p85, 38, m, v1 + 2ull);
-    v21 = held64(p85, 30, m, v1 + 2ull);
-    v22 = held64(p85, 22, m, v1 + 2ull);
-    put32(f23 + 68, 0u);
-    put32(f23 + 65, 0u);
-    put8(f23 + 72, v14);
-    put32(f23 + 73, 0u);
-    put32(f23 + 76, 0u);
-    put64(f23 + 80, v22);
-    put64(f23 + 88, v21);
-    put64(f23 + 96, v20);
-    put64(f23 + 104, v12);
-    v20 = v1 + 488ull;
-    v21 = v1 + 56ull;
-    v9 = v4 & 255u;
-    if ((1u << (v9 & 31)) & 243u) { goto after9; }
-    if (v9 != 2u) { goto after11; }
-    v12 = 0ull;
-    put64(f23 + 168, 0ull);
-    put64(f23 + 120, 0ull);
-    put64(f23 + 128, 0ull);
-    put64(f23 + 136, 0ull);
-    put64(f23 + 144, 0ull);
-    v5 = load64(m, v1 + 200ull, 0);
-    t1_core_lent_LentTerminal_received_into(m, v23 + 120ull, v23 + 40ull, v2, v3, v1 + 208ull, (v5 < 259ull) ? v5 :
-        259ull, v7);
-    if (get8(f23 + 120)) { goto after10; }
-    put8(f23 + 168, get8(f23 + 144));
-    put64(f23 + 160, get64(f23 + 136));
-    put64(f23 + 152, (u64)get8(f23 + 128));
-    p278 = held(m, v1 + 96ull, 12);
-    w4 = held64(p278, 0, m, v1 + 96ull);
-    t5 = held32(p278, 8, m, v1 + 96ull);
-    w7 = (get8(f23 + 72)) ? get64(f23 + 104) : 0ull;
-    session_core_lines_Line_turn(m, v23 + 8ull, v21, v20, 2u, w4, t5, v23 + 152ull, w7, v6);
-    v9 = 0u;
-    v12 = get64(f23 + 16);
-    v4 = get8(f23 + 8);
-    goto after8;
-after11:;
-    v12 = 0ull;
-    put64(f23 + 168, 0ull);
-    put64(f23 + 120, 0ull);
-    put64(f23 + 128, 0ull);
-    put64(f23 + 136, 0ull);
-    put64(f23 + 144, 0ull);
-    t1_core_lent_LentTerminal_quiet_into(m, v23 + 120ull, v23 + 40ull, v7);
-    if (get8(f23 + 120)) { goto after10; }
-    put8(f23 + 168, get8(f23 + 144));
-    put64(f23 + 160, get64(f23 + 136));
-    put64(f23 + 152, (u64)get8(f23 + 128));
-    p353 = held(m, v1 + 96ull, 12);
-    w4 = held64(p353, 0, m, v1 + 96ull);
-    t5 = held32(p353, 8, m, v1 + 96ull);
-    w7 = (get8(f23 + 72)) ? get64(f23 + 104) : 0ull;
-    session_core_lines_Line_turn(m, v23 + 24ull, v21, v20, 2u, w4, t5, v23 + 152ull, w7, v6);
-    v9 = 0u;
-    v12 = get64(f23 + 32);
-    v4 = get8(f23 + 24);
-    goto after8;
-after10:;
-    v4 = 0u;
-    v9 = 1u;
-    v11 = get8(f23 + 121);
-    goto after7;
-after9:;
-    v12 = load64(m, v20, 0);
-    v9 = v4;
-    v11 = v4;
-    switch ((u32)(((u64)v4) & 255ull)) {
-        case 1: goto after17;
-        case 2: goto after13;
-        case 3: goto after13;
-        case 4: goto after16;
-        case 5: goto after15;
-        case 6: goto after14;
-        case 7: goto after13;
-        default: goto after7;
-    }
-after17:;
-    v9 = 0u;
-    v11 = 0u;
-    v12 = v5;
-    goto after7;
-after16:;
-    v12 = 0ull;
-    v4 = 8u;
-    goto after12;
-after15:;
-    v12 = 0ull;
-    v4 = 9u;
-    goto after12;
-after14:;
-    v12 = 0ull;
-    v4 = 10u;
-    goto after12;
-after13:;
-    v12 = 0ull;
-    v4 = 11u;
-after12:;
-    v9 = 0u;
-after8:;
-    v11 = 0u;
-after7:;
-    v7 = 0ull;
-    v10 = 0u;
-    v13 = get8(f23 + 48);
-    v15 = 1u << (v13 & 31);
-    if (v15 & 73u) { goto after18; }
-    if ((v15 & 6u) == 0) { goto after19; }
-    v7 = get64(f23 + 56);
-    v10 = get8(f23 + 64);
-    goto after18;
-after19:;
-    v10 = get8(f23 + 49);
-after18:;
-    p480 = held(m, v1, 56);
-    put_held32(p480, 0, m, v1, get32(f23 + 40));
-    put_held32(p480, 9, m, v1, 0u);
-    put_held32(p480, 12, m, v1, 0u);
-    put_held64(p480, 16, m, v1, v7);
-    put_held8(p480, 8, m, v1, get8(f23 + 72));
-    put_held8(p480, 7, m, v1, v10);
-    put_held8(p480, 6, m, v1, v13);
-    put_held16(p480, 4, m, v1, get16(f23 + 44));
-    put_held64(p480, 24, m, v1, get64(f23 + 80));
-    put_held64(p480, 32, m, v1, get64(f23 + 88));
-    put_held64(p480, 40, m, v1, get64(f23 + 96));
-    put_held64(p480, 48, m, v1, get64(f23 + 104));
-    if (v9 & 255u) { goto after21; }
-    v1 = 0ull;
-    v9 = 68u;
-    switch ((u32)(((u64)v4) & 255ull)) {
-        case 1: goto after22;
-        case 2: goto after25;
-        case 3: goto after27;
-        case 4: goto after33;
-        case 5: goto after32;
-        case 6: goto after31;
-        case 7: goto after25;
-        case 8: goto after29;
-        case 9: goto after28;
-        case 10: goto after26;
-        case 11: goto after30;
-        default: goto after34;
-    }
-after34:;
-    v9 = 0u;
-    goto after24;
-after33:;
-    v1 = 0ull;
-    v9 = 2u;
-    goto after23;
-after32:;
-    v1 = 0ull;
-    v9 = 3u;
-    goto after23;
-after31:;
-    v1 = 0ull;
-    v9 = 4u;
-    goto after23;
-after30:;
-    v1 = 0ull;
-    v9 = 21u;
-    goto after23;
-after29:;
-    v1 = 0ull;
-    v9 = 64u;
-    goto after23;
-after28:;
-    v1 = 0ull;
-    v9 = 65u;
-    goto after23;
-after27:;
-    v9 = 66u;
-    goto after24;
-after26:;
-    v1 = 0ull;
-    v9 = 67u;
-    goto after23;
-after25:;
-    v9 = 1u;
-after24:;
-    v1 = v12;
-after23:;
-    v12 = 0ull;
-after22:;
-    put32(f23 + 123, 0u);
-    put32(f23 + 120, 0u);
-    goto after20;
-after21:;
-    put32(f23 + 123, 0u);
-    put32(f23 + 120, 0u);
-    v9 = v11 + 16u;
-    v1 = 0ull;
-    v12 = 0ull;
-after20:;
-    put32(f23 + 115, get32(f23 + 123));
-    put32(f23 + 112, get32(f23 + 120));
-    p658 = held(m, v0, 24);
-    put_held8(p658, 0, m, v0, v9);
-    put_held32(p658, 1, m, v0, get32(f23 + 112));
-    put_held32(p658, 4, m, v0, get32(f23 + 115));
-    put_held64(p658, 16, m, v0, v12);
-    put_held64(p658, 8, m, v0, v1);
-    goto after1;
-after3:;
-    p677 = held(m, v0, 24);
-    put_held64(p677, 1, m, v0, 0ull);
-    put_held8(p677, 0, m, v0, 32u);
-    put_held64(p677, 9, m, v0, 0ull);
-    put_held64(p677, 16, m, v0, 0ull);
-    goto after1;
-after1:;
-    m->g0 = v23 + 176ull;
 }
 
 static void t1_core_lent_LentTerminal_received_into(struct call *m, u64 v0, u64 v1, u64 v2, u64 v3, u64 v4, u64 v5,
@@ -23021,155 +22602,589 @@ static void rattle_export_scard_lent_card_session_step(struct call *m, u64 v0, u
     u32 v6, u64 v7, u64 v8, u64 v9, u64 v10, u64 v11)
 {
     u64 v12 = 0;
-    u64 v13 = 0;
     u64 v14 = 0;
-    u64 v15 = 0;
-    u64 v16 = 0;
+    u64 v20 = 0;
     u64 v21 = 0;
-    u64 v23 = 0;
+    u32 v13 = 0;
+    u32 v15 = 0;
+    u32 v16 = 0;
     u32 v17 = 0;
     u32 v18 = 0;
     u32 v19 = 0;
-    u32 v20 = 0;
-    u32 v22 = 0;
-    u8 *f23 = NULL;
-    u8 *p388 = NULL;
-    v23 = m->g0 - 144ull;
-    f23 = at(m, v23, 144);
-    v12 = v23;
+    u32 t1 = 0;
+    u64 w0 = 0;
+    u8 *f21 = NULL;
+    u8 *p84 = NULL;
+    u8 *p495 = NULL;
+    u8 *p550 = NULL;
+    u8 *p654 = NULL;
+    u8 *p694 = NULL;
+    u8 *p841 = NULL;
+    u8 *p1015 = NULL;
+    u8 *p1252 = NULL;
+    u8 *p1499 = NULL;
+    v21 = m->g0 - 368ull;
+    f21 = at(m, v21, 368);
+    v12 = v21;
     m->g0 = v12;
-    put64(f23 + 32, 0ull);
-    put64(f23 + 24, 0ull);
-    put64(f23 + 16, 0ull);
-    if (v11 > 257ull) { goto after3; }
-    put32(f23 + 43, 0u);
-    put32(f23 + 40, 0u);
+    put32(f21 + 203, 0u);
+    put32(f21 + 200, 0u);
+    put32(f21 + 211, 0u);
+    put32(f21 + 208, 0u);
+    if (v11 > 257ull) { goto after8; }
+    put32(f21 + 203, 0u);
+    put32(f21 + 200, 0u);
     v11 = 0ull;
-    v1 = 258ull;
+    v5 = 258ull;
     v6 = 33u;
-    goto after2;
-after3:;
-    memset(f23 + 40, (int)(0u & 255u), 104);
-    c_lent_kept_CCard_spelled(m, v23 + 40ull, v1);
-    if (get8(f23 + 40) != 1u) { goto after5; }
-    v13 = get64(f23 + 136);
-    v14 = get64(f23 + 128);
-    v15 = get64(f23 + 120);
-    v16 = get64(f23 + 112);
-    v17 = get8(f23 + 82);
-    v18 = get8(f23 + 81);
-    v19 = get8(f23 + 80);
-    v20 = get8(f23 + 56);
-    switch ((u32)(u64)get8(f23 + 88)) {
-        case 2: goto after8;
-        case 3: goto after9;
-        case 4: goto after10;
-        default: goto after7;
+    goto after1;
+after8:;
+    if (load8(m, v1, 0) > 1u) { goto after2; }
+    if (load8(m, v1 + 1ull, 0) > 1u) { goto after2; }
+    v13 = load8(m, v1 + 7ull, 0);
+    if (v13 > 5u) { goto after2; }
+    v14 = 0ull;
+    v15 = 1u;
+    v16 = load8(m, v1 + 2ull, 0);
+    switch (v16) {
+        case 0: goto after9;
+        case 1: goto after10;
+        default: goto after2;
     }
 after10:;
-    if (get8(f23 + 89) == 1u) { goto after8; }
-    if (((get8(f23 + 90) + 0xFFFFFFFFu) & 255u) > 253u) { goto after5; }
-    if ((v20 & 255u) != 1u) { goto after6; }
-    goto after5;
+    p84 = held(m, v1 + 3ull, 21);
+    v16 = held8(p84, 0, m, v1 + 3ull);
+    v14 = held64(p84, 13, m, v1 + 3ull);
+    v15 = 0u;
 after9:;
-    v21 = get64(f23 + 96);
-    v22 = get8(f23 + 104);
-    if ((v13 - v21) <= (((u64)v22) & 255ull)) { goto after5; }
-    if (v13 < v21) { goto after5; }
-    if (((v22 + 0xFFFFFFFFu) & 255u) > 253u) { goto after5; }
-    if ((v20 & 255u) != 1u) { goto after6; }
+    if (load64(m, v1 + 40ull, 0) > v5) { goto after2; }
+    if (load64(m, v1 + 32ull, 0) > v3) { goto after2; }
+    if (((load8(m, v1 + 4ull, 0) + 1u) & 255u) < 2u) { goto after2; }
+    if (((load8(m, v1 + 5ull, 0) + 1u) & 255u) < 2u) { goto after2; }
+    if (((load8(m, v1 + 6ull, 0) + 1u) & 255u) < 2u) { goto after2; }
+    if (load64(m, v1 + 48ull, 0) > v3) { goto after2; }
+    v3 = load64(m, v1 + 56ull, 0);
+    if (v3 > v5) { goto after2; }
+    if (v15) { goto after11; }
+    if ((v3 - v14) > (((u64)v16) & 255ull)) { goto after2; }
+    if (((v16 + 0xFFFFFFFFu) & 255u) > 253u) { goto after2; }
+    if (v3 < v14) { goto after2; }
+after11:;
+    v16 = load8(m, v1 + 8ull, 0);
+    switch (v13 + 0xFFFFFFFEu) {
+        case 0: goto after13;
+        case 1: goto after15;
+        case 2: goto after14;
+        case 3: goto after13;
+        default: goto after12;
+    }
+after15:;
+    v5 = load64(m, v1 + 24ull, 0);
+    t1 = (((u32)(((v16 + 0xFFFFFFFFu) & 255u) < 254u)) & ((u32)(v3 >= v5))) & ((u32)((v3 - v5) > (((u64)v16) &
+        255ull)));
+    if ((v15 & t1) == 0) { goto after2; }
+    goto after12;
+after14:;
+    if (v15 & ((u32)(((v16 + 0xFFFFFFFFu) & 255u) < 254u))) { goto after12; }
+    goto after2;
+after13:;
+    if (v15 == 0) { goto after2; }
+after12:;
+    v10 = v10 + ((v10 == 0) ? 4096ull : 0ull);
+    v7 = v7 + ((v7 == 0) ? 4096ull : 0ull);
+    v14 = v1 + 480ull;
+    v5 = load64(m, v14, 0);
+    v11 = (v11 < v5) ? v11 : v5;
+    v3 = v1 + 64ull;
+    switch ((u32)(((u64)v6) & 255ull)) {
+        case 0: goto after28;
+        case 1: goto after27;
+        case 2: goto after26;
+        case 3: goto after25;
+        case 4: goto after24;
+        default: goto after22;
+    }
+after28:;
+    session_core_lines_Line_sent(m, v21 + 56ull, v3, v9, v10, v11);
+    v11 = get64(f21 + 64);
+    v6 = get8(f21 + 56);
+    goto after23;
+after27:;
+    if (v8 != 0ull) { goto after29; }
+    if (load64(m, v1 + 136ull, 0) == 0xFFFFFFFFFFFFFFFFull) { goto after30; }
+    if (load32(m, v1 + 184ull, 0) != 0xFFFFFFFFu) { goto after30; }
+    session_core_lines_Line_silent(m, v21 + 88ull, v3, v9, v10, v11);
+    v11 = get64(f21 + 96);
+    v6 = get8(f21 + 88);
+    goto after23;
+after30:;
+    session_core_lines_Line_interrupted(m, v21 + 72ull, v3, v9);
+    v11 = get64(f21 + 80);
+    v6 = get8(f21 + 72);
+    goto after23;
+after29:;
+    session_core_lines_Line_came(m, v21 + 104ull, v3, v7, v8, 0u, v9, v10, v11);
+    v11 = get64(f21 + 112);
+    v6 = get8(f21 + 104);
+    goto after23;
+after26:;
+    if (v8 != 0ull) { goto after31; }
+    if (load64(m, v1 + 136ull, 0) == 0xFFFFFFFFFFFFFFFFull) { goto after32; }
+    if (load32(m, v1 + 184ull, 0) != 0xFFFFFFFFu) { goto after32; }
+    session_core_lines_Line_silent(m, v21 + 136ull, v3, v9, v10, v11);
+    v11 = get64(f21 + 144);
+    v6 = get8(f21 + 136);
+    goto after23;
+after32:;
+    session_core_lines_Line_interrupted(m, v21 + 120ull, v3, v9);
+    v11 = get64(f21 + 128);
+    v6 = get8(f21 + 120);
+    goto after23;
+after31:;
+    session_core_lines_Line_came(m, v21 + 152ull, v3, v7, v8, 1u, v9, v10, v11);
+    v11 = get64(f21 + 160);
+    v6 = get8(f21 + 152);
+    goto after23;
+after25:;
+    session_core_lines_Line_silent(m, v21 + 168ull, v3, v9, v10, v11);
+    v11 = get64(f21 + 176);
+    v6 = get8(f21 + 168);
+    goto after23;
+after24:;
+    session_core_lines_Line_failed(m, v21 + 184ull, v3);
+    v11 = 0ull;
+    v6 = get8(f21 + 184);
+after23:;
+    if ((v6 & 255u) != 2u) { goto after35; }
+    if ((load8(m, v1 + 200ull, 0) & 255u) == 0) { goto after35; }
+    p495 = held(m, v1 + 208ull, 12);
+    put_held64(p495, 0, m, v1 + 208ull, 4ull);
+    put_held32(p495, 8, m, v1 + 208ull, 0x1000000u);
+    goto after34;
+after35:;
+    if ((v6 & 254u) != 2u) { goto after33; }
+after34:;
+    v11 = (u64)load8(m, v1, 0);
+    if (v11 > 1ull) { goto after36; }
+    v5 = 0ull;
+    switch ((u32)v11) {
+        case 1: goto after38;
+        default: goto after37;
+    }
+after38:;
+    v5 = 1ull;
+after37:;
+    v11 = (u64)load8(m, v1 + 1ull, 0);
+    if (v11 > 1ull) { goto after36; }
+    switch ((u32)v11) {
+        case 1: goto after40;
+        default: goto after39;
+    }
+after40:;
+    v5 = v5 | 256ull;
+after39:;
+    p550 = held(m, v1 + 7ull, 2);
+    v17 = held8(p550, 1, m, v1 + 7ull);
+    v11 = 0ull;
+    v18 = 0u;
+    v13 = held8(p550, 0, m, v1 + 7ull);
+    v15 = v13;
+    v16 = v13;
+    v19 = v13;
+    switch (v13) {
+        case 0: goto after41;
+        case 1: goto after45;
+        case 2: goto after45;
+        case 3: goto after44;
+        case 4: goto after43;
+        case 5: goto after42;
+        default: goto after36;
+    }
+after45:;
+    v15 = 0u;
+    v16 = 0u;
+    v18 = 0u;
+    v19 = 0u;
+    goto after41;
+after44:;
+    v11 = load64(m, v1 + 24ull, 0);
+    v13 = 3u;
+    v15 = 0u;
+    v16 = 0u;
+    v18 = 0u;
+    v19 = v17;
+    goto after41;
+after43:;
+    v18 = 1u;
+    v16 = 0u;
+    v15 = v17;
+    v19 = 0u;
+    goto after41;
+after42:;
+    v19 = 0u;
+    v13 = 4u;
+    v16 = 1u;
+    v15 = v17;
+    v18 = 1u;
+after41:;
+    v7 = (u64)load8(m, v1 + 2ull, 0);
+    if (v7 > 1ull) { goto after36; }
+    switch ((u32)v7) {
+        case 1: goto after47;
+        default: goto after48;
+    }
+after48:;
+    v17 = 0u;
+    put32(f21 + 347, 0u);
+    put32(f21 + 344, 0u);
+    v7 = 0ull;
+    v8 = 0ull;
+    goto after46;
+after47:;
+    p654 = held(m, v1 + 3ull, 21);
+    v17 = held8(p654, 0, m, v1 + 3ull);
+    v7 = held64(p654, 13, m, v1 + 3ull);
+    put32(f21 + 347, 0u);
+    put32(f21 + 344, 0u);
+    v8 = 1ull;
+after46:;
+    put32(f21 + 244, get32(f21 + 347));
+    put32(f21 + 241, get32(f21 + 344));
+    put8(f21 + 240, v17);
+    put64(f21 + 232, v7);
+    put64(f21 + 224, v8);
+    put64(f21 + 216, v5);
+    p694 = held(m, v1 + 4ull, 60);
+    put8(f21 + 250, held8(p694, 2, m, v1 + 4ull));
+    put16(f21 + 248, held16(p694, 0, m, v1 + 4ull));
+    v5 = held64(p694, 28, m, v1 + 4ull);
+    v7 = held64(p694, 36, m, v1 + 4ull);
+    v8 = held64(p694, 44, m, v1 + 4ull);
+    v20 = held64(p694, 52, m, v1 + 4ull);
+    put8(f21 + 255, 0u);
+    put32(f21 + 251, 0u);
+    put8(f21 + 258, v15);
+    put8(f21 + 257, v16);
+    put8(f21 + 256, v13);
+    put8(f21 + 263, 0u);
+    put32(f21 + 259, 0u);
+    put8(f21 + 272, v19);
+    put64(f21 + 264, v11);
+    put32(f21 + 276, 0u);
+    put32(f21 + 273, 0u);
+    put64(f21 + 304, v20);
+    put64(f21 + 296, v8);
+    put64(f21 + 288, v7);
+    put64(f21 + 280, v5);
+    if ((v6 & 255u) != 2u) { goto after49; }
+    v6 = load8(m, v1 + 496ull, 0);
+    put64(f21 + 328, 0ull);
+    put64(f21 + 320, 0ull);
+    put64(f21 + 312, 0ull);
+    v8 = v4 + ((v4 == 0) ? 4096ull : 0ull);
+    v4 = v1 + 216ull;
+    v7 = v1 + 208ull;
+    v5 = load64(m, v7, 0);
+    t1_core_lent_LentCard_received_into(m, v21 + 312ull, v21 + 216ull, v2 + ((v2 == 0) ? 4096ull : 0ull), v8, v4, (v5
+        < 259ull) ? v5 : 259ull, v10);
+    if (get8(f21 + 312)) { goto after16; }
+    if (get8(f21 + 320)) { goto after51; }
+    v11 = get64(f21 + 328);
+    p841 = held(m, v1 + 128ull, 360);
+    put_held64(p841, 0, m, v1 + 128ull, 0xFFFFFFFFFFFFFFFFull);
+    put_held64(p841, 352, m, v1 + 128ull, v11);
+    session_core_progress_Progress_talk(m, v21 + 8ull, v1 + 120ull, v3, v7, v9);
+    v5 = get64(f21 + 16);
+    v16 = get8(f21 + 8);
+    if (v16 != 2u) { goto after52; }
+    if ((held8(p841, 72, m, v1 + 128ull) & 255u) == 0) { goto after52; }
+    store64(m, v7, 0, 4ull);
+    store32(m, v4, 0, 0x1000000u);
     goto after5;
-after8:;
-    if ((v20 & 255u) != 1u) { goto after6; }
-    goto after5;
-after7:;
-    if ((v20 & 255u) != 1u) { goto after6; }
-    v21 = get64(f23 + 64);
-    v20 = get8(f23 + 72);
-    if ((v13 - v21) > (((u64)v20) & 255ull)) { goto after5; }
-    if (((v20 + 0xFFFFFFFFu) & 255u) > 253u) { goto after5; }
-    if (v13 < v21) { goto after5; }
-after6:;
-    if (((v19 + 0xFFFFFFFFu) & 255u) > 253u) { goto after5; }
-    if (((v18 + 0xFFFFFFFFu) & 255u) > 253u) { goto after5; }
-    if (((v17 + 0xFFFFFFFFu) & 255u) >= 254u) { goto after5; }
-    if (v14 > v3) { goto after5; }
-    if (v13 > v5) { goto after5; }
-    if (v16 > v3) { goto after5; }
-    if (v15 <= v5) { goto after4; }
-after5:;
-    put32(f23 + 43, 0u);
-    put32(f23 + 40, 0u);
-    v1 = 0ull;
+after52:;
+    v15 = 1u;
+    v19 = v16;
+    switch (v16) {
+        case 1: goto after56;
+        case 2: goto after5;
+        case 3: goto after5;
+        case 4: goto after55;
+        case 5: goto after54;
+        case 6: goto after53;
+        case 7: goto after5;
+        default: goto after50;
+    }
+after56:;
+    v15 = 1u;
+    v16 = 0u;
+    v19 = 1u;
+    v11 = v5;
+    v13 = get8(f21 + 256);
+    goto after4;
+after55:;
+    v19 = 8u;
+    goto after6;
+after54:;
+    v19 = 9u;
+    goto after6;
+after53:;
+    v19 = 10u;
+    goto after6;
+after51:;
+    v11 = 0ull;
+    v5 = v1 + 488ull;
+    w0 = v5;
+    v5 = load64(m, v5, 0) + 1ull;
+    store64(m, w0, 0, v18 ? ((v5 == 0) ? 0xFFFFFFFFFFFFFFFFull : v5) : 0ull);
+    put64(f21 + 344, 0ull);
+    put64(f21 + 352, 0ull);
+    put64(f21 + 360, 0ull);
+    put16(f21 + 342, 103u);
+    v15 = 1u;
+    if ((1u << (get8(f21 + 256) & 31)) & 11u) { goto after57; }
+    v11 = get64(f21 + 296);
+after57:;
+    v19 = 7u;
+    v16 = 0u;
+    if (v6 & 255u) { goto after50; }
+    if (v11 > 3ull) { goto after50; }
+    session_core_card_reply(m, v21 + 344ull, v21 + 216ull, v3, v14, v8, v21 + 342ull, 2ull, v9, v10);
+    v15 = (u32)(get8(f21 + 344) == 0);
+    v11 = get64(f21 + 360);
+    v19 = get8(f21 + 352);
+    v16 = get8(f21 + 345);
+after50:;
+    v13 = get8(f21 + 256);
+    goto after4;
+after49:;
+    p1015 = held(m, v1 + 80ull, 56);
+    put_held64(p1015, 48, m, v1 + 80ull, 0xFFFFFFFFFFFFFFFFull);
+    v5 = v1 + 120ull;
+    if (held64(p1015, 0, m, v1 + 80ull) >= load64(m, v5, 0)) { goto after59; }
+    session_core_progress_Progress_drop_octets(m, v21 + 24ull, v5, v3, 7u, v9);
+    v11 = get64(f21 + 32);
+    goto after58;
+after59:;
+    session_core_progress_Progress_await_block(m, v21 + 40ull, v5, v3, v1 + 208ull, v9);
+    v11 = get64(f21 + 48);
+after58:;
+    v15 = 1u;
+    v16 = 0u;
+    v19 = 1u;
+    goto after4;
+after36:;
+    put32(f21 + 211, 0u);
+    put32(f21 + 208, 0u);
+    v5 = 0ull;
     v6 = 32u;
     v11 = 0ull;
-    goto after2;
-after4:;
-    v5 = v10 + ((v10 == 0) ? 4096ull : 0ull);
-    v3 = load64(m, v1 + 480ull, 0);
-    session_core_lines_Line_happen(m, v23, v1 + 64ull, v6, v7 + ((v7 == 0) ? 4096ull : 0ull), v8, v9, v5, (v11 < v3) ?
-        v11 : v3);
-    v11 = get64(f23 + 8);
-    v20 = get8(f23);
-    if ((v20 & 254u) != 2u) { goto after12; }
-    c_lent_card_session_card_session_proceed(m, v23 + 16ull, v1, v2 + ((v2 == 0) ? 4096ull : 0ull), v4 + ((v4 == 0) ?
-        4096ull : 0ull), v20, v11, v9, v5);
-    v11 = get64(f23 + 32);
-    v1 = get64(f23 + 24);
-    v6 = get8(f23 + 16);
-    goto after11;
-after12:;
-    v1 = 0ull;
-    v6 = 68u;
-    switch (v20) {
-        case 1: goto after13;
-        case 2: goto after1;
-        case 3: goto after1;
-        case 4: goto after17;
-        case 5: goto after16;
-        case 6: goto after15;
-        case 7: goto after18;
-        default: goto after19;
+    goto after3;
+after33:;
+    switch ((u32)(((u64)v6) & 255ull)) {
+        case 1: goto after61;
+        case 2: goto after7;
+        case 3: goto after7;
+        case 4: goto after21;
+        case 5: goto after20;
+        case 6: goto after19;
+        case 7: goto after22;
+        default: goto after60;
     }
-after19:;
-    v11 = 0ull;
+after61:;
+    put32(f21 + 219, 0u);
+    put32(f21 + 216, 0u);
+    v5 = 0ull;
+    v6 = 68u;
+    goto after17;
+after60:;
     v6 = 0u;
-    v1 = v3;
-    goto after13;
-after18:;
-    v1 = 0ull;
+    put32(f21 + 219, 0u);
+    put32(f21 + 216, 0u);
+    goto after18;
+after22:;
+    put32(f21 + 219, 0u);
+    put32(f21 + 216, 0u);
+    v5 = 0ull;
     v6 = 21u;
-    goto after14;
-after17:;
-    v1 = 0ull;
+    goto after18;
+after21:;
+    put32(f21 + 219, 0u);
+    put32(f21 + 216, 0u);
+    v5 = 0ull;
     v6 = 64u;
-    goto after14;
-after16:;
-    v1 = 0ull;
+    goto after18;
+after20:;
+    put32(f21 + 219, 0u);
+    put32(f21 + 216, 0u);
+    v5 = 0ull;
     v6 = 65u;
-    goto after14;
-after15:;
-    v1 = 0ull;
+    goto after18;
+after19:;
+    put32(f21 + 219, 0u);
+    put32(f21 + 216, 0u);
+    v5 = 0ull;
     v6 = 67u;
-after14:;
+after18:;
     v11 = 0ull;
-after13:;
-    put32(f23 + 20, 0u);
-    put32(f23 + 17, 0u);
-after11:;
-    put32(f23 + 43, get32(f23 + 20));
-    put32(f23 + 40, get32(f23 + 17));
-after2:;
-    p388 = held(m, v0, 24);
-    put_held8(p388, 0, m, v0, v6);
-    put_held32(p388, 1, m, v0, get32(f23 + 40));
-    put_held32(p388, 4, m, v0, get32(f23 + 43));
-    put_held64(p388, 16, m, v0, v11);
-    put_held64(p388, 8, m, v0, v1);
-    m->g0 = v23 + 144ull;
-    return;
-after1:;
+after17:;
+    put32(f21 + 211, get32(f21 + 219));
+    put32(f21 + 208, get32(f21 + 216));
+    goto after3;
+after16:;
+    v15 = 0u;
+    v16 = get8(f21 + 313);
+    v19 = 0u;
+    v11 = 0ull;
+    v13 = get8(f21 + 256);
+    goto after4;
+after7:;
     UNREACHABLE;
+after6:;
+    v16 = 0u;
+    v11 = 0ull;
+    v13 = get8(f21 + 256);
+    goto after4;
+after5:;
+    v19 = 11u;
+    v16 = 0u;
+    v15 = 1u;
+    v11 = 0ull;
+    v13 = get8(f21 + 256);
+after4:;
+    v6 = v13;
+    v5 = 0ull;
+    switch ((u32)(((u64)v13) & 255ull)) {
+        case 1: goto after66;
+        case 2: goto after66;
+        case 3: goto after65;
+        case 4: goto after64;
+        default: goto after62;
+    }
+after66:;
+    v6 = 0u;
+    goto after63;
+after65:;
+    v13 = 3u;
+    v5 = get64(f21 + 264);
+    v6 = get8(f21 + 272);
+    goto after62;
+after64:;
+    v13 = (get8(f21 + 257)) ? 5u : 4u;
+    v6 = get8(f21 + 258);
+after63:;
+    v5 = 0ull;
+after62:;
+    p1252 = held(m, v1, 64);
+    put_held16(p1252, 0, m, v1, get16(f21 + 216));
+    put_held8(p1252, 8, m, v1, v6);
+    put_held8(p1252, 7, m, v1, v13);
+    put_held8(p1252, 6, m, v1, get8(f21 + 250));
+    put_held16(p1252, 4, m, v1, get16(f21 + 248));
+    v6 = get8(f21 + 224);
+    put_held8(p1252, 2, m, v1, v6 & 1u);
+    v6 = (u32)(v6 == 1u);
+    put_held8(p1252, 3, m, v1, v6 ? get8(f21 + 240) : 0u);
+    v3 = get64(f21 + 304);
+    v10 = get64(f21 + 296);
+    v7 = get64(f21 + 288);
+    v9 = get64(f21 + 280);
+    v8 = get64(f21 + 232);
+    put_held32(p1252, 12, m, v1, 0u);
+    put_held32(p1252, 9, m, v1, 0u);
+    put_held64(p1252, 16, m, v1, v6 ? v8 : 0ull);
+    put_held64(p1252, 24, m, v1, v5);
+    put_held64(p1252, 32, m, v1, v9);
+    put_held64(p1252, 40, m, v1, v7);
+    put_held64(p1252, 48, m, v1, v10);
+    put_held64(p1252, 56, m, v1, v3);
+    if (v15 == 0) { goto after68; }
+    v5 = 0ull;
+    v6 = 68u;
+    switch ((u32)(((u64)v19) & 255ull)) {
+        case 1: goto after69;
+        case 2: goto after72;
+        case 3: goto after74;
+        case 4: goto after80;
+        case 5: goto after79;
+        case 6: goto after78;
+        case 7: goto after72;
+        case 8: goto after76;
+        case 9: goto after75;
+        case 10: goto after73;
+        case 11: goto after77;
+        default: goto after81;
+    }
+after81:;
+    v6 = 0u;
+    goto after71;
+after80:;
+    v5 = 0ull;
+    v6 = 2u;
+    goto after70;
+after79:;
+    v5 = 0ull;
+    v6 = 3u;
+    goto after70;
+after78:;
+    v5 = 0ull;
+    v6 = 4u;
+    goto after70;
+after77:;
+    v5 = 0ull;
+    v6 = 21u;
+    goto after70;
+after76:;
+    v5 = 0ull;
+    v6 = 64u;
+    goto after70;
+after75:;
+    v5 = 0ull;
+    v6 = 65u;
+    goto after70;
+after74:;
+    v6 = 66u;
+    goto after71;
+after73:;
+    v5 = 0ull;
+    v6 = 67u;
+    goto after70;
+after72:;
+    v6 = 1u;
+after71:;
+    v5 = v11;
+after70:;
+    v11 = 0ull;
+after69:;
+    put32(f21 + 347, 0u);
+    put32(f21 + 344, 0u);
+    goto after67;
+after68:;
+    put32(f21 + 347, 0u);
+    put32(f21 + 344, 0u);
+    v6 = 0x131215u >> (((v16 & 255u) << 3) & 31);
+    v5 = 0ull;
+    v11 = 0ull;
+after67:;
+    put32(f21 + 211, get32(f21 + 347));
+    put32(f21 + 208, get32(f21 + 344));
+after3:;
+    put32(f21 + 203, get32(f21 + 211));
+    put32(f21 + 200, get32(f21 + 208));
+    goto after1;
+after2:;
+    put32(f21 + 203, 0u);
+    put32(f21 + 200, 0u);
+    v5 = 0ull;
+    v6 = 32u;
+    v11 = 0ull;
+after1:;
+    p1499 = held(m, v0, 24);
+    put_held8(p1499, 0, m, v0, v6);
+    put_held32(p1499, 1, m, v0, get32(f21 + 200));
+    put_held32(p1499, 4, m, v0, get32(f21 + 203));
+    put_held64(p1499, 16, m, v0, v11);
+    put_held64(p1499, 8, m, v0, v5);
+    m->g0 = v21 + 368ull;
 }
 
 static void module_scard_lent_check_begin(struct call *m, u64 v0, u64 v1, u64 v2)
@@ -25306,37 +25321,110 @@ static void rattle_export_scard_lent_line_step(struct call *m, u64 v0, u64 v1, u
     u64 v8 = 0;
     u64 v9 = 0;
     u64 v10 = 0;
-    u8 *f10 = NULL;
-    u8 *p71 = NULL;
-    v10 = m->g0 - 16ull;
-    f10 = at(m, v10, 16);
-    v8 = v10;
+    u64 v12 = 0;
+    u32 v11 = 0;
+    u8 *f12 = NULL;
+    u8 *p249 = NULL;
+    u8 *p292 = NULL;
+    v12 = m->g0 - 144ull;
+    f12 = at(m, v12, 144);
+    v8 = v12;
     m->g0 = v8;
     v9 = 0ull;
-    session_core_lines_Line_happen(m, v10, v1, v2, v3 + ((v3 == 0) ? 4096ull : 0ull), v4, v5, v6 + ((v6 == 0) ?
-        4096ull : 0ull), v7);
+    v10 = v6 + ((v6 == 0) ? 4096ull : 0ull);
+    v3 = v3 + ((v3 == 0) ? 4096ull : 0ull);
+    v11 = 7u;
     v6 = 0ull;
-    v2 = get8(f10);
     switch ((u32)(((u64)v2) & 255ull)) {
-        case 1: goto after2;
-        case 2: goto after4;
+        case 0: goto after10;
+        case 1: goto after9;
+        case 2: goto after8;
+        case 3: goto after7;
+        case 4: goto after6;
         default: goto after1;
     }
-after4:;
-    v6 = load64(m, v1 + 144ull, 0);
-    v6 = (v6 < 259ull) ? v6 : 259ull;
+after10:;
+    session_core_lines_Line_sent(m, v12, v1, v5, v10, v7);
+    v5 = get64(f12 + 8);
+    v11 = get8(f12);
+    goto after5;
+after9:;
+    if (v4 != 0ull) { goto after11; }
+    if (load64(m, v1 + 72ull, 0) == 0xFFFFFFFFFFFFFFFFull) { goto after12; }
+    if (load32(m, v1 + 120ull, 0) != 0xFFFFFFFFu) { goto after12; }
+    session_core_lines_Line_silent(m, v12 + 32ull, v1, v5, v10, v7);
+    v5 = get64(f12 + 40);
+    v11 = get8(f12 + 32);
+    goto after5;
+after12:;
+    session_core_lines_Line_interrupted(m, v12 + 16ull, v1, v5);
+    v5 = get64(f12 + 24);
+    v11 = get8(f12 + 16);
+    goto after5;
+after11:;
+    session_core_lines_Line_came(m, v12 + 48ull, v1, v3, v4, 0u, v5, v10, v7);
+    v5 = get64(f12 + 56);
+    v11 = get8(f12 + 48);
+    goto after5;
+after8:;
+    if (v4 != 0ull) { goto after13; }
+    if (load64(m, v1 + 72ull, 0) == 0xFFFFFFFFFFFFFFFFull) { goto after14; }
+    if (load32(m, v1 + 120ull, 0) != 0xFFFFFFFFu) { goto after14; }
+    session_core_lines_Line_silent(m, v12 + 80ull, v1, v5, v10, v7);
+    v5 = get64(f12 + 88);
+    v11 = get8(f12 + 80);
+    goto after5;
+after14:;
+    session_core_lines_Line_interrupted(m, v12 + 64ull, v1, v5);
+    v5 = get64(f12 + 72);
+    v11 = get8(f12 + 64);
+    goto after5;
+after13:;
+    session_core_lines_Line_came(m, v12 + 96ull, v1, v3, v4, 1u, v5, v10, v7);
+    v5 = get64(f12 + 104);
+    v11 = get8(f12 + 96);
+    goto after5;
+after7:;
+    session_core_lines_Line_silent(m, v12 + 112ull, v1, v5, v10, v7);
+    v5 = get64(f12 + 120);
+    v11 = get8(f12 + 112);
+    goto after5;
+after6:;
+    session_core_lines_Line_failed(m, v12 + 128ull, v1);
+    v5 = 0ull;
+    v11 = get8(f12 + 128);
+after5:;
+    if ((v11 & 255u) != 2u) { goto after15; }
+    if ((load8(m, v1 + 136ull, 0) & 255u) == 0) { goto after15; }
+    v3 = 4ull;
+    p249 = held(m, v1 + 144ull, 12);
+    put_held64(p249, 0, m, v1 + 144ull, 4ull);
+    put_held32(p249, 8, m, v1 + 144ull, 0x1000000u);
+    goto after2;
+after15:;
+    v1 = load64(m, v1 + 144ull, 0);
+    v3 = (v1 < 259ull) ? v1 : 259ull;
+    v6 = 0ull;
+    switch ((u32)(((u64)v11) & 255ull)) {
+        case 1: goto after3;
+        case 2: goto after2;
+        default: goto after1;
+    }
+after3:;
+    v6 = 0ull;
+    v9 = v5;
     goto after1;
 after2:;
-    v9 = get64(f10 + 8);
-    v6 = 0ull;
+    v11 = 2u;
+    v6 = v3;
 after1:;
-    p71 = held(m, v0, 24);
-    put_held32(p71, 1, m, v0, 0u);
-    put_held8(p71, 0, m, v0, v2);
-    put_held32(p71, 4, m, v0, 0u);
-    put_held64(p71, 16, m, v0, v9);
-    put_held64(p71, 8, m, v0, v6);
-    m->g0 = v10 + 16ull;
+    p292 = held(m, v0, 24);
+    put_held32(p292, 1, m, v0, 0u);
+    put_held8(p292, 0, m, v0, v11);
+    put_held32(p292, 4, m, v0, 0u);
+    put_held64(p292, 16, m, v0, v9);
+    put_held64(p292, 8, m, v0, v6);
+    m->g0 = v12 + 144ull;
 }
 
 static void module_scard_lent_line_talk(struct call *m, u64 v0, u64 v1, u64 v2, u64 v3)
@@ -26348,7 +26436,7 @@ after11:;
     put64(f19 + 200, get64(f19 + 176));
     put64(f19 + 192, (u64)get8(f19 + 168));
     w7 = (get8(f19 + 112)) ? get64(f19 + 144) : 0ull;
-    session_core_lines_Line_turn(m, v19, v4, v14, 1u, 0xFFFFFFFFFFFFFFFFull, 0xFFFFFFFFu, v19 + 192ull, w7, v7);
+    session_core_lines_Line_turn_apart(m, v19, v4, v14, 1u, 0xFFFFFFFFFFFFFFFFull, 0xFFFFFFFFu, v19 + 192ull, w7, v7);
     v11 = 16u;
     v6 = get64(f19 + 8);
     v16 = get8(f19);
@@ -26487,175 +26575,516 @@ static void rattle_export_scard_lent_session_step(struct call *m, u64 v0, u64 v1
 {
     u64 v12 = 0;
     u64 v14 = 0;
-    u64 v21 = 0;
-    u64 v22 = 0;
-    u64 v23 = 0;
+    u64 v17 = 0;
     u64 v24 = 0;
-    u64 v25 = 0;
     u32 v13 = 0;
     u32 v15 = 0;
     u32 v16 = 0;
-    u32 v17 = 0;
     u32 v18 = 0;
     u32 v19 = 0;
     u32 v20 = 0;
-    u8 *f25 = NULL;
-    u8 *p112 = NULL;
-    u8 *p441 = NULL;
-    v25 = m->g0 - 48ull;
-    f25 = at(m, v25, 48);
-    v12 = v25;
+    u32 v21 = 0;
+    u32 v22 = 0;
+    u32 v23 = 0;
+    u32 t1 = 0;
+    u32 t2 = 0;
+    u32 t5 = 0;
+    u64 w3 = 0;
+    u64 w4 = 0;
+    u64 w7 = 0;
+    u8 *f24 = NULL;
+    u8 *p153 = NULL;
+    u8 *p501 = NULL;
+    u8 *p552 = NULL;
+    u8 *p657 = NULL;
+    u8 *p969 = NULL;
+    u8 *p1158 = NULL;
+    u8 *p1360 = NULL;
+    v24 = m->g0 - 352ull;
+    f24 = at(m, v24, 352);
+    v12 = v24;
     m->g0 = v12;
-    put64(f25 + 40, 0ull);
-    put64(f25 + 32, 0ull);
-    put64(f25 + 24, 0ull);
-    if (v11 > 257ull) { goto after3; }
-    put32(f25 + 19, 0u);
-    put32(f25 + 16, 0u);
+    put32(f24 + 203, 0u);
+    put32(f24 + 200, 0u);
+    put32(f24 + 211, 0u);
+    put32(f24 + 208, 0u);
+    if (v11 > 257ull) { goto after8; }
+    put32(f24 + 203, 0u);
+    put32(f24 + 200, 0u);
     v11 = 0ull;
-    v1 = 258ull;
+    v5 = 258ull;
     v6 = 33u;
-    goto after2;
-after3:;
-    if (load8(m, v1, 0) > 1u) { goto after5; }
-    if (load8(m, v1 + 1ull, 0) > 1u) { goto after5; }
-    v13 = load8(m, v1 + 6ull, 0);
-    if (v13 > 6u) { goto after5; }
-    v14 = 0ull;
-    v15 = 0u;
-    v16 = 1u << (v13 & 31);
-    if (v16 & 73u) { goto after7; }
-    v17 = load8(m, v1 + 7ull, 0);
-    if ((v16 & 6u) == 0) { goto after8; }
-    v14 = load64(m, v1 + 16ull, 0);
-    v15 = 0u;
-    goto after6;
+    goto after1;
 after8:;
-    v15 = v17;
-after7:;
-    v17 = 0u;
-after6:;
-    v16 = load8(m, v1 + 8ull, 0);
-    if (v16 > 1u) { goto after5; }
-    p112 = held(m, v1 + 3ull, 53);
-    v18 = held8(p112, 2, m, v1 + 3ull);
-    v19 = held8(p112, 1, m, v1 + 3ull);
-    v20 = held8(p112, 0, m, v1 + 3ull);
-    v21 = held64(p112, 45, m, v1 + 3ull);
-    v22 = held64(p112, 37, m, v1 + 3ull);
-    v23 = held64(p112, 29, m, v1 + 3ull);
-    v24 = held64(p112, 21, m, v1 + 3ull);
-    switch (v13) {
-        case 1: goto after14;
-        case 2: goto after10;
-        case 3: goto after13;
-        case 4: goto after12;
-        case 5: goto after11;
+    if (load8(m, v1, 0) > 1u) { goto after2; }
+    if (load8(m, v1 + 1ull, 0) > 1u) { goto after2; }
+    v13 = load8(m, v1 + 6ull, 0);
+    if (v13 > 6u) { goto after2; }
+    v14 = (u64)load8(m, v1 + 8ull, 0);
+    if (v14 > 1ull) { goto after2; }
+    v15 = 1u;
+    switch ((u32)v14) {
+        case 1: goto after10;
         default: goto after9;
     }
-after14:;
-    if (v21 != 0ull) { goto after5; }
-    if ((v22 - v14) <= (((u64)v17) & 255ull)) { goto after5; }
-    if (((v17 + 1u) & 255u) < 2u) { goto after5; }
-    if (v22 < v14) { goto after5; }
-    if ((v16 & 1u) == 0) { goto after9; }
-    goto after5;
-after13:;
-    if ((v16 & 1u) == 0) { goto after9; }
-    goto after5;
-after12:;
-    if (((v15 + 0xFFFFFFFFu) & 255u) < 254u) { goto after9; }
-    goto after5;
-after11:;
-    if ((v15 & 255u) < 4u) { goto after9; }
-    goto after5;
 after10:;
-    if (v21 != 0ull) { goto after5; }
-    if ((v22 - v14) > (((u64)v17) & 255ull)) { goto after5; }
-    if (((v17 + 1u) & 255u) < 2u) { goto after5; }
-    if (v22 < v14) { goto after5; }
-    if (v16 & 1u) { goto after5; }
+    v15 = 0u;
 after9:;
-    if (((v20 + 0xFFFFFFFFu) & 255u) > 253u) { goto after5; }
-    if (((v19 + 0xFFFFFFFFu) & 255u) > 253u) { goto after5; }
-    if (v23 > v5) { goto after5; }
-    if (v24 > v3) { goto after5; }
-    if (v21 > v5) { goto after5; }
-    if (((v18 + 0xFFFFFFFFu) & 255u) > 253u) { goto after5; }
-    if (v22 <= v3) { goto after4; }
-after5:;
-    put32(f25 + 19, 0u);
-    put32(f25 + 16, 0u);
-    v1 = 0ull;
+    if (load64(m, v1 + 32ull, 0) > v5) { goto after2; }
+    if (load64(m, v1 + 24ull, 0) > v3) { goto after2; }
+    if (((load8(m, v1 + 3ull, 0) + 0xFFFFFFFFu) & 255u) > 253u) { goto after2; }
+    if (((load8(m, v1 + 4ull, 0) + 0xFFFFFFFFu) & 255u) > 253u) { goto after2; }
+    if (((load8(m, v1 + 5ull, 0) + 0xFFFFFFFFu) & 255u) > 253u) { goto after2; }
+    v14 = load64(m, v1 + 40ull, 0);
+    if (v14 > v3) { goto after2; }
+    v3 = load64(m, v1 + 48ull, 0);
+    if (v3 > v5) { goto after2; }
+    p153 = held(m, v1 + 7ull, 17);
+    v16 = held8(p153, 0, m, v1 + 7ull);
+    v17 = ((u64)v16) & 255ull;
+    v5 = held64(p153, 9, m, v1 + 7ull);
+    switch (v13 + 0xFFFFFFFFu) {
+        case 0: goto after12;
+        case 1: goto after13;
+        case 2: goto after16;
+        case 3: goto after15;
+        case 4: goto after14;
+        default: goto after11;
+    }
+after16:;
+    if (v15 == 0) { goto after2; }
+    goto after11;
+after15:;
+    if (((v16 + 0xFFFFFFFFu) & 255u) >= 254u) { goto after2; }
+    goto after11;
+after14:;
+    if ((v16 & 255u) >= 4u) { goto after2; }
+    goto after11;
+after13:;
+    t2 = (((u32)(((v16 + 0xFFFFFFFFu) & 255u) < 254u)) & ((u32)(v14 >= v5))) & ((u32)((v14 - v5) <= v17));
+    if (v15 & (((u32)(v3 == 0)) & t2)) { goto after11; }
+    goto after2;
+after12:;
+    t2 = (((u32)(((v16 + 0xFFFFFFFFu) & 255u) < 254u)) & ((u32)(v14 >= v5))) & ((u32)((v14 - v5) > v17));
+    if ((v15 & (((u32)(v3 == 0)) & t2)) == 0) { goto after2; }
+after11:;
+    v10 = v10 + ((v10 == 0) ? 4096ull : 0ull);
+    v7 = v7 + ((v7 == 0) ? 4096ull : 0ull);
+    v14 = v1 + 488ull;
+    v5 = load64(m, v14, 0);
+    v11 = (v11 < v5) ? v11 : v5;
+    v3 = v1 + 56ull;
+    switch ((u32)(((u64)v6) & 255ull)) {
+        case 0: goto after28;
+        case 1: goto after27;
+        case 2: goto after26;
+        case 3: goto after25;
+        case 4: goto after24;
+        default: goto after22;
+    }
+after28:;
+    session_core_lines_Line_sent(m, v24 + 56ull, v3, v9, v10, v11);
+    v11 = get64(f24 + 64);
+    v6 = get8(f24 + 56);
+    goto after23;
+after27:;
+    if (v8 != 0ull) { goto after29; }
+    if (load64(m, v1 + 128ull, 0) == 0xFFFFFFFFFFFFFFFFull) { goto after30; }
+    if (load32(m, v1 + 176ull, 0) != 0xFFFFFFFFu) { goto after30; }
+    session_core_lines_Line_silent(m, v24 + 88ull, v3, v9, v10, v11);
+    v11 = get64(f24 + 96);
+    v6 = get8(f24 + 88);
+    goto after23;
+after30:;
+    session_core_lines_Line_interrupted(m, v24 + 72ull, v3, v9);
+    v11 = get64(f24 + 80);
+    v6 = get8(f24 + 72);
+    goto after23;
+after29:;
+    session_core_lines_Line_came(m, v24 + 104ull, v3, v7, v8, 0u, v9, v10, v11);
+    v11 = get64(f24 + 112);
+    v6 = get8(f24 + 104);
+    goto after23;
+after26:;
+    if (v8 != 0ull) { goto after31; }
+    if (load64(m, v1 + 128ull, 0) == 0xFFFFFFFFFFFFFFFFull) { goto after32; }
+    if (load32(m, v1 + 176ull, 0) != 0xFFFFFFFFu) { goto after32; }
+    session_core_lines_Line_silent(m, v24 + 136ull, v3, v9, v10, v11);
+    v11 = get64(f24 + 144);
+    v6 = get8(f24 + 136);
+    goto after23;
+after32:;
+    session_core_lines_Line_interrupted(m, v24 + 120ull, v3, v9);
+    v11 = get64(f24 + 128);
+    v6 = get8(f24 + 120);
+    goto after23;
+after31:;
+    session_core_lines_Line_came(m, v24 + 152ull, v3, v7, v8, 1u, v9, v10, v11);
+    v11 = get64(f24 + 160);
+    v6 = get8(f24 + 152);
+    goto after23;
+after25:;
+    session_core_lines_Line_silent(m, v24 + 168ull, v3, v9, v10, v11);
+    v11 = get64(f24 + 176);
+    v6 = get8(f24 + 168);
+    goto after23;
+after24:;
+    session_core_lines_Line_failed(m, v24 + 184ull, v3);
+    v11 = 0ull;
+    v6 = get8(f24 + 184);
+after23:;
+    if ((v6 & 255u) != 2u) { goto after35; }
+    if ((load8(m, v1 + 192ull, 0) & 255u) == 0) { goto after35; }
+    p501 = held(m, v1 + 200ull, 12);
+    put_held64(p501, 0, m, v1 + 200ull, 4ull);
+    put_held32(p501, 8, m, v1 + 200ull, 0x1000000u);
+    goto after34;
+after35:;
+    if ((v6 & 254u) != 2u) { goto after33; }
+after34:;
+    put64(f24 + 288, 0ull);
+    put64(f24 + 296, 0ull);
+    put64(f24 + 304, 0ull);
+    put64(f24 + 312, 0ull);
+    put32(f24 + 320, 0u);
+    put16(f24 + 324, 0u);
+    v13 = load8(m, v1, 0);
+    if (v13 > 1u) { goto after36; }
+    v15 = load8(m, v1 + 1ull, 0);
+    if (v15 > 1u) { goto after36; }
+    p552 = held(m, v1 + 2ull, 22);
+    v16 = held8(p552, 3, m, v1 + 2ull);
+    v18 = held8(p552, 2, m, v1 + 2ull);
+    v19 = held8(p552, 1, m, v1 + 2ull);
+    v20 = held8(p552, 0, m, v1 + 2ull);
+    t1 = held8(p552, 4, m, v1 + 2ull);
+    t2 = held8(p153, 0, m, v1 + 7ull);
+    w3 = held64(p153, 9, m, v1 + 7ull);
+    c_lent_kept_terminal_wait_of(m, v24 + 288ull, t1, t2, w3);
+    if (get8(f24 + 288) != 1u) { goto after36; }
+    v21 = held8(p153, 1, m, v1 + 7ull);
+    if (v21 > 1u) { goto after36; }
+    v22 = get8(f24 + 297);
+    v23 = get8(f24 + 296);
+    put64(f24 + 326, get64(f24 + 304));
+    v11 = get64(f24 + 312);
+    put64(f24 + 334, v11);
+    put64(f24 + 240, v11);
+    put64(f24 + 226, get64(f24 + 320));
+    put64(f24 + 234, get64(f24 + 328));
+    put8(f24 + 248, v21);
+    put8(f24 + 225, v22);
+    put8(f24 + 224, v23);
+    put16(f24 + 222, 0u);
+    put8(f24 + 221, v16);
+    put8(f24 + 220, v18);
+    put8(f24 + 219, v19);
+    put8(f24 + 218, v20);
+    put8(f24 + 217, v15);
+    put8(f24 + 216, v13);
+    p657 = held(m, v1 + 24ull, 32);
+    v11 = held64(p657, 0, m, v1 + 24ull);
+    v5 = held64(p657, 8, m, v1 + 24ull);
+    v7 = held64(p657, 16, m, v1 + 24ull);
+    v8 = held64(p657, 24, m, v1 + 24ull);
+    put32(f24 + 252, 0u);
+    put32(f24 + 249, 0u);
+    put64(f24 + 280, v8);
+    put64(f24 + 272, v7);
+    put64(f24 + 264, v5);
+    put64(f24 + 256, v11);
+    if ((v6 & 255u) != 2u) { goto after38; }
+    v11 = 0ull;
+    put64(f24 + 312, 0ull);
+    put64(f24 + 304, 0ull);
+    put64(f24 + 296, 0ull);
+    put64(f24 + 288, 0ull);
+    v8 = v1 + 208ull;
+    v7 = v1 + 200ull;
+    v5 = load64(m, v7, 0);
+    t1_core_lent_LentTerminal_received_into(m, v24 + 288ull, v24 + 216ull, v2 + ((v2 == 0) ? 4096ull : 0ull), v4 +
+        ((v4 == 0) ? 4096ull : 0ull), v8, (v5 < 259ull) ? v5 : 259ull, v10);
+    if (get8(f24 + 288)) { goto after37; }
+    v19 = 4u;
+    v13 = 0u;
+    v16 = 0u;
+    v11 = 0ull;
+    switch ((u32)(u64)get8(f24 + 296)) {
+        case 1: goto after41;
+        case 2: goto after4;
+        case 3: goto after40;
+        case 4: goto after39;
+        default: goto after42;
+    }
+after42:;
+    v6 = get8(f24 + 312);
+    v5 = ((u64)v6) & 255ull;
+    v11 = get64(f24 + 304);
+    store64(m, v14, 0, v11);
+    v10 = load64(m, v3, 0);
+    if (v10 > 0xFFFFFFFFull) { goto after44; }
+    v5 = v10 * v5;
+    goto after43;
+after44:;
+    multi3(m, v24 + 16ull, v5, 0ull, v10, 0ull);
+    v5 = (v6 & 255u) ? ((get64(f24 + 24) != 0ull) ? 0xFFFFFFFFFFFFFFFFull : (v10 * v5)) : 0ull;
+after43:;
+    store64(m, v1 + 120ull, 0, v5);
+    session_core_progress_Progress_talk(m, v24, v1 + 112ull, v3, v7, v9);
+    v5 = get64(f24 + 8);
+    v13 = get8(f24);
+    if (v13 != 2u) { goto after45; }
+    if ((load8(m, v1 + 192ull, 0) & 255u) == 0) { goto after45; }
+    store64(m, v7, 0, 4ull);
+    store32(m, v8, 0, 0x1000000u);
+    goto after6;
+after45:;
+    v16 = v13;
+    v19 = v13;
+    switch (v13) {
+        case 1: goto after49;
+        case 2: goto after6;
+        case 3: goto after6;
+        case 4: goto after48;
+        case 5: goto after47;
+        case 6: goto after46;
+        case 7: goto after6;
+        default: goto after4;
+    }
+after49:;
+    v19 = 1u;
+    v13 = 0u;
+    v16 = 0u;
+    v11 = v5;
+    goto after4;
+after48:;
+    v19 = 8u;
+    goto after5;
+after47:;
+    v19 = 9u;
+    goto after5;
+after46:;
+    v19 = 10u;
+    goto after5;
+after41:;
+    v11 = (get8(f24 + 248)) ? get64(f24 + 280) : 0ull;
+    v19 = (v11 < 2ull) ? 3u : 2u;
+    v13 = 0u;
+    v16 = 0u;
+    goto after4;
+after40:;
+    v19 = 5u;
+    goto after5;
+after39:;
+    v19 = 6u;
+    goto after5;
+after38:;
+    v11 = 0ull;
+    put64(f24 + 336, 0ull);
+    put64(f24 + 288, 0ull);
+    put64(f24 + 296, 0ull);
+    put64(f24 + 304, 0ull);
+    put64(f24 + 312, 0ull);
+    t1_core_lent_LentTerminal_quiet_into(m, v24 + 288ull, v24 + 216ull, v10);
+    if (get8(f24 + 288)) { goto after37; }
+    put8(f24 + 336, get8(f24 + 312));
+    put64(f24 + 328, get64(f24 + 304));
+    put64(f24 + 320, (u64)get8(f24 + 296));
+    p969 = held(m, v1 + 96ull, 12);
+    w4 = held64(p969, 0, m, v1 + 96ull);
+    t5 = held32(p969, 8, m, v1 + 96ull);
+    w7 = (get8(f24 + 248)) ? get64(f24 + 280) : 0ull;
+    session_core_lines_Line_turn_apart(m, v24 + 40ull, v3, v14, 2u, w4, t5, v24 + 320ull, w7, v9);
+    v13 = 0u;
+    v11 = get64(f24 + 48);
+    v19 = get8(f24 + 40);
+    v16 = 0u;
+    goto after4;
+after37:;
+    v19 = 0u;
+    v13 = 1u;
+    v16 = get8(f24 + 289);
+    goto after4;
+after36:;
+    put32(f24 + 208, 0u);
+    put32(f24 + 211, 0u);
+    v5 = 0ull;
     v6 = 32u;
     v11 = 0ull;
-    goto after2;
-after4:;
-    v3 = v10 + ((v10 == 0) ? 4096ull : 0ull);
-    v5 = load64(m, v1 + 488ull, 0);
-    session_core_lines_Line_happen(m, v25, v1 + 56ull, v6, v7 + ((v7 == 0) ? 4096ull : 0ull), v8, v9, v3, (v11 < v5) ?
-        v11 : v5);
-    v11 = get64(f25 + 8);
-    v13 = get8(f25);
-    if ((v13 & 254u) != 2u) { goto after16; }
-    c_lent_session_session_proceed(m, v25 + 24ull, v1, v2 + ((v2 == 0) ? 4096ull : 0ull), v4 + ((v4 == 0) ? 4096ull :
-        0ull), v13, v11, v9, v3);
-    v11 = get64(f25 + 40);
-    v1 = get64(f25 + 32);
-    v6 = get8(f25 + 24);
-    goto after15;
-after16:;
-    v1 = 0ull;
-    v6 = 68u;
-    switch (v13) {
-        case 1: goto after17;
-        case 2: goto after1;
-        case 3: goto after1;
+    goto after3;
+after33:;
+    switch ((u32)(((u64)v6) & 255ull)) {
+        case 1: goto after51;
+        case 2: goto after7;
+        case 3: goto after7;
         case 4: goto after21;
         case 5: goto after20;
         case 6: goto after19;
         case 7: goto after22;
-        default: goto after23;
+        default: goto after50;
     }
-after23:;
-    v11 = 0ull;
-    v6 = 0u;
-    v1 = v5;
+after51:;
+    put32(f24 + 219, 0u);
+    put32(f24 + 216, 0u);
+    v5 = 0ull;
+    v6 = 68u;
     goto after17;
+after50:;
+    v6 = 0u;
+    put32(f24 + 219, 0u);
+    put32(f24 + 216, 0u);
+    goto after18;
 after22:;
-    v1 = 0ull;
+    put32(f24 + 219, 0u);
+    put32(f24 + 216, 0u);
+    v5 = 0ull;
     v6 = 21u;
     goto after18;
 after21:;
-    v1 = 0ull;
+    put32(f24 + 219, 0u);
+    put32(f24 + 216, 0u);
+    v5 = 0ull;
     v6 = 64u;
     goto after18;
 after20:;
-    v1 = 0ull;
+    put32(f24 + 219, 0u);
+    put32(f24 + 216, 0u);
+    v5 = 0ull;
     v6 = 65u;
     goto after18;
 after19:;
-    v1 = 0ull;
+    put32(f24 + 219, 0u);
+    put32(f24 + 216, 0u);
+    v5 = 0ull;
     v6 = 67u;
 after18:;
     v11 = 0ull;
 after17:;
-    put32(f25 + 28, 0u);
-    put32(f25 + 25, 0u);
-after15:;
-    put32(f25 + 19, get32(f25 + 28));
-    put32(f25 + 16, get32(f25 + 25));
-after2:;
-    p441 = held(m, v0, 24);
-    put_held8(p441, 0, m, v0, v6);
-    put_held32(p441, 1, m, v0, get32(f25 + 16));
-    put_held32(p441, 4, m, v0, get32(f25 + 19));
-    put_held64(p441, 16, m, v0, v11);
-    put_held64(p441, 8, m, v0, v1);
-    m->g0 = v25 + 48ull;
-    return;
-after1:;
+    put32(f24 + 211, get32(f24 + 219));
+    put32(f24 + 208, get32(f24 + 216));
+    goto after3;
+after7:;
     UNREACHABLE;
+after6:;
+    v19 = 11u;
+after5:;
+    v13 = 0u;
+    v16 = 0u;
+    v11 = 0ull;
+after4:;
+    v5 = 0ull;
+    v6 = 0u;
+    v15 = get8(f24 + 224);
+    v18 = 1u << (v15 & 31);
+    if (v18 & 73u) { goto after52; }
+    if ((v18 & 6u) == 0) { goto after53; }
+    v5 = get64(f24 + 232);
+    v6 = get8(f24 + 240);
+    goto after52;
+after53:;
+    v6 = get8(f24 + 225);
+after52:;
+    p1158 = held(m, v1, 56);
+    put_held32(p1158, 0, m, v1, get32(f24 + 216));
+    put_held32(p1158, 9, m, v1, 0u);
+    put_held32(p1158, 12, m, v1, 0u);
+    put_held8(p1158, 8, m, v1, get8(f24 + 248));
+    put_held8(p1158, 7, m, v1, v6);
+    put_held8(p1158, 6, m, v1, v15);
+    put_held16(p1158, 4, m, v1, get16(f24 + 220));
+    put_held64(p1158, 16, m, v1, v5);
+    put_held64(p1158, 24, m, v1, get64(f24 + 256));
+    put_held64(p1158, 32, m, v1, get64(f24 + 264));
+    put_held64(p1158, 40, m, v1, get64(f24 + 272));
+    put_held64(p1158, 48, m, v1, get64(f24 + 280));
+    if (v13) { goto after55; }
+    v5 = 0ull;
+    v6 = 68u;
+    switch ((u32)(((u64)v19) & 255ull)) {
+        case 1: goto after56;
+        case 2: goto after59;
+        case 3: goto after61;
+        case 4: goto after67;
+        case 5: goto after66;
+        case 6: goto after65;
+        case 7: goto after59;
+        case 8: goto after63;
+        case 9: goto after62;
+        case 10: goto after60;
+        case 11: goto after64;
+        default: goto after68;
+    }
+after68:;
+    v6 = 0u;
+    goto after58;
+after67:;
+    v5 = 0ull;
+    v6 = 2u;
+    goto after57;
+after66:;
+    v5 = 0ull;
+    v6 = 3u;
+    goto after57;
+after65:;
+    v5 = 0ull;
+    v6 = 4u;
+    goto after57;
+after64:;
+    v5 = 0ull;
+    v6 = 21u;
+    goto after57;
+after63:;
+    v5 = 0ull;
+    v6 = 64u;
+    goto after57;
+after62:;
+    v5 = 0ull;
+    v6 = 65u;
+    goto after57;
+after61:;
+    v6 = 66u;
+    goto after58;
+after60:;
+    v5 = 0ull;
+    v6 = 67u;
+    goto after57;
+after59:;
+    v6 = 1u;
+after58:;
+    v5 = v11;
+after57:;
+    v11 = 0ull;
+after56:;
+    put32(f24 + 347, 0u);
+    put32(f24 + 344, 0u);
+    goto after54;
+after55:;
+    put32(f24 + 347, 0u);
+    put32(f24 + 344, 0u);
+    v6 = v16 + 16u;
+    v5 = 0ull;
+    v11 = 0ull;
+after54:;
+    put32(f24 + 211, get32(f24 + 347));
+    put32(f24 + 208, get32(f24 + 344));
+after3:;
+    put32(f24 + 203, get32(f24 + 211));
+    put32(f24 + 200, get32(f24 + 208));
+    goto after1;
+after2:;
+    put32(f24 + 203, 0u);
+    put32(f24 + 200, 0u);
+    v5 = 0ull;
+    v6 = 32u;
+    v11 = 0ull;
+after1:;
+    p1360 = held(m, v0, 24);
+    put_held8(p1360, 0, m, v0, v6);
+    put_held32(p1360, 1, m, v0, get32(f24 + 200));
+    put_held32(p1360, 4, m, v0, get32(f24 + 203));
+    put_held64(p1360, 16, m, v0, v11);
+    put_held64(p1360, 8, m, v0, v5);
+    m->g0 = v24 + 352ull;
 }
 
 static void module_scard_lent_terminal_answer(struct call *m, u64 v0, u64 v1, u64 v2, u64 v3, u64 v4, u64 v5)
@@ -31582,7 +32011,7 @@ struct scard_turn scard_lent_card_received(struct scard_lent_card *state, uint8_
     uint8_t *reply, size_t reply_room, const uint8_t *octets, size_t count, uint8_t *out, size_t room)
 {
     struct call m;
-    u8 stack[464];
+    u8 stack[384];
     SHAPED_HERE
     struct scard_turn result;
     begin(&m, stack, sizeof stack, shaped);
@@ -31595,9 +32024,9 @@ struct scard_turn scard_lent_card_received(struct scard_lent_card *state, uint8_
     m.g0 -= 16;
     module_scard_lent_card_received(&m, m.g0, ADDRESS(2), ADDRESS(3), (u64)command_room, ADDRESS(4), (u64)reply_room,
         ADDRESS(5), (u64)count, ADDRESS(6), (u64)room);
-    result.kind = (uint8_t)get8(stack + 448);
-    result.wait = (uint8_t)get8(stack + 448 + 1);
-    result.count = (scard_size)get64(stack + 448 + 8);
+    result.kind = (uint8_t)get8(stack + 368);
+    result.wait = (uint8_t)get8(stack + 368 + 1);
+    result.count = (scard_size)get64(stack + 368 + 8);
     return result;
 }
 
@@ -31605,7 +32034,7 @@ struct scard_turn scard_lent_card_reply(struct scard_lent_card *state, uint8_t *
     *reply, size_t reply_room, const uint8_t *octets, size_t count, uint8_t *out, size_t room)
 {
     struct call m;
-    u8 stack[464];
+    u8 stack[384];
     SHAPED_HERE
     struct scard_turn result;
     begin(&m, stack, sizeof stack, shaped);
@@ -31618,9 +32047,9 @@ struct scard_turn scard_lent_card_reply(struct scard_lent_card *state, uint8_t *
     m.g0 -= 16;
     module_scard_lent_card_reply(&m, m.g0, ADDRESS(2), ADDRESS(3), (u64)command_room, ADDRESS(4), (u64)reply_room,
         ADDRESS(5), (u64)count, ADDRESS(6), (u64)room);
-    result.kind = (uint8_t)get8(stack + 448);
-    result.wait = (uint8_t)get8(stack + 448 + 1);
-    result.count = (scard_size)get64(stack + 448 + 8);
+    result.kind = (uint8_t)get8(stack + 368);
+    result.wait = (uint8_t)get8(stack + 368 + 1);
+    result.count = (scard_size)get64(stack + 368 + 8);
     return result;
 }
 
@@ -31628,7 +32057,7 @@ struct scard_turn scard_lent_card_more_time(struct scard_lent_card *state, uint8
     uint8_t *reply, size_t reply_room, uint8_t multiple, uint8_t *out, size_t room)
 {
     struct call m;
-    u8 stack[464];
+    u8 stack[384];
     SHAPED_HERE
     struct scard_turn result;
     begin(&m, stack, sizeof stack, shaped);
@@ -31640,9 +32069,9 @@ struct scard_turn scard_lent_card_more_time(struct scard_lent_card *state, uint8
     m.g0 -= 16;
     module_scard_lent_card_more_time(&m, m.g0, ADDRESS(2), ADDRESS(3), (u64)command_room, ADDRESS(4), (u64)reply_room,
         (u32)multiple, ADDRESS(5), (u64)room);
-    result.kind = (uint8_t)get8(stack + 448);
-    result.wait = (uint8_t)get8(stack + 448 + 1);
-    result.count = (scard_size)get64(stack + 448 + 8);
+    result.kind = (uint8_t)get8(stack + 368);
+    result.wait = (uint8_t)get8(stack + 368 + 1);
+    result.count = (scard_size)get64(stack + 368 + 8);
     return result;
 }
 
@@ -31650,7 +32079,7 @@ struct scard_turn scard_lent_card_ask_ifs(struct scard_lent_card *state, uint8_t
     uint8_t *reply, size_t reply_room, uint8_t size, uint8_t *out, size_t room)
 {
     struct call m;
-    u8 stack[464];
+    u8 stack[384];
     SHAPED_HERE
     struct scard_turn result;
     begin(&m, stack, sizeof stack, shaped);
@@ -31662,9 +32091,9 @@ struct scard_turn scard_lent_card_ask_ifs(struct scard_lent_card *state, uint8_t
     m.g0 -= 16;
     module_scard_lent_card_ask_ifs(&m, m.g0, ADDRESS(2), ADDRESS(3), (u64)command_room, ADDRESS(4), (u64)reply_room,
         (u32)size, ADDRESS(5), (u64)room);
-    result.kind = (uint8_t)get8(stack + 448);
-    result.wait = (uint8_t)get8(stack + 448 + 1);
-    result.count = (scard_size)get64(stack + 448 + 8);
+    result.kind = (uint8_t)get8(stack + 368);
+    result.wait = (uint8_t)get8(stack + 368 + 1);
+    result.count = (scard_size)get64(stack + 368 + 8);
     return result;
 }
 
@@ -31692,7 +32121,7 @@ struct scard_verdict scard_lent_card_command(const struct scard_lent_card *state
     command_room, const uint8_t *reply, size_t reply_room)
 {
     struct call m;
-    u8 stack[288];
+    u8 stack[208];
     SHAPED_HERE
     struct scard_verdict result;
     begin(&m, stack, sizeof stack, shaped);
@@ -31701,9 +32130,9 @@ struct scard_verdict scard_lent_card_command(const struct scard_lent_card *state
     lend(&m, 4, reply, reply_room);
     m.g0 -= 16;
     module_scard_lent_card_command(&m, m.g0, ADDRESS(2), ADDRESS(3), (u64)command_room, ADDRESS(4), (u64)reply_room);
-    result.status = (uint8_t)get8(stack + 272);
-    result.reason = (uint8_t)get8(stack + 272 + 1);
-    result.place = (scard_size)get64(stack + 272 + 8);
+    result.status = (uint8_t)get8(stack + 192);
+    result.reason = (uint8_t)get8(stack + 192 + 1);
+    result.place = (scard_size)get64(stack + 192 + 8);
     return result;
 }
 
@@ -32057,48 +32486,48 @@ struct scard_line_next scard_lent_line_exchange(struct scard_lent_line *line, ui
 struct scard_line_next scard_lent_line_clear(struct scard_lent_line *line, uint64_t first, uint64_t now)
 {
     struct call m;
-    u8 stack[80];
+    u8 stack[64];
     SHAPED_HERE
     struct scard_line_next result;
     begin(&m, stack, sizeof stack, shaped);
     LEND(&m, 2, line, 1, shape_of_lent_line(0));
     m.g0 -= 24;
     module_scard_lent_line_clear(&m, m.g0, ADDRESS(2), (u64)first, (u64)now);
-    result.kind = (uint8_t)get8(stack + 56);
-    result.count = (scard_size)get64(stack + 56 + 8);
-    result.wait = (scard_size)get64(stack + 56 + 16);
+    result.kind = (uint8_t)get8(stack + 40);
+    result.count = (scard_size)get64(stack + 40 + 8);
+    result.wait = (scard_size)get64(stack + 40 + 16);
     return result;
 }
 
 struct scard_line_next scard_lent_line_talk(struct scard_lent_line *line, uint64_t first, uint64_t now)
 {
     struct call m;
-    u8 stack[112];
+    u8 stack[80];
     SHAPED_HERE
     struct scard_line_next result;
     begin(&m, stack, sizeof stack, shaped);
     LEND(&m, 2, line, 1, shape_of_lent_line(0));
     m.g0 -= 24;
     module_scard_lent_line_talk(&m, m.g0, ADDRESS(2), (u64)first, (u64)now);
-    result.kind = (uint8_t)get8(stack + 88);
-    result.count = (scard_size)get64(stack + 88 + 8);
-    result.wait = (scard_size)get64(stack + 88 + 16);
+    result.kind = (uint8_t)get8(stack + 56);
+    result.count = (scard_size)get64(stack + 56 + 8);
+    result.wait = (scard_size)get64(stack + 56 + 16);
     return result;
 }
 
 struct scard_line_next scard_lent_line_serve(struct scard_lent_line *line, uint64_t now)
 {
     struct call m;
-    u8 stack[96];
+    u8 stack[80];
     SHAPED_HERE
     struct scard_line_next result;
     begin(&m, stack, sizeof stack, shaped);
     LEND(&m, 2, line, 1, shape_of_lent_line(0));
     m.g0 -= 24;
     module_scard_lent_line_serve(&m, m.g0, ADDRESS(2), (u64)now);
-    result.kind = (uint8_t)get8(stack + 72);
-    result.count = (scard_size)get64(stack + 72 + 8);
-    result.wait = (scard_size)get64(stack + 72 + 16);
+    result.kind = (uint8_t)get8(stack + 56);
+    result.count = (scard_size)get64(stack + 56 + 8);
+    result.wait = (scard_size)get64(stack + 56 + 16);
     return result;
 }
 
@@ -32106,7 +32535,7 @@ struct scard_line_next scard_lent_line_step(struct scard_lent_line *line, uint8_
     count, uint64_t now, const uint8_t *block, size_t block_count)
 {
     struct call m;
-    u8 stack[368];
+    u8 stack[384];
     SHAPED_HERE
     struct scard_line_next result;
     begin(&m, stack, sizeof stack, shaped);
@@ -32117,9 +32546,9 @@ struct scard_line_next scard_lent_line_step(struct scard_lent_line *line, uint8_
     m.g0 -= 24;
     module_scard_lent_line_step(&m, m.g0, ADDRESS(2), (u32)event, ADDRESS(3), (u64)count, (u64)now, ADDRESS(4),
         (u64)block_count);
-    result.kind = (uint8_t)get8(stack + 344);
-    result.count = (scard_size)get64(stack + 344 + 8);
-    result.wait = (scard_size)get64(stack + 344 + 16);
+    result.kind = (uint8_t)get8(stack + 360);
+    result.count = (scard_size)get64(stack + 360 + 8);
+    result.wait = (scard_size)get64(stack + 360 + 16);
     return result;
 }
 
@@ -32172,7 +32601,7 @@ struct scard_session_next scard_lent_session_exchange(struct scard_lent_session 
     *out, size_t room)
 {
     struct call m;
-    u8 stack[368];
+    u8 stack[352];
     SHAPED_HERE
     struct scard_session_next result;
     begin(&m, stack, sizeof stack, shaped);
@@ -32184,9 +32613,9 @@ struct scard_session_next scard_lent_session_exchange(struct scard_lent_session 
     m.g0 -= 24;
     module_scard_lent_session_exchange(&m, m.g0, ADDRESS(2), ADDRESS(3), (u64)command_room, ADDRESS(4),
         (u64)answer_room, ADDRESS(5), (u64)count, (u64)now, ADDRESS(6), (u64)room);
-    result.kind = (uint8_t)get8(stack + 344);
-    result.count = (scard_size)get64(stack + 344 + 8);
-    result.wait = (scard_size)get64(stack + 344 + 16);
+    result.kind = (uint8_t)get8(stack + 328);
+    result.count = (scard_size)get64(stack + 328 + 8);
+    result.wait = (scard_size)get64(stack + 328 + 16);
     return result;
 }
 
@@ -32194,7 +32623,7 @@ struct scard_session_next scard_lent_session_ask_ifs(struct scard_lent_session *
     command_room, uint8_t *answer, size_t answer_room, uint8_t size, uint64_t now, uint8_t *out, size_t room)
 {
     struct call m;
-    u8 stack[368];
+    u8 stack[352];
     SHAPED_HERE
     struct scard_session_next result;
     begin(&m, stack, sizeof stack, shaped);
@@ -32205,9 +32634,9 @@ struct scard_session_next scard_lent_session_ask_ifs(struct scard_lent_session *
     m.g0 -= 24;
     module_scard_lent_session_ask_ifs(&m, m.g0, ADDRESS(2), ADDRESS(3), (u64)command_room, ADDRESS(4),
         (u64)answer_room, (u32)size, (u64)now, ADDRESS(5), (u64)room);
-    result.kind = (uint8_t)get8(stack + 344);
-    result.count = (scard_size)get64(stack + 344 + 8);
-    result.wait = (scard_size)get64(stack + 344 + 16);
+    result.kind = (uint8_t)get8(stack + 328);
+    result.count = (scard_size)get64(stack + 328 + 8);
+    result.wait = (scard_size)get64(stack + 328 + 16);
     return result;
 }
 
@@ -32216,7 +32645,7 @@ struct scard_session_next scard_lent_session_resync(struct scard_lent_session *s
     *out, size_t room)
 {
     struct call m;
-    u8 stack[384];
+    u8 stack[368];
     SHAPED_HERE
     struct scard_session_next result;
     begin(&m, stack, sizeof stack, shaped);
@@ -32229,9 +32658,9 @@ struct scard_session_next scard_lent_session_resync(struct scard_lent_session *s
     m.g0 -= 24;
     module_scard_lent_session_resync(&m, m.g0, ADDRESS(2), ADDRESS(3), (u64)command_room, ADDRESS(4),
         (u64)answer_room, ADDRESS(5), (u64)now, ADDRESS(6), (u64)room);
-    result.kind = (uint8_t)get8(stack + 360);
-    result.count = (scard_size)get64(stack + 360 + 8);
-    result.wait = (scard_size)get64(stack + 360 + 16);
+    result.kind = (uint8_t)get8(stack + 344);
+    result.count = (scard_size)get64(stack + 344 + 8);
+    result.wait = (scard_size)get64(stack + 344 + 16);
     return result;
 }
 
@@ -32240,7 +32669,7 @@ struct scard_session_next scard_lent_session_step(struct scard_lent_session *ses
     now, uint8_t *out, size_t room)
 {
     struct call m;
-    u8 stack[400];
+    u8 stack[592];
     SHAPED_HERE
     struct scard_session_next result;
     begin(&m, stack, sizeof stack, shaped);
@@ -32253,9 +32682,9 @@ struct scard_session_next scard_lent_session_step(struct scard_lent_session *ses
     m.g0 -= 24;
     module_scard_lent_session_step(&m, m.g0, ADDRESS(2), ADDRESS(3), (u64)command_room, ADDRESS(4), (u64)answer_room,
         (u32)event, ADDRESS(5), (u64)count, (u64)now, ADDRESS(6), (u64)room);
-    result.kind = (uint8_t)get8(stack + 376);
-    result.count = (scard_size)get64(stack + 376 + 8);
-    result.wait = (scard_size)get64(stack + 376 + 16);
+    result.kind = (uint8_t)get8(stack + 568);
+    result.count = (scard_size)get64(stack + 568 + 8);
+    result.wait = (scard_size)get64(stack + 568 + 16);
     return result;
 }
 
@@ -32263,7 +32692,7 @@ struct scard_session_next scard_lent_card_session_serve(struct scard_lent_card_s
     *command, size_t command_room, const uint8_t *reply, size_t reply_room, uint64_t now)
 {
     struct call m;
-    u8 stack[336];
+    u8 stack[256];
     SHAPED_HERE
     struct scard_session_next result;
     begin(&m, stack, sizeof stack, shaped);
@@ -32273,9 +32702,9 @@ struct scard_session_next scard_lent_card_session_serve(struct scard_lent_card_s
     m.g0 -= 24;
     module_scard_lent_card_session_serve(&m, m.g0, ADDRESS(2), ADDRESS(3), (u64)command_room, ADDRESS(4),
         (u64)reply_room, (u64)now);
-    result.kind = (uint8_t)get8(stack + 312);
-    result.count = (scard_size)get64(stack + 312 + 8);
-    result.wait = (scard_size)get64(stack + 312 + 16);
+    result.kind = (uint8_t)get8(stack + 232);
+    result.count = (scard_size)get64(stack + 232 + 8);
+    result.wait = (scard_size)get64(stack + 232 + 16);
     return result;
 }
 
@@ -32284,7 +32713,7 @@ struct scard_session_next scard_lent_card_session_reply(struct scard_lent_card_s
     *out, size_t room)
 {
     struct call m;
-    u8 stack[512];
+    u8 stack[432];
     SHAPED_HERE
     struct scard_session_next result;
     begin(&m, stack, sizeof stack, shaped);
@@ -32296,9 +32725,9 @@ struct scard_session_next scard_lent_card_session_reply(struct scard_lent_card_s
     m.g0 -= 24;
     module_scard_lent_card_session_reply(&m, m.g0, ADDRESS(2), ADDRESS(3), (u64)command_room, ADDRESS(4),
         (u64)reply_room, ADDRESS(5), (u64)count, (u64)now, ADDRESS(6), (u64)room);
-    result.kind = (uint8_t)get8(stack + 488);
-    result.count = (scard_size)get64(stack + 488 + 8);
-    result.wait = (scard_size)get64(stack + 488 + 16);
+    result.kind = (uint8_t)get8(stack + 408);
+    result.count = (scard_size)get64(stack + 408 + 8);
+    result.wait = (scard_size)get64(stack + 408 + 16);
     return result;
 }
 
@@ -32306,7 +32735,7 @@ struct scard_session_next scard_lent_card_session_more_time(struct scard_lent_ca
     size_t command_room, uint8_t *reply, size_t reply_room, uint8_t multiple, uint64_t now, uint8_t *out, size_t room)
 {
     struct call m;
-    u8 stack[512];
+    u8 stack[432];
     SHAPED_HERE
     struct scard_session_next result;
     begin(&m, stack, sizeof stack, shaped);
@@ -32317,9 +32746,9 @@ struct scard_session_next scard_lent_card_session_more_time(struct scard_lent_ca
     m.g0 -= 24;
     module_scard_lent_card_session_more_time(&m, m.g0, ADDRESS(2), ADDRESS(3), (u64)command_room, ADDRESS(4),
         (u64)reply_room, (u32)multiple, (u64)now, ADDRESS(5), (u64)room);
-    result.kind = (uint8_t)get8(stack + 488);
-    result.count = (scard_size)get64(stack + 488 + 8);
-    result.wait = (scard_size)get64(stack + 488 + 16);
+    result.kind = (uint8_t)get8(stack + 408);
+    result.count = (scard_size)get64(stack + 408 + 8);
+    result.wait = (scard_size)get64(stack + 408 + 16);
     return result;
 }
 
@@ -32327,7 +32756,7 @@ struct scard_session_next scard_lent_card_session_ask_ifs(struct scard_lent_card
     size_t command_room, uint8_t *reply, size_t reply_room, uint8_t size, uint64_t now, uint8_t *out, size_t room)
 {
     struct call m;
-    u8 stack[512];
+    u8 stack[432];
     SHAPED_HERE
     struct scard_session_next result;
     begin(&m, stack, sizeof stack, shaped);
@@ -32338,9 +32767,9 @@ struct scard_session_next scard_lent_card_session_ask_ifs(struct scard_lent_card
     m.g0 -= 24;
     module_scard_lent_card_session_ask_ifs(&m, m.g0, ADDRESS(2), ADDRESS(3), (u64)command_room, ADDRESS(4),
         (u64)reply_room, (u32)size, (u64)now, ADDRESS(5), (u64)room);
-    result.kind = (uint8_t)get8(stack + 488);
-    result.count = (scard_size)get64(stack + 488 + 8);
-    result.wait = (scard_size)get64(stack + 488 + 16);
+    result.kind = (uint8_t)get8(stack + 408);
+    result.count = (scard_size)get64(stack + 408 + 8);
+    result.wait = (scard_size)get64(stack + 408 + 16);
     return result;
 }
 
@@ -32349,7 +32778,7 @@ struct scard_session_next scard_lent_card_session_step(struct scard_lent_card_se
     uint64_t now, uint8_t *out, size_t room)
 {
     struct call m;
-    u8 stack[560];
+    u8 stack[608];
     SHAPED_HERE
     struct scard_session_next result;
     begin(&m, stack, sizeof stack, shaped);
@@ -32362,9 +32791,9 @@ struct scard_session_next scard_lent_card_session_step(struct scard_lent_card_se
     m.g0 -= 24;
     module_scard_lent_card_session_step(&m, m.g0, ADDRESS(2), ADDRESS(3), (u64)command_room, ADDRESS(4),
         (u64)reply_room, (u32)event, ADDRESS(5), (u64)count, (u64)now, ADDRESS(6), (u64)room);
-    result.kind = (uint8_t)get8(stack + 536);
-    result.count = (scard_size)get64(stack + 536 + 8);
-    result.wait = (scard_size)get64(stack + 536 + 16);
+    result.kind = (uint8_t)get8(stack + 584);
+    result.count = (scard_size)get64(stack + 584 + 8);
+    result.wait = (scard_size)get64(stack + 584 + 16);
     return result;
 }
 
