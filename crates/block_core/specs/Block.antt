@@ -100,6 +100,11 @@ front_of v = v.nad ∷ pcb_octet v.pcb ∷ length v.inf ∷ v.inf
 abbrev pub spelling : Parts → List ℕ
 spelling v = front_of v ++ xor_of (front_of v) ∷ []
 
+-- the octets are as many as their third one, LEN, says, and their exclusive-or is 0, as the LRC makes it: 11.4.4
+pub record IsWhole (b : List ℕ) : Type 0 where
+  pub counted : length b ≡ slice_index b 2 + 4
+  pub summed : xor_of b ≡ 0
+
 -- the octets b encode the block v
 pub record IsBlock (ifs : ℕ) (v : Parts) (b : List ℕ) : Type 0 where
   pub proper : IsProper ifs v

@@ -1,10 +1,10 @@
 //! Blocks that borrow their information field.
 
-ghost use Rattle.std.specs.Prelude.{◌≡◌, ◌+◌, ◌<◌, ◌≤◌, ◌++◌, length, take, drop, slice_index, IfOk, IfErr, SomeIff};
+ghost use Rattle.std.specs.Prelude.{◌≡◌, ◌+◌, ◌<◌, ◌≤◌, ◌++◌, true, length, take, drop, slice_index, IfOk, IfErr, SomeIff};
 ghost use Rattle.octet_core.specs.Grammar.{self_ended, Accepts, Refuses};
 ghost use Rattle.octet_core.specs.Octets.{xor_of};
 ghost use Rattle.octet_core.specs.declared.stop.Stop.TheVariants.{At, Short};
-ghost use Rattle.block_core.specs.Block.{Suits, IsAboutIfs, IsBlock, IsPut, IsReason, pcb_octet};
+ghost use Rattle.block_core.specs.Block.{Suits, IsAboutIfs, IsBlock, IsPut, IsReason, IsWhole, pcb_octet};
 ghost use Rattle.block_core.specs.Stage.{IsHeaded, IsSized};
 
 use crate::block::Block;
@@ -47,12 +47,31 @@ impl<'a> BlockRef<'a> {
         ensures refused { IfErr result
             (Refuses self_ended (IsBlock ifs) (IsReason ifs) octets.now) }
     {
+        BlockRef::decode_burst(octets, ifs, false)
+    }
+
+    /// Decodes the block at the front of the octets, like [`BlockRef::decode`]. If `is_whole` is true, the caller
+    /// already knows that the octets are as many as LEN says, and that their LRC is right. Then no octet of the
+    /// field is read again for the LRC.
+    #[inline(always)]
+    pub fn decode_burst(
+        octets: &'a [u8],
+        ifs: u8,
+        is_whole: bool,
+    ) -> Result<(BlockRef<'a>, usize), Stop<BlockReason>>
+        requires least { 1 ≤ ifs }
+        requires most { ifs ≤ 254 }
+        requires whole { is_whole ≡ true → IsWhole octets.now }
+        ensures found { IfOk result (λ x. Accepts self_ended (IsBlock ifs) octets.now x.0 x.1) }
+        ensures refused { IfErr result
+            (Refuses self_ended (IsBlock ifs) (IsReason ifs) octets.now) }
+    {
         let pcb = pcb_in(octets, ifs)?;
         let end = end_in(octets, pcb, ifs)?;
         if octets.len() <= end {
             return Err(short(octets));
         }
-        if sum_of(&octets[..end + 1]) != 0 {
+        if sum_to(octets, end + 1, is_whole) != 0 {
             return Err(refused(end, BlockReason::BadLrc));
         }
         let block = BlockRef::of_parts(octets[0], pcb, &octets[3..end]);
@@ -180,6 +199,22 @@ fn put(out: &mut [u8], start: usize, octets: &[u8])
         ++ (octets.now ++ drop (start + length octets.now) out.old) }
 {
     out[start..start + octets.len()].copy_from_slice(octets);
+}
+
+/// Returns the exclusive-or of the first octets. If the octets are known to be whole, they are so many, and nothing
+/// is read.
+#[inline(always)]
+fn sum_to(octets: &[u8], count: usize, is_whole: bool) -> u8
+    requires most { count ≤ length octets.now }
+    requires all { is_whole ≡ true → count ≡ length octets.now }
+    requires whole { is_whole ≡ true → IsWhole octets.now }
+    ensures { result ≡ xor_of (take count octets.now) }
+{
+    if is_whole {
+        0
+    } else {
+        sum_of(&octets[..count])
+    }
 }
 
 /// Returns the exclusive-or of the octets. It isn't inlined: next to a test of its result, the compiler takes

@@ -117,9 +117,12 @@ impl Card {
         ensures state { self.new ≡ state_after self.old
             (card_turn self.old (takes (class_of self.old.ifsc octets.now))) }
     {
-        let acted = self
-            .state
-            .takes(self.command.as_mut_slice(), self.reply.as_slice(), octets);
+        let acted = self.state.takes(
+            self.command.as_mut_slice(),
+            self.reply.as_slice(),
+            octets,
+            false,
+        );
         self.state
             .answered(self.command.as_slice(), self.reply.as_slice(), acted)
     }

@@ -1,6 +1,7 @@
 //! What octets that came are to an end.
 
-ghost use Rattle.std.specs.Prelude.{◌≡◌, ◌≤◌};
+ghost use Rattle.std.specs.Prelude.{◌≡◌, ◌≤◌, true};
+ghost use Rattle.block_core.specs.Block.{IsWhole};
 ghost use Rattle.t1_core.specs.Came.{IsClass, class_of};
 ghost use Rattle.t1_core.specs.Views.{came_of, is_response_with};
 
@@ -36,24 +37,27 @@ impl<'a> Arrived<'a> {
     }
 }
 
-/// Returns what these octets are to an end that takes information fields of at most so many octets.
+/// Returns what these octets are to an end that takes information fields of at most so many octets. `is_whole` says
+/// that they are known to be whole.
 #[inline(always)]
-pub(crate) fn classify(octets: &[u8], ifs: u8) -> Arrived<'_>
+pub(crate) fn classify(octets: &[u8], ifs: u8, is_whole: bool) -> Arrived<'_>
     requires least { 1 ≤ ifs }
     requires most { ifs ≤ 254 }
+    requires whole { is_whole ≡ true → IsWhole octets.now }
     ensures { came_of result ≡ class_of ifs octets.now }
 {
-    by_verdict(octets, ifs)
+    by_verdict(octets, ifs, is_whole)
 }
 
 /// Returns what the octets are, from the verdict on them as a block.
 #[inline(always)]
-fn by_verdict(octets: &[u8], ifs: u8) -> Arrived<'_>
+fn by_verdict(octets: &[u8], ifs: u8, is_whole: bool) -> Arrived<'_>
     requires least { 1 ≤ ifs }
     requires most { ifs ≤ 254 }
+    requires whole { is_whole ≡ true → IsWhole octets.now }
     ensures { IsClass ifs octets.now (came_of result) }
 {
-    match BlockRef::decode(octets, ifs) {
+    match BlockRef::decode_burst(octets, ifs, is_whole) {
         Ok((block, taken)) => {
             if taken == octets.len() && block.nad() == 0 {
                 Arrived::Whole(block)

@@ -164,7 +164,12 @@ impl Terminal {
         ensures state { self.new ≡ state_after self.old
             (terminal_turn self.old (takes (class_of self.old.ifsd octets.now))) }
     {
-        let acted = self.state.takes(self.command.as_slice(), self.answer.as_mut_slice(), octets);
+        let acted = self.state.takes(
+            self.command.as_slice(),
+            self.answer.as_mut_slice(),
+            octets,
+            false,
+        );
         self.state
             .answered(self.command.as_slice(), self.answer.as_slice(), acted)
     }

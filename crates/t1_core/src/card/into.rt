@@ -1,6 +1,7 @@
 //! The calls of the card that write the octets of a block into the caller's buffer.
 
-ghost use Rattle.std.specs.Prelude.{◌≡◌, ◌≤◌, length, IfOk, IfErr, Err};
+ghost use Rattle.std.specs.Prelude.{◌≡◌, ◌≤◌, length, true, IfOk, IfErr, Err};
+ghost use Rattle.block_core.specs.Block.{IsWhole};
 ghost use Rattle.t1_core.specs.Came.{class_of};
 ghost use Rattle.t1_core.specs.Put.{IsCardPut, FitsCardPut};
 ghost use Rattle.t1_core.specs.Sending.{card_answers};
@@ -119,7 +120,37 @@ impl LentCard {
         ensures refused { IfErr result
             (λ _. (self.new ≡ self.old) × (command_buffer.new ≡ command_buffer.old)) }
     {
-        let acted = self.takes(command_buffer, reply_buffer, octets);
+        self.received_burst_into(command_buffer, reply_buffer, octets, false, out)
+    }
+
+    /// Takes the octets of the line, as `received` does. If `is_whole` is true, the caller already knows that they are as
+    /// many as their LEN says, and that their LRC is right. Then they aren't read again for the LRC.
+    pub fn received_burst_into(
+        &mut self,
+        command_buffer: &mut [u8],
+        reply_buffer: &[u8],
+        octets: &[u8],
+        is_whole: bool,
+        out: &mut [u8],
+    ) -> Result<EncodedCardTurn, CardFault>
+        requires whole { is_whole ≡ true → IsWhole octets.now }
+        requires room { 258 ≤ length out.old }
+        requires fit { IsLentCard self.old (length command_buffer.old) (length reply_buffer.now) }
+        ensures turn { IsCardPut (turn_of
+            (card_turn (card_held self.old command_buffer.old reply_buffer.now)
+            (takes (class_of (card_held self.old command_buffer.old reply_buffer.now).ifsc octets.now)))) out.old
+            out.new result }
+        ensures fits { IfOk result FitsCardPut }
+        ensures fit { IsLentCard self.new (length command_buffer.new) (length reply_buffer.now) }
+        ensures state { card_held self.new command_buffer.new reply_buffer.now
+            ≡ state_after (card_held self.old command_buffer.old reply_buffer.now)
+            (card_turn (card_held self.old command_buffer.old reply_buffer.now)
+            (takes (class_of (card_held self.old command_buffer.old reply_buffer.now).ifsc octets.now))) }
+        ensures blank { IsBlank self.old command_buffer.old → IsBlank self.new command_buffer.new }
+        ensures refused { IfErr result
+            (λ _. (self.new ≡ self.old) × (command_buffer.new ≡ command_buffer.old)) }
+    {
+        let acted = self.takes(command_buffer, reply_buffer, octets, is_whole);
         self.put(command_buffer, reply_buffer, acted, out)
     }
 

@@ -1,6 +1,7 @@
 //! What the card does at each call, and the block that it sends, from what it keeps.
 
-ghost use Rattle.std.specs.Prelude.{◌≡◌, ◌≤◌, length, IfErr};
+ghost use Rattle.std.specs.Prelude.{◌≡◌, ◌≤◌, length, true, IfErr};
+ghost use Rattle.block_core.specs.Block.{IsWhole};
 ghost use Rattle.t1_core.specs.Came.{class_of, info};
 ghost use Rattle.t1_core.specs.CardViews.{card_held, IsLentCard, IsBlank, field_of};
 ghost use Rattle.t1_core.specs.Sending.{field_saved, card_sends, card_answers};
@@ -18,13 +19,15 @@ use chain_core::append;
 use octet_core::is_reserved;
 
 impl LentCard {
-    /// Takes octets that came as one block.
+    /// Takes octets that came as one block. `is_whole` says that they are known to be whole.
     pub(super) fn takes(
         &mut self,
         command_buffer: &mut [u8],
         reply_buffer: &[u8],
         octets: &[u8],
+        is_whole: bool,
     ) -> Result<CardAct, CardFault>
+        requires whole { is_whole ≡ true → IsWhole octets.now }
         requires fit { IsLentCard self.old (length command_buffer.old) (length reply_buffer.now) }
         ensures fit { IsLentCard self.new (length command_buffer.new) (length reply_buffer.now) }
         ensures turn { card_answers (card_held self.new command_buffer.new reply_buffer.now) result
@@ -38,7 +41,7 @@ impl LentCard {
         ensures refused { IfErr result
             (λ _. (self.new ≡ self.old) × (command_buffer.new ≡ command_buffer.old)) }
     {
-        let arrived = classify(octets, self.ifsc);
+        let arrived = classify(octets, self.ifsc, is_whole);
         match self.wait {
             CardWait::Host => Err(CardFault::Order),
             CardWait::Command | CardWait::Joining => Ok(self.command_took(

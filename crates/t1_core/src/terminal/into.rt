@@ -1,6 +1,7 @@
 //! The calls of the terminal that write the octets of a block into the caller's buffer.
 
-ghost use Rattle.std.specs.Prelude.{◌≡◌, ◌≤◌, length, IfOk, IfErr, Err};
+ghost use Rattle.std.specs.Prelude.{◌≡◌, ◌≤◌, length, true, IfOk, IfErr, Err};
+ghost use Rattle.block_core.specs.Block.{IsWhole};
 ghost use Rattle.t1_core.specs.Came.{class_of, quiet};
 ghost use Rattle.t1_core.specs.Put.{IsTerminalPut, FitsTerminalPut};
 ghost use Rattle.t1_core.specs.Sending.{terminal_answers};
@@ -170,7 +171,38 @@ impl LentTerminal {
         ensures refused { IfErr result
             (λ _. (self.new ≡ self.old) × (answer_buffer.new ≡ answer_buffer.old)) }
     {
-        let acted = self.takes(command_buffer, answer_buffer, octets);
+        self.received_burst_into(command_buffer, answer_buffer, octets, false, out)
+    }
+
+    /// Takes the octets of the line, as `received` does. If `is_whole` is true, the caller already knows that they are as
+    /// many as their LEN says, and that their LRC is right. Then they aren't read again for the LRC.
+    pub fn received_burst_into(
+        &mut self,
+        command_buffer: &[u8],
+        answer_buffer: &mut [u8],
+        octets: &[u8],
+        is_whole: bool,
+        out: &mut [u8],
+    ) -> Result<EncodedTerminalTurn, TerminalFault>
+        requires whole { is_whole ≡ true → IsWhole octets.now }
+        requires room { 258 ≤ length out.old }
+        requires fit { IsLentTerminal self.old (length command_buffer.now)
+            (length answer_buffer.old) }
+        ensures turn { IsTerminalPut
+            (turn_of (terminal_turn (terminal_held self.old command_buffer.now answer_buffer.old)
+            (takes (class_of (terminal_held self.old command_buffer.now answer_buffer.old).ifsd octets.now))))
+            out.old out.new result }
+        ensures fits { IfOk result FitsTerminalPut }
+        ensures fit { IsLentTerminal self.new (length command_buffer.now)
+            (length answer_buffer.new) }
+        ensures state { terminal_held self.new command_buffer.now answer_buffer.new
+            ≡ state_after (terminal_held self.old command_buffer.now answer_buffer.old)
+            (terminal_turn (terminal_held self.old command_buffer.now answer_buffer.old)
+            (takes (class_of (terminal_held self.old command_buffer.now answer_buffer.old).ifsd octets.now))) }
+        ensures refused { IfErr result
+            (λ _. (self.new ≡ self.old) × (answer_buffer.new ≡ answer_buffer.old)) }
+    {
+        let acted = self.takes(command_buffer, answer_buffer, octets, is_whole);
         self.put(command_buffer, answer_buffer, acted, out)
     }
 

@@ -1,6 +1,7 @@
 //! What the terminal does at each call, and the block that it sends, from what it keeps.
 
-ghost use Rattle.std.specs.Prelude.{◌≡◌, ◌≤◌, length, drop, false, IfErr};
+ghost use Rattle.std.specs.Prelude.{◌≡◌, ◌≤◌, length, drop, true, false, IfErr};
+ghost use Rattle.block_core.specs.Block.{IsWhole};
 ghost use Rattle.t1_core.specs.Came.{class_of, quiet, info};
 ghost use Rattle.t1_core.specs.Views.{terminal_held, IsLentTerminal};
 ghost use Rattle.t1_core.specs.Sending.{field_sent, terminal_sends, terminal_does, terminal_answers};
@@ -76,13 +77,15 @@ impl LentTerminal {
         Ok(TerminalAct::Send(Sent::Other(Short::request(S::Ifs, &[size]))))
     }
 
-    /// Takes octets that came as one block.
+    /// Takes octets that came as one block. `is_whole` says that they are known to be whole.
     pub(super) fn takes(
         &mut self,
         command_buffer: &[u8],
         answer_buffer: &mut [u8],
         octets: &[u8],
+        is_whole: bool,
     ) -> Result<TerminalAct, TerminalFault>
+        requires whole { is_whole ≡ true → IsWhole octets.now }
         requires fit { IsLentTerminal self.old (length command_buffer.now)
             (length answer_buffer.old) }
         ensures fit { IsLentTerminal self.new (length command_buffer.now)
@@ -98,7 +101,7 @@ impl LentTerminal {
         ensures refused { IfErr result
             (λ _. (self.new ≡ self.old) × (answer_buffer.new ≡ answer_buffer.old)) }
     {
-        let arrived = classify(octets, self.ifsd);
+        let arrived = classify(octets, self.ifsd, is_whole);
         match self.wait {
             TerminalWait::Idle => Err(TerminalFault::Idle),
             TerminalWait::Dead => Err(TerminalFault::Dead),
