@@ -1,6 +1,6 @@
 //! The session of a card as steps, over a state and buffers that the caller owns (ISO/IEC 7816-3, clause 11).
 
-ghost use Rattle.std.specs.Prelude.{◌≡◌, ◌≤◌, List, ℕ, length, IfErr, Some};
+ghost use Rattle.std.specs.Prelude.{◌≡◌, ◌≤◌, List, ℕ, length, true, IfErr, Some};
 ghost use Rattle.t1_core.specs.declared.lent.LentCard.{LentCard};
 ghost use Rattle.t1_core.specs.Card.{CardState, replies, more_time, ask_ifs};
 ghost use Rattle.t1_core.specs.CardViews.{card_held, IsLentCard, IsBlank};
@@ -8,7 +8,7 @@ ghost use Rattle.line_core.specs.Bursts.{HasHeard};
 ghost use Rattle.session_core.specs.declared.lines.Start.TheVariants.{Exchange};
 ghost use Rattle.session_core.specs.declared.progress.Rules.{Rules};
 ghost use Rattle.session_core.specs.Wire.{Step, seen};
-ghost use Rattle.session_core.specs.Lines.{GoesTo};
+ghost use Rattle.session_core.specs.Lines.{GoesTo, HoldsWhole};
 ghost use Rattle.session_core.specs.Cards.{TurnsTo};
 ghost use Rattle.c_lent.specs.Kept.{card_of};
 ghost use Rattle.c_lent.specs.Lent.{lent};
@@ -224,22 +224,25 @@ pub fn card_session_step(
     let own = session.own;
     let next = session.line.happen(event, octets, now, own_block(out, own));
     if next.is_for_end() {
-        card_session_proceed(session, command, reply, next, now, out)
+        let is_whole = session.line.has_ended_whole(event, octets, next);
+        card_session_proceed(session, command, reply, next, is_whole, now, out)
     } else {
         CSessionNext::acts(Action::of(next, own))
     }
 }
 
-/// Passes what the line says next to the card.
+/// Passes what the line says next to the card. `is_whole` says that the burst is known to be a whole block.
 #[inline(always)]
 fn card_session_proceed(
     session: &mut CCardSession,
     command: &mut [u8],
     reply: &mut [u8],
     next: Next,
+    is_whole: bool,
     now: u64,
     out: &mut [u8],
 ) -> CSessionNext
+    requires whole { is_whole ≡ true → HoldsWhole session.old.line.framer }
     requires room { 258 ≤ length out.old }
     requires end { (end : LentCard) × (card_of session.old.card ≡ Some end)
         × IsLentCard end (length command.old) (length reply.old) }
@@ -263,6 +266,7 @@ fn card_session_proceed(
         command,
         reply,
         next,
+        is_whole,
         now,
         out,
     );

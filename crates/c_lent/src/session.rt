@@ -1,6 +1,6 @@
 //! The session of a terminal as steps, over a state and buffers that the caller owns (ISO/IEC 7816-3, clause 11).
 
-ghost use Rattle.std.specs.Prelude.{◌≡◌, ◌≤◌, List, ℕ, length, IfErr, Some};
+ghost use Rattle.std.specs.Prelude.{◌≡◌, ◌≤◌, List, ℕ, length, true, IfErr, Some};
 ghost use Rattle.t1_core.specs.declared.lent.LentTerminal.{LentTerminal};
 ghost use Rattle.t1_core.specs.Terminal.{TerminalState, transmit, ask_ifs};
 ghost use Rattle.t1_core.specs.Views.{terminal_held, IsLentTerminal};
@@ -8,7 +8,7 @@ ghost use Rattle.line_core.specs.Bursts.{HasHeard};
 ghost use Rattle.session_core.specs.declared.lines.Start.TheVariants.{Exchange};
 ghost use Rattle.session_core.specs.declared.progress.Rules.{Rules};
 ghost use Rattle.session_core.specs.Wire.{Step, seen};
-ghost use Rattle.session_core.specs.Lines.{GoesTo};
+ghost use Rattle.session_core.specs.Lines.{GoesTo, HoldsWhole};
 ghost use Rattle.session_core.specs.Terminals.{TurnsTo};
 ghost use Rattle.c_lent.specs.Kept.{terminal_of};
 ghost use Rattle.c_lent.specs.Lent.{lent};
@@ -229,22 +229,25 @@ pub fn session_step(
     let own = session.own;
     let next = session.line.happen(event, octets, now, own_block(out, own));
     if next.is_for_end() {
-        session_proceed(session, command, answer, next, now, out)
+        let is_whole = session.line.has_ended_whole(event, octets, next);
+        session_proceed(session, command, answer, next, is_whole, now, out)
     } else {
         CSessionNext::acts(Action::of(next, own))
     }
 }
 
-/// Passes what the line says next to the terminal.
+/// Passes what the line says next to the terminal. `is_whole` says that the burst is known to be a whole block.
 #[inline(always)]
 fn session_proceed(
     session: &mut CSession,
     command: &[u8],
     answer: &mut [u8],
     next: Next,
+    is_whole: bool,
     now: u64,
     out: &mut [u8],
 ) -> CSessionNext
+    requires whole { is_whole ≡ true → HoldsWhole session.old.line.framer }
     requires room { 258 ≤ length out.old }
     requires end { (end : LentTerminal) × (terminal_of session.old.terminal ≡ Some end)
         × IsLentTerminal end (length command.now) (length answer.old) }
@@ -258,7 +261,9 @@ fn session_proceed(
     };
     let line = &mut session.line;
     let own = &mut session.own;
-    let acted = terminal::proceed(&mut end, line, own, command, answer, next, now, out);
+    let acted = terminal::proceed(
+        &mut end, line, own, command, answer, next, is_whole, now, out,
+    );
     session.terminal = CTerminal::of(&end);
     CSessionNext::of_terminal(acted)
 }

@@ -1,5 +1,7 @@
 -- The line of one end as plain numbers.
-use Rattle.std.specs.Prelude.{◌≡◌, ℕ, List, min, Bool, true, false, ◌==◌, if◌then◌else◌}
+use Rattle.std.specs.Prelude.{◌≡◌, ℕ, List, [], ◌∷◌, take, min, Bool, true, false, not, ◌&&◌, ◌==◌, if◌then◌else◌}
+use Rattle.block_core.specs.Block.{IsWhole}
+use Rattle.line_core.specs.declared.framing.Framer.{Framer}
 use Rattle.line_core.specs.Bursts.{HasHeard, handed}
 use Rattle.session_core.specs.declared.event.Next.{Next}
 use Rattle.session_core.specs.declared.event.Next.TheVariants.{Send, Wait, Heard, Quiet, Failed, UsedUp, Echo, Order}
@@ -62,3 +64,14 @@ abbrev pub started : Start → Ruled → Doing → List ℕ → ℕ → Step
 started Exchange r p burst now = begins r p burst now
 started Clear r p burst now = clears r p burst now
 started Talk r p burst now = talks r p burst now
+
+-- Octets came whose burst the end takes at once, and the marks of the line say that it is a whole block with no damaged
+-- octet.
+abbrev pub ends_whole : ℕ → List ℕ → Next → Doing → Bool
+ends_whole event [] next p = false
+ends_whole event (octet ∷ octets) Heard p = (event == 1) && (p.is_whole && not p.is_spoiled)
+ends_whole event (octet ∷ octets) next p = false
+
+-- the burst that the end takes is a whole block by its LEN and its LRC
+abbrev pub HoldsWhole : Framer → Type 0
+HoldsWhole framer = (burst : List ℕ) × HasHeard framer burst × IsWhole (take handed burst)

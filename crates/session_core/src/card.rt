@@ -5,14 +5,14 @@
 //! the front of `out` are that block. `granted` is how many requests of the host about the present command the terminal
 //! granted.
 
-ghost use Rattle.std.specs.Prelude.{◌≡◌, ◌≤◌, List, ℕ, length, take, IfErr};
+ghost use Rattle.std.specs.Prelude.{◌≡◌, ◌≤◌, List, ℕ, length, take, true, IfErr};
 ghost use Rattle.t1_core.specs.Card.{replies, more_time, ask_ifs};
 ghost use Rattle.t1_core.specs.CardViews.{card_held, IsLentCard, IsBlank};
 ghost use Rattle.line_core.specs.Bursts.{HasHeard};
 ghost use Rattle.session_core.specs.declared.lines.Start.TheVariants.{Exchange};
 ghost use Rattle.session_core.specs.declared.progress.Rules.{Rules};
 ghost use Rattle.session_core.specs.Wire.{Step, ruled, seen, forever, serves};
-ghost use Rattle.session_core.specs.Lines.{GoesTo, stepped, first_of};
+ghost use Rattle.session_core.specs.Lines.{GoesTo, HoldsWhole, stepped, first_of};
 ghost use Rattle.session_core.specs.Terminals.{IsSent};
 ghost use Rattle.session_core.specs.Cards.{IsTurned, TurnsTo, Asks, Hears, IsStepped, answering, is_asking, granted_after, is_for_host, asked_about};
 
@@ -219,6 +219,7 @@ pub fn step(
     ensures blank { IsBlank end.old command.old → IsBlank end.new command.new }
 {
     let next = line.happen(event, octets, now, own_block(out, *own));
+    let is_whole = line.has_ended_whole(event, octets, next);
     proceed(
         end,
         line,
@@ -228,12 +229,14 @@ pub fn step(
         command,
         reply,
         next,
+        is_whole,
         now,
         out,
     )
 }
 
-/// Does what the line says next, after [`Line::happen`].
+/// Does what the line says next, after [`Line::happen`]. `is_whole` says that the burst is known to be a whole block
+/// ([`Line::has_ended_whole`]).
 pub fn proceed(
     end: &mut LentCard,
     line: &mut Line,
@@ -243,9 +246,11 @@ pub fn proceed(
     command: &mut [u8],
     reply: &mut [u8],
     next: Next,
+    is_whole: bool,
     now: u64,
     out: &mut [u8],
 ) -> Result<Action, CardFault>
+    requires whole { is_whole ≡ true → HoldsWhole line.old.framer }
     requires room { 258 ≤ length out.old }
     requires fit { IsLentCard end.old (length command.old) (length reply.old) }
     ensures fit { IsLentCard end.new (length command.new) (length reply.new) }
@@ -264,6 +269,7 @@ pub fn proceed(
                 takes_short,
                 command,
                 reply,
+                is_whole,
                 now,
                 out,
             )
@@ -282,9 +288,11 @@ fn heard(
     takes_short: bool,
     command: &mut [u8],
     reply: &mut [u8],
+    is_whole: bool,
     now: u64,
     out: &mut [u8],
 ) -> Result<Action, CardFault>
+    requires whole { is_whole ≡ true → HoldsWhole line.old.framer }
     requires room { 258 ≤ length out.old }
     requires fit { IsLentCard end.old (length command.old) (length reply.old) }
     ensures fit { IsLentCard end.new (length command.new) (length reply.new) }
@@ -295,7 +303,7 @@ fn heard(
     ensures blank { IsBlank end.old command.old → IsBlank end.new command.new }
 {
     let was_asking = is_asking(end);
-    match end.received_into(command, reply, line.framer.burst(), out)? {
+    match end.received_burst_into(command, reply, line.framer.burst(), is_whole, out)? {
         EncodedCardTurn::Send(count) => {
             *own = count;
             Ok(line.answer(Start::Talk, count, now))

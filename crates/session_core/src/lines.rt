@@ -1,9 +1,9 @@
 //! The line of one end in one struct, and what it does next as plain numbers, for callers in C.
 
-ghost use Rattle.std.specs.Prelude.{◌≡◌, ◌<◌, ◌&&◌, Bool, false, not, nat_eq, List, [], ℕ, length};
+ghost use Rattle.std.specs.Prelude.{◌≡◌, ◌<◌, ◌&&◌, Bool, true, false, not, nat_eq, get_or, List, [], ℕ, length};
 ghost use Rattle.line_core.specs.Bursts.{HasHeard};
 ghost use Rattle.session_core.specs.Wire.{ruled, seen, fresh, begins, clears, talks, serves, on_sent, on_came, on_silent, on_failed, forever, last_look, handed_over, IsStep, step_of};
-ghost use Rattle.session_core.specs.Lines.{first_of, told_next, stepped, held_over, started, IsTold, GoesTo};
+ghost use Rattle.session_core.specs.Lines.{first_of, told_next, stepped, held_over, started, ends_whole, IsTold, GoesTo, HoldsWhole};
 
 use crate::event::Next;
 use crate::progress::{FOREVER, Progress, Rules, is_set};
@@ -188,12 +188,33 @@ impl Line {
     /// Takes what happened on the line, by its number.
     #[inline(always)]
     pub fn happen(&mut self, event: u8, octets: &[u8], now: u64, block: &[u8]) -> Next
-        ensures { (burst : List ℕ) → HasHeard self.old.framer burst
+        ensures goes { (burst : List ℕ) → HasHeard self.old.framer burst
             → GoesTo (stepped event (ruled self.old.rules) (seen self.old.progress) burst octets.now now
             block.now) self.old.rules self.new result }
+        ensures whole { ends_whole event octets.now result (seen self.new.progress) ≡ true
+            → HoldsWhole self.new.framer }
     {
+        holds_burst(&self.framer);
         let next = self.stepped(event, octets, now, block);
-        self.hand(next)
+        let next = self.hand(next);
+        holds_burst(&self.framer);
+        next
+    }
+
+    /// Whether the end takes a burst that is known to be a whole block: these octets came and ended it.
+    #[inline(always)]
+    pub fn has_ended_whole(&self, event: u8, octets: &[u8], next: Next) -> bool
+        ensures { result ≡ ends_whole event octets.now next (seen self.now.progress) }
+    {
+        match next {
+            Next::Heard => {
+                event == 1
+                    && !octets.is_empty()
+                    && is_set(self.progress.is_whole)
+                    && !is_set(self.progress.is_spoiled)
+            }
+            _ => false,
+        }
     }
 
     /// Takes an event by its number.
@@ -328,6 +349,22 @@ impl Line {
         next
     }
 }
+
+/// States that a framer holds some burst, whatever its fields are. It does nothing.
+#[inline(always)]
+fn holds_burst(framer: &Framer)
+    ensures burst { (burst : List ℕ) × HasHeard framer.now burst }
+    ensures octets { (i : ℕ) → get_or framer.now.octets i 0 < 256 }
+{
+    let _count = framer.count;
+    are_octets(&framer.octets);
+}
+
+/// States that octets are below 256. It does nothing.
+#[inline(always)]
+fn are_octets(octets: &[u8])
+    ensures { (i : ℕ) → get_or octets.now i 0 < 256 }
+{}
 
 /// Puts a damaged block in place of a burst that the end may not take.
 fn hand_over(framer: &mut Framer, next: Next, is_spoiled: bool)

@@ -4,7 +4,7 @@
 //! apart. The caller keeps the terminal, its line, both buffers, and a buffer for the block that is sent. `own` is how
 //! many octets at the front of `out` are that block.
 
-ghost use Rattle.std.specs.Prelude.{◌≡◌, ◌≤◌, List, ℕ, length, take, IfErr};
+ghost use Rattle.std.specs.Prelude.{◌≡◌, ◌≤◌, List, ℕ, length, take, true, IfErr};
 ghost use Rattle.t1_core.specs.Came.{class_of, quiet};
 ghost use Rattle.t1_core.specs.Terminal.{transmit, ask_ifs, takes};
 ghost use Rattle.t1_core.specs.Views.{terminal_held, IsLentTerminal};
@@ -12,7 +12,7 @@ ghost use Rattle.line_core.specs.Bursts.{HasHeard, handed};
 ghost use Rattle.session_core.specs.declared.lines.Start.TheVariants.{Clear, Exchange, Talk};
 ghost use Rattle.session_core.specs.declared.progress.Rules.{Rules};
 ghost use Rattle.session_core.specs.Wire.{Step, ruled, seen};
-ghost use Rattle.session_core.specs.Lines.{GoesTo, stepped};
+ghost use Rattle.session_core.specs.Lines.{GoesTo, HoldsWhole, stepped};
 ghost use Rattle.session_core.specs.Actions.{count_of};
 ghost use Rattle.session_core.specs.Setup.{no_limits};
 ghost use Rattle.session_core.specs.Terminals.{IsTurned, IsSent, TurnsTo, IsStepped, asking_resynch, limits_in, limited, sending};
@@ -227,10 +227,12 @@ pub fn step(
         (terminal_held end.new command.now answer.new) line.new own.old own.new out.old out.new result }
 {
     let next = line.happen(event, octets, now, own_block(out, *own));
-    proceed(end, line, own, command, answer, next, now, out)
+    let is_whole = line.has_ended_whole(event, octets, next);
+    proceed(end, line, own, command, answer, next, is_whole, now, out)
 }
 
-/// Does what the line says next, after [`Line::happen`].
+/// Does what the line says next, after [`Line::happen`]. `is_whole` says that the burst is known to be a whole block
+/// ([`Line::has_ended_whole`]).
 pub fn proceed(
     end: &mut LentTerminal,
     line: &mut Line,
@@ -238,9 +240,11 @@ pub fn proceed(
     command: &[u8],
     answer: &mut [u8],
     next: Next,
+    is_whole: bool,
     now: u64,
     out: &mut [u8],
 ) -> Result<Action, TerminalFault>
+    requires whole { is_whole ≡ true → HoldsWhole line.old.framer }
     requires room { 258 ≤ length out.old }
     requires fit { IsLentTerminal end.old (length command.now) (length answer.old) }
     ensures fit { IsLentTerminal end.new (length command.now) (length answer.new) }
@@ -249,7 +253,7 @@ pub fn proceed(
         (terminal_held end.new command.now answer.new) line.new own.old own.new out.old out.new result }
 {
     match next {
-        Next::Heard => heard(end, line, own, command, answer, now, out),
+        Next::Heard => heard(end, line, own, command, answer, is_whole, now, out),
         Next::Quiet => unheard(end, line, own, command, answer, now, out),
         _ => Ok(Action::of(next, *own)),
     }
@@ -262,9 +266,11 @@ fn heard(
     own: &mut usize,
     command: &[u8],
     answer: &mut [u8],
+    is_whole: bool,
     now: u64,
     out: &mut [u8],
 ) -> Result<Action, TerminalFault>
+    requires whole { is_whole ≡ true → HoldsWhole line.old.framer }
     requires room { 258 ≤ length out.old }
     requires fit { IsLentTerminal end.old (length command.now) (length answer.old) }
     ensures fit { IsLentTerminal end.new (length command.now) (length answer.new) }
@@ -274,7 +280,7 @@ fn heard(
         (limits_in line.old.rules) line.old.rules (seen line.old.progress) burst now
         (terminal_held end.new command.now answer.new) line.new own.old own.new out.old out.new result }
 {
-    let turn = end.received_into(command, answer, line.framer.burst(), out)?;
+    let turn = end.received_burst_into(command, answer, line.framer.burst(), is_whole, out)?;
     let limits = line.limits();
     Ok(line.turn(own, Start::Talk, limits, turn, answer_len(end, answer), now))
 }

@@ -22,7 +22,7 @@ returns-then-is_for_end c =
           let q = c.card_session_proceed.ensures.step t is
           (stepped c.args.event (ruled c.args.session.now.line.rules) (seen c.args.session.now.line.progress) burst
           c.args.octets.now c.args.now (take c.args.session.now.own c.args.out.now))
-          c.args.session.now.line.rules (rw c.own_block.ensures at (c.happen-next.ensures burst h)) in
+          c.args.session.now.line.rules (rw c.own_block.ensures at (c.happen-next.ensures.goes burst h)) in
           record {
             c_after = q.c_after;
             result = q.result;
@@ -54,7 +54,7 @@ returns-else-is_for_end c =
             c.args.octets.now c.args.now (take c.args.session.now.own c.args.out.now))
             c.args.session.now.line.rules t (not (c.args.session.now.host_takes_short == 0))
             c.args.session.now.granted c.args.now c.happen-next.new.self c.args.session.now.own c.args.out.now
-            (sym c.if-is_for_end.ensures) (rw c.own_block.ensures at (c.happen-next.ensures burst h));
+            (sym c.if-is_for_end.ensures) (rw c.own_block.ensures at (c.happen-next.ensures.goes burst h));
         next_is = c.acts.ensures ∙ ap acted c.of.ensures;
         takes_short = refl;
       };

@@ -14,8 +14,9 @@ returns-clause-turn c = λ burst h.
     turns-ok (terminal_held c.args.end.now c.args.command.now c.args.answer.now)
     (takes (class_of c.args.end.now.ifsd (take handed burst))) Talk (limits_in c.args.line.now.rules)
     c.args.line.now.rules (seen c.args.line.now.progress) burst c.args.now
-    (terminal_held c.received_into.new.self c.args.command.now c.received_into.new.answer_buffer) c.turn.new.self
-    c.args.own.now c.turn.new.own c.args.out.now c.received_into.new.out c.in_ok-turn.turn c.answer_len.result
+    (terminal_held c.received_burst_into.new.self c.args.command.now c.received_burst_into.new.answer_buffer)
+    c.turn.new.self
+    c.args.own.now c.turn.new.own c.args.out.now c.received_burst_into.new.out c.in_ok-turn.turn c.answer_len.result
     c.turn.result
     (rw (c.burst.ensures.burst burst h) at c.in_ok-turn.ensures.turn)
     (rw (c.burst.ensures.burst burst h) at c.in_ok-turn.ensures.state)
