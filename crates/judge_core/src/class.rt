@@ -3,7 +3,7 @@
 ghost use Rattle.std.specs.Prelude.{◌≡◌, ◌+◌, ◌==◌, ◌&&◌, bytes_eq, length, slice_index};
 ghost use Rattle.octet_core.specs.Octets.{xor_of};
 ghost use Rattle.line_core.specs.Bursts.{is_whole};
-ghost use Rattle.judge_core.specs.Monitored.{has_length, is_unchanged, made_as, refused_as, rule_at, rule_made, rule_of, IsSeen, IsSent};
+ghost use Rattle.judge_core.specs.Monitored.{has_length, is_unchanged, refused_as, rule_at, rule_made, rule_of, IsSeen, IsSent};
 ghost use Rattle.judge_core.specs.Classes.{seen_of};
 
 use crate::monitor::Arrival;
@@ -26,15 +26,8 @@ pub(crate) enum Class<'a> {
 pub(crate) fn class_sent<'a>(octets: &'a [u8], arrival: Arrival<'_>) -> Class<'a>
     ensures { IsSent octets.now arrival.entry (seen_of result) }
 {
-    let made = is_unchanged(octets, arrival);
-    made_as(class_of(octets), made, rule_made(octets))
-}
-
-fn made_as(class: Class<'_>, made: bool, broken: Rule) -> Class<'_>
-    ensures { seen_of result ≡ made_as (seen_of class.entry) made broken }
-{
-    match class {
-        Class::Damage if made => Class::Malformed(broken),
+    match class_of(octets) {
+        Class::Damage if is_unchanged(octets, arrival) => Class::Malformed(rule_made(octets)),
         class => class,
     }
 }

@@ -157,7 +157,14 @@ pub(crate) fn first_course(end: End, whole: Option<After>, none: Option<After>) 
 }
 
 /// Returns the verdict from both courses.
-fn chosen(heard: Heard, due: After, pcb: Pcb, octet: u8, whole: Attempt, none: Attempt) -> Judged
+pub(crate) fn chosen(
+    heard: Heard,
+    due: After,
+    pcb: Pcb,
+    octet: u8,
+    whole: Attempt,
+    none: Attempt,
+) -> Judged
     ensures { result ≡ chosen heard due pcb octet whole none }
 {
     let broken = match (whole, none) {
@@ -170,7 +177,7 @@ fn chosen(heard: Heard, due: After, pcb: Pcb, octet: u8, whole: Attempt, none: A
     judgment(verdict, due.end.suggested(pcb, octet))
 }
 
-fn judgment(verdict: Verdict, end: End) -> Judged
+pub(crate) fn judgment(verdict: Verdict, end: End) -> Judged
     ensures { result ≡ judgment verdict end }
 {
     Judged { verdict, end }

@@ -1,10 +1,9 @@
 //! What is doubtful about an end: whether its last block was the one that was seen.
 
-ghost use Rattle.std.specs.Prelude.{◌≡◌, ◌&&◌, true};
-ghost use Rattle.judge_core.specs.Courses.{judges};
-ghost use Rattle.judge_core.specs.Doubts.{corrected, doubt_after, doubted_by, given_turn, in_doubt, is_noise, is_open, is_turn, judged_of, only_openly, overlooked, passed_over, presumed, refused_doubt, sent_openly, sized, sized_by, still_open, tried_after, turned, unknown_end, waited, waited_doubt};
+ghost use Rattle.std.specs.Prelude.{◌≡◌};
+ghost use Rattle.judge_core.specs.Doubts.{corrected, doubt_after, doubted_by, given_turn, in_doubt, is_noise, is_open, is_turn, judged_of, openly, overlooked, passed_over, presumed, refused_doubt, sent_openly, sized, sized_by, still_open, tried_after, turned, unknown_end, waited, waited_doubt};
 
-use crate::courses::{Heard, Judged, Verdict};
+use crate::courses::{Heard, Judged, Verdict, judgment};
 use crate::end::{End, Owed};
 use crate::monitor::Watched;
 use crate::step::Sent;
@@ -30,32 +29,14 @@ impl Watched {
     {
         let last = self.last.as_slice();
         let judged = self.end.judges(self.heard, last, block.pcb(), block.inf());
-        if !is_open(self.doubt) {
-            return judged;
+        match judged.verdict {
+            Verdict::Deviates(..) if is_open(self.doubt) => openly(judged, self.sent_openly(block)),
+            Verdict::Permitted | Verdict::Unseen | Verdict::Deviates(..) => judged,
         }
-        let sent = self.sent_openly(block);
-        match sent {
-            Ok(end) if only_openly(judged.verdict, sent) => Judged {
-                verdict: Verdict::Permitted,
-                end,
-            },
-            _ => judged,
-        }
-    }
-
-    /// Whether only an unknown last block permits the block.
-    pub(crate) fn is_only_open(&self, block: &BlockRef<'_>) -> bool
-        ensures { result ≡ (is_open self.now.doubt && only_openly
-            (judges self.now.«end» self.now.heard self.now.last.items block.now.pcb
-            block.now.inf).verdict (sent_openly self.now block.now)) }
-    {
-        let last = self.last.as_slice();
-        let judged = self.end.judges(self.heard, last, block.pcb(), block.inf());
-        is_open(self.doubt) && only_openly(judged.verdict, self.sent_openly(block))
     }
 
     /// Returns the end after a block, as one of an end whose last block nobody knows.
-    fn sent_openly(&self, block: &BlockRef<'_>) -> Sent
+    pub(crate) fn sent_openly(&self, block: &BlockRef<'_>) -> Sent
         ensures { result ≡ sent_openly self.now block.now }
     {
         let last = self.last.as_slice();
@@ -272,9 +253,12 @@ pub(crate) fn unknown_end(end: End) -> End
     }
 }
 
-/// Whether a block is a deviation that an unknown last block permits.
-fn only_openly(verdict: Verdict, sent: Sent) -> bool
-    ensures { result ≡ only_openly verdict sent }
+/// Returns the judgment on a deviation of an end whose last block nobody knows.
+fn openly(judged: Judged, sent: Sent) -> Judged
+    ensures { result ≡ openly judged sent }
 {
-    matches!((verdict, sent), (Verdict::Deviates(..), Ok(_)))
+    match sent {
+        Ok(end) => judgment(Verdict::Permitted, end),
+        Err(_) => judged,
+    }
 }

@@ -1,20 +1,26 @@
 //! Which rules and states a block of a trace exercises.
 
-ghost use Rattle.std.specs.Prelude.{◌≡◌};
+ghost use Rattle.std.specs.Prelude.{◌≡◌, ◌&&◌};
+ghost use Rattle.t1_core.specs.Came.{carried};
 ghost use Rattle.judge_core.specs.Classes.{seen_of};
-ghost use Rattle.judge_core.specs.Monitored.{said_here, said_of, sender};
-ghost use Rattle.judge_core.specs.Stakes.{course_of, exercise_by, exercise_of, fitting, stakes_of, Exercises};
+ghost use Rattle.judge_core.specs.Courses.{chosen};
+ghost use Rattle.judge_core.specs.Doubts.{is_open, only_openly, sent_openly};
+ghost use Rattle.judge_core.specs.Monitored as seen;
+ghost use Rattle.judge_core.specs.Monitored.{said_here, said_in, said_of, sender, Takes};
+ghost use Rattle.judge_core.specs.Stakes.{course_of, exercise_by, fitting, stakes_of, Exercises};
 
 use crate::address::addressed_by;
 use crate::class::{Class, class_sent};
-use crate::courses::{Attempt, Verdict, attempted};
-use crate::doubt::unknown_end;
+use crate::courses::{Attempt, Verdict, attempted, chosen, first_course};
+use crate::doubt::{is_open, unknown_end};
 use crate::end::{After, Owed};
-use crate::monitor::{Arrival, Monitor, Said, Watched};
+use crate::monitor::{Arrival, Monitor, Report, Said, Watched};
+use crate::reach::reached_by;
 use crate::rule::Rule;
+use crate::sending::carried;
 use crate::stakes::Stakes;
 use crate::state::State;
-use block_core::Side;
+use block_core::{BlockRef, Side};
 
 /// What a block of a trace exercises.
 #[derive(Clone, Copy, Debug)]
@@ -27,70 +33,144 @@ pub enum Exercise {
     Breaks(Rule, Option<State>),
 }
 
+/// The report on a block, and what the block exercises.
+#[derive(Clone, Copy, Debug)]
+pub struct Exercised {
+    pub report: Report,
+    pub exercise: Exercise,
+}
+
 impl Monitor {
     /// Returns what the next octets of an end exercise. It doesn't take them; [`Monitor::block`] does.
     pub fn exercise(&self, from: Side, octets: &[u8], arrival: Arrival<'_>) -> Exercise
         ensures { Exercises self.now from octets.now arrival.entry result }
     {
         let class = class_sent(octets, arrival);
-        self.exercise_of(from, &class)
+        let stakes = self.stakes(from, &class);
+        exercise_by(stakes, self.said(from, &class))
     }
 
-    fn exercise_of(&self, from: Side, class: &Class<'_>) -> Exercise
-        ensures { result ≡ exercise_of self.now from (seen_of class.now) }
+    /// Takes octets as [`Monitor::block`] does, and returns also what they exercise, as [`Monitor::exercise`] says it
+    /// before. It judges them once.
+    pub fn block_with_exercise(
+        &mut self,
+        from: Side,
+        octets: &[u8],
+        arrival: Arrival<'_>,
+    ) -> Exercised
+        ensures takes { Takes self.old from octets.now arrival.entry self.new result.report }
+        ensures exercises { Exercises self.old from octets.now arrival.entry result.exercise }
     {
-        if self.is_elsewhere(from, class) {
-            Exercise::Unknown
-        } else {
-            self.exercise_here(from, class)
+        let class = class_sent(octets, arrival);
+        let reached = reached_by(arrival);
+        let stakes = self.stakes(from, &class);
+        let report = self.saw(from, &class, &reached);
+        Exercised {
+            report,
+            exercise: exercise_by(stakes, report.said),
         }
     }
 
-    /// Returns what octets exercise that aren't a block of another logical connection.
-    fn exercise_here(&self, from: Side, class: &Class<'_>) -> Exercise
-        ensures { result ≡ exercise_by (stakes_of (sender self.now from) (seen_of class.now))
-            (said_here self.now from (seen_of class.now)) }
+    /// Returns what is at stake for the end that sent octets.
+    fn stakes(&self, from: Side, class: &Class<'_>) -> Stakes
+        ensures { result ≡ stakes_of (sender self.now from) (seen_of class.now) }
+    {
+        match from {
+            Side::Terminal => self.terminal.stakes(class),
+            Side::Card => self.card.stakes(class),
+        }
+    }
+
+    /// Returns what the monitor says about octets of an end.
+    fn said(&self, from: Side, class: &Class<'_>) -> Said
+        ensures { result ≡ said_in self.now from (seen_of class.now) }
+    {
+        if self.is_elsewhere(from, class) {
+            Said::Elsewhere
+        } else {
+            self.said_here(from, class)
+        }
+    }
+
+    /// Returns what the monitor says about octets that aren't a block of another logical connection.
+    fn said_here(&self, from: Side, class: &Class<'_>) -> Said
+        ensures { result ≡ said_here self.now from (seen_of class.now) }
     {
         let addressed = addressed_by(from, self.nad, class);
         match from {
-            Side::Terminal => self.terminal.exercise(addressed, class),
-            Side::Card => self.card.exercise(addressed, class),
+            Side::Terminal => self.terminal.said(addressed, class),
+            Side::Card => self.card.said(addressed, class),
         }
     }
 }
 
+/// Returns what octets exercise of which the monitor says this.
+fn exercise_by(stakes: Stakes, said: Said) -> Exercise
+    ensures { result ≡ exercise_by stakes said }
+{
+    match said {
+        Said::Damage | Said::Elsewhere => Exercise::Unknown,
+        Said::Block(Verdict::Permitted | Verdict::Unseen) => Exercise::Keeps(stakes),
+        Said::Block(Verdict::Deviates(broken, _)) => Exercise::Breaks(broken, stakes.state()),
+    }
+}
+
 impl Watched {
-    fn exercise(&self, addressed: bool, class: &Class<'_>) -> Exercise
-        ensures { result ≡ exercise_by (stakes_of self.now (seen_of class.now))
-            (said_of self.now addressed (seen_of class.now)) }
+    fn stakes(&self, class: &Class<'_>) -> Stakes
+        ensures { result ≡ stakes_of self.now (seen_of class.now) }
     {
-        let stakes = Stakes {
+        Stakes {
             heard: self.heard,
             due: self.course(class),
-        };
-        match self.said(addressed, class) {
-            Said::Damage | Said::Elsewhere => Exercise::Unknown,
-            Said::Block(Verdict::Permitted | Verdict::Unseen) => Exercise::Keeps(stakes),
-            Said::Block(Verdict::Deviates(broken, _)) => Exercise::Breaks(broken, stakes.state()),
         }
     }
 
-    /// Returns the end and what was due from it, on the course on which the block is judged.
+    /// Returns the end and what was due from it, on the course on which the octets are judged.
     fn course(&self, class: &Class<'_>) -> After
         ensures { result ≡ course_of self.now (seen_of class.now) }
     {
-        let Class::Whole(block) = class else {
-            return self.due();
-        };
-        if self.is_only_open(block) {
-            return unknown_end(self.end).owes(Owed::AnyBlock);
+        match class {
+            Class::Whole(block) => self.course_of(block),
+            Class::Malformed(_) | Class::Damage => self.due(),
         }
+    }
+
+    fn course_of(&self, block: &BlockRef<'_>) -> After
+        ensures { result ≡ course_of self.now (seen.whole block.now) }
+    {
         let last = self.last.as_slice();
         let whole = self.end.got_whole(self.heard);
         let none = self.end.got_none(self.heard);
+        let first = first_course(self.end, whole, none);
         let by_whole = attempted(whole, last, block.pcb(), block.inf());
         let by_none = attempted(none, last, block.pcb(), block.inf());
-        fitting(self.due(), none, by_whole, by_none)
+        if self.is_only_open(block, first, by_whole, by_none) {
+            unknown_end(self.end).owes(Owed::AnyBlock)
+        } else {
+            fitting(first, none, by_whole, by_none)
+        }
+    }
+
+    /// Whether only an unknown last block permits the block, which has these results on both courses.
+    fn is_only_open(
+        &self,
+        block: &BlockRef<'_>,
+        first: After,
+        by_whole: Attempt,
+        by_none: Attempt,
+    ) -> bool
+        ensures { result ≡ (is_open self.now.doubt && only_openly
+            (chosen self.now.heard first block.now.pcb (carried block.now.inf) by_whole
+            by_none).verdict (sent_openly self.now block.now)) }
+    {
+        if !is_open(self.doubt) {
+            return false;
+        }
+        let octet = carried(block.inf());
+        match chosen(self.heard, first, block.pcb(), octet, by_whole, by_none).verdict {
+            Verdict::Permitted | Verdict::Unseen => false,
+            Verdict::Deviates(..) => self.sent_openly(block).is_ok(),
+        }
     }
 
     /// Returns what the monitor says about the octets.

@@ -32,7 +32,7 @@ pub use connection::{Last, Pairs};
 pub use courses::{Heard, Verdict};
 pub use doubt::Doubt;
 pub use end::{After, Asked, End, Owed, Pending, Row};
-pub use exercise::Exercise;
+pub use exercise::{Exercise, Exercised};
 pub use monitor::{Arrival, Monitor, Report, Said, Silence, Watched};
 pub use rule::{RULES, Rule};
 pub use stakes::Stakes;

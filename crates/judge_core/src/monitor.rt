@@ -230,7 +230,7 @@ impl Monitor {
         self.saw(from, &class, &reached)
     }
 
-    fn saw(&mut self, from: Side, class: &Class<'_>, reached: &Reached<'_>) -> Report
+    pub(crate) fn saw(&mut self, from: Side, class: &Class<'_>, reached: &Reached<'_>) -> Report
         ensures after { self.new ≡ monitor_after self.old from (seen_of class.now)
             (reaching_of reached.now) }
         ensures report { result ≡ report_of self.old from (seen_of class.now) }

@@ -1,7 +1,8 @@
 //! The times of a line, taken block by block (ISO/IEC 7816-3:2006, 11.4.3).
 
 ghost use Rattle.std.specs.Prelude.{◌≡◌, IfSome, IfNone, None, Some};
-ghost use Rattle.judge_times.specs.Clocked.{clocked_after, least_after, new_clocked, off_by, off_early, off_late, off_time, raised, timed_by, with_moments};
+ghost use Rattle.judge_times.specs.Clocked.{clocked_after, least_after, new_clocked, off_early, off_late, raised, timed_by, with_moments};
+ghost use Rattle.judge_times.specs.Waiting.{earliness};
 
 use crate::apart::{early_as, late_as, timed_as};
 use crate::early::earliness;
@@ -91,16 +92,26 @@ impl Clocked {
         Some(timed)
     }
 
-    /// Returns what is said of the time of a block that begins now.
+    /// Returns what is said of the time of a block that begins now: a card's can be late, and a terminal's early.
     fn timed(&self, timing: Timing, heard: Heard, said: Said, from: Side) -> Timed
         ensures { result ≡ timed_by self.now timing heard said from }
     {
         let late = lateness(self.params, Some(self.clock), timing, heard);
-        let early = earliness(self.params, Some(self.clock), timing, heard);
+        let off = match from {
+            Side::Terminal => off_early(early_as(said, self.early(timing, heard))),
+            Side::Card => off_late(late_as(said, late)),
+        };
         Timed {
             over: late.is_some(),
-            off: off_by(from, late_as(said, late), early_as(said, early)),
+            off,
         }
+    }
+
+    /// Returns by how much a block of the terminal is early if it begins now.
+    fn early(&self, timing: Timing, heard: Heard) -> Option<Early>
+        ensures { result ≡ earliness self.now.params (Some self.now.clock) timing heard }
+    {
+        earliness(self.params, Some(self.clock), timing, heard)
     }
 }
 
@@ -132,16 +143,6 @@ fn with_moments(timing: Timing, moments: Moments) -> Timing
         now: moments.first,
         until: moments.last,
         ..timing
-    }
-}
-
-/// Returns what is said of a block: a card's can be late, and a terminal's early.
-fn off_by(from: Side, late: Option<Late>, early: Option<Early>) -> OffTime
-    ensures { result ≡ off_by from late early }
-{
-    match from {
-        Side::Terminal => off_early(early),
-        Side::Card => off_late(late),
     }
 }
 

@@ -2,6 +2,7 @@
 
 ghost use Rattle.std.specs.Prelude.{◌≡◌, ◌⊎◌, ◌++◌, ◌+◌, ◌<◌, ◌≤◌, ◌^◌, IfErr, IfOk, OnOk};
 ghost use Rattle.exchange_text.specs.declared.fault.ExchangeFault.TheVariants.{Falls, Memory};
+ghost use Rattle.judge_core.specs.Monitored.{Takes};
 ghost use Rattle.trace_judge.specs.Judging.{is_before, is_judged, pps_timed, quietened, renewed, start, told_before, told_exercise, told_report, told_said, told_verdict, midway, ExercisesIf, Fails, IsBlockTold, IsConcluded, IsEntered, IsFalling, IsTold, JudgesLine};
 ghost use Rattle.trace_judge.specs.Places.{placed};
 
@@ -12,7 +13,9 @@ use crate::pps::{is_pps, octet_at, pps_timed, push_answered_pps};
 use crate::tally::Tally;
 use crate::telling::{tell_deviation, tell_neither, tell_unseen};
 use exchange_text::ExchangeFault;
-use judge_core::{Arrival, Exercise, Monitor, Report, Rule, Said, Side, Silence, Verdict};
+use judge_core::{
+    Arrival, Exercise, Exercised, Monitor, Report, Rule, Said, Side, Silence, Verdict,
+};
 use judge_times::{Offer, Timing, early_as, late_as, timed_as};
 use layouts::Layout;
 use octet_core::{Octets, Text};
@@ -213,32 +216,18 @@ impl JudgeState {
     {
         let arrival = arrival_of(reach);
         let place = self.place(octets);
-        let over = self.is_over();
-        let late = self.late_from(from);
-        let early = self.early_from(from);
+        let times = self.times(from);
         let before = self.monitor.terminal.number;
-        let exercise = self.exercise(from, octets, arrival);
-        let report = self.monitor.block(from, octets, arrival);
+        let rules = self.scope.rules;
+        let told = monitored(&mut self.monitor, rules, from, octets, arrival);
         self.begun = true;
-        let said = report.said;
+        let said = told.report.said;
         self.timing = timed_as(said, self.timing, from, octets.len());
-        self.cover(from, &exercise);
-        self.report(alloc, place, from, over, report)?;
-        self.late(alloc, place, before, late_as(said, late))?;
-        self.early(alloc, place, early_as(said, early))?;
+        self.cover(from, &told.exercise);
+        self.report(alloc, place, from, times.over, told.report)?;
+        self.late(alloc, place, before, late_as(said, times.late))?;
+        self.early(alloc, place, early_as(said, times.early))?;
         Ok(())
-    }
-
-    /// Returns what the octets of an end exercise, if that is counted.
-    fn exercise(&self, from: Side, octets: &[u8], arrival: Arrival<'_>) -> Exercise
-        ensures { ExercisesIf self.now.scope.rules self.now.monitor from octets.now arrival.entry
-            result }
-    {
-        if self.scope.rules {
-            self.monitor.exercise(from, octets, arrival)
-        } else {
-            Exercise::Unknown
-        }
     }
 
     /// Counts what a block of this end exercised.
@@ -365,5 +354,27 @@ impl JudgeState {
             text: Text::of(text),
             is_ok: tally.is_ok(),
         })
+    }
+}
+
+/// Passes octets of an end to the monitor. What they exercise is unknown unless that is counted.
+fn monitored(
+    monitor: &mut Monitor,
+    is_counted: bool,
+    from: Side,
+    octets: &[u8],
+    arrival: Arrival<'_>,
+) -> Exercised
+    ensures takes { Takes monitor.old from octets.now arrival.entry monitor.new result.report }
+    ensures exercises { ExercisesIf is_counted monitor.old from octets.now arrival.entry
+        result.exercise }
+{
+    if is_counted {
+        monitor.block_with_exercise(from, octets, arrival)
+    } else {
+        Exercised {
+            report: monitor.block(from, octets, arrival),
+            exercise: Exercise::Unknown,
+        }
     }
 }

@@ -2,6 +2,7 @@
 
 ghost use Rattle.std.specs.Prelude.{◌≡◌, ◌<◌, ◌≤◌, IfErr, OnOk, false};
 ghost use Rattle.std.specs.Option.{is_some};
+ghost use Rattle.block_core.specs.declared.side.Side.TheVariants.{Terminal};
 ghost use Rattle.exchange_text.specs.declared.fault.ExchangeFault.TheVariants.{Falls};
 ghost use Rattle.trace_text.specs.declared.entry.Entry.TheVariants.{Moment, Until};
 ghost use Rattle.judge_core.specs.declared.monitor.Silence.TheVariants as SilenceOf;
@@ -17,6 +18,17 @@ use exchange_text::ExchangeFault;
 use judge_core::{Exercise, Rule, Side, Silence};
 use judge_times::{Early, Late, earliness, lateness};
 use std::alloc::{AllocError, Global};
+
+/// What the times say of a block before the monitor takes it.
+#[derive(Clone, Copy)]
+pub(super) struct Times {
+    /// Whether the card's time is over.
+    pub(super) over: bool,
+    /// By how much a block of the card is late.
+    pub(super) late: Option<Late>,
+    /// By how much a block of the terminal is early.
+    pub(super) early: Option<Early>,
+}
 
 impl JudgeState {
     /// Takes the moment at which the next block begins.
@@ -174,35 +186,37 @@ impl JudgeState {
         )
     }
 
-    /// Whether the card's time is over now.
-    pub(super) fn is_over(&self) -> bool
-        ensures { result ≡ is_some (late_now self.now) }
+    /// Returns by how much a block of the terminal would be early now.
+    fn early_now(&self) -> Option<Early>
+        ensures { result ≡ early_from self.now Terminal }
     {
-        self.late_now().is_some()
+        earliness(
+            self.offer.params,
+            self.scope.clock,
+            self.timing,
+            self.monitor.card.heard,
+        )
     }
 
-    /// Returns whether a block of this end is late, and by how much.
-    pub(super) fn late_from(&self, from: Side) -> Option<Late>
-        ensures { result ≡ late_from self.now from }
+    /// Returns what the times say of a block of this end that begins now.
+    pub(super) fn times(&self, from: Side) -> Times
+        ensures over { result.over ≡ is_some (late_now self.now) }
+        ensures late { result.late ≡ late_from self.now from }
+        ensures early { result.early ≡ early_from self.now from }
     {
+        let late = self.late_now();
+        let over = late.is_some();
         match from {
-            Side::Terminal => None,
-            Side::Card => self.late_now(),
-        }
-    }
-
-    /// Returns whether a block of this end is early, and by how much.
-    pub(super) fn early_from(&self, from: Side) -> Option<Early>
-        ensures { result ≡ early_from self.now from }
-    {
-        match from {
-            Side::Terminal => earliness(
-                self.offer.params,
-                self.scope.clock,
-                self.timing,
-                self.monitor.card.heard,
-            ),
-            Side::Card => None,
+            Side::Terminal => Times {
+                over,
+                late: None,
+                early: self.early_now(),
+            },
+            Side::Card => Times {
+                over,
+                late,
+                early: None,
+            },
         }
     }
 
