@@ -108,7 +108,7 @@ impl Chip {
         };
         let session = &mut self.session;
         session.line.begin(&rules_of(1));
-        if session.card.fits(self.command.len(), self.reply.len()) && !session.takes_short {
+        if session.card.fits(self.command.len(), self.reply.len()) {
             let _served = serve_events(
                 session,
                 &mut self.command,

@@ -53,13 +53,13 @@ once-by m t left (Err fault) most (trip ∷ trips) ending hs never some h = absu
 
 -- what the law of all calls says of one
 pub always-once : AlwaysMatched → AlwaysOnce
-always-once matched kt kc ifsc m most trips ending left most_heard end c small octets run served =
+always-once matched kt kc ifsc m most trips ending left takes_short most_heard end c small octets run served =
     let t : TerminalState = terminal_with kt ifsc in
     let call : Call = record { input = transmit m; most = most; trips = trips; ending = ending; left = left } in
     let same = matched kt kc ifsc (call ∷ []) (events_of trips ∷ []) left c (record {
       size = small;
       run = (octets, run, refl);
-      served = (most_heard, end, c, served, refl);
+      served = (takes_short, most_heard, end, c, served, refl);
       events = refl;
     }) in
     let any : Unit {0} → List Talk → Type 0 = λ x talks. Unit {0} in

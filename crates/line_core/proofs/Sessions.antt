@@ -94,6 +94,7 @@ session = record {
     refl,
   );
   served = (
+    false,
     3,
     used_up,
     last,
@@ -180,6 +181,7 @@ asking_session = record {
     refl,
   );
   served = (
+    false,
     3,
     used_up,
     asking_last,

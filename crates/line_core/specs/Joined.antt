@@ -13,7 +13,7 @@ use Rattle.t1_core.specs.Promises.{AllHandOctets, Matches, NoneGivenUp, Serves a
 use Rattle.line_core.specs.Bursts.{IsNoBlock, IsHarmed, handed}
 use Rattle.line_core.specs.Line.{Arrival, block, nothing, failure, Talk}
 use Rattle.line_core.specs.Exchange.{Ending, done, given_up, dead, line_failed, used_up, refused, Runs, next_of}
-use Rattle.line_core.specs.Service.{Event, came, asked, requested, sent, unsent, hears, Serves}
+use Rattle.line_core.specs.Service.{Event, came, asked, requested, sent, unsent, hears, ServesFor}
 use Rattle.line_core.specs.Service as at_card
 
 -- These octets came for those that were sent: the same octets, or octets that no end takes for a block, whatever size
@@ -167,11 +167,12 @@ abbrev pub events_in : List Call → List Event
 events_in [] = []
 events_in (call ∷ calls) = events_of call.trips ++ events_in calls
 
--- These are the events of calls of `serve`, one after another, from this state of the card to the last one.
+-- These are the events of calls of `serve`, one after another, from this state of the card to the last one. The host of
+-- a card in steps may also take messages that are too short for a command.
 abbrev pub HaveServed : CardState → List (List Event) → CardState → Type 0
 HaveServed c [] last = last ≡ c
-HaveServed c (events ∷ more) last = (most : ℕ) × (ending : at_card.Ending) × (next : CardState)
-    × Serves most hears c events ending next × HaveServed next more last
+HaveServed c (events ∷ more) last = (takes_short : Bool) × (most : ℕ) × (ending : at_card.Ending) × (next : CardState)
+    × ServesFor takes_short most hears c events ending next × HaveServed next more last
 
 abbrev pub joined : List (List Event) → List Event
 joined [] = []
@@ -318,10 +319,11 @@ IsOnce command (refused fault) answer services = WasGiven command services
 -- One call of `exchange` by a new terminal over a line with two ends, and one of `serve` by a new card.
 abbrev pub AlwaysOnce : Type 0
 AlwaysOnce = (of_terminal of_card : Limits) (ifsc : ℕ) (command : List ℕ) (most : ℕ) (trips : List Trip)
-    (ending : Ending) (left : TerminalState) (most_heard : ℕ) (end : at_card.Ending) (c : CardState) → ifsc ≤ 254
+    (ending : Ending) (left : TerminalState) (takes_short : Bool) (most_heard : ℕ) (end : at_card.Ending)
+    (c : CardState) → ifsc ≤ 254
     → AreOctets command
     → Runs most (next_of (turn_of (terminal_turn (terminal_with of_terminal ifsc) (transmit command))))
     (state_after (terminal_with of_terminal ifsc) (terminal_turn (terminal_with of_terminal ifsc) (transmit command)))
     (talks_of trips) ending left
-    → Serves most_heard hears (card_with of_card ifsc) (events_of trips) end c
+    → ServesFor takes_short most_heard hears (card_with of_card ifsc) (events_of trips) end c
     → IsOnce command ending left.answered (services_of (events_of trips) [])

@@ -37,6 +37,16 @@ reply_by false reply = reply
 abbrev pub IsReplyTo : List ℕ → List ℕ → Type 0
 IsReplyTo command reply = is_short command ≡ true → reply ≡ wrong_length
 
+-- The same for a host that may take such messages too, as a card in steps may have: it gets each message then.
+abbrev pub IsReplyFor : Bool → List ℕ → List ℕ → Type 0
+IsReplyFor true command reply = Unit {0}
+IsReplyFor false command reply = IsReplyTo command reply
+
+-- the host gets this message, so it may ask for time or a size
+abbrev pub Gets : Bool → List ℕ → Type 0
+Gets true command = Unit {0}
+Gets false command = is_short command ≡ false
+
 -- the events on the line
 abbrev pub on_line : List Event → List Event
 on_line [] = []
@@ -118,23 +128,30 @@ left_after c nothing = c
 left_after c (failure fault) = c
 
 -- The card is in state c, has this to do next, and at most so many blocks may come. Then these events happen, serving
--- ends so, and the card is left in this state.
-abbrev pub Serves : ℕ → Doing → CardState → List Event → Ending → CardState → Type 0
-Serves most hears c (came arrival ∷ events) ending left =
-    (1 ≤ most) × Serves (most - 1) (doing_after c arrival) (left_after c arrival) events ending left
-Serves most hears c [] ending left = (most ≡ 0) × (ending ≡ used_up) × (left ≡ c)
-Serves most (asks new) c (asked is command reply ∷ events) ending left =
-    (is ≡ new) × (command ≡ c.command) × IsReplyTo command reply × Serves most (doing_by c (replies reply))
+-- ends so, and the card is left in this state. `takes_short` says whether its host takes messages that are too short for
+-- a command.
+abbrev pub ServesFor : Bool → ℕ → Doing → CardState → List Event → Ending → CardState → Type 0
+ServesFor takes_short most hears c (came arrival ∷ events) ending left =
+    (1 ≤ most) × ServesFor takes_short (most - 1) (doing_after c arrival) (left_after c arrival) events ending left
+ServesFor takes_short most hears c [] ending left = (most ≡ 0) × (ending ≡ used_up) × (left ≡ c)
+ServesFor takes_short most (asks new) c (asked is command reply ∷ events) ending left =
+    (is ≡ new) × (command ≡ c.command) × IsReplyFor takes_short command reply
+    × ServesFor takes_short most (doing_by c (replies reply))
     (state_after c (card_turn c (replies reply))) events ending left
-Serves most (asks new) c (requested is command request ∷ events) ending left =
-    (is ≡ new) × (command ≡ c.command) × (is_short command ≡ false) × Serves most (doing_by c (input_of request))
+ServesFor takes_short most (asks new) c (requested is command request ∷ events) ending left =
+    (is ≡ new) × (command ≡ c.command) × Gets takes_short command
+    × ServesFor takes_short most (doing_by c (input_of request))
     (state_after c (card_turn c (input_of request))) events ending left
-Serves most (says parts) c (sent octets ∷ events) ending left =
-    (octets ≡ spelling parts) × Serves most hears c events ending left
-Serves most (says parts) c (unsent octets fault ∷ []) ending left =
+ServesFor takes_short most (says parts) c (sent octets ∷ events) ending left =
+    (octets ≡ spelling parts) × ServesFor takes_short most hears c events ending left
+ServesFor takes_short most (says parts) c (unsent octets fault ∷ []) ending left =
     (octets ≡ spelling parts) × (ending ≡ line_failed fault) × (left ≡ c)
-Serves most (ends how) c [] ending left = (ending ≡ how) × (left ≡ c)
-Serves most doing c events ending left = ⊥
+ServesFor takes_short most (ends how) c [] ending left = (ending ≡ how) × (left ≡ c)
+ServesFor takes_short most doing c events ending left = ⊥
+
+-- the same for a host that takes no such messages, as that of `serve`
+abbrev pub Serves : ℕ → Doing → CardState → List Event → Ending → CardState → Type 0
+Serves = ServesFor false
 
 -- The front of the buffer has the block of this turn, or the call was refused with this fault.
 abbrev pub IsReply : Result CardTurn CardFault → List ℕ → Result ℕ CardFault → Type 0

@@ -1,5 +1,5 @@
 -- The turns of a card's loop, from what its calls ensure.
-use Rattle.std.proofs.Common.{◌≡◌, ◌<◌, ◌≤◌, ◌+◌, ℕ, List, [], ◌∷◌, ◌++◌, length, take, Bool, false, Some, Result, Ok, Err, refl, sym, subst, arith, length-append}
+use Rattle.std.proofs.Common.{◌≡◌, ◌<◌, ◌≤◌, ◌+◌, ℕ, List, [], ◌∷◌, ◌++◌, length, take, Bool, Some, Result, Ok, Err, refl, sym, subst, arith, length-append}
 use Rattle.std.proofs.lemmas.List.{append-nil, append_assoc}
 use Rattle.t1_core.specs.Card.{CardState, card_turn, turn_of}
 use Rattle.t1_core.specs.CardViews.{owed}
@@ -35,10 +35,10 @@ pub then-acts : {A : Type 0} (old now new : A → List Event → Type 0) (acts a
 then-acts old now new acts after f g first before h =
     subst (new first) (append_assoc before acts after) (g first (before ++ acts) (f first before h))
 
-unfoldable pub begun-ran : {A B : Type 0} (heard : A → List Sound → Type 0) (served : B → List Event → Type 0)
-    (card : CardState) (line : Line) (first : Placed) → IsBegun card line first
-    → Ran heard heard served served card line [] first
-begun-ran heard served card line first begun = record {
+unfoldable pub begun-ran : {A B : Type 0} (takes_short : Bool) (heard : A → List Sound → Type 0)
+    (served : B → List Event → Type 0) (card : CardState) (line : Line) (first : Placed) → IsBegun card line first
+    → Ran takes_short heard heard served served card line [] first
+begun-ran takes_short heard served card line first begun = record {
   first = first;
   begun = begun;
   sounds = [];
@@ -57,24 +57,24 @@ IsSteppedBy takes_short before event octets burst card line granted own out resu
     (stepped event (ruled before.line.rules) (seen before.line.progress) burst octets 0 (take before.own before.out))
     before.line.rules before.card takes_short before.granted granted 0 card line before.own own before.out out result
 
--- the session passes its host no message that is too short for a command
+-- the session takes short messages if it did at first
 pub step-of : (before : Placed) (sound : Sound) (event : ℕ) (octets burst : List ℕ) (card : CardState) (line : Line)
-    (granted own : ℕ) (out : List ℕ) (result : Result Action CardFault) (takes_short : Bool) → event ≡ event_of sound
-    → octets ≡ octets_of sound → takes_short ≡ false
-    → IsSteppedBy takes_short before event octets burst card line granted own out result
-    → IsSteppedBy false before (event_of sound) (octets_of sound) burst card line granted own out result
-step-of before sound event octets burst card line granted own out result takes_short is same short h =
-    subst (λ (o : List ℕ). IsSteppedBy false before (event_of sound) o burst card line granted own out result) same
-    (subst (λ (n : ℕ). IsSteppedBy false before n octets burst card line granted own out result) is
-    (subst (λ (b : Bool). IsSteppedBy b before event octets burst card line granted own out result) short h))
+    (granted own : ℕ) (out : List ℕ) (result : Result Action CardFault) (now at_first : Bool) → event ≡ event_of sound
+    → octets ≡ octets_of sound → now ≡ at_first
+    → IsSteppedBy now before event octets burst card line granted own out result
+    → IsSteppedBy at_first before (event_of sound) (octets_of sound) burst card line granted own out result
+step-of before sound event octets burst card line granted own out result now at_first is same kept h =
+    subst (λ (o : List ℕ). IsSteppedBy at_first before (event_of sound) o burst card line granted own out result) same
+    (subst (λ (n : ℕ). IsSteppedBy at_first before n octets burst card line granted own out result) is
+    (subst (λ (b : Bool). IsSteppedBy b before event octets burst card line granted own out result) kept h))
 
-unfoldable pub line-ran : {A B : Type 0} (old now new : A → List Sound → Type 0)
-    (before_host host : B → List Event → Type 0)
-    (card : CardState) (line : Line) (events : List Event) (before : Placed) (sound : Sound) (after : Placed)
-    → Ran old now before_host host card line events before → Sounds now new (sound ∷ [])
-    → (turn : IsLineTurn before sound after)
-    → Ran old new before_host host card line (events ++ events_by before sound turn.burst) after
-line-ran old now new before_host host card line events before sound after ran adds turn = record {
+unfoldable pub line-ran : {A B : Type 0} (takes_short : Bool) (old now new : A → List Sound → Type 0)
+    (before_host host : B → List Event → Type 0) (card : CardState) (line : Line) (events : List Event)
+    (before : Placed) (sound : Sound) (after : Placed)
+    → Ran takes_short old now before_host host card line events before → Sounds now new (sound ∷ [])
+    → (turn : IsLineTurn takes_short before sound after)
+    → Ran takes_short old new before_host host card line (events ++ events_by takes_short before sound turn.burst) after
+line-ran takes_short old now new before_host host card line events before sound after ran adds turn = record {
   first = ran.first;
   begun = ran.begun;
   sounds = ran.sounds ++ sound ∷ [];
@@ -84,15 +84,16 @@ line-ran old now new before_host host card line events before sound after ran ad
   turns = by_line ran.sounds events ran.acts before sound after ran.turns turn;
 }
 
-unfoldable pub host-ran : {A B : Type 0} (old new : A → List Sound → Type 0)
+unfoldable pub host-ran : {A B : Type 0} (takes_short : Bool) (old new : A → List Sound → Type 0)
     (before_host host after_host : B → List Event → Type 0) (card : CardState) (line : Line) (events : List Event)
     (before : Placed) (command answer : List ℕ) (turn : HostTurn) (after : Placed)
-    → Ran old new before_host host card line events before
+    → Ran takes_short old new before_host host card line events before
     → Happens host after_host (event_at (is_first before.granted) command answer turn ∷ [])
     → IsHostTurn before command answer turn after
-    → Ran old new before_host after_host card line
+    → Ran takes_short old new before_host after_host card line
     (events ++ event_at (is_first before.granted) command answer turn ∷ []) after
-host-ran old new before_host host after_host card line events before command answer turn after ran acted called =
+host-ran takes_short old new before_host host after_host card line events before command answer turn after ran acted
+    called =
     let act : Event = event_at (is_first before.granted) command answer turn in record {
       first = ran.first;
       begun = ran.begun;
@@ -133,26 +134,28 @@ silent-of next out (said octets) asked_for is silent = absurd (omega (arith, sil
 silent-of next out (unsaid octets fault) asked_for is silent = absurd (omega (arith, silent))
 
 -- a host that is asked owes the reply to its command
-pub owes-command : (c0 : CardState) (events : List Event) (s : Placed) (count : ℕ) → IsAt c0 events s
-    → s.next ≡ action.Asked count → owed s.card s.card.waits ≡ Some s.card.command
-owes-command c0 events s count at is =
-    let asked_for : IsDoing (action.Asked count) s at.served.doing =
-    subst (λ (a : Action). IsDoing a s at.served.doing) is at.served.is in
+pub owes-command : (takes_short : Bool) (c0 : CardState) (events : List Event) (s : Placed) (count : ℕ)
+    → IsAt takes_short c0 events s → s.next ≡ action.Asked count
+    → owed s.card s.card.waits ≡ Some s.card.command
+owes-command takes_short c0 events s count at is =
+    let asked_for : IsDoing takes_short (action.Asked count) s at.served.doing =
+    subst (λ (a : Action). IsDoing takes_short a s at.served.doing) is at.served.is in
     asked_for.1
 
 -- ---- a refusal
 
-pub line-stopped : {A B : Type 0} (old now new : A → List Sound → Type 0)
+pub line-stopped : {A B : Type 0} (takes_short : Bool) (old now new : A → List Sound → Type 0)
     (before_host host : B → List Event → Type 0) (card : CardState) (line : Line) (most : ℕ) (fault : CardFault)
     (events : List Event) (before : Placed) (sound : Sound) (burst : List ℕ) (granted own : ℕ) (out : List ℕ)
-    (card_after : CardState) (line_after : Line) → (ran : Ran old now before_host host card line events before)
+    (card_after : CardState) (line_after : Line)
+    → (ran : Ran takes_short old now before_host host card line events before)
     → length ran.sounds + length ran.acts < most → Sounds now new (sound ∷ []) → IsAsked before.next before.out sound
     → HasHeard before.line.framer burst
-    → IsSteppedBy false before (event_of sound) (octets_of sound) burst card_after line_after granted own out
+    → IsSteppedBy takes_short before (event_of sound) (octets_of sound) burst card_after line_after granted own out
     (Err fault)
-    → Stopped old new before_host host card line most fault
-line-stopped old now new before_host host card line most fault events before sound burst granted own out card_after
-    line_after ran few adds asked_for heard stepped_so = record {
+    → Stopped takes_short old new before_host host card line most fault
+line-stopped takes_short old now new before_host host card line most fault events before sound burst granted own out
+    card_after line_after ran few adds asked_for heard stepped_so = record {
       first = ran.first;
       begun = ran.begun;
       sounds = ran.sounds;
@@ -189,19 +192,19 @@ refused-by (Err inner) acted command rules p burst out out_after line own own_af
     AfterTurn x command Exchange rules p burst 0 line own own_after (Err fault)) is after in
     rw (err-same fault inner (Err fault) refl now_after.0) refl
 
-pub host-stopped : {A B : Type 0} (old new : A → List Sound → Type 0)
+pub host-stopped : {A B : Type 0} (takes_short : Bool) (old new : A → List Sound → Type 0)
     (before_host host after_host : B → List Event → Type 0) (card : CardState) (line : Line) (most : ℕ)
     (fault : CardFault) (events : List Event) (before : Placed) (answer : List ℕ) (turn : HostTurn) (burst : List ℕ)
     (own : ℕ) (out : List ℕ) (card_after : CardState) (line_after : Line)
-    → (ran : Ran old new before_host host card line events before)
+    → (ran : Ran takes_short old new before_host host card line events before)
     → length ran.sounds + length ran.acts < most → Happens host after_host
     (event_at (is_first before.granted) before.card.command answer turn ∷ [])
     → TurnsTo before.card (input_by answer turn) Exchange before.line.rules (seen before.line.progress) burst 0
     card_after
     line_after before.own own before.out out (Err fault)
-    → Stopped old new before_host after_host card line most fault
-host-stopped old new before_host host after_host card line most fault events before answer turn burst own out
-    card_after line_after ran few acted turns = let act : Event =
+    → Stopped takes_short old new before_host after_host card line most fault
+host-stopped takes_short old new before_host host after_host card line most fault events before answer turn burst own
+    out card_after line_after ran few acted turns = let act : Event =
     event_at (is_first before.granted) before.card.command answer turn in record {
       first = ran.first;
       begun = ran.begun;

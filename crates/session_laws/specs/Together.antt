@@ -1,7 +1,7 @@
 -- The loops over one line: `exchange_ends`, `ask_ifs_ends` and `resynch_ends` at the terminal, and `serve_events` at
 -- the card. What one end sends comes to the other, except what is lost or damaged (line_core, `specs/Joined.antt`). So
 -- what line_core promises of `exchange`, `ask_ifs` and `serve` holds of the loops over steps.
-use Rattle.std.specs.Prelude.{◌≡◌, ◌≤◌, ℕ, List, [], ◌∷◌, ◌++◌}
+use Rattle.std.specs.Prelude.{◌≡◌, ◌≤◌, ℕ, List, [], ◌∷◌, ◌++◌, Bool}
 use Rattle.t1_core.specs.Came.{quiet}
 use Rattle.t1_core.specs.Terminal.{TerminalState, takes, transmit, Limits, terminal_with}
 use Rattle.t1_core.specs.Card.{CardState, card_with}
@@ -31,7 +31,8 @@ HaveExchanged t (call ∷ calls) last = IsExchanged t call × HaveExchanged call
 pub record IsListening (first : CardState) (events : List Event) (last : CardState) : Type 0 where
   pub placed : Placed
   pub is : placed.card ≡ last
-  pub served : IsServed first events placed
+  pub takes_short : Bool
+  pub served : IsServed takes_short first events placed
   pub listens : served.doing ≡ hears
 
 -- a new terminal and a new card, both in steps, over a line with two ends

@@ -1,6 +1,6 @@
 //! The loop of a card.
 
-ghost use Rattle.std.specs.Prelude.{◌≡◌, ◌≤◌, ℕ, List, [], ◌∷◌, length, true, false, IfOk, IfErr, Some};
+ghost use Rattle.std.specs.Prelude.{◌≡◌, ◌≤◌, ℕ, List, [], ◌∷◌, length, true, IfOk, IfErr, Some};
 ghost use Rattle.t1_core.specs.CardViews.{card_held, IsLentCard, owed};
 ghost use Rattle.line_core.specs.Service.{Event, Happens};
 ghost use Rattle.line_core.specs.Bursts.{HasHeard};
@@ -11,7 +11,7 @@ ghost use Rattle.session_core.specs.Cards.{TurnsTo};
 ghost use Rattle.session_laws.specs.declared.host.HostTurn.{HostTurn};
 ghost use Rattle.session_laws.specs.Ending.{HasBurst};
 ghost use Rattle.session_laws.specs.Hosts.{input_by, event_at, is_first};
-ghost use Rattle.session_laws.specs.Serving.{placed, lives, Ran, IsOver, IsServed, Stopped};
+ghost use Rattle.session_laws.specs.Serving.{placed, lives, for_host, Ran, IsOver, IsServed, Stopped};
 
 use crate::device::{LONGEST_BLOCK, SILENT, done};
 use crate::host::{AskingHost, HostTurn};
@@ -38,7 +38,8 @@ fn is_over(action: &Action, event: u8) -> bool
 
 /// Serves what comes over a device to a card: does what each action says, and passes the result to the session. The host
 /// acts on each command once. It replies, or first asks the terminal for time or a size, and goes on once the terminal
-/// granted it. It gets no message of fewer than four octets, so `takes_short` of the session isn't set.
+/// granted it. It gets a message of fewer than four octets only if `takes_short` of the session is set. Otherwise the
+/// session replies 6700 to such a message.
 ///
 /// This returns after `most` turns, each a call of the device or a turn of the host. It returns earlier only if the last
 /// action ends the session, as after a failure of the line, or if nothing came in a wait without a limit. What comes is
@@ -57,23 +58,23 @@ pub fn serve_events<D: TimedDevice, H: AskingHost>(
 ) -> Result<Action, CardFault>
     requires fit { IsLentCard session.old.card (length command.old) (length reply.old) }
     requires burst { HasBurst session.old.line }
-    requires short { session.old.takes_short ≡ false }
     requires room { 1 ≤ length room.old }
     ensures fit { IsLentCard session.new.card (length command.new) (length reply.new) }
     ensures again { IfOk result (λ _. HasBurst session.new.line) }
-    ensures short { session.new.takes_short ≡ false }
+    ensures short { session.new.takes_short ≡ session.old.takes_short }
     ensures run { IfOk result (λ action. (out : List ℕ) × (events : List Event)
-        × (ran : Ran (D.heard device.old) (D.heard device.new) (H.served host.old)
+        × (ran : Ran session.old.takes_short (D.heard device.old) (D.heard device.new) (H.served host.old)
         (H.served host.new) (card_held session.old.card command.old reply.old) session.old.line events
         (placed (card_held session.new.card command.new reply.new) session.new.line session.new.granted session.new.own
         out action))
         × IsOver most ran.sounds ran.acts action
-        × IsServed (card_held session.old.card command.old reply.old) events
+        × (ran.acts ≡ for_host session.old.takes_short events)
+        × IsServed session.old.takes_short (card_held session.old.card command.old reply.old) events
         (placed (card_held session.new.card command.new reply.new) session.new.line session.new.granted session.new.own
         out action)) }
     ensures refused { IfErr result (λ fault.
-        Stopped (D.heard device.old) (D.heard device.new) (H.served host.old) (H.served host.new)
-        (card_held session.old.card command.old reply.old) session.old.line most fault) }
+        Stopped session.old.takes_short (D.heard device.old) (D.heard device.new) (H.served host.old)
+        (H.served host.new) (card_held session.old.card command.old reply.old) session.old.line most fault) }
 {
     let mut out = [0; LONGEST_BLOCK];
     let mut left = most;

@@ -1,8 +1,8 @@
-use Rattle.std.proofs.Common.{◌≡◌, rules, arith, [], false, refl, sym}
+use Rattle.std.proofs.Common.{◌≡◌, rules, arith, [], refl, sym}
 use Rattle.std.proofs.lemmas.Result.{err_from_is_err_and}
 use Rattle.t1_core.specs.CardViews.{card_held}
 use Rattle.session_laws.specs.Serving.{placed, all_made, ended, no_more}
-use Rattle.session_laws.proofs.Services.{ran-at}
+use Rattle.session_laws.proofs.Services.{ran-at, ran-acts}
 use Rattle.session_laws.proofs.Served.{begun-ran, line-ran, host-ran, step-of, owes-command, none-counted, line-counted, host-counted, made-so-far, silent-of, line-stopped, host-stopped}
 use Rattle.session_laws.proofs.serving.serve_events.Goals as goal
 
@@ -15,7 +15,7 @@ loop-left-init g c = (
   search rules,
   (
     [],
-    begun-ran (g.D.TimedDevice.heard c.args.device.now) (g.H.AskingHost.served c.args.host.now) _ _ _ record {
+    begun-ran _ (g.D.TimedDevice.heard c.args.device.now) (g.H.AskingHost.served c.args.host.now) _ _ _ record {
       burst = c.requires.burst.0;
       heard = c.requires.burst.1;
       card_is = rw c.serve-action.ensures.card refl;
@@ -26,15 +26,15 @@ loop-left-init g c = (
 )
 
 pub host_turn-requires-clause-owes : goal.host_turn-requires-clause-owes
-host_turn-requires-clause-owes g c = owes-command _ _ _ c.in-Asked.field-0
-    (ran-at _ _ _ _ _ _ _ _ c.loop-left.invariant.4.1) c.in-Asked.is
+host_turn-requires-clause-owes g c = owes-command _ _ _ _ c.in-Asked.field-0
+    (ran-at _ _ _ _ _ _ _ _ _ c.loop-left.invariant.4.1) c.in-Asked.is
 
 pub returns-in_err-action-clause-refused : goal.returns-in_err-action-clause-refused
 returns-in_err-action-clause-refused g c =
-    let at = ran-at _ _ _ _ _ _ _ _ c.loop-left.invariant.4.1 in
+    let at = ran-at _ _ _ _ _ _ _ _ _ c.loop-left.invariant.4.1 in
     let called = c.in_err-action.ensures.called in
     let p = err_from_is_err_and c.from_residual.result c.from_residual.ensures.1 in
-    rw (p.1, p.2) (host-stopped (g.D.TimedDevice.heard c.args.device.now) (g.D.TimedDevice.heard c.loop-left.device)
+    rw (p.1, p.2) (host-stopped _ (g.D.TimedDevice.heard c.args.device.now) (g.D.TimedDevice.heard c.loop-left.device)
     (g.H.AskingHost.served c.args.host.now) (g.H.AskingHost.served c.loop-left.host)
     (g.H.AskingHost.served c.host_turn.new.host) _ _ _ _ _
     _ called.0 called.1 _ _ _ _ _ c.loop-left.invariant.4.1 (omega (arith, c.loop-left.invariant.4.2)) called.2
@@ -43,7 +43,7 @@ returns-in_err-action-clause-refused g c =
 pub loop-left-preserved-in-Asked : goal.loop-left-preserved-in-Asked
 unfolding host-ran
 loop-left-preserved-in-Asked g c =
-    let at = ran-at _ _ _ _ _ _ _ _ c.loop-left.invariant.4.1 in
+    let at = ran-at _ _ _ _ _ _ _ _ _ c.loop-left.invariant.4.1 in
     let called = c.in_ok-action.ensures.called in (
       c.host_turn.ensures.fit,
       search rules,
@@ -51,13 +51,13 @@ loop-left-preserved-in-Asked g c =
       search rules,
       (
         _,
-        host-ran (g.D.TimedDevice.heard c.args.device.now) (g.D.TimedDevice.heard c.loop-left.device)
+        host-ran _ (g.D.TimedDevice.heard c.args.device.now) (g.D.TimedDevice.heard c.loop-left.device)
             (g.H.AskingHost.served c.args.host.now) (g.H.AskingHost.served c.loop-left.host)
             (g.H.AskingHost.served c.host_turn.new.host)
             _ _ _ _ _ called.0 called.1 _ c.loop-left.invariant.4.1 called.2 record {
               count = c.in-Asked.field-0;
               asked_for = c.in-Asked.is;
-              owes = owes-command _ _ _ c.in-Asked.field-0 at c.in-Asked.is;
+              owes = owes-command _ _ _ _ c.in-Asked.field-0 at c.in-Asked.is;
               burst = at.burst.0;
               heard = at.burst.1;
               granted_is = c.host_turn.ensures.host.0;
@@ -70,9 +70,9 @@ loop-left-preserved-in-Asked g c =
 
 pub returns-in_err-action-2 : goal.returns-in_err-action-2
 returns-in_err-action-2 g c =
-    let at = ran-at _ _ _ _ _ _ _ _ c.loop-left.invariant.4.1 in
+    let at = ran-at _ _ _ _ _ _ _ _ _ c.loop-left.invariant.4.1 in
     let (sound, adds, asked_for, event, octets) = c.done-event.ensures.called in
-    let short : c.loop-left.session.takes_short ≡ false = c.loop-left.invariant.3 in
+    let short : c.loop-left.session.takes_short ≡ c.args.session.now.takes_short = c.loop-left.invariant.3 in
     let before = placed (card_held c.loop-left.session.card c.loop-left.command c.loop-left.reply)
     c.loop-left.session.line
     c.loop-left.session.granted c.loop-left.session.own c.loop-left.out c.loop-left.action in
@@ -83,7 +83,7 @@ returns-in_err-action-2 g c =
       again = tt;
       short = search rules;
       run = tt;
-      refused = line-stopped (g.D.TimedDevice.heard c.args.device.now) (g.D.TimedDevice.heard c.loop-left.device)
+      refused = line-stopped _ (g.D.TimedDevice.heard c.args.device.now) (g.D.TimedDevice.heard c.loop-left.device)
           (g.D.TimedDevice.heard c.done-event.new.device) (g.H.AskingHost.served c.args.host.now)
           (g.H.AskingHost.served c.loop-left.host) _ _ _ _ _ before sound at.burst.0 c.step.new.self.granted
           c.step.new.self.own
@@ -91,16 +91,16 @@ returns-in_err-action-2 g c =
           after c.step.new.self.line c.loop-left.invariant.4.1 (omega (arith, c.loop-left.invariant.4.2)) adds asked_for
           at.burst.1
           (step-of before sound _ _ at.burst.0 after c.step.new.self.line c.step.new.self.granted c.step.new.self.own
-          c.step.new.out _ _
+          c.step.new.out _ _ _
           event octets short (c.in_err-action-2.ensures.step at.burst.0 at.burst.1));
     }
 
 pub loop-left-preserved : goal.loop-left-preserved
 unfolding line-ran
 loop-left-preserved g c =
-    let at = ran-at _ _ _ _ _ _ _ _ c.loop-left.invariant.4.1 in
+    let at = ran-at _ _ _ _ _ _ _ _ _ c.loop-left.invariant.4.1 in
     let (sound, adds, asked_for, event, octets) = c.done-event.ensures.called in
-    let short : c.loop-left.session.takes_short ≡ false = c.loop-left.invariant.3 in
+    let short : c.loop-left.session.takes_short ≡ c.args.session.now.takes_short = c.loop-left.invariant.3 in
     let before = placed (card_held c.loop-left.session.card c.loop-left.command c.loop-left.reply)
     c.loop-left.session.line
     c.loop-left.session.granted c.loop-left.session.own c.loop-left.out c.loop-left.action in
@@ -111,7 +111,7 @@ loop-left-preserved g c =
       search rules,
       (
         _,
-        line-ran (g.D.TimedDevice.heard c.args.device.now) (g.D.TimedDevice.heard c.loop-left.device)
+        line-ran _ (g.D.TimedDevice.heard c.args.device.now) (g.D.TimedDevice.heard c.loop-left.device)
             (g.D.TimedDevice.heard c.done-event.new.device) (g.H.AskingHost.served c.args.host.now)
             (g.H.AskingHost.served c.loop-left.host) _ _ _ before sound
             (placed after c.step.new.self.line c.step.new.self.granted c.step.new.self.own c.step.new.out
@@ -122,7 +122,7 @@ loop-left-preserved g c =
               heard = at.burst.1;
               stepped_so = step-of before sound _ _ at.burst.0 after c.step.new.self.line c.step.new.self.granted
                   c.step.new.self.own
-                  c.step.new.out _ _ event octets short (c.in_ok-action-2.ensures.step at.burst.0 at.burst.1);
+                  c.step.new.out _ _ _ event octets short (c.in_ok-action-2.ensures.step at.burst.0 at.burst.1);
             },
         line-counted c.loop-left.invariant.4.1.sounds sound c.loop-left.invariant.4.1.acts _ _
             (omega (arith, c.loop-left.invariant.4.2)),
@@ -133,9 +133,9 @@ pub returns-then-is_last : goal.returns-then-is_last
 unfolding line-ran
 returns-then-is_last g c =
     let now = c.loop-left.invariant.4.1 in
-    let at = ran-at _ _ _ _ _ _ _ _ now in
+    let at = ran-at _ _ _ _ _ _ _ _ _ now in
     let (sound, adds, asked_for, event, octets) = c.done-event.ensures.called in
-    let short : c.loop-left.session.takes_short ≡ false = c.loop-left.invariant.3 in
+    let short : c.loop-left.session.takes_short ≡ c.args.session.now.takes_short = c.loop-left.invariant.3 in
     let before = placed (card_held c.loop-left.session.card c.loop-left.command c.loop-left.reply)
     c.loop-left.session.line
     c.loop-left.session.granted c.loop-left.session.own c.loop-left.out c.loop-left.action in
@@ -143,7 +143,7 @@ returns-then-is_last g c =
     let last = placed after c.step.new.self.line c.step.new.self.granted c.step.new.self.own c.step.new.out
     c.in_ok-action-2.action in
     let quiet = c.is_over-is_last.ensures c.if-is_last.true in
-    let ran = line-ran (g.D.TimedDevice.heard c.args.device.now) (g.D.TimedDevice.heard c.loop-left.device)
+    let ran = line-ran _ (g.D.TimedDevice.heard c.args.device.now) (g.D.TimedDevice.heard c.loop-left.device)
     (g.D.TimedDevice.heard c.done-event.new.device) (g.H.AskingHost.served c.args.host.now)
     (g.H.AskingHost.served c.loop-left.host) _ _ _ before sound last now adds record {
       asked_for = asked_for;
@@ -151,9 +151,9 @@ returns-then-is_last g c =
       heard = at.burst.1;
       stepped_so = step-of before sound _ _ at.burst.0 after c.step.new.self.line c.step.new.self.granted
           c.step.new.self.own
-          c.step.new.out _ _ event octets short (c.in_ok-action-2.ensures.step at.burst.0 at.burst.1);
+          c.step.new.out _ _ _ event octets short (c.in_ok-action-2.ensures.step at.burst.0 at.burst.1);
     } in
-    let over = ran-at _ _ _ _ _ _ _ _ ran in
+    let over = ran-at _ _ _ _ _ _ _ _ _ ran in
     let same = silent-of c.loop-left.action c.loop-left.out sound asked_for quiet.0 (rw (sym event) quiet.1) in
     record {
       fit = c.step.ensures.fit;
@@ -166,13 +166,14 @@ returns-then-is_last g c =
         no_more now.sounds (made-so-far now.sounds sound now.acts c.args.most _ c.loop-left.invariant.4.2
             (search rules))
             (rw same refl),
+        ran-acts _ _ _ _ _ _ _ _ _ ran,
         over.served,
       );
       refused = tt;
     }
 
 pub returns-else-lives-clause-again : goal.returns-else-lives-clause-again
-returns-else-lives-clause-again g c = (ran-at _ _ _ _ _ _ _ _ c.loop-left.invariant.4.1).burst
+returns-else-lives-clause-again g c = (ran-at _ _ _ _ _ _ _ _ _ c.loop-left.invariant.4.1).burst
 
 pub returns-else-lives-clause-run : goal.returns-else-lives-clause-run
 returns-else-lives-clause-run g c =
@@ -181,11 +182,12 @@ returns-else-lives-clause-run g c =
       ran.0,
       ran.1,
       ended (omega (arith, ran.2)) (search rules),
-      (ran-at _ _ _ _ _ _ _ _ ran.1).served,
+      ran-acts _ _ _ _ _ _ _ _ _ ran.1,
+      (ran-at _ _ _ _ _ _ _ _ _ ran.1).served,
     )
 
 pub returns-after-loop-left-clause-again : goal.returns-after-loop-left-clause-again
-returns-after-loop-left-clause-again g c = (ran-at _ _ _ _ _ _ _ _ c.loop-left.invariant.4.1).burst
+returns-after-loop-left-clause-again g c = (ran-at _ _ _ _ _ _ _ _ _ c.loop-left.invariant.4.1).burst
 
 pub returns-after-loop-left-clause-run : goal.returns-after-loop-left-clause-run
 returns-after-loop-left-clause-run g c =
@@ -194,5 +196,6 @@ returns-after-loop-left-clause-run g c =
       ran.0,
       ran.1,
       all_made (omega (arith, ran.2)),
-      (ran-at _ _ _ _ _ _ _ _ ran.1).served,
+      ran-acts _ _ _ _ _ _ _ _ _ ran.1,
+      (ran-at _ _ _ _ _ _ _ _ _ ran.1).served,
     )

@@ -1,4 +1,4 @@
-use Rattle.std.proofs.Common.{subst, arith}
+use Rattle.std.proofs.Common.{subst, arith, false}
 use Rattle.octet_core.specs.Octets.{AreOctets}
 use Rattle.apdu_core.specs.Command.{spelling}
 use Rattle.line_core.specs.Exchange.{ending_of}
@@ -12,6 +12,6 @@ returns g c =
       run.1,
       λ of_card most trips end card is served. c.once.ensures c.args.terminal.now.limits of_card c.args.params.ifsc
           (spelling c.args.command.now) c.args.most_blocks trips (ending_of c.exchange_command.result)
-          c.exchange_command.new.terminal most end card (omega arith) (subst AreOctets spelt.is spelt.octets)
+          c.exchange_command.new.terminal false most end card (omega arith) (subst AreOctets spelt.is spelt.octets)
           (rw is run.2) served,
     )
