@@ -11,5 +11,5 @@ pub mod refusal;
 pub mod strings;
 
 pub use notes::push_note;
-pub use refusal::{Name, Refusal, RefusalLine};
+pub use refusal::{Name, Refusal};
 pub use strings::{json_string, line_strings};

@@ -56,7 +56,7 @@ pub enum Refusal {
 
 impl Refusal {
     /// Returns the line that says it.
-    fn line(&self, alloc: Global) -> Result<String, AllocError>
+    pub fn line(&self, alloc: Global) -> Result<String, AllocError>
         ensures { IfOk result (λ line. string_bytes line ≡ line_of self.now) }
     {
         match self {
@@ -134,55 +134,5 @@ impl Refusal {
             }
             Refusal::Fault { fault } => members.string(alloc, "fault", fault.get()),
         }
-    }
-}
-
-/// A refusal or a fault with its line. Contracts see the refusal.
-#[derive(Drop)]
-pub struct RefusalLine {
-    refusal: Refusal,
-    line: String,
-}
-
-impl Model for RefusalLine {
-    ghost use Rattle.std.specs.Prelude.{◌≡◌, string_bytes};
-    ghost use Rattle.answer_json.specs.declared.refusal.Refusal.{Refusal as AnyRefusal};
-    ghost use Rattle.answer_json.specs.Refusals.{line_of};
-
-    ghost Value = { AnyRefusal };
-
-    ghost view = { λ kept. kept.refusal };
-
-    ghost invariant = { λ kept. string_bytes kept.line ≡ line_of kept.refusal };
-}
-
-impl RefusalLine {
-    /// Makes the line of a refusal.
-    pub fn of(alloc: Global, refusal: Refusal) -> Result<RefusalLine, AllocError>
-        ensures { IfOk result (λ kept. kept ≡ refusal) }
-    {
-        let line = refusal.line(alloc)?;
-        Ok(RefusalLine { refusal, line })
-    }
-
-    /// Returns the line.
-    pub fn line(&self) -> &str
-        ensures { result.now ≡ line_of self.now }
-    {
-        self.line.as_str()
-    }
-
-    /// Returns the line, and drops the refusal.
-    pub fn into_line(self) -> String
-        ensures { string_bytes result ≡ line_of self }
-    {
-        self.line
-    }
-
-    /// Returns the refusal.
-    pub fn refusal(&self) -> &Refusal
-        ensures { result.now ≡ self.now }
-    {
-        &self.refusal
     }
 }

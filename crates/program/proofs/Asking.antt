@@ -15,7 +15,7 @@ use Rattle.program.specs.Calls.{calls, Calls}
 use Rattle.program.specs.Answers.{IsReadFrom, IsWritten, Writes}
 use Rattle.program.specs.Explained.{IsRightWith}
 use Rattle.program.specs.LineAnswers.{WritesLines, answered, wanting}
-use Rattle.program.specs.declared.telling.Telling.{Telling}
+use Rattle.program.specs.declared.line_task.LineTask.{LineTask}
 use Rattle.program_octets.specs.declared.status.Status.{Status}
 use Rattle.program_octets.specs.declared.status.Status.TheVariants as status
 use Rattle.program.proofs.Explaining.{said-nothing}
@@ -88,8 +88,8 @@ module _ (held : Option (List ℕ)) (count : ℕ) (writes : Calls) (ended : Stat
   }
 
   -- and of lines, of which none was read
-  pub no-lines : (telling : Telling) → WritesLines telling (calls held held count count) writes ended
-  no-lines telling = answered (record {
+  pub no-lines : (line_task : LineTask) → WritesLines line_task (calls held held count count) writes ended
+  no-lines line_task = answered (record {
     text = fault_text Memory;
     right = status.Fault;
     is_right = wanting [] [] status.Accepted [] [] (Consumes-none held) refl refl (refl, refl) refl refl;

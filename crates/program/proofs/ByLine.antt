@@ -10,7 +10,7 @@ use Rattle.program_words.specs.Loose.{loose_octets}
 use Rattle.program_words.specs.declared.fault.Fault.{Fault}
 use Rattle.program_words.specs.declared.fault.Fault.TheVariants.{TooLarge}
 use Rattle.program.specs.Calls.{calls}
-use Rattle.program.specs.declared.telling.Telling.{Telling}
+use Rattle.program.specs.declared.line_task.LineTask.{LineTask}
 use Rattle.program.specs.Answers.{IsTold, IsToldOf, IsWritten, all, cut}
 use Rattle.program.specs.Judged.{SaysIf}
 use Rattle.program.specs.LineNotes.{AreLinesSaid, IsLineSaid, IsNoteOfLine}
@@ -63,9 +63,9 @@ worse-accepted status.Fault = refl
 
 -- ---- texts of lines
 
-module _ (telling : Telling) where
-  lines-joined : (xs ys : List (List ℕ)) (t u : List ℕ) (s q : Status) → AreLinesSaid telling xs t s
-      → AreLinesSaid telling ys u q → AreLinesSaid telling (xs ++ ys) (t ++ u) (worse s q)
+module _ (line_task : LineTask) where
+  lines-joined : (xs ys : List (List ℕ)) (t u : List ℕ) (s q : Status) → AreLinesSaid line_task xs t s
+      → AreLinesSaid line_task ys u q → AreLinesSaid line_task (xs ++ ys) (t ++ u) (worse s q)
   lines-joined [] ys t u s q h g = rw (h.0, h.1) g
   lines-joined (x ∷ xs) ys t u s q h g = record {
     first = h.first;
@@ -78,7 +78,7 @@ module _ (telling : Telling) where
     is_ended = ap (λ (e : Status). worse e q) h.is_ended ∙ worse-assoc h.one h.others q;
   }
 
-  one-line : (line u : List ℕ) (q : Status) → IsLineSaid telling line u q → AreLinesSaid telling (line ∷ []) u q
+  one-line : (line u : List ℕ) (q : Status) → IsLineSaid line_task line u q → AreLinesSaid line_task (line ∷ []) u q
   one-line line u q h = record {
     first = u;
     one = q;
@@ -108,9 +108,10 @@ module _ (telling : Telling) where
   ]
 
   -- and has the same note
-  kept-note : (line note : List ℕ) → SaysIf telling.explains (IsNoteOfLine telling.task (take (largest_file + 1) line)
+  kept-note : (line note : List ℕ) → SaysIf line_task.explains
+      (IsNoteOfLine line_task.task (take (largest_file + 1) line)
       (line_octets (take (largest_file + 1) line))) note
-      → SaysIf telling.explains (IsNoteOfLine telling.task line (line_octets line)) note
+      → SaysIf line_task.explains (IsNoteOfLine line_task.task line (line_octets line)) note
   kept-note line note h = elim (cases_order (length line) largest_file) [
     | inl same ↦ as-whole (take_all (largest_file + 1) line (omega (arith, same)))
     | inr (inl small) ↦ as-whole (take_all (largest_file + 1) line (omega (arith, small)))
@@ -122,16 +123,17 @@ module _ (telling : Telling) where
   ]
     where
       as-whole : take (largest_file + 1) line ≡ line
-          → SaysIf telling.explains (IsNoteOfLine telling.task line (line_octets line)) note
-      as-whole same = subst (λ (l : List ℕ). SaysIf telling.explains (IsNoteOfLine telling.task l (line_octets l)) note)
+          → SaysIf line_task.explains (IsNoteOfLine line_task.task line (line_octets line)) note
+      as-whole same = subst (λ (l : List ℕ).
+          SaysIf line_task.explains (IsNoteOfLine line_task.task l (line_octets l)) note)
           same h
 
-  kept-told : (line t : List ℕ) (s : Status) → IsLineSaid telling (take (largest_file + 1) line) t s
-      → IsLineSaid telling line t s
+  kept-told : (line t : List ℕ) (s : Status) → IsLineSaid line_task (take (largest_file + 1) line) t s
+      → IsLineSaid line_task line t s
   kept-told line t s h = record {
     told = h.told;
     note = h.note;
-    is_told = subst (λ (r : Result (List ℕ) Fault). IsToldOf (IsTold telling.task) r h.told s) (kept-octets line)
+    is_told = subst (λ (r : Result (List ℕ) Fault). IsToldOf (IsTold line_task.task) r h.told s) (kept-octets line)
         h.is_told;
     is_note = kept-note line h.note h.is_note;
     is_text = h.is_text;
@@ -141,14 +143,14 @@ module _ (telling : Telling) where
 
   -- it ends the line
   pub line-ended : (read written line text more : List ℕ) (s q : Status) (x : ℕ) → x ≡ 10
-      → HasSaid telling read written line text s → IsLineSaid telling line more q
-      → HasSaid telling (read ++ (x ∷ [])) written [] (text ++ more) (worse s q)
+      → HasSaid line_task read written line text s → IsLineSaid line_task line more q
+      → HasSaid line_task (read ++ (x ∷ [])) written [] (text ++ more) (worse s q)
   line-ended read written line text more s q x is h says = rw is (record {
     is_told = rw (lines-append [] read (10 ∷ []), ← append_assoc written text more)
         (lines-joined (ended_lines read) (rest_after [] read ∷ []) (written ++ text) more s q h.is_told
         (one-line (rest_after [] read) more q
         (kept-told (rest_after [] read) more q
-        (subst (λ (l : List ℕ). IsLineSaid telling l more q) h.is_line says))));
+        (subst (λ (l : List ℕ). IsLineSaid line_task l more q) h.is_line says))));
     is_line = rw (rest-append [] read (10 ∷ [])) refl;
   })
 
@@ -163,8 +165,8 @@ module _ (telling : Telling) where
 
   -- it is kept
   pub octet-kept : (read written line text : List ℕ) (s : Status) (x : ℕ) → (x ≡ 10 → ⊥) → length line ≤ largest_file
-      → HasSaid telling read written line text s
-      → HasSaid telling (read ++ (x ∷ [])) written (line ++ (x ∷ [])) text s
+      → HasSaid line_task read written line text s
+      → HasSaid line_task (read ++ (x ∷ [])) written (line ++ (x ∷ [])) text s
   octet-kept read written line text s x not few h =
       let rest = rest_after [] read in
       let short : length rest ≤ largest_file =
@@ -178,7 +180,7 @@ module _ (telling : Telling) where
 
   -- the line is too long already
   pub octet-left : (read written line text : List ℕ) (s : Status) (x : ℕ) → (x ≡ 10 → ⊥) → largest_file < length line
-      → HasSaid telling read written line text s → HasSaid telling (read ++ (x ∷ [])) written line text s
+      → HasSaid line_task read written line text s → HasSaid line_task (read ++ (x ∷ [])) written line text s
   octet-left read written line text s x not many h =
       let rest = rest_after [] read in
       let long : largest_file + 1 ≤ length rest =
@@ -191,8 +193,8 @@ module _ (telling : Telling) where
   -- ---- where it ends
 
   -- the lines that ended in the first octets are the first ones that end
-  pub begun : (read more written line text : List ℕ) (s : Status) → HasSaid telling read written line text s
-      → HasBegun telling (ended_lines (read ++ more)) (written ++ text)
+  pub begun : (read more written line text : List ℕ) (s : Status) → HasSaid line_task read written line text s
+      → HasBegun line_task (ended_lines (read ++ more)) (written ++ text)
   begun read more written line text s h = record {
     done = ended_lines read;
     more = lines_after (rest_after [] read) more;
@@ -202,8 +204,8 @@ module _ (telling : Telling) where
   }
 
   -- they are the first of all lines too, where no octet comes after them
-  pub begun-here : (read written line text : List ℕ) (s : Status) → HasSaid telling read written line text s
-      → HasBegun telling (all_lines read) (written ++ text)
+  pub begun-here : (read written line text : List ℕ) (s : Status) → HasSaid line_task read written line text s
+      → HasBegun line_task (all_lines read) (written ++ text)
   begun-here read written line text s h =
       record {
         done = ended_lines read;
@@ -223,21 +225,22 @@ module _ (telling : Telling) where
   some-rest (x ∷ rest) h = refl
 
   -- no octet comes after the last line end
-  pub all-ended : (read written line text : List ℕ) (s : Status) → line ≡ [] → HasSaid telling read written line text s
-      → AreLinesSaid telling (all_lines read) (written ++ text) s
+  pub all-ended : (read written line text : List ℕ) (s : Status) → line ≡ []
+      → HasSaid line_task read written line text s
+      → AreLinesSaid line_task (all_lines read) (written ++ text) s
   all-ended read written line text s none h =
       rw (no-rest largest_file (rest_after [] read) (sym none ∙ h.is_line), append-nil (ended_lines read)) h.is_told
 
   -- the last line is told too
   pub last-told : (read written line text more : List ℕ) (s q : Status) → (line ≡ [] → ⊥)
-      → HasSaid telling read written line text s → IsLineSaid telling line more q
-      → AreLinesSaid telling (all_lines read) (written ++ (text ++ more)) (worse s q)
+      → HasSaid line_task read written line text s → IsLineSaid line_task line more q
+      → AreLinesSaid line_task (all_lines read) (written ++ (text ++ more)) (worse s q)
   last-told read written line text more s q some h says =
       let rest = rest_after [] read in
       rw (some-rest rest (λ none. some (h.is_line ∙ none)), ← append_assoc written text more)
       (lines-joined (ended_lines read) (rest ∷ []) (written ++ text) more s q h.is_told
       (one-line rest more q (kept-told rest more q
-      (subst (λ (l : List ℕ). IsLineSaid telling l more q) h.is_line says))))
+      (subst (λ (l : List ℕ). IsLineSaid line_task l more q) h.is_line says))))
 
 -- ---- what is written
 
@@ -275,20 +278,20 @@ stopped-first first text right a b before after count few p fails =
     (subst (Appends a b) (sym (take-append-le count first text (omega (arith, few)))) p) fails refl
 
 -- what a line's answer makes of what was said
-pub answered-said : (telling : Telling) (line text new : List ℕ) (s q : Status) (x : ℕ) → x ≡ 10
-    → (more : List ℕ) (u : Status) → IsLineSaid telling line more u → new ≡ text ++ more → q ≡ worse s u
-    → (read written : List ℕ) → HasSaid telling read written line text s
-    → HasSaid telling (read ++ (x ∷ [])) written [] new q
-answered-said telling line text new s q x is more u says e f read written h =
-    rw (e, f) (line-ended telling read written line text more s u x is h says)
+pub answered-said : (line_task : LineTask) (line text new : List ℕ) (s q : Status) (x : ℕ) → x ≡ 10
+    → (more : List ℕ) (u : Status) → IsLineSaid line_task line more u → new ≡ text ++ more → q ≡ worse s u
+    → (read written : List ℕ) → HasSaid line_task read written line text s
+    → HasSaid line_task (read ++ (x ∷ [])) written [] new q
+answered-said line_task line text new s q x is more u says e f read written h =
+    rw (e, f) (line-ended line_task read written line text more s u x is h says)
 
 -- and what the answer to the last line does, where that has octets
-pub answered-last : (telling : Telling) (line text new : List ℕ) (s q : Status) → (line ≡ [] → ⊥)
-    → (more : List ℕ) (u : Status) → IsLineSaid telling line more u → new ≡ text ++ more → q ≡ worse s u
-    → (read written : List ℕ) → HasSaid telling read written line text s
-    → AreLinesSaid telling (all_lines read) (written ++ new) q
-answered-last telling line text new s q some more u says e f read written h =
-    rw (e, f) (last-told telling read written line text more s u some h says)
+pub answered-last : (line_task : LineTask) (line text new : List ℕ) (s q : Status) → (line ≡ [] → ⊥)
+    → (more : List ℕ) (u : Status) → IsLineSaid line_task line more u → new ≡ text ++ more → q ≡ worse s u
+    → (read written : List ℕ) → HasSaid line_task read written line text s
+    → AreLinesSaid line_task (all_lines read) (written ++ new) q
+answered-last line_task line text new s q some more u says e f read written h =
+    rw (e, f) (last-told line_task read written line text more s u some h says)
 
 -- what follows from what holds where a call succeeds holds there too
 pub if-ok : {A E : Type 0} (r : Result A E) {P Q : Type 0} → (P → Q) → OnOk r P → OnOk r Q
@@ -306,14 +309,14 @@ if-err (Ok a) q = tt
 if-err (Err e) q = q
 
 -- memory ran out within a piece
-pub begun-within : (telling : Telling) (read written piece : List ℕ) (i : ℕ) (line text : List ℕ) (s : Status)
-    → HasSaid telling (read ++ take i piece) written line text s
-    → HasBegun telling (ended_lines (read ++ piece)) (written ++ text)
-begun-within telling read written piece i line text s h =
+pub begun-within : (line_task : LineTask) (read written piece : List ℕ) (i : ℕ) (line text : List ℕ) (s : Status)
+    → HasSaid line_task (read ++ take i piece) written line text s
+    → HasBegun line_task (ended_lines (read ++ piece)) (written ++ text)
+begun-within line_task read written piece i line text s h =
     let joined = append_assoc read (take i piece) (drop i piece)
     ∙ ap (λ (l : List ℕ). read ++ l) (take-append-drop i piece) in
-    subst (λ (l : List ℕ). HasBegun telling (ended_lines l) (written ++ text)) joined
-    (begun telling (read ++ take i piece) (drop i piece) written line text s h)
+    subst (λ (l : List ℕ). HasBegun line_task (ended_lines l) (written ++ text)) joined
+    (begun line_task (read ++ take i piece) (drop i piece) written line text s h)
 
 -- a list of length 0 is empty
 pub no-octets : (l : List ℕ) → length l ≡ 0 → l ≡ []

@@ -19,7 +19,7 @@ use Rattle.program.specs.Judged.{AreOf}
 use Rattle.program.specs.Replays.{AreReplayedAs}
 use Rattle.program.specs.declared.exchange.ReplayAccount.{ReplayAccount}
 use Rattle.program.specs.Lines.{worse}
-use Rattle.program.specs.declared.judged.WithNote.{WithNote}
+use Rattle.program.specs.declared.judged.WithExplanation.{WithExplanation}
 
 -- the line at which an end differs
 pub differs-at : {A : Type 0} (r : Result A ReplayFault) (e : ExchangeParts) (which : Side) (fault : ReplayFault)
@@ -30,7 +30,7 @@ differs-at r e which fault line gives is same h =
     (subst (IsOutcome e which) is h)
 
 -- an answer and a note that are of an exchange are of the file that was read as it
-pub of-exchange : (task : FileTask) (file : List ℕ) (e : ExchangeParts) (made : WithNote)
+pub of-exchange : (task : FileTask) (file : List ℕ) (e : ExchangeParts) (made : WithExplanation)
     → UnlessMemory (Ok e) (exchange_said file)
     → AreOf (IsToldSo task e) (IsNoteSo task file e) made
     → AreOf (TellsFile task file) (IsFileNote task file) made
@@ -39,7 +39,7 @@ of-exchange task file e made (inr said) h =
     subst (λ (r : Result ExchangeParts ExchangeFault). MatchResult r
     (λ e. IsToldSo task e made.answer.said made.answer.status)
     (λ fault. (made.answer.said ≡ file_faulted fault) × (made.answer.status ≡ status.Fault))
-    × IfOk made.note (λ note. MatchResult r (λ e. IsNoteSo task file e (string_bytes note))
+    × IfOk made.explanation (λ note. MatchResult r (λ e. IsNoteSo task file e (string_bytes note))
     (λ fault. string_bytes note ≡ fault_note file fault))) said h
 
 module _ (how : Layout) (file : List ℕ) (e : ExchangeParts) where
@@ -68,7 +68,8 @@ module _ (how : Layout) (file : List ℕ) (e : ExchangeParts) where
       → string_bytes made.account.text ≡ both_in how (string_bytes terminal.account.text)
       (string_bytes card.account.text) made.account.status
       → made.account.status ≡ worse terminal.account.status card.account.status
-      → IfOk made.note (λ text. IsOkAnd terminal.note (λ a. IsOkAnd card.note (λ b. string_bytes text ≡ string_bytes a
+      → IfOk made.explanation (λ text. IsOkAnd terminal.explanation
+      (λ a. IsOkAnd card.explanation (λ b. string_bytes text ≡ string_bytes a
       ++ string_bytes b)))
       → AreReplayedAs (AreReplayed how e) (AreDifferenceNotes file e) made
   of-both terminal card made one other text ended notes = (
@@ -82,5 +83,5 @@ module _ (how : Layout) (file : List ℕ) (e : ExchangeParts) where
       is_text = text;
       is_ended = ended;
     },
-    joined-notes made.note terminal.note card.note one.1 other.1 notes,
+    joined-notes made.explanation terminal.explanation card.explanation one.1 other.1 notes,
   )

@@ -17,12 +17,12 @@ use Rattle.program_words.specs.declared.request.Asked.TheVariants.{Once}
 use Rattle.program_words.specs.declared.request.Request.{Request}
 use Rattle.program.specs.Calls.{calls, Calls}
 use Rattle.program.specs.Answers.{IsAnswerTo, IsRight, IsRightTo, IsToldOf}
-use Rattle.program.specs.Explained.{differs, form_note, octets_of, on_known, on_words, said_of, silent, too_large, AreNoted, Fits, IsDifferenceNote, IsFaulted, IsFillNote, IsFormNote, IsKnownNote, IsNoted, IsNotedFault, IsNoteOn, IsNoteTo, IsReplyTo, IsSaid, IsTakenWith, Replies, RepliesTo, SaysOf}
+use Rattle.program.specs.Explained.{differs, form_note, octets_of, on_known, on_words, said_of, silent, too_large, AreNoted, Fits, IsDifferenceNote, IsFaultAnswer, IsFaulted, IsFillNote, IsFormNote, IsKnownNote, IsNoted, IsNoteOn, IsNoteTo, IsReplyTo, IsSaid, IsTakenWith, Replies, RepliesTo, SaysOf}
 use Rattle.program.specs.FileNotes.{line_text, IsWhy}
 use Rattle.program.specs.TracePlaces.{trace_place}
 use Rattle.program.specs.Files.{largest_file, ReadsWhole}
 use Rattle.program.specs.Pieces.{ReadsFor}
-use Rattle.program.specs.declared.judged.WithNote.{WithNote}
+use Rattle.program.specs.declared.judged.WithExplanation.{WithExplanation}
 use Rattle.program.specs.declared.replies.Taken.{Taken}
 use Rattle.program.specs.declared.replies.Taken.TheVariants.{Given, Refused}
 use Rattle.program.specs.ExchangeTexts.{IsOutcome}
@@ -67,6 +67,11 @@ pub outcome : {A : Type 0} (r : Result A ReplayFault) (e : ExchangeParts) (which
 outcome (Ok done) e which agrees other = agrees
 outcome (Err fault) e which agrees other = other
 
+-- what holds anyway holds of a result
+if-ok-any : {A E : Type 0} (r : Result A E) {P : Type 0} → P → IfOk r (λ _. P)
+if-ok-any (Ok a) p = p
+if-ok-any (Err e) p = tt
+
 -- where there is no note on a list, it is that on the words for known values
 pub known-noted : {E : Type 0} (r : Result (String Global) E) (words : List (List ℕ)) (list : List ℕ)
     (known : Result (List Known) Fault) (silence : List ℕ) → length silence ≡ 0 → IsListNote list silence
@@ -102,21 +107,21 @@ says-by false c says least b verdict r is h = h
 
 -- the line of a fault with a note on it, of which this holds
 pub is-faulted : (told : Fault) (Note : List ℕ → Type 0) (note : Result (String Global) AllocError)
-    (r : Result WithNote Fault) → IsNotedFault told note r → IfOk note (λ text. Note (string_bytes text))
-    → IsFaulted told Note r
-is-faulted told Note note (Ok made) (line, same) h = (line, rw same h)
-is-faulted told Note note (Err other) same h = same
+    (made : WithExplanation) → IsFaultAnswer told made.answer → made.explanation ≡ note
+    → IfOk note (λ text. Note (string_bytes text))
+    → IsFaultAnswer told made.answer × IfOk made.explanation (λ text. Note (string_bytes text))
+is-faulted told Note note made line same h = (line, rw same h)
 
 -- ---- answers to a request
 
 module _ (words : List (List ℕ)) (request : Request) (reads : Calls) where
   -- an answer of which nothing is said
-  pub alone : (made : WithNote) (file : Result (List ℕ) Fault)
+  pub alone : (made : WithExplanation) (file : Result (List ℕ) Fault)
       → (NeedsFile request → ReadsFor request reads file)
       → IsAnswerTo request file made.answer.said made.answer.status
-      → IfOk made.note (λ note. string_bytes note ≡ []) → IsReplyTo words request reads made
+      → IfOk made.explanation (λ note. string_bytes note ≡ []) → IsReplyTo words request reads made
   alone made file is_file h none =
-      record { file = file; is_file = is_file; is_answer = h; is_note = left-of made.note none }
+      record { file = file; is_file = is_file; is_answer = h; is_note = left-of made.explanation none }
     where
       left-of : {E : Type 0} (r : Result (String Global) E) → IfOk r (λ note. string_bytes note ≡ [])
           → IfOk r (λ note. (string_bytes note ≡ []) ⊎ IsNoteTo words request file (string_bytes note))
@@ -124,13 +129,13 @@ module _ (words : List (List ℕ)) (request : Request) (reads : Calls) where
       left-of (Err e) h = tt
 
   -- an answer with a note
-  pub with-note : (made : WithNote) (file : Result (List ℕ) Fault)
+  pub with-note : (made : WithExplanation) (file : Result (List ℕ) Fault)
       → (NeedsFile request → ReadsFor request reads file)
       → IsAnswerTo request file made.answer.said made.answer.status
-      → IfOk made.note (λ note. IsNoteTo words request file (string_bytes note))
+      → IfOk made.explanation (λ note. IsNoteTo words request file (string_bytes note))
       → IsReplyTo words request reads made
   with-note made file is_file h note =
-      record { file = file; is_file = is_file; is_answer = h; is_note = right-of made.note note }
+      record { file = file; is_file = is_file; is_answer = h; is_note = right-of made.explanation note }
     where
       right-of : {E : Type 0} (r : Result (String Global) E)
           → IfOk r (λ note. IsNoteTo words request file (string_bytes note))
@@ -151,6 +156,7 @@ word-taken-with explains octets note held count none = record {
     is_taken = inl refl;
     count = refl;
   };
+  unfailed = refl;
   is_note = nothing explains note none;
 }
   where
@@ -174,6 +180,7 @@ read-with form reads text result had octets explains asks same note = record {
     ];
     count = counted reads.before reads.after (octets_of result) had.count;
   };
+  unfailed = if-ok-any result had.count;
   is_note = rw same note;
 }
 
@@ -213,10 +220,10 @@ module _ (explains : Bool) (words : List (List ℕ)) (request : Request) (given 
 
   pub noted-given : (octets : List ℕ) (note : Result (String Global) AllocError)
       → IsTakenWith explains given reads (Ok (Given octets note))
-      → (one made : WithNote) → Told octets one.answer.said one.answer.status
-      → IfOk one.note (λ text. SaysIf explains (Note octets) (string_bytes text))
+      → (one made : WithExplanation) → Told octets one.answer.said one.answer.status
+      → IfOk one.explanation (λ text. SaysIf explains (Note octets) (string_bytes text))
       → made.answer ≡ one.answer
-      → IfOk made.note (λ text. IsOkAnd one.note (λ first. IsOkAnd note (λ second.
+      → IfOk made.explanation (λ text. IsOkAnd one.explanation (λ first. IsOkAnd note (λ second.
       string_bytes text ≡ string_bytes first ++ string_bytes second)))
       → IsReplyTo words request reads made
   noted-given octets note had one made answer fits same both =
@@ -227,13 +234,13 @@ module _ (explains : Bool) (words : List (List ℕ)) (request : Request) (given 
           is_answer = subst (λ (a : Answer). IsAnswerTo request had.taken.file a.said a.status) (sym same)
               (answers had.taken.file one.answer.said one.answer.status
               (subst (λ (r : Result (List ℕ) Fault). IsToldOf Told r one.answer.said one.answer.status) is answer));
-          is_note = on-given one.note note made.note had.taken.file octets is fits had.is_note both;
+          is_note = on-given one.explanation note made.explanation had.taken.file octets is fits had.is_note both;
         }
         | inr memory ↦ absurd (cc memory.0)
       ]
 
   -- or gets the line of the fault, with a note, of a text that isn't in its form
-  pub noted-refused : (made : WithNote) → IsTakenWith explains given reads (Ok (Refused made))
+  pub noted-refused : (made : WithExplanation) → IsTakenWith explains given reads (Ok (Refused made))
       → IsReplyTo words request reads made
   noted-refused made had =
       elim had.taken.is_taken [
@@ -243,7 +250,7 @@ module _ (explains : Bool) (words : List (List ℕ)) (request : Request) (given 
           is_answer = answers had.taken.file made.answer.said made.answer.status
               (subst (λ (r : Result (List ℕ) Fault). IsToldOf Told r made.answer.said made.answer.status) is
               (had.is_note.0.said, had.is_note.0.status));
-          is_note = go made.note had.taken.file is had.is_note.1;
+          is_note = go made.explanation had.taken.file is had.is_note.1;
         }
         | inr memory ↦ absurd (cc memory.0)
       ]
@@ -264,10 +271,10 @@ module _ (explains : Bool) (words : List (List ℕ)) (request : Request) (given 
 
 module _ (words : List (List ℕ)) (reads : Calls) where
   -- what is right of a request is right of the words
-  pub noted-words : (request : Request) (made : WithNote) → IsRead words (Ok (Once request))
+  pub noted-words : (request : Request) (made : WithExplanation) → IsRead words (Ok (Once request))
       → IsReplyTo words request reads made
-      → IsNoted words reads made.answer.said (said_of made.note) made.answer.status
-  noted-words request made read h = go made.note h.is_note
+      → IsNoted words reads made.answer.said (said_of made.explanation) made.answer.status
+  noted-words request made read h = go made.explanation h.is_note
     where
       is-right : IsRight words reads made.answer.said made.answer.status
       is-right = right words reads request made.answer.said made.answer.status read
@@ -289,7 +296,7 @@ module _ (words : List (List ℕ)) (reads : Calls) where
       )
       go (Err e) is = inl (is-right, silent refl)
 
-  pub replied-words : (request : Request) (r : Result WithNote Fault) → IsRead words (Ok (Once request))
+  pub replied-words : (request : Request) (r : Result WithExplanation Fault) → IsRead words (Ok (Once request))
       → RepliesTo words request reads r → AreNoted words reads r
   replied-words request (Ok made) read h = noted-words request made read h
   replied-words request (Err fault) read h = right words reads request (faulted fault) status.Fault
@@ -320,11 +327,12 @@ module _ (words : List (List ℕ)) (reads : Calls) where
   }
 
   -- a note on the line of a fault, where it fits that
-  pub said-fault : (fault : Fault) (Note : List ℕ → Type 0) (r : Result WithNote Fault) → asks_to_explain words ≡ true
+  pub said-fault : (fault : Fault) (Note : List ℕ → Type 0) (r : Result WithExplanation Fault)
+      → asks_to_explain words ≡ true
       → IsRight words reads (faulted fault) status.Fault → IsFaulted fault Note r
       → IfOk r (λ _. (note : List ℕ) → Note note → Fits words (faulted fault) note)
       → Replies words reads r
-  said-fault fault Note (Ok made) asks h told fits = go made.note told.1
+  said-fault fault Note (Ok made) asks h told fits = go made.explanation told.1
     where
       is-right : IsRight words reads made.answer.said made.answer.status
       is-right = rw (told.0.status, told.0.said) h
@@ -338,11 +346,11 @@ module _ (words : List (List ℕ)) (reads : Calls) where
       rw same (said-nothing (faulted fault) status.Fault h)
 
   -- an answer whose note isn't asked for
-  pub said-alone : (made alone : WithNote) → IsNoted words reads made.answer.said
-      (said_of made.note) made.answer.status → alone.answer ≡ made.answer → said_of alone.note ≡ []
-      → IsSaid words reads alone.answer.said (said_of alone.note) alone.answer.status
+  pub said-alone : (made alone : WithExplanation) → IsNoted words reads made.answer.said
+      (said_of made.explanation) made.answer.status → alone.answer ≡ made.answer → said_of alone.explanation ≡ []
+      → IsSaid words reads alone.answer.said (said_of alone.explanation) alone.answer.status
   said-alone made alone h same none = rw (same, none) (said-nothing made.answer.said made.answer.status
-      (right-noted made.answer.said (said_of made.note) made.answer.status h))
+      (right-noted made.answer.said (said_of made.explanation) made.answer.status h))
 
 -- ---- what fits the line of a fault
 

@@ -36,7 +36,7 @@ use Rattle.program_words.specs.declared.fault.Fault.TheVariants as word
 use Rattle.program_words.specs.declared.request.Request.TheVariants.{Judge}
 use Rattle.program.specs.Judged.{AreOf}
 use Rattle.program.specs.JudgeTexts.{at_line, faulty, judged, judged_in, judged_status, on_text, refused, scope_of, used, IsJudgeNote, IsOffer, IsTextNote, JudgesText, JudgesTrace}
-use Rattle.program.specs.declared.judged.WithNote.{WithNote}
+use Rattle.program.specs.declared.judged.WithExplanation.{WithExplanation}
 use Rattle.program.proofs.Simulations.{apart, if-ok, same-name}
 
 -- ---- an answer to reset
@@ -112,7 +112,8 @@ faulty-lines offered scope text line fault h = lines.faulted offered scope text 
 
 -- the line of a text's fault, and the note on it
 pub faulty-noted : {E : Type 0} (atr : List ℕ) (offered : Offered) (judging : Judging) (file line : List ℕ)
-    (fault : ExchangeFault) (r : Result WithNote E) → HasFault offered (scope_of judging) (lines_of file) line fault
+    (fault : ExchangeFault) (r : Result WithExplanation E)
+    → HasFault offered (scope_of judging) (lines_of file) line fault
     → IfOk r (λ _. fault ≢ Memory)
     → IfOk r (AreOf (λ said stops. (said ≡ file_faulted fault) × (stops ≡ status.Fault))
     (λ note. note ≡ kept_note line fault))
@@ -120,18 +121,18 @@ pub faulty-noted : {E : Type 0} (atr : List ℕ) (offered : Offered) (judging : 
 faulty-noted atr offered judging file line fault (Ok made) has told h =
     let known = faulty-lines offered (scope_of judging) file line fault has in (
       faulty fault known told h.0.0 h.0.1,
-      if-ok made.note (λ note on. at_line fault known told
+      if-ok made.explanation (λ note on. at_line fault known told
           (on ∙ sym (note-kept offered (scope_of judging) file line fault has))) h.1,
     )
 faulty-noted atr offered judging file line fault (Err e) has told h = tt
 
 -- a text with its note, where the answer to reset says so
 pub used-noted : {E : Type 0} (atr : List ℕ) (offered : Offered) (judging : Judging) (file : List ℕ)
-    (r : Result WithNote E)
+    (r : Result WithExplanation E)
     → IsOffer atr offered → IfOk r (AreOf (JudgesText atr offered judging file) (IsTextNote offered judging file))
     → IfOk r (AreOf (JudgesTrace atr judging file) (IsJudgeNote atr judging file))
 used-noted atr offered judging file (Ok made) found h =
-    (used offered found h.0, if-ok made.note (λ note on. on_text offered found on) h.1)
+    (used offered found h.0, if-ok made.explanation (λ note on. on_text offered found on) h.1)
 used-noted atr offered judging file (Err e) found h = tt
 
 -- ---- with an answer to reset
@@ -169,7 +170,7 @@ judged-once atr octets judging file = record {
 
 module _ (words : List (List ℕ)) (atr : List ℕ) (judging : Judging) (reads : Calls) where
   -- what its text comes to is the answer
-  pub trace-replied : (text : List ℕ) (made : WithNote) → IsAll reads text
+  pub trace-replied : (text : List ℕ) (made : WithExplanation) → IsAll reads text
       → AreOf (JudgesTrace atr judging text) (IsJudgeNote atr judging text) made
       → IsReplyTo words (Judge atr judging) reads made
   trace-replied text made all told =

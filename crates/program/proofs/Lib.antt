@@ -17,6 +17,7 @@ pub mod InJson
 pub mod Records
 pub mod Judgments
 pub mod ExchangeNotes
+pub mod Unfailing
 pub mod Unlimited
 pub mod TraceLines
 pub mod Faults

@@ -14,8 +14,8 @@ use Rattle.program.specs.Judged.{AreOf, IsKindNote, SaysIf}
 use Rattle.program.specs.LineNotes.{fault_note, said_text, IsLineSaid, IsNoteOfLine}
 use Rattle.program.specs.Files.{largest_file}
 use Rattle.program.specs.Lines.{line_octets}
-use Rattle.program.specs.declared.judged.WithNote.{WithNote}
-use Rattle.program.specs.declared.telling.Telling.{Telling}
+use Rattle.program.specs.declared.judged.WithExplanation.{WithExplanation}
+use Rattle.program.specs.declared.line_task.LineTask.{LineTask}
 
 -- ---- the octets of a line
 
@@ -33,59 +33,59 @@ taken-as fault = Err fault
 abbrev given-as : List ℕ → Result (List ℕ) Fault
 given-as b = Ok b
 
-abbrev made-of : WithNote → Result WithNote Fault
+abbrev made-of : WithExplanation → Result WithExplanation Fault
 made-of made = Ok made
 
 -- the line of a fault for which a line has none
-pub line-fault : {E : Type 0} (telling : Telling) (line : List ℕ) (octets : Result (List ℕ) Fault) (fault : Fault)
-    (r : Result WithNote E) → octets ≡ Err fault
+pub line-fault : {E : Type 0} (line_task : LineTask) (line : List ℕ) (octets : Result (List ℕ) Fault) (fault : Fault)
+    (r : Result WithExplanation E) → octets ≡ Err fault
     → IfOk r (AreOf (λ said ended. (said ≡ faulted fault) × (ended ≡ status.Fault))
-    (SaysIf telling.explains (λ note. note ≡ fault_note line fault)))
-    → IfOk r (AreOf (IsToldOf (IsTold telling.task) octets)
-    (SaysIf telling.explains (IsNoteOfLine telling.task line octets)))
-line-fault telling line octets fault r is h = rw is h
+    (SaysIf line_task.explains (λ note. note ≡ fault_note line fault)))
+    → IfOk r (AreOf (IsToldOf (IsTold line_task.task) octets)
+    (SaysIf line_task.explains (IsNoteOfLine line_task.task line octets)))
+line-fault line_task line octets fault r is h = rw is h
 
 -- where it is no lack of memory
-pub told-fault : {E : Type 0} (telling : Telling) (line : List ℕ) (fault : Fault) (r : Result WithNote E)
+pub told-fault : {E : Type 0} (line_task : LineTask) (line : List ℕ) (fault : Fault) (r : Result WithExplanation E)
     → length line ≤ largest_file → UnlessMemory (taken-as fault) (loose_octets line) → IfOk r (λ _. fault ≢ Memory)
     → IfOk r (AreOf (λ said ended. (said ≡ faulted fault) × (ended ≡ status.Fault))
-    (SaysIf telling.explains (λ note. note ≡ fault_note line fault)))
-    → IfOk r (AreOf (IsToldOf (IsTold telling.task) (line_octets line))
-    (SaysIf telling.explains (IsNoteOfLine telling.task line (line_octets line))))
-told-fault telling line fault (Ok made) short (inl memory) other h = absurd (other (cc memory))
-told-fault telling line fault (Ok made) short (inr is) other h =
-    line-fault telling line (line_octets line) fault (made-of made) (short-line line short ∙ sym is) h
-told-fault telling line fault (Err e) short is other h = tt
+    (SaysIf line_task.explains (λ note. note ≡ fault_note line fault)))
+    → IfOk r (AreOf (IsToldOf (IsTold line_task.task) (line_octets line))
+    (SaysIf line_task.explains (IsNoteOfLine line_task.task line (line_octets line))))
+told-fault line_task line fault (Ok made) short (inl memory) other h = absurd (other (cc memory))
+told-fault line_task line fault (Ok made) short (inr is) other h =
+    line-fault line_task line (line_octets line) fault (made-of made) (short-line line short ∙ sym is) h
+told-fault line_task line fault (Err e) short is other h = tt
 
 -- what is said of the octets of a line
-line-octets : {E : Type 0} (telling : Telling) (line : List ℕ) (octets : Result (List ℕ) Fault) (b : List ℕ)
-    (r : Result WithNote E) → octets ≡ Ok b
-    → IfOk r (AreOf (IsTold telling.task b)
-    (SaysIf telling.explains (IsKindNote telling.task.expected.kind telling.task.expected b)))
-    → IfOk r (AreOf (IsToldOf (IsTold telling.task) octets)
-    (SaysIf telling.explains (IsNoteOfLine telling.task line octets)))
-line-octets telling line octets b r is h = rw is h
+line-octets : {E : Type 0} (line_task : LineTask) (line : List ℕ) (octets : Result (List ℕ) Fault) (b : List ℕ)
+    (r : Result WithExplanation E) → octets ≡ Ok b
+    → IfOk r (AreOf (IsTold line_task.task b)
+    (SaysIf line_task.explains (IsKindNote line_task.task.expected.kind line_task.task.expected b)))
+    → IfOk r (AreOf (IsToldOf (IsTold line_task.task) octets)
+    (SaysIf line_task.explains (IsNoteOfLine line_task.task line octets)))
+line-octets line_task line octets b r is h = rw is h
 
-pub told-octets : {E : Type 0} (telling : Telling) (line b : List ℕ) (r : Result WithNote E)
+pub told-octets : {E : Type 0} (line_task : LineTask) (line b : List ℕ) (r : Result WithExplanation E)
     → length line ≤ largest_file → UnlessMemory (given-as b) (loose_octets line)
-    → IfOk r (AreOf (IsTold telling.task b)
-    (SaysIf telling.explains (IsKindNote telling.task.expected.kind telling.task.expected b)))
-    → IfOk r (AreOf (IsToldOf (IsTold telling.task) (line_octets line))
-    (SaysIf telling.explains (IsNoteOfLine telling.task line (line_octets line))))
-told-octets telling line b r short (inl memory) h = absurd (cc memory)
-told-octets telling line b r short (inr is) h =
-    line-octets telling line (line_octets line) b r (short-line line short ∙ sym is) h
+    → IfOk r (AreOf (IsTold line_task.task b)
+    (SaysIf line_task.explains (IsKindNote line_task.task.expected.kind line_task.task.expected b)))
+    → IfOk r (AreOf (IsToldOf (IsTold line_task.task) (line_octets line))
+    (SaysIf line_task.explains (IsNoteOfLine line_task.task line (line_octets line))))
+told-octets line_task line b r short (inl memory) h = absurd (cc memory)
+told-octets line_task line b r short (inr is) h =
+    line-octets line_task line (line_octets line) b r (short-line line short ∙ sym is) h
 
 -- ---- answers to a line
 
 -- an answer with its note
-pub line-said : {E : Type 0} (telling : Telling) (line text : List ℕ) (answer : Answer)
+pub line-said : {E : Type 0} (line_task : LineTask) (line text : List ℕ) (answer : Answer)
     (note : Result (String Global) E) (said : String Global) → note ≡ Ok said
-    → IsToldOf (IsTold telling.task) (line_octets line) answer.said answer.status
-    → IfOk note (λ n. SaysIf telling.explains (IsNoteOfLine telling.task line (line_octets line)) (string_bytes n))
-    → text ≡ said_text telling.task answer.said (string_bytes said)
-    → IsLineSaid telling line text answer.status
-line-said telling line text answer note said is told says same = record {
+    → IsToldOf (IsTold line_task.task) (line_octets line) answer.said answer.status
+    → IfOk note (λ n. SaysIf line_task.explains (IsNoteOfLine line_task.task line (line_octets line)) (string_bytes n))
+    → text ≡ said_text line_task.task answer.said (string_bytes said)
+    → IsLineSaid line_task line text answer.status
+line-said line_task line text answer note said is told says same = record {
   told = answer.said;
   note = string_bytes said;
   is_told = told;

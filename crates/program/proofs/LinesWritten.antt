@@ -7,7 +7,7 @@ use Rattle.octet_core.specs.Failures.{HasFailed, next_count}
 use Rattle.program_words.specs.Texts.{fault_text}
 use Rattle.program_words.specs.declared.fault.Fault.TheVariants.{Memory, Read, TooLarge}
 use Rattle.program.specs.Calls.{calls}
-use Rattle.program.specs.declared.telling.Telling.{Telling}
+use Rattle.program.specs.declared.line_task.LineTask.{LineTask}
 use Rattle.program_octets.specs.declared.status.Status.{Status}
 use Rattle.program_octets.specs.declared.status.Status.TheVariants as status
 use Rattle.program.specs.Answers.{IsWritten, all}
@@ -61,7 +61,7 @@ has-told (unheard ∷ events) text right old now ended tells moved = absurd tell
 
 -- ---- all events
 
-module _ (telling : Telling) (held : Option (List ℕ)) (before : ℕ) (old : Option (List ℕ)) (unwritten_before : ℕ)
+module _ (line_task : LineTask) (held : Option (List ℕ)) (before : ℕ) (old : Option (List ℕ)) (unwritten_before : ℕ)
   where
     -- so much was read and written
     pub record HasCome (read written : List ℕ) (now : Wire) : Type 0 where
@@ -73,7 +73,7 @@ module _ (telling : Telling) (held : Option (List ℕ)) (before : ℕ) (old : Op
     -- the lines are told, and the program ends so
     abbrev pub AreWritten : Wire → Status → Type 0
     AreWritten now ended =
-        WritesLines telling (calls held now.left before now.not_read)
+        WritesLines line_task (calls held now.left before now.not_read)
         (calls old now.written unwritten_before now.not_written) ended
 
     module _ (read written : List ℕ) (first : Wire) (h : HasCome read written first) where
@@ -87,8 +87,8 @@ module _ (telling : Telling) (held : Option (List ℕ)) (before : ℕ) (old : Op
           tells.is_written
 
       rest-told : (left : Option (List ℕ)) (count : ℕ) (rest : List ℕ) (right : Status) → Consumes held left read
-          → IsAtEnd left → count ≡ before → IsRest telling (all_lines read) written rest right
-          → TellsLines telling (calls held left before count) (written ++ rest) right
+          → IsAtEnd left → count ≡ before → IsRest line_task (all_lines read) written rest right
+          → TellsLines line_task (calls held left before count) (written ++ rest) right
       rest-told left count rest right p end same (all_told says) = whole read p end same says
       rest-told left count rest right p end same (first_told more begun is fault) =
           wanting read (written ++ more) begun.so_far begun.done begun.more p same begun.is_front begun.is_told
@@ -96,8 +96,8 @@ module _ (telling : Telling) (held : Option (List ℕ)) (before : ℕ) (old : Op
 
       -- and nothing was read after that
       still-told : (left now : Option (List ℕ)) (count after : ℕ) (text : List ℕ) (right : Status) → now ≡ left
-          → after ≡ count → TellsLines telling (calls held left before count) text right
-          → TellsLines telling (calls held now before after) text right
+          → after ≡ count → TellsLines line_task (calls held left before count) text right
+          → TellsLines line_task (calls held now before after) text right
       still-told left now count after text right is same says = rw (is, same) says
 
       -- nothing more was read
@@ -105,7 +105,7 @@ module _ (telling : Telling) (held : Option (List ℕ)) (before : ℕ) (old : Op
       all-read left p = subst (Consumes held left) (append-nil read)
           (Consumes-then held first.left left read [] h.from p)
 
-      closed : (events : List Event) (now : Wire) (ended : Status) → Closes telling read written events ended
+      closed : (events : List Event) (now : Wire) (ended : Status) → Closes line_task read written events ended
           → HaveMoved first events now → AreWritten now ended
       closed events now ended (over more text right is up rest tells) moved =
           let goes = subst (λ (l : List Event). HaveMoved first l now) is moved in
@@ -175,7 +175,7 @@ module _ (telling : Telling) (held : Option (List ℕ)) (before : ℕ) (old : Op
           (has-failed first.not_written next.not_written goes.1.4)) refl))
 
     pub lines-written : (events : List Event) (read written : List ℕ) (first now : Wire) (ended : Status)
-        → HasCome read written first → AnswersLines telling read written events ended → HaveMoved first events now
+        → HasCome read written first → AnswersLines line_task read written events ended → HaveMoved first events now
         → AreWritten now ended
     lines-written [] read written first now ended h lines moved = closed read written first h [] now ended lines moved
     lines-written (heard octets ∷ events) read written first now ended h (inl lines) moved =
@@ -202,12 +202,12 @@ module _ (telling : Telling) (held : Option (List ℕ)) (before : ℕ) (old : Op
         closed read written first h (untold text count ∷ events) now ended lines moved
 
 -- a whole conversation about lines
-pub all-written : (telling : Telling) (first now : Wire) (events : List Event) (ended : Status)
-    → AnswersLines telling [] [] events ended → HaveMoved first events now
-    → WritesLines telling (calls first.left now.left first.not_read now.not_read)
+pub all-written : (line_task : LineTask) (first now : Wire) (events : List Event) (ended : Status)
+    → AnswersLines line_task [] [] events ended → HaveMoved first events now
+    → WritesLines line_task (calls first.left now.left first.not_read now.not_read)
     (calls first.written now.written first.not_written now.not_written) ended
-all-written telling first now events ended lines moved =
-    lines-written telling first.left first.not_read first.written first.not_written events [] [] first now ended
+all-written line_task first now events ended lines moved =
+    lines-written line_task first.left first.not_read first.written first.not_written events [] [] first now ended
     (record {
       from = Consumes-none first.left;
       none_failed = refl;

@@ -4,7 +4,7 @@ use Rattle.std.specs.Result.{MatchResult}
 use Rattle.std.proofs.lemmas.List.{length-append}
 use Rattle.std.proofs.lemmas.Bool.Decides.{nat_tests}
 use Rattle.clap.specs.Kinds.{IsAmong, Kinds}
-use Rattle.clap.specs.Words.{fault_of, subcommand_of}
+use Rattle.clap.specs.Words.{fault_of}
 use Rattle.clap.specs.declared.error.kind.ErrorKind.{ErrorKind}
 use Rattle.clap.specs.declared.error.kind.ErrorKind.TheVariants.{DisplayHelp}
 use Rattle.octet_core.specs.Failures.{most_failures}
@@ -12,7 +12,7 @@ use Rattle.octet_core.specs.Octets.{AreOctets}
 use Rattle.program_words.proofs.Requests.{read-proper}
 use Rattle.program_octets.specs.Sayings.{faulted, text_of}
 use Rattle.program_octets.specs.declared.said.Said.{Said}
-use Rattle.program_words.specs.Words.{asked_of, AskForOctets, HasOther, IsRead, called_for_version, taken, called_for_help, not_taken}
+use Rattle.program_words.specs.Words.{asked_for, AskForOctets, HasOther, IsRead, called_for_version, taken, called_for_help, not_taken}
 use Rattle.command_line.specs.Form.{scard}
 use Rattle.program_words.specs.declared.fault.Fault.{Fault}
 use Rattle.program_words.specs.declared.fault.Fault.TheVariants.{Words, Hex, Memory, Read, TooLarge}
@@ -153,7 +153,7 @@ help-or-not kind = inr (λ e. cc)
 parsed-read : (words : List (List ℕ)) (kinds : Kinds) → asks_for_version words ≡ false → fault_of scard words ≡ kinds
     → (read : Result Asked Fault) × IsRead words read
 parsed-read words [] parsed free =
-    (asked_of (subcommand_of scard words), taken (record { parsed = parsed; free = free }) refl)
+    (asked_for words, taken (record { parsed = parsed; free = free }) refl)
 parsed-read words (kind ∷ kinds) parsed is =
     elim (help-or-not kind) [
       | inl help ↦

@@ -26,7 +26,7 @@ use Rattle.program.specs.Files.{largest_file}
 use Rattle.program.specs.Judged.{AreOf}
 use Rattle.program.specs.RecordTexts.{IsItemsNote, IsRecordNote, IsRefusedNote, Records, RecordsItems, RefusesText, line_with, refused, unfit, refused_line, whole}
 use Rattle.program.specs.SimulationTexts.{IsFile}
-use Rattle.program.specs.declared.judged.WithNote.{WithNote}
+use Rattle.program.specs.declared.judged.WithExplanation.{WithExplanation}
 use Rattle.program.proofs.Simulations.{apart, one-file, same-name, same-size, some-file}
 
 -- there is an item that can't be recorded, or none
@@ -97,7 +97,8 @@ recorded-once atr octets file = go (trace_of file)
     go (Err (UnfitLine line why)) = ended-by (refused_line line (unfit_name why)) status.Refused
 
 -- an answer and a note that are of items are of the text that was read as them
-pub of-items : (atr file : List ℕ) (items : List Item) (made : WithNote) → UnlessMemory (Ok items) (trace_of file)
+pub of-items : (atr file : List ℕ) (items : List Item) (made : WithExplanation)
+    → UnlessMemory (Ok items) (trace_of file)
     → AreOf (RecordsItems atr file items) (IsItemsNote atr file items) made
     → AreOf (Records atr file) (IsRecordNote atr file) made
 of-items atr file items made (inl memory) h = absurd (cc memory)
@@ -105,5 +106,5 @@ of-items atr file items made (inr said) h =
     subst (λ (r : Result (List Item) TraceFault). MatchResult r
     (λ items. RecordsItems atr file items made.answer.said made.answer.status)
     (λ fault. RefusesText fault made.answer.said made.answer.status)
-    × IfOk made.note (λ note. MatchResult r (λ items. IsItemsNote atr file items (string_bytes note))
+    × IfOk made.explanation (λ note. MatchResult r (λ items. IsItemsNote atr file items (string_bytes note))
     (λ fault. IsRefusedNote fault file (string_bytes note)))) said h

@@ -21,7 +21,7 @@ use Rattle.program.specs.Files.{largest_file}
 use Rattle.program.specs.Judged.{AreOf}
 use Rattle.explainer.specs.Pairs.{pairs_note}
 use Rattle.program.specs.SimulationTexts.{IsExchangeNote, IsFile, IsLinesNote, IsSimulationNote, Simulates, SimulatesLines, fits, over, recorded, too_large, unusable, whole}
-use Rattle.program.specs.declared.judged.WithNote.{WithNote}
+use Rattle.program.specs.declared.judged.WithExplanation.{WithExplanation}
 use Rattle.program_words.specs.PairLines.{pairs_in}
 use Rattle.program_words.specs.Value.{UnlessMemory}
 use Rattle.program_words.specs.declared.session.Pair.{Pair}
@@ -165,11 +165,11 @@ module _ (s : Session) where
   told-note e note (ifsc, r, f, end, is) h =
       recorded ifsc r f end (subst (λ (x : ExchangeParts). IsExchangeNote s x note) is h)
 
-  pub told-both : (e : ExchangeParts) (made : WithNote) → IsSimulated largest_file s (Ok e)
+  pub told-both : (e : ExchangeParts) (made : WithExplanation) → IsSimulated largest_file s (Ok e)
       → AreOf (IsFile e) (IsExchangeNote s e) made → AreOf (Simulates s) (IsSimulationNote s) made
   told-both e made is h = (
     told-file e made.answer.said made.answer.status is h.0,
-    if-ok made.note (λ note k. told-note e (string_bytes note) is k) h.1,
+    if-ok made.explanation (λ note k. told-note e (string_bytes note) is k) h.1,
   )
 
 -- ---- how the program ends with a text
@@ -197,7 +197,7 @@ lines-once s octets b = go (pairs_in b)
     go (Err fault) = ended-by (faulted fault) status.Fault
 
 -- a session with the pairs that lines say
-pub of-lines : {E : Type 0} (s : Session) (b : List ℕ) (pairs : List Pair) (r : Result WithNote E)
+pub of-lines : {E : Type 0} (s : Session) (b : List ℕ) (pairs : List Pair) (r : Result WithExplanation E)
     → UnlessMemory (Ok pairs) (pairs_in b)
     → IfOk r (AreOf (Simulates (record s { pairs = pairs })) (IsSimulationNote (record s { pairs = pairs })))
     → IfOk r (AreOf (SimulatesLines s b) (IsLinesNote s b))

@@ -3,7 +3,7 @@ use Rattle.std.proofs.Common.{◌≡◌, inl, inr, ◌++◌, ◌∷◌, [], List
 use Rattle.std.proofs.lemmas.List.{length-append}
 use Rattle.program_words.specs.Texts.{fault_text}
 use Rattle.program_words.specs.declared.fault.Fault.TheVariants.{Read}
-use Rattle.program.specs.declared.telling.Telling.{Telling}
+use Rattle.program.specs.declared.line_task.LineTask.{LineTask}
 use Rattle.program_octets.specs.declared.status.Status.{Status}
 use Rattle.program_octets.specs.declared.status.Status.TheVariants as status
 use Rattle.program.specs.Conversations.{Event, heard, told, unheard, untold}
@@ -30,10 +30,10 @@ none-heard (untold part count ∷ before) after event text right ended hears tel
 none-heard (heard octets ∷ before) after event text right ended hears tells = tells
 none-heard (unheard ∷ before) after event text right ended hears tells = tells
 
-module _ (telling : Telling) (read written : List ℕ) (ended : Status) where
+module _ (line_task : LineTask) (read written : List ℕ) (ended : Status) where
   -- what closes a conversation begins to hear only then
   first-heard : (after : List Event) (event : Event) → IsHearing event
-      → Closes telling read written (event ∷ after) ended → IsUpToDate telling read written
+      → Closes line_task read written (event ∷ after) ended → IsUpToDate line_task read written
   first-heard after event hears (over more text right is up rest tells) = up
   first-heard after event hears (unread more is up tells) = up
   first-heard after event hears (out_of_memory text begun tells) =
@@ -51,7 +51,7 @@ module _ (telling : Telling) (read written : List ℕ) (ended : Status) where
 
   -- and hears nothing after that
   none-later : (before after : List Event) (e event : Event) → IsHearing event
-      → Closes telling read written (e ∷ (before ++ (event ∷ after))) ended → ⊥
+      → Closes line_task read written (e ∷ (before ++ (event ∷ after))) ended → ⊥
   none-later before after e event hears (over more text right is up rest tells) =
       none-heard before after event text right ended hears
       (subst (λ (l : List Event). AreTelling text right l ended) (sym (ap later is)) tells)
@@ -65,39 +65,39 @@ module _ (telling : Telling) (read written : List ℕ) (ended : Status) where
   none-later before after e event hears (unwritten text count is up fault) =
       not-empty before after event (ap later is)
 
-still : (telling : Telling) (read written : List ℕ) → IsUpToDate telling read written
-    → IsUpToDate telling (read ++ []) (written ++ [])
-still telling read written up = rw (append-nil read, append-nil written) up
+still : (line_task : LineTask) (read written : List ℕ) → IsUpToDate line_task read written
+    → IsUpToDate line_task (read ++ []) (written ++ [])
+still line_task read written up = rw (append-nil read, append-nil written) up
 
-waits-from : (telling : Telling) (before after : List Event) (event : Event) (read written : List ℕ) (ended : Status)
-    → IsHearing event → AnswersLines telling read written (before ++ (event ∷ after)) ended
-    → IsUpToDate telling (read ++ heard_by before) (written ++ told_by before)
-waits-from telling [] after (heard octets) read written ended hears (inl h) =
-    still telling read written (first-heard telling read written ended after (heard octets) hears h)
-waits-from telling [] after (heard octets) read written ended hears (inr h) = still telling read written h.1
-waits-from telling [] after unheard read written ended hears h =
-    still telling read written (first-heard telling read written ended after unheard hears h)
-waits-from telling [] after (told text) read written ended hears h = absurd hears
-waits-from telling [] after (untold text count) read written ended hears h = absurd hears
-waits-from telling (heard octets ∷ before) after event read written ended hears (inl h) =
-    absurd (none-later telling read written ended before after (heard octets) event hears h)
-waits-from telling (heard octets ∷ before) after event read written ended hears (inr h) =
+waits-from : (line_task : LineTask) (before after : List Event) (event : Event) (read written : List ℕ) (ended : Status)
+    → IsHearing event → AnswersLines line_task read written (before ++ (event ∷ after)) ended
+    → IsUpToDate line_task (read ++ heard_by before) (written ++ told_by before)
+waits-from line_task [] after (heard octets) read written ended hears (inl h) =
+    still line_task read written (first-heard line_task read written ended after (heard octets) hears h)
+waits-from line_task [] after (heard octets) read written ended hears (inr h) = still line_task read written h.1
+waits-from line_task [] after unheard read written ended hears h =
+    still line_task read written (first-heard line_task read written ended after unheard hears h)
+waits-from line_task [] after (told text) read written ended hears h = absurd hears
+waits-from line_task [] after (untold text count) read written ended hears h = absurd hears
+waits-from line_task (heard octets ∷ before) after event read written ended hears (inl h) =
+    absurd (none-later line_task read written ended before after (heard octets) event hears h)
+waits-from line_task (heard octets ∷ before) after event read written ended hears (inr h) =
     rw (← append_assoc read octets (heard_by before))
-    (waits-from telling before after event (read ++ octets) written ended hears h.2)
-waits-from telling (told text ∷ before) after event read written ended hears (inl h) =
-    absurd (none-later telling read written ended before after (told text) event hears h)
-waits-from telling (told text ∷ before) after event read written ended hears (inr h) =
+    (waits-from line_task before after event (read ++ octets) written ended hears h.2)
+waits-from line_task (told text ∷ before) after event read written ended hears (inl h) =
+    absurd (none-later line_task read written ended before after (told text) event hears h)
+waits-from line_task (told text ∷ before) after event read written ended hears (inr h) =
     rw (← append_assoc written text (told_by before))
-    (waits-from telling before after event read (written ++ text) ended hears h)
-waits-from telling (unheard ∷ before) after event read written ended hears h =
-    absurd (none-later telling read written ended before after unheard event hears h)
-waits-from telling (untold text count ∷ before) after event read written ended hears h =
-    absurd (none-later telling read written ended before after (untold text count) event hears h)
+    (waits-from line_task before after event read (written ++ text) ended hears h)
+waits-from line_task (unheard ∷ before) after event read written ended hears h =
+    absurd (none-later line_task read written ended before after unheard event hears h)
+waits-from line_task (untold text count ∷ before) after event read written ended hears h =
+    absurd (none-later line_task read written ended before after (untold text count) event hears h)
 
 -- of a whole conversation
-pub waits : (telling : Telling) (events before after : List Event) (event : Event) (ended : Status)
-    → AnswersLines telling [] [] events ended → events ≡ before ++ (event ∷ after) → IsHearing event
-    → IsUpToDate telling (heard_by before) (told_by before)
-waits telling events before after event ended lines is hears =
-    waits-from telling before after event [] [] ended hears
-    (subst (λ (l : List Event). AnswersLines telling [] [] l ended) is lines)
+pub waits : (line_task : LineTask) (events before after : List Event) (event : Event) (ended : Status)
+    → AnswersLines line_task [] [] events ended → events ≡ before ++ (event ∷ after) → IsHearing event
+    → IsUpToDate line_task (heard_by before) (told_by before)
+waits line_task events before after event ended lines is hears =
+    waits-from line_task before after event [] [] ended hears
+    (subst (λ (l : List Event). AnswersLines line_task [] [] l ended) is lines)

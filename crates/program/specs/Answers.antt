@@ -24,9 +24,7 @@ use Rattle.program.specs.Pieces.{ReadsFor}
 use Rattle.program.specs.Lines.{all_lines, line_octets, AreTold}
 use Rattle.program_words.specs.Given.{octets_given}
 use Rattle.layouts.specs.Version.{version_line}
-use Rattle.clap.specs.Words.{subcommand_of}
-use Rattle.program_words.specs.Words.{asked_of, once_of, AreTaken, AskFor, IsRead, NeedsFile}
-use Rattle.command_line.specs.Form.{scard}
+use Rattle.program_words.specs.Words.{asked_for, once_of, AreTaken, AskFor, IsRead, NeedsFile}
 use Rattle.program_octets.specs.declared.status.Status.{Status}
 use Rattle.program_octets.specs.declared.status.Status.TheVariants as status
 use Rattle.program_words.specs.declared.fault.Fault.{Fault}
@@ -225,7 +223,7 @@ AsksForNotes how (Lines task) = HasNotes how task
 
 abbrev pub AskForNotes : Layout → List (List ℕ) → Type 0
 AskForNotes how words =
-    AreTaken words × MatchResult (asked_of (subcommand_of scard words)) (AsksForNotes how) (λ _. ⊥)
+    AreTaken words × MatchResult (asked_for words) (AsksForNotes how) (λ _. ⊥)
 
 -- two answers to the same words: they are equal, or equal without notes if notes are asked for
 pub data IsSameAnswer (words : List (List ℕ)) (said other : Said) : Type 0 where

@@ -1,6 +1,5 @@
 -- What the program prints for words: a text, and its explanation if they ask for one.
 use Rattle.std.specs.Prelude.{◌≡◌, ◌⊎◌, ◌++◌, ℕ, List, [], length, Some, None, Result, Ok, Err, IfOk, IsOkAnd, MatchResult, String, string_bytes, Bool, false}
-use Rattle.std.specs.declared.alloc.AllocError.{AllocError}
 use Rattle.std.specs.declared.alloc.Global.{Global}
 use Rattle.command_line.specs.Asked.{asks_to_explain}
 use Rattle.program_words.specs.Given.{octets_given}
@@ -40,7 +39,8 @@ use Rattle.program.specs.Answers.{IsAnswerTo, IsRight, IsRightTo}
 use Rattle.program.specs.Files.{largest_file, IsTaken}
 use Rattle.program.specs.Pieces.{ReadsFor}
 use Rattle.program.specs.Judged.{IsForestNote, IsKindNote, IsListNote, SaysIf}
-use Rattle.program.specs.declared.judged.WithNote.{WithNote}
+use Rattle.program.specs.declared.judged.WithExplanation.{WithExplanation}
+use Rattle.program.specs.declared.program.AnswerText.{AnswerText}
 use Rattle.program.specs.declared.replies.Taken.{Taken}
 use Rattle.program.specs.declared.replies.Taken.TheVariants.{Given, Refused}
 use Rattle.program.specs.FileNotes.{fault_note, line_text, IsWhy}
@@ -167,13 +167,14 @@ abbrev pub SaysOf : Bool → OctetSource → Result (List ℕ) Fault → Taken �
 SaysOf explains given file (Given octets note) =
     IfOk note (λ text. SaysIf explains (λ said. said ≡ form_note given file) (string_bytes text))
 SaysOf explains given file (Refused made) =
-    IsFaultAnswer fault.Hex made.answer × IfOk made.note (λ note. IsFormNote given file (string_bytes note))
+    IsFaultAnswer fault.Hex made.answer × IfOk made.explanation (λ note. IsFormNote given file (string_bytes note))
 
 -- the result of taking octets, with the note on their text
 pub record IsTakenWith (explains : Bool) (given : OctetSource) (reads : Calls)
     (result : Result Taken Fault) :
     Type 0 where
   pub taken : IsTaken given reads (octets_of result)
+  pub unfailed : IfOk result (λ _. reads.after ≡ reads.before)
   pub is_note : IfOk result (SaysOf explains given taken.file)
 
 -- ---- answers with notes
@@ -185,15 +186,16 @@ said_of (Err _) = []
 
 -- an answer to a request of these words, with the note on its input if memory for it was available
 pub record IsReplyTo (words : List (List ℕ)) (request : Request) (reads : Calls)
-    (made : WithNote) :
+    (made : WithExplanation) :
     Type 0 where
   pub file : Result (List ℕ) Fault
   pub is_file : NeedsFile request → ReadsFor request reads file
   pub is_answer : IsAnswerTo request file made.answer.said made.answer.status
-  pub is_note : IfOk made.note (λ note. (string_bytes note ≡ []) ⊎ IsNoteTo words request file (string_bytes note))
+  pub is_note : IfOk made.explanation (λ note. (string_bytes note ≡ [])
+      ⊎ IsNoteTo words request file (string_bytes note))
 
 -- the answer to a request, or the fault for which there is none
-abbrev pub RepliesTo : List (List ℕ) → Request → Calls → Result WithNote Fault
+abbrev pub RepliesTo : List (List ℕ) → Request → Calls → Result WithExplanation Fault
     → Type 0
 RepliesTo words request reads (Ok made) = IsReplyTo words request reads made
 RepliesTo words request reads (Err fault) =
@@ -207,27 +209,23 @@ pub record IsSaid (words : List (List ℕ)) (reads : Calls) (said : Said) (note 
   pub unasked : asks_to_explain words ≡ false → note ≡ []
 
 -- the answer to words, or a fault
-abbrev pub Replies : List (List ℕ) → Calls → Result WithNote Fault → Type 0
+abbrev pub Replies : List (List ℕ) → Calls → Result WithExplanation Fault → Type 0
 Replies words reads (Ok made) =
-    IsSaid words reads made.answer.said (said_of made.note) made.answer.status
+    IsSaid words reads made.answer.said (said_of made.explanation) made.answer.status
 Replies words reads (Err fault) =
     IsSaid words reads (faulted fault) [] status.Fault
 
 -- the answer to words with its note, whether or not one is asked for
-abbrev pub AreNoted : List (List ℕ) → Calls → Result WithNote Fault → Type 0
+abbrev pub AreNoted : List (List ℕ) → Calls → Result WithExplanation Fault → Type 0
 AreNoted words reads (Ok made) =
-    IsNoted words reads made.answer.said (said_of made.note) made.answer.status
+    IsNoted words reads made.answer.said (said_of made.explanation) made.answer.status
 AreNoted words reads (Err fault) =
     IsRight words reads (faulted fault) status.Fault
 
--- the line of a fault with this note on it, or the fault itself
-abbrev pub IsNotedFault : Fault → Result (String Global) AllocError → Result WithNote Fault → Type 0
-IsNotedFault told note (Ok made) = IsFaultAnswer told made.answer × (made.note ≡ note)
-IsNotedFault told note (Err same) = same ≡ told
-
 -- the line of a fault with a note that this holds of, or the fault itself
-abbrev pub IsFaulted : Fault → (List ℕ → Type 0) → Result WithNote Fault → Type 0
-IsFaulted told Note (Ok made) = IsFaultAnswer told made.answer × IfOk made.note (λ note. Note (string_bytes note))
+abbrev pub IsFaulted : Fault → (List ℕ → Type 0) → Result WithExplanation Fault → Type 0
+IsFaulted told Note (Ok made) = IsFaultAnswer told made.answer
+    × IfOk made.explanation (λ note. Note (string_bytes note))
 IsFaulted told Note (Err same) = same ≡ told
 
 -- the text of what is right for words, with the note after it
@@ -238,7 +236,7 @@ pub record IsRightWith (words : List (List ℕ)) (reads : Calls) (whole : List �
   pub is_said : IsSaid words reads said note ended
   pub is_whole : whole ≡ text_of said ++ note
 
--- the text of an answer with the note after it is right, or the line of a fault is
-abbrev pub Gives : (List ℕ → Status → Type 0) → Result WithNote Fault → Type 0
-Gives Right (Ok made) = Right (text_of made.answer.said ++ said_of made.note) made.answer.status
+-- the text of an answer with the explanation after it is right, or the line of a fault is
+abbrev pub Gives : (List ℕ → Status → Type 0) → Result AnswerText Fault → Type 0
+Gives Right (Ok made) = Right (made.text ++ said_of made.explanation) made.status
 Gives Right (Err fault) = Right (fault_text fault) status.Fault

@@ -11,7 +11,7 @@ use Rattle.program.specs.Calls.{Calls}
 use Rattle.program.specs.Answers.{IsWritten, Writes}
 use Rattle.program.specs.InJson.{IsRightAsked}
 use Rattle.program.specs.LineAnswers.{AskForNoLines, WritesLines}
-use Rattle.program.specs.LineNotes.{telling_of}
+use Rattle.program.specs.LineNotes.{line_task_of}
 
 -- the system gave no words: memory ran out, or a word isn't UTF-8
 abbrev pub IsWithoutWords : Fault → Type 0
@@ -22,7 +22,7 @@ pub record Runs (words : List (List ℕ)) (reads writes : Calls) (ended : Status
   pub written : AskForNoLines words
       → Writes (IsRightAsked words reads) writes ended
   pub lines : (task : Task) → AskForLines task words
-      → WritesLines (telling_of words task) reads writes ended
+      → WritesLines (line_task_of words task) reads writes ended
 
 -- The text and the status belong together: they are right for some words, or for a fault without any.
 pub data Does (reads writes : Calls)

@@ -1,7 +1,8 @@
 -- The text for words as lines, or as a JSON object if they ask for it.
-use Rattle.std.specs.Prelude.{◌≡◌, ℕ, List, [], ◌∷◌, ◌++◌, Result, Ok, Err, codes, Bool, true, false}
-use Rattle.command_line.specs.Asked.{asks_for_json}
+use Rattle.std.specs.Prelude.{◌≡◌, ℕ, List, [], ◌∷◌, ◌++◌, Result, Ok, Err, codes, Bool, false}
+use Rattle.layouts.specs.declared.layout.Layout.TheVariants as layout
 use Rattle.program_words.specs.Texts.{fault_text}
+use Rattle.program_words.specs.Words.{layout_of}
 use Rattle.program_words.specs.declared.fault.Fault.{Fault}
 use Rattle.program_words.specs.declared.fault.Fault.TheVariants.{Memory}
 use Rattle.program_words.specs.declared.request.FileTask.{FileTask}
@@ -80,10 +81,10 @@ pub data IsRightJson (words : List (List ℕ)) (reads : Calls) (whole : List ℕ
   unmade : HaveAnswer words reads → whole ≡ fault_text Memory → ended ≡ status.Fault
       → IsRightJson words reads whole ended
 
--- what is right for words
+-- what is right for words, in their layout
 pub data IsRightAsked (words : List (List ℕ)) (reads : Calls) (whole : List ℕ)
     (ended : Status) : Type 0 where
-  in_lines : asks_for_json words ≡ false → IsRightWith words reads whole ended
+  in_lines : layout_of words ≡ layout.Lines → IsRightWith words reads whole ended
       → IsRightAsked words reads whole ended
-  in_json : asks_for_json words ≡ true → IsRightJson words reads whole ended
+  in_json : layout_of words ≡ layout.Json → IsRightJson words reads whole ended
       → IsRightAsked words reads whole ended

@@ -24,7 +24,7 @@ use Rattle.layouts.specs.declared.layout.Layout.TheVariants.{Json}
 use Rattle.explainer.specs.Notes.{least_of, verdict_text}
 use Rattle.explainer.specs.Sentences.{atr_sentence, block_sentence, chain_sentence, command_sentence, dol_sentence, response_sentence, tlv_sentence}
 use Rattle.program.specs.declared.judged.ShownWithNotes.{ShownWithNotes}
-use Rattle.program.specs.declared.judged.WithNote.{WithNote}
+use Rattle.program.specs.declared.judged.WithExplanation.{WithExplanation}
 
 -- the note on octets by a codec's verdict on them, with the sentence of each reason, and with how many more octets are
 -- needed at least, if that is known
@@ -56,8 +56,9 @@ SaysIf true Note note = Note note
 SaysIf false Note note = note ≡ []
 
 -- this holds of an answer, and this of its note if memory for the note was available
-abbrev pub AreOf : (Said → Status → Type 0) → (List ℕ → Type 0) → WithNote → Type 0
-AreOf Told Note made = Told made.answer.said made.answer.status × IfOk made.note (λ note. Note (string_bytes note))
+abbrev pub AreOf : (Said → Status → Type 0) → (List ℕ → Type 0) → WithExplanation → Type 0
+AreOf Told Note made = Told made.answer.said made.answer.status
+    × IfOk made.explanation (λ note. Note (string_bytes note))
 
 -- the line of a refusal of octets
 abbrev pub IsRefusalBy : {V R : Type 0} → Codec V R → List ℕ → List ℕ → Type 0

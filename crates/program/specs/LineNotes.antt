@@ -17,11 +17,11 @@ use Rattle.program.specs.Files.{largest_file}
 use Rattle.program.specs.Lines.{line_octets, AreTold}
 use Rattle.explainer.specs.Notes.{large_note}
 use Rattle.explainer.specs.Texts.{column_note, hex_stop}
-use Rattle.program.specs.declared.telling.Telling.{Telling}
+use Rattle.program.specs.declared.line_task.LineTask.{LineTask}
 
 -- how lines are answered for these words, which ask for them
-abbrev pub telling_of : List (List ℕ) → Task → Telling
-telling_of words task = record { task = task; explains = asks_to_explain words }
+abbrev pub line_task_of : List (List ℕ) → Task → LineTask
+line_task_of words task = record { task = task; explains = asks_to_explain words }
 
 -- each line of a text after two blanks; begins: the first octet begins a line
 abbrev pub indented_from : Bool → List ℕ → List ℕ
@@ -52,12 +52,12 @@ abbrev pub said_text : Task → Said → List ℕ → List ℕ
 said_text task said note = said_in task.layout task said note
 
 -- the text and the status of one line
-pub record IsLineSaid (telling : Telling) (line text : List ℕ) (ended : Status) : Type 0 where
+pub record IsLineSaid (line_task : LineTask) (line text : List ℕ) (ended : Status) : Type 0 where
   pub told : Said
   pub note : List ℕ
-  pub is_told : IsToldOf (IsTold telling.task) (line_octets line) told ended
-  pub is_note : SaysIf telling.explains (IsNoteOfLine telling.task line (line_octets line)) note
-  pub is_text : text ≡ said_text telling.task told note
+  pub is_told : IsToldOf (IsTold line_task.task) (line_octets line) told ended
+  pub is_note : SaysIf line_task.explains (IsNoteOfLine line_task.task line (line_octets line)) note
+  pub is_text : text ≡ said_text line_task.task told note
 
-abbrev pub AreLinesSaid : Telling → List (List ℕ) → List ℕ → Status → Type 0
-AreLinesSaid telling lines text ended = AreTold (IsLineSaid telling) lines text ended
+abbrev pub AreLinesSaid : LineTask → List (List ℕ) → List ℕ → Status → Type 0
+AreLinesSaid line_task lines text ended = AreTold (IsLineSaid line_task) lines text ended

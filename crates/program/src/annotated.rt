@@ -30,7 +30,8 @@ pub(crate) fn annotated(alloc: Global, shown: Answer, words: &str) -> Result<Ans
 {
     match shown.status {
         Status::Refused => {
-            let text = noted_line(alloc, shown.said.text(), words)?;
+            let line = shown.said.into_text(alloc)?;
+            let text = noted_line(alloc, line.get(), words)?;
             Ok(Answer {
                 said: Said::Text(text),
                 status: Status::Refused,
@@ -57,7 +58,8 @@ pub(crate) fn annotated_object(
     match object.status {
         Status::Refused => {
             let items = note_items(alloc, line, words)?;
-            let text = with_notes(alloc, object.said.into_text(), items.as_str())?;
+            let shown = object.said.into_text(alloc)?;
+            let text = with_notes(alloc, shown, items.as_str())?;
             Ok(Answer {
                 said: Said::Object(text),
                 status: Status::Refused,
@@ -90,7 +92,7 @@ pub(crate) fn refusal_line<R: Named + Copy>(
         → verdict ≡ Err stop → line ≡ refused_text R.text stop) }
 {
     match (how, verdict) {
-        (Layout::Json, Err(stop)) if noted => Ok(Answer::refused(alloc, stop)?.said.into_text()),
+        (Layout::Json, Err(stop)) if noted => Answer::refused(stop).said.into_text(alloc),
         _ => Ok(Octets::of(Vec::new(alloc))),
     }
 }

@@ -16,7 +16,7 @@ ghost use Rattle.program.specs.Lines.{worse};
 ghost use Rattle.program_octets.specs.declared.status.Status.TheVariants as ended;
 
 use crate::file_notes::{difference_note, fault_note};
-use crate::judged::{WithNote, joined};
+use crate::judged::{WithExplanation, joined};
 use crate::laid::{Account, laid};
 use crate::lines::worse;
 use answer_json::{Name, Refusal};
@@ -38,7 +38,7 @@ pub(crate) fn told(
     explains: bool,
     file: &[u8],
     task: FileTask,
-) -> Result<WithNote, AllocError>
+) -> Result<WithExplanation, AllocError>
     ensures { IfOk result (AreOf (TellsFile task file.now) (IsFileNote task file.now)) }
 {
     match read_exchange(alloc, file) {
@@ -54,7 +54,7 @@ fn told_of(
     file: &[u8],
     exchange: Exchange,
     task: FileTask,
-) -> Result<WithNote, AllocError>
+) -> Result<WithExplanation, AllocError>
     ensures { IfOk result (AreOf (IsToldSo task exchange)
         (IsNoteSo task file.now exchange)) }
 {
@@ -66,7 +66,7 @@ fn told_of(
         FileTask::Apdus(layout) => listed(alloc, &exchange, layout)?,
         FileTask::Draw(drawing) => drawn(alloc, &exchange, drawing)?,
     };
-    Ok(WithNote::alone(alloc, answer))
+    Ok(WithExplanation::alone(alloc, answer))
 }
 
 /// Replays an exchange at the end or ends that are named. Returns the answer, with a note.
@@ -77,25 +77,29 @@ fn replayed(
     exchange: &Exchange,
     end: Ends,
     layout: Layout,
-) -> Result<WithNote, AllocError>
+) -> Result<WithExplanation, AllocError>
     ensures { IfOk result (AreOf (IsReplayAnswer end layout exchange.now)
         (IsNoteAt end file.now exchange.now)) }
 {
-    let ReplayAccount { account, note } = replayed_at(
-        alloc, explains, file, exchange, end, layout,
-    )?;
+    let ReplayAccount {
+        account,
+        explanation,
+    } = replayed_at(alloc, explains, file, exchange, end, layout)?;
     let answer = laid(alloc, layout, "replay", account)?;
-    Ok(WithNote { answer, note })
+    Ok(WithExplanation {
+        answer,
+        explanation,
+    })
 }
 
-/// Whether an end or both ends agree with an exchange, with a note if memory for it was available.
+/// Whether an end or both ends agree with an exchange, with an explanation if memory for it was available.
 #[derive(Drop)]
 struct ReplayAccount {
     account: Account,
-    note: Result<String, AllocError>,
+    explanation: Result<String, AllocError>,
 }
 
-/// Replays an exchange at the end or ends that are named. Returns whether they agree with it, with a note.
+/// Replays an exchange at the end or ends that are named. Returns whether they agree with it, with an explanation.
 fn replayed_at(
     alloc: Global,
     explains: bool,
@@ -114,8 +118,11 @@ fn replayed_at(
             let terminal = replayed_by(alloc, explains, file, exchange, Side::Terminal, layout)?;
             let card = replayed_by(alloc, explains, file, exchange, Side::Card, layout)?;
             let account = both(alloc, layout, &terminal.account, &card.account)?;
-            let note = joined(terminal.note, card.note);
-            Ok(ReplayAccount { account, note })
+            let explanation = joined(terminal.explanation, card.explanation);
+            Ok(ReplayAccount {
+                account,
+                explanation,
+            })
         }
     }
 }
@@ -134,8 +141,11 @@ fn replayed_by(
 {
     let outcome = replay(alloc, exchange, side);
     let account = agreement(alloc, exchange, side, layout, &outcome)?;
-    let note = difference_note(alloc, explains, file, exchange, side, &outcome);
-    Ok(ReplayAccount { account, note })
+    let explanation = difference_note(alloc, explains, file, exchange, side, &outcome);
+    Ok(ReplayAccount {
+        account,
+        explanation,
+    })
 }
 
 /// Joins what is said of both ends, each after the name of its end.
@@ -218,15 +228,18 @@ fn refused_with_note(
     explains: bool,
     file: &[u8],
     fault: ExchangeFault,
-) -> Result<WithNote, AllocError>
+) -> Result<WithExplanation, AllocError>
     ensures other { IfOk result (λ _. fault ≢ Memory) }
     ensures made { IfOk result (AreOf
         (λ said status. (said ≡ file_faulted fault) × (status ≡ ended.Fault))
         (λ note. note ≡ fault_note file.now fault)) }
 {
-    let answer = refused(alloc, fault)?;
-    let note = fault_note(alloc, explains, file, fault);
-    Ok(WithNote { answer, note })
+    let answer = refused(fault)?;
+    let explanation = fault_note(alloc, explains, file, fault);
+    Ok(WithExplanation {
+        answer,
+        explanation,
+    })
 }
 
 /// Lists the commands and answers of an exchange, as lines or as an object.
@@ -262,7 +275,7 @@ fn drawn(alloc: Global, exchange: &Exchange, drawing: Drawing) -> Result<Answer,
 }
 
 /// Returns lines as the answer to a request that succeeded.
-fn answer_with(lines: Vec<u8>) -> Answer
+pub(crate) fn answer_with(lines: Vec<u8>) -> Answer
     ensures said { result.said ≡ saying.Text lines.items }
     ensures status { result.status ≡ ended.Accepted }
 {
@@ -321,7 +334,7 @@ fn differing(alloc: Global, line: usize, gives: &str, layout: Layout) -> Result<
 }
 
 /// Returns the text of an exchange.
-pub(crate) fn written(alloc: Global, exchange: &Exchange) -> Result<Answer, AllocError>
+fn written(alloc: Global, exchange: &Exchange) -> Result<Answer, AllocError>
     ensures said { IfOk result (λ answer. answer.said
         ≡ saying.Text (exchange_text exchange.now)) }
     ensures status { IfOk result (λ answer. answer.status ≡ ended.Accepted) }
@@ -330,7 +343,7 @@ pub(crate) fn written(alloc: Global, exchange: &Exchange) -> Result<Answer, Allo
 }
 
 /// Returns the answer for a fault of the file.
-pub(crate) fn refused(alloc: Global, fault: ExchangeFault) -> Result<Answer, AllocError>
+pub(crate) fn refused(fault: ExchangeFault) -> Result<Answer, AllocError>
     ensures other { IfOk result (λ _. fault ≢ Memory) }
     ensures said { IfOk result (λ answer. answer.said ≡ file_faulted fault) }
     ensures status { IfOk result (λ answer. answer.status ≡ ended.Fault) }
@@ -338,7 +351,7 @@ pub(crate) fn refused(alloc: Global, fault: ExchangeFault) -> Result<Answer, All
     if fault == ExchangeFault::Memory {
         return Err(AllocError);
     }
-    Answer::refusal(alloc, file_refusal(fault))
+    Ok(Answer::refusal(file_refusal(fault)))
 }
 
 /// Returns a fault of the file, by its name, with its line if it is in one.

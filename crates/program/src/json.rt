@@ -7,7 +7,7 @@ ghost use Rattle.program.specs.Answers.{has_notes, is_refusal, object_as};
 ghost use Rattle.program.specs.Explained.{said_of};
 ghost use Rattle.program.specs.InJson.{asks_for_notes, explanation_member, file_subject, subject, subject_of, with_explanation};
 
-use crate::judged::WithNote;
+use crate::judged::WithExplanation;
 use answer_json::json_string;
 use octet_core::Octets;
 use program_octets::{Said, kind_name, notes_member};
@@ -128,44 +128,55 @@ fn file_subject(task: FileTask) -> &'static str
 }
 
 /// Returns an answer as a JSON object about this subject, with its explanation as a member.
-pub(crate) fn in_json(alloc: Global, about: &Topic, made: WithNote) -> Result<Octets, AllocError>
+pub(crate) fn in_json(
+    alloc: Global,
+    about: &Topic,
+    made: WithExplanation,
+) -> Result<Octets, AllocError>
     ensures { IfOk result (λ text. text ≡ with_explanation
-        (object_as about.now.name.now about.now.noted made.answer.said) (said_of made.note)) }
+        (object_as about.now.name.now about.now.noted made.answer.said) (said_of made.explanation)) }
 {
-    let WithNote { answer, note } = made;
+    let WithExplanation {
+        answer,
+        explanation,
+    } = made;
     let object = about.object(alloc, answer.said)?;
-    explained(alloc, object, note)
+    explained(alloc, object, explanation)
 }
 
 /// Appends an explanation, if there is one, to an object as its last member.
 pub(crate) fn explained(
     alloc: Global,
     object: Octets,
-    note: Result<String, AllocError>,
+    explanation: Result<String, AllocError>,
 ) -> Result<Octets, AllocError>
-    ensures { IfOk result (λ text. text ≡ with_explanation object (said_of note)) }
+    ensures { IfOk result (λ text. text ≡ with_explanation object (said_of explanation)) }
 {
-    match note {
-        Ok(note) if !note.is_empty() => with_explanation(alloc, object, note),
+    match explanation {
+        Ok(text) if !text.is_empty() => with_explanation(alloc, object, text),
         _ => Ok(object),
     }
 }
 
 /// Appends an explanation to an object as its last member.
-fn with_explanation(alloc: Global, object: Octets, note: String) -> Result<Octets, AllocError>
+fn with_explanation(
+    alloc: Global,
+    object: Octets,
+    explanation: String,
+) -> Result<Octets, AllocError>
     ensures { IfOk result (λ text.
-        text ≡ with_member object (explanation_member (string_bytes note))) }
+        text ≡ with_member object (explanation_member (string_bytes explanation))) }
 {
-    let member = explanation_member(alloc, note)?;
+    let member = explanation_member(alloc, explanation)?;
     with_member(object, member.as_bytes())
 }
 
 /// Returns the member for an explanation, which begins with a comma.
-fn explanation_member(alloc: Global, note: String) -> Result<String, AllocError>
+fn explanation_member(alloc: Global, explanation: String) -> Result<String, AllocError>
     ensures { IfOk result (λ member.
-        string_bytes member ≡ explanation_member (string_bytes note)) }
+        string_bytes member ≡ explanation_member (string_bytes explanation)) }
 {
-    let text = json_string(alloc, note)?;
+    let text = json_string(alloc, explanation)?;
     format!(in alloc; ",\"explanation\":{text}")
 }
 

@@ -13,7 +13,7 @@ ghost use Rattle.program.specs.Judged.{AreShownWithNotes, AreOf, IsForestNote, I
 ghost use Rattle.layouts.specs.declared.layout.Layout.TheVariants as layout;
 
 use crate::annotated::{annotated, annotated_object, refusal_line, words_on};
-use crate::telling::Telling;
+use crate::line_task::LineTask;
 use apdu_core::{Command, Response};
 use atr_core::Atr;
 use block_core::Block;
@@ -29,47 +29,51 @@ use program_words::{Aim, Fault, Kind, Knowns, Task};
 use std::alloc::{AllocError, Global};
 use tlv_core::{Dol, DolReason, Forest};
 
-/// An answer and a note to print after it, if memory for the note was available.
+/// An answer and the explanation to print after it, if memory for that was available.
 #[derive(Drop)]
-pub(crate) struct WithNote {
+pub(crate) struct WithExplanation {
     pub(crate) answer: Answer,
-    pub(crate) note: Result<String, AllocError>,
+    pub(crate) explanation: Result<String, AllocError>,
 }
 
-/// An answer with its note. For a refusal also the words of a note on its line.
+/// An answer with its explanation. For a refusal also the words of a note on its line.
 #[derive(Drop)]
 struct ShownWithNotes {
-    said: WithNote,
+    said: WithExplanation,
     /// The line of the refusal, if the answer is an object and notes are asked for.
     line: Octets,
     words: String,
 }
 
-impl WithNote {
-    /// Returns an answer with an empty note.
+impl WithExplanation {
+    /// Returns an answer with an empty explanation.
     pub(crate) fn alone(alloc: Global, answer: Answer) -> Self
         ensures answer { result.answer ≡ answer }
-        ensures note { IfOk result.note (λ note. string_bytes note ≡ []) }
-        ensures said { said_of result.note ≡ [] }
+        ensures explanation { IfOk result.explanation (λ note. string_bytes note ≡ []) }
+        ensures said { said_of result.explanation ≡ [] }
     {
-        let note = Ok(String::new(alloc));
-        WithNote { answer, note }
+        let explanation = Ok(String::new(alloc));
+        WithExplanation {
+            answer,
+            explanation,
+        }
     }
 
-    /// Appends another note to that of an answer.
+    /// Appends another explanation to that of an answer.
     pub(crate) fn and(self, other: Result<String, AllocError>) -> Self
         ensures answer { result.answer ≡ self.answer }
-        ensures note { IfOk result.note (λ note. IsOkAnd self.note (λ one. IsOkAnd other (λ more.
+        ensures explanation { IfOk result.explanation (λ note. IsOkAnd self.explanation
+            (λ one. IsOkAnd other (λ more.
             string_bytes note ≡ string_bytes one ++ string_bytes more))) }
     {
-        WithNote {
+        WithExplanation {
             answer: self.answer,
-            note: joined(self.note, other),
+            explanation: joined(self.explanation, other),
         }
     }
 }
 
-/// Joins two notes, if both could be made.
+/// Joins two explanations, if both could be made.
 pub(crate) fn joined(
     first: Result<String, AllocError>,
     second: Result<String, AllocError>,
@@ -86,158 +90,189 @@ pub(crate) fn joined(
 /// Returns the answer about octets, with a note if one is asked for.
 pub(crate) fn answer_about(
     alloc: Global,
-    telling: Telling,
+    line_task: LineTask,
     octets: &[u8],
-) -> Result<WithNote, AllocError>
-    ensures { IfOk result (AreOf (IsTold telling.task octets.now)
-        (SaysIf telling.explains (IsKindNote telling.task.expected.kind telling.task.expected octets.now))) }
+) -> Result<WithExplanation, AllocError>
+    ensures { IfOk result (AreOf (IsTold line_task.task octets.now)
+        (SaysIf line_task.explains (IsKindNote line_task.task.expected.kind line_task.task.expected octets.now))) }
 {
-    match telling.task.aim {
-        Aim::Check => checked(alloc, telling, octets),
-        Aim::Show => Ok(shown(alloc, telling, false, octets)?.said),
-        Aim::Note => noted_in(alloc, telling, octets),
+    match line_task.task.aim {
+        Aim::Check => checked(alloc, line_task, octets),
+        Aim::Show => Ok(shown(alloc, line_task, false, octets)?.said),
+        Aim::Note => noted_in(alloc, line_task, octets),
     }
 }
 
 /// Returns the value itself, as lines with notes or as an object with notes, and a note about the octets.
-fn noted_in(alloc: Global, telling: Telling, octets: &[u8]) -> Result<WithNote, AllocError>
-    ensures { IfOk result (AreOf (Tells aim.Note telling.task.layout telling.task.expected
+fn noted_in(
+    alloc: Global,
+    line_task: LineTask,
+    octets: &[u8],
+) -> Result<WithExplanation, AllocError>
+    ensures { IfOk result (AreOf (Tells aim.Note line_task.task.layout line_task.task.expected
         octets.now)
-        (SaysIf telling.explains (IsKindNote telling.task.expected.kind telling.task.expected octets.now))) }
+        (SaysIf line_task.explains (IsKindNote line_task.task.expected.kind line_task.task.expected octets.now))) }
 {
-    match telling.task.layout {
-        Layout::Lines => noted_value(alloc, telling, octets),
-        Layout::Json => noted_object(alloc, telling, octets),
+    match line_task.task.layout {
+        Layout::Lines => noted_value(alloc, line_task, octets),
+        Layout::Json => noted_object(alloc, line_task, octets),
     }
 }
 
 /// Returns the value itself as lines with notes, and a note about the octets.
-fn noted_value(alloc: Global, telling: Telling, octets: &[u8]) -> Result<WithNote, AllocError>
-    requires { telling.task.layout ≡ layout.Lines }
-    ensures { IfOk result (AreOf (ShowsNoted telling.task.expected.kind telling.task.expected
+fn noted_value(
+    alloc: Global,
+    line_task: LineTask,
+    octets: &[u8],
+) -> Result<WithExplanation, AllocError>
+    requires { line_task.task.layout ≡ layout.Lines }
+    ensures { IfOk result (AreOf (ShowsNoted line_task.task.expected.kind line_task.task.expected
         octets.now)
-        (SaysIf telling.explains (IsKindNote telling.task.expected.kind telling.task.expected octets.now))) }
+        (SaysIf line_task.explains (IsKindNote line_task.task.expected.kind line_task.task.expected octets.now))) }
 {
-    let ShownWithNotes { said, words, .. } = shown(alloc, telling, true, octets)?;
-    let WithNote { answer, note } = said;
+    let ShownWithNotes { said, words, .. } = shown(alloc, line_task, true, octets)?;
+    let WithExplanation {
+        answer,
+        explanation,
+    } = said;
     let answer = annotated(alloc, answer, words.as_str())?;
-    Ok(WithNote { answer, note })
+    Ok(WithExplanation {
+        answer,
+        explanation,
+    })
 }
 
 /// Returns the value itself as an object with the notes on its lines, and a note about the octets.
-fn noted_object(alloc: Global, telling: Telling, octets: &[u8]) -> Result<WithNote, AllocError>
-    requires { telling.task.layout ≡ layout.Json }
-    ensures { IfOk result (AreOf (ShowsNotedObject telling.task.expected.kind telling.task.expected
+fn noted_object(
+    alloc: Global,
+    line_task: LineTask,
+    octets: &[u8],
+) -> Result<WithExplanation, AllocError>
+    requires { line_task.task.layout ≡ layout.Json }
+    ensures { IfOk result (AreOf (ShowsNotedObject line_task.task.expected.kind
+        line_task.task.expected
         octets.now)
-        (SaysIf telling.explains (IsKindNote telling.task.expected.kind telling.task.expected octets.now))) }
+        (SaysIf line_task.explains (IsKindNote line_task.task.expected.kind line_task.task.expected octets.now))) }
 {
-    let ShownWithNotes { said, line, words } = shown(alloc, telling, true, octets)?;
-    let WithNote { answer, note } = said;
+    let ShownWithNotes { said, line, words } = shown(alloc, line_task, true, octets)?;
+    let WithExplanation {
+        answer,
+        explanation,
+    } = said;
     let answer = annotated_object(alloc, answer, line.get(), words.as_str())?;
-    Ok(WithNote { answer, note })
+    Ok(WithExplanation {
+        answer,
+        explanation,
+    })
 }
 
 /// Returns how many octets the value takes, with a note if one is asked for.
-fn checked(alloc: Global, telling: Telling, octets: &[u8]) -> Result<WithNote, AllocError>
+fn checked(alloc: Global, line_task: LineTask, octets: &[u8]) -> Result<WithExplanation, AllocError>
     ensures { IfOk result (AreOf
-        (Checks telling.task.layout telling.task.expected.kind telling.task.expected octets.now)
-        (SaysIf telling.explains (IsKindNote telling.task.expected.kind telling.task.expected octets.now))) }
+        (Checks line_task.task.layout line_task.task.expected.kind line_task.task.expected octets.now)
+        (SaysIf line_task.explains (IsKindNote line_task.task.expected.kind line_task.task.expected octets.now))) }
 {
-    match telling.task.expected.kind {
-        Kind::Atr => checked_by::<Atr>(alloc, telling, octets),
-        Kind::Block => checked_by::<Block>(alloc, telling, octets),
-        Kind::Chain => checked_by::<Receiver>(alloc, telling, octets),
-        Kind::Command => checked_by::<Command>(alloc, telling, octets),
-        Kind::Response => checked_by::<Response>(alloc, telling, octets),
-        Kind::Tlv => checked_by::<Forest>(alloc, telling, octets),
-        Kind::Dol => checked_by::<Dol>(alloc, telling, octets),
+    match line_task.task.expected.kind {
+        Kind::Atr => checked_by::<Atr>(alloc, line_task, octets),
+        Kind::Block => checked_by::<Block>(alloc, line_task, octets),
+        Kind::Chain => checked_by::<Receiver>(alloc, line_task, octets),
+        Kind::Command => checked_by::<Command>(alloc, line_task, octets),
+        Kind::Response => checked_by::<Response>(alloc, line_task, octets),
+        Kind::Tlv => checked_by::<Forest>(alloc, line_task, octets),
+        Kind::Dol => checked_by::<Dol>(alloc, line_task, octets),
     }
 }
 
 /// Returns the value itself, with notes on its lines if it is `noted`, and a note if one is asked for.
 fn shown(
     alloc: Global,
-    telling: Telling,
+    line_task: LineTask,
     noted: bool,
     octets: &[u8],
 ) -> Result<ShownWithNotes, AllocError>
-    ensures { IfOk result (AreShownWithNotes noted telling.task.layout
-        (ShowsWhere noted telling.task.layout telling.task.expected.kind telling.task.expected
+    ensures { IfOk result (AreShownWithNotes noted line_task.task.layout
+        (ShowsWhere noted line_task.task.layout line_task.task.expected.kind line_task.task.expected
         octets.now)
-        (SaysIf telling.explains (IsKindNote telling.task.expected.kind telling.task.expected octets.now))
-        (IsRefusalLine telling.task.expected.kind telling.task.expected octets.now)) }
+        (SaysIf line_task.explains (IsKindNote line_task.task.expected.kind line_task.task.expected octets.now))
+        (IsRefusalLine line_task.task.expected.kind line_task.task.expected octets.now)) }
 {
-    match telling.task.expected.kind {
-        Kind::Atr => shown_by::<Atr>(alloc, telling, noted, octets),
-        Kind::Block => shown_by::<Block>(alloc, telling, noted, octets),
-        Kind::Chain => shown_by::<Receiver>(alloc, telling, noted, octets),
-        Kind::Command => shown_by::<Command>(alloc, telling, noted, octets),
-        Kind::Response => shown_by::<Response>(alloc, telling, noted, octets),
-        Kind::Tlv => shown_by::<Forest>(alloc, telling, noted, octets),
-        Kind::Dol => shown_by::<Dol>(alloc, telling, noted, octets),
+    match line_task.task.expected.kind {
+        Kind::Atr => shown_by::<Atr>(alloc, line_task, noted, octets),
+        Kind::Block => shown_by::<Block>(alloc, line_task, noted, octets),
+        Kind::Chain => shown_by::<Receiver>(alloc, line_task, noted, octets),
+        Kind::Command => shown_by::<Command>(alloc, line_task, noted, octets),
+        Kind::Response => shown_by::<Response>(alloc, line_task, noted, octets),
+        Kind::Tlv => shown_by::<Forest>(alloc, line_task, noted, octets),
+        Kind::Dol => shown_by::<Dol>(alloc, line_task, noted, octets),
     }
 }
 
 /// Returns how many octets the value of a codec takes, with a note if one is asked for.
 fn checked_by<C: Codec>(
     alloc: Global,
-    telling: Telling,
+    line_task: LineTask,
     octets: &[u8],
-) -> Result<WithNote, AllocError>
+) -> Result<WithExplanation, AllocError>
 where
     C::Reason: Explained,
-    ensures { IfOk result (AreOf (ChecksBy telling.task.layout telling.task.expected.kind
-        (C.codec telling.task.expected) octets.now)
-        (SaysIf telling.explains (IsNoteBy (C.codec telling.task.expected) C.Reason.says
-        (least_of telling.task.expected.kind octets.now) octets.now))) }
+    ensures { IfOk result (AreOf (ChecksBy line_task.task.layout line_task.task.expected.kind
+        (C.codec line_task.task.expected) octets.now)
+        (SaysIf line_task.explains (IsNoteBy (C.codec line_task.task.expected) C.Reason.says
+        (least_of line_task.task.expected.kind octets.now) octets.now))) }
 {
     let Task {
         layout,
         expected,
         ..
-    } = telling.task;
+    } = line_task.task;
     let kind = expected.kind;
     let CheckedAnswer {
         answer,
         verdict,
         ..
     } = check_with_verdict::<C>(alloc, layout, octets, expected)?;
-    let note = asked_note(alloc, telling.explains, kind, octets, verdict);
-    Ok(WithNote { answer, note })
+    let explanation = asked_note(alloc, line_task.explains, kind, octets, verdict);
+    Ok(WithExplanation {
+        answer,
+        explanation,
+    })
 }
 
 /// Returns the value of a codec, with notes on its lines if it is `noted`, and a note if one is asked for. The octets
 /// are decoded once.
 fn shown_by<C: Codec>(
     alloc: Global,
-    telling: Telling,
+    line_task: LineTask,
     noted: bool,
     octets: &[u8],
 ) -> Result<ShownWithNotes, AllocError>
 where
     C::Reason: Explained,
-    ensures { IfOk result (AreShownWithNotes noted telling.task.layout (ShowsBy noted
-        telling.task.layout telling.task.expected.kind (C.codec telling.task.expected) octets.now)
-        (SaysIf telling.explains (IsNoteBy (C.codec telling.task.expected) C.Reason.says
-        (least_of telling.task.expected.kind octets.now) octets.now))
-        (IsRefusalBy (C.codec telling.task.expected) octets.now)) }
+    ensures { IfOk result (AreShownWithNotes noted line_task.task.layout (ShowsBy noted
+        line_task.task.layout line_task.task.expected.kind (C.codec line_task.task.expected) octets.now)
+        (SaysIf line_task.explains (IsNoteBy (C.codec line_task.task.expected) C.Reason.says
+        (least_of line_task.task.expected.kind octets.now) octets.now))
+        (IsRefusalBy (C.codec line_task.task.expected) octets.now)) }
 {
     let Task {
         layout,
         expected,
         ..
-    } = telling.task;
+    } = line_task.task;
     let kind = expected.kind;
     let CheckedAnswer {
         answer,
         verdict,
         note: words,
     } = show_with_verdict::<C>(alloc, layout, noted, octets, expected)?;
-    let note = asked_note(alloc, telling.explains, kind, octets, verdict);
+    let explanation = asked_note(alloc, line_task.explains, kind, octets, verdict);
     let line = refusal_line(alloc, noted, layout, verdict)?;
     let words = words_on(alloc, noted, kind, octets, verdict, words)?;
     Ok(ShownWithNotes {
-        said: WithNote { answer, note },
+        said: WithExplanation {
+            answer,
+            explanation,
+        },
         line,
         words,
     })
@@ -262,7 +297,11 @@ fn asked_note<R: Explained + Copy>(
 }
 
 /// Returns the shortest encoding of a forest's objects, with a note if one is asked for.
-pub(crate) fn tidied(alloc: Global, explains: bool, octets: &[u8]) -> Result<WithNote, AllocError>
+pub(crate) fn tidied(
+    alloc: Global,
+    explains: bool,
+    octets: &[u8],
+) -> Result<WithExplanation, AllocError>
     ensures { IfOk result (AreOf (Tidies octets.now)
         (SaysIf explains (IsForestNote octets.now))) }
 {
@@ -271,8 +310,11 @@ pub(crate) fn tidied(alloc: Global, explains: bool, octets: &[u8]) -> Result<Wit
         verdict,
         ..
     } = tidy_with_verdict(alloc, octets)?;
-    let note = asked_note(alloc, explains, Kind::Tlv, octets, verdict);
-    Ok(WithNote { answer, note })
+    let explanation = asked_note(alloc, explains, Kind::Tlv, octets, verdict);
+    Ok(WithExplanation {
+        answer,
+        explanation,
+    })
 }
 
 /// Returns the octets that a list requests from known values, with a note if one is asked for.
@@ -282,7 +324,7 @@ pub(crate) fn filled(
     words: &[String],
     list: &[u8],
     known: &Result<Knowns, Fault>,
-) -> Result<WithNote, AllocError>
+) -> Result<WithExplanation, AllocError>
     ensures { IfOk result (AreOf (IsFilled list.now known.now)
         (IsFillNote (texts words.now) list.now known.now)) }
 {
@@ -291,8 +333,11 @@ pub(crate) fn filled(
         verdict,
         ..
     } = fill_with_verdict(alloc, list, known)?;
-    let note = fill_note(alloc, explains, words, list, known, verdict);
-    Ok(WithNote { answer, note })
+    let explanation = fill_note(alloc, explains, words, list, known, verdict);
+    Ok(WithExplanation {
+        answer,
+        explanation,
+    })
 }
 
 /// Returns the note on a list to fill. It is about the list's octets; or, if they are a list, about a word that isn't a

@@ -20,7 +20,7 @@ ghost use Rattle.judge_times.specs.Waiting.{Offered};
 use crate::asked::session_note;
 use crate::exchange::refused;
 use crate::file_notes::kept_note;
-use crate::judged::WithNote;
+use crate::judged::WithExplanation;
 use crate::laid::{Account, laid};
 use crate::pieces::read_past;
 use crate::trace_lines::{TraceLines, read_lines};
@@ -119,9 +119,10 @@ pub(crate) fn judged<R: Source>(
     atr: &[u8],
     judging: Judging,
     reader: &mut R,
-) -> Result<WithNote, Fault>
-    ensures { (words : List (List ℕ)) → RepliesTo words (AnyRequest.Judge atr.now judging)
+) -> Result<WithExplanation, Fault>
+    ensures told { (words : List (List ℕ)) → RepliesTo words (AnyRequest.Judge atr.now judging)
         (calls_of R.remaining R.failures reader.old reader.new) result }
+    ensures unfailed { IfOk result (λ _. R.failures reader.new ≡ R.failures reader.old) }
 {
     match offer_of(atr) {
         Ok(offer) => match read_lines(alloc, offer, scope_of(judging), reader) {
@@ -137,14 +138,16 @@ pub(crate) fn judged<R: Source>(
 
 /// Returns the fault for which a trace wasn't read to its end. The line of too many octets has no note: that on the
 /// largest file isn't about a trace.
-fn unread(alloc: Global, fault: Fault) -> Result<WithNote, Fault>
-    ensures { (words : List (List ℕ)) (atr : List ℕ) (judging : AnyJudging) (reads : Calls)
+fn unread(alloc: Global, fault: Fault) -> Result<WithExplanation, Fault>
+    ensures told { (words : List (List ℕ)) (atr : List ℕ) (judging : AnyJudging) (reads : Calls)
         → ReadsAll reads (Err fault) → RepliesTo words (AnyRequest.Judge atr judging) reads result }
+    ensures unfailed { (reads : Calls) → ReadsAll reads (Err fault)
+        → IfOk result (λ _. reads.after ≡ reads.before) }
 {
     match fault {
         Fault::TooLarge => {
-            let answer = Answer::faulted(alloc, Fault::TooLarge)?;
-            Ok(WithNote::alone(alloc, answer))
+            let answer = Answer::faulted(Fault::TooLarge);
+            Ok(WithExplanation::alone(alloc, answer))
         }
         other => Err(other),
     }
@@ -156,13 +159,16 @@ fn unusable_noted(
     explains: bool,
     atr: &[u8],
     fault: AtrFault,
-) -> Result<WithNote, AllocError>
+) -> Result<WithExplanation, AllocError>
     ensures { IsFound atr.now (Err (atr_fault_name fault)) → (judging : AnyJudging) (text : List ℕ)
         → IfOk result (AreOf (JudgesTrace atr.now judging text) (IsJudgeNote atr.now judging text)) }
 {
-    let answer = Answer::refused_as(alloc, fault.name())?;
-    let note = session_note(alloc, explains, atr);
-    Ok(WithNote { answer, note })
+    let answer = Answer::refused_as(fault.name());
+    let explanation = session_note(alloc, explains, atr);
+    Ok(WithExplanation {
+        answer,
+        explanation,
+    })
 }
 
 /// Returns what the lines of a trace come to, for a card with this answer to reset.
@@ -172,7 +178,7 @@ fn lines_told(
     atr: &[u8],
     judging: Judging,
     lines: TraceLines,
-) -> Result<WithNote, AllocError>
+) -> Result<WithExplanation, AllocError>
     ensures { (offered : Offered) (text : List ℕ) → ComesTo offered (scope_of judging)
         (lines_of text) lines.standing lines.line.items lines.fault
         → IfOk result (AreOf (JudgesText atr.now offered judging text)
@@ -183,7 +189,7 @@ fn lines_told(
             let judgment = lines.standing.conclude(alloc)?;
             let account = account_of(alloc, judging.layout, atr, judgment)?;
             let answer = laid(alloc, judging.layout, "judge", account)?;
-            Ok(WithNote::alone(alloc, answer))
+            Ok(WithExplanation::alone(alloc, answer))
         }
         Some(fault) => fault_with_note(alloc, explains, lines.line.as_slice(), fault),
     }
@@ -195,13 +201,16 @@ fn fault_with_note(
     explains: bool,
     line: &[u8],
     fault: ExchangeFault,
-) -> Result<WithNote, AllocError>
+) -> Result<WithExplanation, AllocError>
     ensures other { IfOk result (λ _. fault ≢ Memory) }
     ensures made { IfOk result (AreOf
         (λ said status. (said ≡ file_faulted fault) × (status ≡ ended.Fault))
         (λ note. note ≡ kept_note line.now fault)) }
 {
-    let answer = refused(alloc, fault)?;
-    let note = kept_note(alloc, explains, line, fault);
-    Ok(WithNote { answer, note })
+    let answer = refused(fault)?;
+    let explanation = kept_note(alloc, explains, line, fault);
+    Ok(WithExplanation {
+        answer,
+        explanation,
+    })
 }

@@ -21,7 +21,7 @@ ghost use Rattle.command_line.specs.Form.{scard};
 ghost use Rattle.program_words.specs.declared.fault.Fault.{Fault as AnyFault};
 ghost use Rattle.program_words.specs.declared.fault.Fault.TheVariants.{Memory, TooLarge};
 ghost use Rattle.program_words.specs.declared.request.Asked.{Asked as AnyAsked};
-ghost use Rattle.program.specs.declared.telling.Telling.{Telling as AnyTelling};
+ghost use Rattle.program.specs.declared.line_task.LineTask.{LineTask as AnyLineTask};
 ghost use Rattle.program_octets.specs.declared.said.Said.{Said as AnySaid};
 ghost use Rattle.program_octets.specs.declared.status.Status.{Status as AnyStatus};
 
@@ -77,10 +77,10 @@ pub fn one_file()
 /// Whenever a conversation about lines reads more, the texts written before are exactly the answers to all lines that
 /// the octets read before end.
 pub fn answered_first()
-    ensures { (telling : AnyTelling) (events before after : List Event) (event : Event)
-        (ended : AnyStatus) → AnswersLines telling [] [] events ended
+    ensures { (line_task : AnyLineTask) (events before after : List Event) (event : Event)
+        (ended : AnyStatus) → AnswersLines line_task [] [] events ended
         → events ≡ before ++ (event ∷ after) → IsHearing event
-        → IsUpToDate telling (heard_by before) (told_by before) }
+        → IsUpToDate line_task (heard_by before) (told_by before) }
 {}
 
 /// The answer for a fault of a file has as its text the line with the fault, as the file's reader writes it.

@@ -14,9 +14,9 @@ ghost use Rattle.program_octets.specs.declared.status.Status.{Status as AnyStatu
 use crate::conversation::{Conversation, Streams};
 use crate::file::LARGEST_FILE;
 use crate::json::{Topic, explained};
-use crate::judged::WithNote;
+use crate::judged::WithExplanation;
+use crate::line_task::{LineTask, line_answer, with_indented};
 use crate::pieces::PIECE;
-use crate::telling::{Telling, line_told, with_indented};
 use layouts::Layout;
 use octet_core::{Octets, Sink, Source, WriteFault};
 use program_octets::{Said, Status};
@@ -26,7 +26,7 @@ use std::alloc::{AllocError, Global};
 /// The state between two calls of the reader.
 #[derive(Drop)]
 struct AnsweredLines {
-    telling: Telling,
+    line_task: LineTask,
     /// The octets of the unfinished line, up to one more than the limit.
     line: Vec<u8>,
     /// The text that isn't written yet.
@@ -48,13 +48,13 @@ struct AnsweredLines {
 /// standard input.
 pub fn answer_lines<C: Conversation>(
     alloc: Global,
-    telling: Telling,
+    line_task: LineTask,
     conversation: &mut C,
 ) -> Status
-    ensures { HasAnswered telling (C.said conversation.old) (C.said conversation.new) result }
+    ensures { HasAnswered line_task (C.said conversation.old) (C.said conversation.new) result }
 {
     let mut told = AnsweredLines {
-        telling,
+        line_task,
         line: Vec::new(alloc),
         text: Vec::new(alloc),
         status: Status::Accepted,
@@ -80,15 +80,15 @@ pub fn answer_lines<C: Conversation>(
 /// Answers each line of the reader before the next call of the reader.
 pub(crate) fn tell_lines<R: Source, W: Sink>(
     alloc: Global,
-    telling: Telling,
+    line_task: LineTask,
     reader: &mut R,
     writer: &mut W,
 ) -> Status
-    ensures { WritesLines telling (calls_of R.remaining R.failures reader.old reader.new)
+    ensures { WritesLines line_task (calls_of R.remaining R.failures reader.old reader.new)
         (calls_of W.contents W.failures writer.old writer.new) result }
 {
     let mut streams = Streams { reader, writer };
-    answer_lines(alloc, telling, &mut streams)
+    answer_lines(alloc, line_task, &mut streams)
 }
 
 /// Writes the text that was kept, and empties it.
@@ -125,16 +125,16 @@ fn tell<C: Conversation>(text: &[u8], status: Status, conversation: &mut C) -> S
 impl AnsweredLines {
     /// Takes the octets of a piece, and answers the lines that end in it.
     fn feed(&mut self, alloc: Global, piece: &[u8]) -> Result<(), AllocError>
-        ensures telling { self.new.telling ≡ self.old.telling }
+        ensures line_task { self.new.line_task ≡ self.old.line_task }
         ensures said { OnOk result
             ((read written : List ℕ)
-            → HasSaid self.old.telling read written self.old.line.items self.old.text.items
-            self.old.status → HasSaid self.old.telling (read ++ piece.now) written
+            → HasSaid self.old.line_task read written self.old.line.items self.old.text.items
+            self.old.status → HasSaid self.old.line_task (read ++ piece.now) written
             self.new.line.items self.new.text.items self.new.status) }
         ensures begun { OnErr result
             ((read written : List ℕ)
-            → HasSaid self.old.telling read written self.old.line.items self.old.text.items
-            self.old.status → HasBegun self.old.telling (ended_lines (read ++ piece.now))
+            → HasSaid self.old.line_task read written self.old.line.items self.old.text.items
+            self.old.status → HasBegun self.old.line_task (ended_lines (read ++ piece.now))
             (written ++ self.new.text.items)) }
     {
         for octet in piece {
@@ -145,11 +145,11 @@ impl AnsweredLines {
 
     /// Takes an octet, and answers the line that it ends, if it ends one.
     fn take(&mut self, alloc: Global, octet: u8) -> Result<(), AllocError>
-        ensures telling { self.new.telling ≡ self.old.telling }
+        ensures line_task { self.new.line_task ≡ self.old.line_task }
         ensures said { OnOk result
             ((read written : List ℕ)
-            → HasSaid self.old.telling read written self.old.line.items self.old.text.items
-            self.old.status → HasSaid self.old.telling (read ++ (octet ∷ [])) written
+            → HasSaid self.old.line_task read written self.old.line.items self.old.text.items
+            self.old.status → HasSaid self.old.line_task (read ++ (octet ∷ [])) written
             self.new.line.items self.new.text.items self.new.status) }
         ensures kept { OnErr result (self.new.text.items ≡ self.old.text.items) }
     {
@@ -164,16 +164,16 @@ impl AnsweredLines {
 
     /// Answers the unfinished line, and begins another.
     fn answer(&mut self, alloc: Global) -> Result<(), AllocError>
-        ensures telling { self.new.telling ≡ self.old.telling }
+        ensures line_task { self.new.line_task ≡ self.old.line_task }
         ensures told { OnOk result
             ((text : List ℕ) × (ended : AnyStatus)
-            × IsLineSaid self.old.telling self.old.line.items text ended
+            × IsLineSaid self.old.line_task self.old.line.items text ended
             × (self.new.text.items ≡ self.old.text.items ++ text)
             × (self.new.status ≡ worse self.old.status ended)) }
         ensures line { OnOk result (self.new.line.items ≡ []) }
         ensures kept { OnErr result (self.new.text.items ≡ self.old.text.items) }
     {
-        let told = line_text(alloc, self.telling, self.line.as_slice())?;
+        let told = line_text(alloc, self.line_task, self.line.as_slice())?;
         self.text.extend_from_slice(told.text.get())?;
         self.status = worse(self.status, told.status);
         self.line.clear();
@@ -184,8 +184,8 @@ impl AnsweredLines {
     fn last(&mut self, alloc: Global) -> Result<(), AllocError>
         ensures told { OnOk result
             ((read written : List ℕ)
-            → HasSaid self.old.telling read written self.old.line.items self.old.text.items
-            self.old.status → AreLinesSaid self.old.telling (all_lines read)
+            → HasSaid self.old.line_task read written self.old.line.items self.old.text.items
+            self.old.status → AreLinesSaid self.old.line_task (all_lines read)
             (written ++ self.new.text.items) self.new.status) }
         ensures kept { OnErr result (self.new.text.items ≡ self.old.text.items) }
     {
@@ -198,8 +198,8 @@ impl AnsweredLines {
     /// Answers the last line, and writes what is left.
     fn ended<C: Conversation>(mut self, alloc: Global, conversation: &mut C) -> Status
         ensures { (read written : List ℕ)
-            → HasSaid self.telling read written self.line.items self.text.items self.status
-            → Tells (IsRest self.telling (all_lines read) written) (C.said conversation.old)
+            → HasSaid self.line_task read written self.line.items self.text.items self.status
+            → Tells (IsRest self.line_task (all_lines read) written) (C.said conversation.old)
             (C.said conversation.new) result }
     {
         match self.last(alloc) {
@@ -229,28 +229,39 @@ struct LineText {
 }
 
 /// Returns the text that answers a line of octets.
-fn line_text(alloc: Global, telling: Telling, line: &[u8]) -> Result<LineText, AllocError>
-    ensures { IfOk result (λ told. IsLineSaid telling line.now told.text told.status) }
+fn line_text(alloc: Global, line_task: LineTask, line: &[u8]) -> Result<LineText, AllocError>
+    ensures { IfOk result (λ told. IsLineSaid line_task line.now told.text told.status) }
 {
-    let WithNote { answer, note } = line_told(alloc, telling, line)?;
-    let note = note?;
+    let WithExplanation {
+        answer,
+        explanation,
+    } = line_answer(alloc, line_task, line)?;
+    let explanation = explanation?;
     Ok(LineText {
-        text: said_text(alloc, telling.task, answer.said, note)?,
+        text: said_text(alloc, line_task.task, answer.said, explanation)?,
         status: answer.status,
     })
 }
 
-/// Returns the text that answers a line: what is said and the note. The note comes after the lines of the text, or
+/// Returns the text that answers a line: what is said and the explanation. That comes after the lines of the text, or
 /// as a member of the JSON object. After a value, which has several lines, comes an empty line. After an object there
 /// is none.
-fn said_text(alloc: Global, task: Task, said: Said, note: String) -> Result<Octets, AllocError>
-    ensures { IfOk result (λ text. text ≡ said_text task said (string_bytes note)) }
+fn said_text(
+    alloc: Global,
+    task: Task,
+    said: Said,
+    explanation: String,
+) -> Result<Octets, AllocError>
+    ensures { IfOk result (λ text. text ≡ said_text task said (string_bytes explanation)) }
 {
     match task.layout {
-        Layout::Lines => lines_text(task, with_indented(alloc, said.into_text(), note.as_str())?),
+        Layout::Lines => {
+            let told = said.into_text(alloc)?;
+            lines_text(task, with_indented(alloc, told, explanation.as_str())?)
+        }
         Layout::Json => {
             let object = Topic::of_task(task).object(alloc, said)?;
-            explained(alloc, object, Ok(note))
+            explained(alloc, object, Ok(explanation))
         }
     }
 }

@@ -1,13 +1,13 @@
 //! The program: from its words to the text that it writes.
 
-ghost use Rattle.std.specs.Prelude.{◌≡◌, ◌++◌, IfErr, IfOk};
+ghost use Rattle.std.specs.Prelude.{◌≡◌, ◌++◌, IfOk};
 ghost use Rattle.program.specs.Calls.{calls_of};
 ghost use Rattle.program.specs.Answers.{AskToJudge, IsReadFrom, IsWritten, Writes};
-ghost use Rattle.program.specs.Explained.{said_of, Gives, IsSaid};
-ghost use Rattle.program.specs.InJson.{HaveAnswer, IsRightAsked, IsRightJson};
+ghost use Rattle.program.specs.Explained.{said_of, Gives, IsRightWith, IsSaid};
+ghost use Rattle.program.specs.InJson.{IsRightAsked, IsRightJson};
 ghost use Rattle.program.specs.Files.{IsBegun};
 ghost use Rattle.program.specs.LineAnswers.{AskForNoLines, WritesLines};
-ghost use Rattle.program.specs.LineNotes.{telling_of};
+ghost use Rattle.program.specs.LineNotes.{line_task_of};
 ghost use Rattle.program_octets.specs.Sayings.{text_of};
 ghost use Rattle.program_words.specs.Texts.{fault_text};
 ghost use Rattle.program_words.specs.Words.{AskForFile, AskForLines};
@@ -16,15 +16,24 @@ ghost use Rattle.program_words.specs.declared.request.Task.{Task as AnyTask};
 ghost use Rattle.program_octets.specs.declared.status.Status.TheVariants as ended;
 
 use crate::json::{Topic, in_json};
-use crate::judged::WithNote;
+use crate::judged::WithExplanation;
+use crate::line_task::LineTask;
 use crate::lines::tell_lines;
 use crate::replies::reply;
-use crate::telling::Telling;
-use command_line::{asks_for_json, asks_to_explain};
-use octet_core::{Sink, Source, write_octets};
-use program_octets::{Answer, Said, Status};
-use program_words::{Asked, Fault, Request};
+use command_line::asks_to_explain;
+use layouts::Layout;
+use octet_core::{Octets, Sink, Source, write_octets};
+use program_octets::{Answer, Status};
+use program_words::{Asked, Fault, Request, layout_of};
 use std::alloc::{AllocError, Global};
+
+/// The text that answers the words, an explanation to print after it if memory for that was available, and the status.
+#[derive(Drop)]
+struct AnswerText {
+    text: Octets,
+    explanation: Result<String, AllocError>,
+    status: Status,
+}
 
 /// Runs the program, and writes one text. The first of the words is the program's name. The text is lines, or a JSON
 /// object if the words have `--json`. With `--explain` an explanation comes after the lines, or as a member of the
@@ -47,7 +56,7 @@ pub fn run<R: Source, W: Sink>(
     ensures written { AskForNoLines (texts words.items)
         → Writes (IsRightAsked (texts words.items) (calls_of R.remaining R.failures reader.old reader.new)) (calls_of W.contents W.failures writer.old writer.new) result }
     ensures lines { (task : AnyTask) → AskForLines task (texts words.items)
-        → WritesLines (telling_of (texts words.items) task) (calls_of R.remaining R.failures reader.old reader.new) (calls_of W.contents W.failures writer.old writer.new) result }
+        → WritesLines (line_task_of (texts words.items) task) (calls_of R.remaining R.failures reader.old reader.new) (calls_of W.contents W.failures writer.old writer.new) result }
     ensures unread { AskForNoLines (texts words.items) → (AskForFile (texts words.items) → ⊥)
         → reader.new ≡ reader.old }
     ensures few { AskForNoLines (texts words.items) → (AskToJudge (texts words.items) → ⊥)
@@ -57,7 +66,7 @@ pub fn run<R: Source, W: Sink>(
     match program_words::read(alloc, words) {
         Ok(Asked::Lines(task)) => {
             let explains = asks_to_explain(words);
-            tell_lines(alloc, Telling { task, explains }, reader, writer)
+            tell_lines(alloc, LineTask { task, explains }, reader, writer)
         }
         Ok(Asked::Once(request)) => one_text(alloc, words, Ok(request), reader, writer),
         Err(Fault::Memory) => report(Fault::Memory, writer),
@@ -106,24 +115,23 @@ fn write<W: Sink>(text: &[u8], status: Status, writer: &mut W) -> Status
     }
 }
 
-/// Returns the note of an answer, empty if memory for it wasn't available.
-fn said(made: &WithNote) -> &[u8]
-    ensures { result.now ≡ said_of made.now.note }
+/// Returns the explanation of an answer, empty if memory for it wasn't available.
+fn said(made: &AnswerText) -> &[u8]
+    ensures { result.now ≡ said_of made.now.explanation }
 {
-    match &made.note {
-        Ok(note) => note.as_bytes(),
+    match &made.explanation {
+        Ok(explanation) => explanation.as_bytes(),
         Err(_) => &[],
     }
 }
 
-/// Writes an answer and its note. Returns the answer's status, or that of a fault if the writer fails.
-fn write_made<W: Sink>(made: &WithNote, writer: &mut W) -> Status
-    ensures { IsWritten (text_of made.now.answer.said ++ said_of made.now.note)
-        made.now.answer.status
+/// Writes an answer and its explanation. Returns the answer's status, or that of a fault if the writer fails.
+fn write_made<W: Sink>(made: &AnswerText, writer: &mut W) -> Status
+    ensures { IsWritten (made.now.text ++ said_of made.now.explanation) made.now.status
         (calls_of W.contents W.failures writer.old writer.new) result }
 {
-    match write_octets(writer, made.answer.said.text()) {
-        Ok(()) => write(said(made), made.answer.status, writer),
+    match write_octets(writer, made.text.get()) {
+        Ok(()) => write(said(made), made.status, writer),
         Err(_fault) => Status::Fault,
     }
 }
@@ -134,7 +142,7 @@ fn answer_as_asked<R: Source>(
     words: &[String],
     read: Result<Request, Fault>,
     reader: &mut R,
-) -> Result<WithNote, Fault>
+) -> Result<AnswerText, Fault>
     requires { IsReadFrom (texts words.now) read }
     ensures told { Gives (IsRightAsked (texts words.now)
         (calls_of R.remaining R.failures reader.old reader.new)) result }
@@ -142,11 +150,47 @@ fn answer_as_asked<R: Source>(
     ensures few { (AskToJudge (texts words.now) → ⊥)
         → IsBegun (calls_of R.remaining R.failures reader.old reader.new) 4194305 }
 {
-    if asks_for_json(words) {
-        answer_in_json(alloc, words, read, reader)
-    } else {
-        reply(alloc, words, read, reader)
+    match layout_of(words) {
+        Layout::Json => answer_in_json(alloc, words, read, reader),
+        Layout::Lines => answer_in_lines(alloc, words, read, reader),
     }
+}
+
+/// Returns the answer to the words as lines, with an explanation if they ask for one.
+fn answer_in_lines<R: Source>(
+    alloc: Global,
+    words: &[String],
+    read: Result<Request, Fault>,
+    reader: &mut R,
+) -> Result<AnswerText, Fault>
+    requires { IsReadFrom (texts words.now) read }
+    ensures told { Gives (IsRightWith (texts words.now)
+        (calls_of R.remaining R.failures reader.old reader.new)) result }
+    ensures unread { (AskForFile (texts words.now) → ⊥) → reader.new ≡ reader.old }
+    ensures few { (AskToJudge (texts words.now) → ⊥)
+        → IsBegun (calls_of R.remaining R.failures reader.old reader.new) 4194305 }
+{
+    match reply(alloc, words, read, reader) {
+        Ok(made) => Ok(in_lines(alloc, made)?),
+        Err(fault) => Err(fault),
+    }
+}
+
+/// Returns an answer as lines, with its explanation.
+fn in_lines(alloc: Global, made: WithExplanation) -> Result<AnswerText, AllocError>
+    ensures text { IfOk result (λ given. given.text ≡ text_of made.answer.said) }
+    ensures explanation { IfOk result (λ given. given.explanation ≡ made.explanation) }
+    ensures status { IfOk result (λ given. given.status ≡ made.answer.status) }
+{
+    let WithExplanation {
+        answer,
+        explanation,
+    } = made;
+    Ok(AnswerText {
+        text: answer.said.into_text(alloc)?,
+        explanation,
+        status: answer.status,
+    })
 }
 
 /// Returns the answer to the words as a JSON object, with the explanation as a member.
@@ -155,7 +199,7 @@ fn answer_in_json<R: Source>(
     words: &[String],
     read: Result<Request, Fault>,
     reader: &mut R,
-) -> Result<WithNote, Fault>
+) -> Result<AnswerText, Fault>
     requires { IsReadFrom (texts words.now) read }
     ensures told { Gives (IsRightJson (texts words.now)
         (calls_of R.remaining R.failures reader.old reader.new)) result }
@@ -164,10 +208,13 @@ fn answer_in_json<R: Source>(
         → IsBegun (calls_of R.remaining R.failures reader.old reader.new) 4194305 }
 {
     let about = Topic::of(&read);
-    let made = whole_reply(alloc, words, read, reader)?;
+    let made = whole_reply(alloc, words, read, reader);
     let status = made.answer.status;
-    let said = Said::Object(in_json(alloc, &about, made)?);
-    Ok(WithNote::alone(alloc, Answer { said, status }))
+    Ok(AnswerText {
+        text: in_json(alloc, &about, made)?,
+        explanation: Ok(String::new(alloc)),
+        status,
+    })
 }
 
 /// Returns the answer to the words, or that for a fault.
@@ -176,20 +223,17 @@ fn whole_reply<R: Source>(
     words: &[String],
     read: Result<Request, Fault>,
     reader: &mut R,
-) -> Result<WithNote, AllocError>
+) -> WithExplanation
     requires { IsReadFrom (texts words.now) read }
-    ensures told { IfOk result (λ made.
-        IsSaid (texts words.now) (calls_of R.remaining R.failures reader.old reader.new)
-        made.answer.said
-        (said_of made.note) made.answer.status) }
-    ensures failed { IfErr result (λ _.
-        HaveAnswer (texts words.now) (calls_of R.remaining R.failures reader.old reader.new)) }
+    ensures told { IsSaid (texts words.now) (calls_of R.remaining R.failures reader.old reader.new)
+        result.answer.said
+        (said_of result.explanation) result.answer.status }
     ensures unread { (AskForFile (texts words.now) → ⊥) → reader.new ≡ reader.old }
     ensures few { (AskToJudge (texts words.now) → ⊥)
         → IsBegun (calls_of R.remaining R.failures reader.old reader.new) 4194305 }
 {
     match reply(alloc, words, read, reader) {
-        Ok(made) => Ok(made),
-        Err(fault) => Ok(WithNote::alone(alloc, Answer::faulted(alloc, fault)?)),
+        Ok(made) => made,
+        Err(fault) => WithExplanation::alone(alloc, Answer::faulted(fault)),
     }
 }

@@ -14,7 +14,7 @@ use crate::asked::session_note;
 use crate::exchange::refused;
 use crate::file::LARGEST_FILE;
 use crate::file_notes::{shown_at, trace_note};
-use crate::judged::WithNote;
+use crate::judged::WithExplanation;
 use crate::simulation::file;
 use answer_json::{Name, Refusal};
 use exchange_core::Exchange;
@@ -25,12 +25,12 @@ use std::alloc::{AllocError, Global};
 use traces::{RecordFault, Trace, TraceFault, Unfit, line_of_item, read_trace, record_trace};
 
 /// Returns the answer that refuses to record a line of a text, by this name.
-fn refused_line(alloc: Global, line: usize, name: &'static str) -> Result<Answer, AllocError>
-    ensures said { IfOk result (λ answer. answer.said ≡ refused_line line name.now) }
-    ensures status { IfOk result (λ answer. answer.status ≡ ended.Refused) }
+fn refused_line(line: usize, name: &'static str) -> Answer
+    ensures said { result.said ≡ refused_line line name.now }
+    ensures status { result.status ≡ ended.Refused }
 {
     let reason = Name::of(name);
-    Answer::refusal(alloc, Refusal::AtLine { line, reason })
+    Answer::refusal(Refusal::AtLine { line, reason })
 }
 
 /// Returns the file of the exchange with the blocks of a text, or the text's fault, with a note if one is asked for.
@@ -39,15 +39,18 @@ pub(crate) fn recorded(
     explains: bool,
     atr: &[u8],
     text: &[u8],
-) -> Result<WithNote, AllocError>
+) -> Result<WithExplanation, AllocError>
     ensures { IfOk result (AreOf (Records atr.now text.now) (IsRecordNote atr.now text.now)) }
 {
     match read_trace(alloc, text) {
         Ok(trace) => recorded_items(alloc, explains, atr, text, &trace),
         Err(TraceFault::Text(fault)) => {
-            let answer = refused(alloc, fault)?;
-            let note = trace_note(alloc, explains, text, fault);
-            Ok(WithNote { answer, note })
+            let answer = refused(fault)?;
+            let explanation = trace_note(alloc, explains, text, fault);
+            Ok(WithExplanation {
+                answer,
+                explanation,
+            })
         }
         Err(TraceFault::Unfit { line, why }) => unfit_line(alloc, explains, text, line, why),
     }
@@ -60,13 +63,16 @@ fn unfit_line(
     text: &[u8],
     line: usize,
     why: Unfit,
-) -> Result<WithNote, AllocError>
+) -> Result<WithExplanation, AllocError>
     ensures { IfOk result (AreOf (RefusesText (UnfitLine line why))
         (IsRefusedNote (UnfitLine line why) text.now)) }
 {
-    let answer = refused_line(alloc, line, why.name())?;
-    let note = unfit_note(alloc, explains, text, line, why);
-    Ok(WithNote { answer, note })
+    let answer = refused_line(line, why.name());
+    let explanation = unfit_note(alloc, explains, text, line, why);
+    Ok(WithExplanation {
+        answer,
+        explanation,
+    })
 }
 
 /// Returns the file of the exchange with the blocks of a text, or why there is none, with a note.
@@ -76,26 +82,35 @@ fn recorded_items(
     atr: &[u8],
     text: &[u8],
     trace: &Trace,
-) -> Result<WithNote, AllocError>
+) -> Result<WithExplanation, AllocError>
     ensures { IfOk result (AreOf (RecordsItems atr.now text.now trace.now)
         (IsItemsNote atr.now text.now trace.now)) }
 {
     match record_trace(alloc, atr, trace) {
         Ok(exchange) => {
             let answer = file(alloc, &exchange)?;
-            let note = size_note(alloc, explains, &exchange, answer.status);
-            Ok(WithNote { answer, note })
+            let explanation = size_note(alloc, explains, &exchange, answer.status);
+            Ok(WithExplanation {
+                answer,
+                explanation,
+            })
         }
         Err(RecordFault::Refused(fault)) => {
-            let answer = Answer::refused_as(alloc, fault.name())?;
-            let note = session_note(alloc, explains, atr);
-            Ok(WithNote { answer, note })
+            let answer = Answer::refused_as(fault.name());
+            let explanation = session_note(alloc, explains, atr);
+            Ok(WithExplanation {
+                answer,
+                explanation,
+            })
         }
         Err(RecordFault::Unfit { place, why }) => {
             let line = line_of_item(text, place);
-            let answer = refused_line(alloc, line, why.name())?;
-            let note = unfit_note(alloc, explains, text, line, why);
-            Ok(WithNote { answer, note })
+            let answer = refused_line(line, why.name());
+            let explanation = unfit_note(alloc, explains, text, line, why);
+            Ok(WithExplanation {
+                answer,
+                explanation,
+            })
         }
         Err(RecordFault::Memory) => Err(AllocError),
     }

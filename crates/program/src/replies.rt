@@ -6,7 +6,7 @@
 ghost use Rattle.std.specs.Prelude.{◌≡◌, ◌≢◌, ℕ, List, Ok, true, false, IfOk, string_bytes};
 ghost use Rattle.program.specs.Calls.{calls_of};
 ghost use Rattle.program.specs.Answers.{AskToJudge, IsJudge, IsReadFrom};
-ghost use Rattle.program.specs.Explained.{octets_of, text_note, IsFaulted, IsNotedFault, IsTakenWith, Replies, RepliesTo, SaysOf};
+ghost use Rattle.program.specs.Explained.{octets_of, text_note, IsFaultAnswer, IsFaulted, IsTakenWith, Replies, RepliesTo, SaysOf};
 ghost use Rattle.program.specs.Files.{largest_file, IsBegun};
 ghost use Rattle.explainer.specs.Notes.{large_note};
 ghost use Rattle.explainer.specs.Words.{IsWordsNote};
@@ -19,8 +19,8 @@ ghost use Rattle.program_words.specs.declared.request.Request.{Request as AnyReq
 ghost use Rattle.command_line.specs.Form.{texts};
 
 use crate::file::{LARGEST_FILE, read_whole};
-use crate::judged::{WithNote, answer_about, filled, joined, tidied};
-use crate::telling::Telling;
+use crate::judged::{WithExplanation, answer_about, filled, joined, tidied};
+use crate::line_task::LineTask;
 use crate::{exchange, judging, recording, simulation};
 use command_line::asks_to_explain;
 use explainer::{large_note, offsets_note, text_note, words_note};
@@ -36,10 +36,11 @@ pub(crate) fn reply<R: Source>(
     words: &[String],
     read: Result<Request, Fault>,
     reader: &mut R,
-) -> Result<WithNote, Fault>
+) -> Result<WithExplanation, Fault>
     requires { IsReadFrom (texts words.now) read }
     ensures told { Replies (texts words.now) (calls_of R.remaining R.failures reader.old reader.new)
         result }
+    ensures unfailed { IfOk result (λ _. R.failures reader.new ≡ R.failures reader.old) }
     ensures unread { (AskForFile (texts words.now) → ⊥) → reader.new ≡ reader.old }
     ensures few { (AskToJudge (texts words.now) → ⊥)
         → IsBegun (calls_of R.remaining R.failures reader.old reader.new) 4194305 }
@@ -57,10 +58,11 @@ fn request_reply<R: Source>(
     words: &[String],
     request: Request,
     reader: &mut R,
-) -> Result<WithNote, Fault>
+) -> Result<WithExplanation, Fault>
     requires { IsRead (texts words.now) (Ok (Once request)) }
     ensures told { Replies (texts words.now) (calls_of R.remaining R.failures reader.old reader.new)
         result }
+    ensures unfailed { IfOk result (λ _. R.failures reader.new ≡ R.failures reader.old) }
     ensures unread { (AskForFile (texts words.now) → ⊥) → reader.new ≡ reader.old }
     ensures few { (AskToJudge (texts words.now) → ⊥)
         → IsBegun (calls_of R.remaining R.failures reader.old reader.new) 4194305 }
@@ -68,7 +70,7 @@ fn request_reply<R: Source>(
     let explains = asks_to_explain(words);
     match replied_to(alloc, words, request, explains, reader) {
         Ok(made) if explains => Ok(made),
-        Ok(made) => Ok(WithNote::alone(alloc, made.answer)),
+        Ok(made) => Ok(WithExplanation::alone(alloc, made.answer)),
         Err(fault) if explains => read_faulted(alloc, fault),
         Err(fault) => Err(fault),
     }
@@ -81,16 +83,17 @@ fn replied_to<R: Source>(
     request: Request,
     explains: bool,
     reader: &mut R,
-) -> Result<WithNote, Fault>
+) -> Result<WithExplanation, Fault>
     ensures told { RepliesTo (texts words.now) request
         (calls_of R.remaining R.failures reader.old reader.new) result }
+    ensures unfailed { IfOk result (λ _. R.failures reader.new ≡ R.failures reader.old) }
     ensures unread { (NeedsFile request → ⊥) → reader.new ≡ reader.old }
     ensures few { (IsJudge request → ⊥)
         → IsBegun (calls_of R.remaining R.failures reader.old reader.new) 4194305 }
 {
     match request {
         Request::Tell(task, given) => {
-            octets_told(alloc, Telling { task, explains }, given, reader)
+            octets_told(alloc, LineTask { task, explains }, given, reader)
         }
         Request::BuildChain {
             ifs,
@@ -98,7 +101,7 @@ fn replied_to<R: Source>(
             message,
         } => {
             let text = blocks(alloc, message.get(), ifs, number)?;
-            Ok(WithNote::alone(alloc, Answer::told(text)))
+            Ok(WithExplanation::alone(alloc, Answer::told(text)))
         }
         Request::BuildTidy(given) => octets_tidied(alloc, explains, given, reader),
         Request::BuildFill { list, known } => Ok(filled(
@@ -124,10 +127,10 @@ fn replied_to<R: Source>(
             let text = read_whole(alloc, reader)?;
             Ok(simulation::lines_simulated(alloc, explains, session, text.get())?)
         }
-        Request::Help(text) => Ok(WithNote::alone(alloc, Answer::told(text.into_inner()))),
+        Request::Help(text) => Ok(WithExplanation::alone(alloc, Answer::told(text.into_inner()))),
         Request::Version => {
             let line = format!(in alloc; "{PROGRAM}\n")?;
-            Ok(WithNote::alone(alloc, Answer::told(line)))
+            Ok(WithExplanation::alone(alloc, Answer::told(line)))
         }
     }
 }
@@ -135,18 +138,19 @@ fn replied_to<R: Source>(
 /// Returns the answer about the given octets.
 fn octets_told<R: Source>(
     alloc: Global,
-    telling: Telling,
+    line_task: LineTask,
     given: OctetSource,
     reader: &mut R,
-) -> Result<WithNote, Fault>
+) -> Result<WithExplanation, Fault>
     ensures told { (words : List (List ℕ))
-        → RepliesTo words (AnyRequest.Tell telling.task given) (calls_of R.remaining R.failures reader.old reader.new) result }
+        → RepliesTo words (AnyRequest.Tell line_task.task given) (calls_of R.remaining R.failures reader.old reader.new) result }
+    ensures unfailed { IfOk result (λ _. R.failures reader.new ≡ R.failures reader.old) }
     ensures unread { (IsFromReader given → ⊥) → reader.new ≡ reader.old }
     ensures few { IsBegun (calls_of R.remaining R.failures reader.old reader.new) 4194305 }
 {
-    match octets_taken(alloc, given, telling.explains, reader)? {
+    match octets_taken(alloc, given, line_task.explains, reader)? {
         Taken::Given(octets, note) => {
-            let made = answer_about(alloc, telling, octets.get())?;
+            let made = answer_about(alloc, line_task, octets.get())?;
             Ok(made.and(note))
         }
         Taken::Refused(made) => Ok(made),
@@ -159,9 +163,10 @@ fn octets_tidied<R: Source>(
     explains: bool,
     given: OctetSource,
     reader: &mut R,
-) -> Result<WithNote, Fault>
+) -> Result<WithExplanation, Fault>
     ensures told { (words : List (List ℕ))
         → RepliesTo words (AnyRequest.BuildTidy given) (calls_of R.remaining R.failures reader.old reader.new) result }
+    ensures unfailed { IfOk result (λ _. R.failures reader.new ≡ R.failures reader.old) }
     ensures unread { (IsFromReader given → ⊥) → reader.new ≡ reader.old }
     ensures few { IsBegun (calls_of R.remaining R.failures reader.old reader.new) 4194305 }
 {
@@ -180,7 +185,7 @@ enum Taken {
     /// Octets, and the note on the text that they were taken from, if memory for it was available.
     Given(Octets, Result<String, AllocError>),
     /// A text that isn't in its form: the answer for that fault, and the note on the text.
-    Refused(WithNote),
+    Refused(WithExplanation),
 }
 
 /// Takes the given octets, with a note on their text if it `explains`. Calls the reader only if the octets come from
@@ -228,7 +233,7 @@ fn read_explained(alloc: Global, form: Form, text: Octets) -> Result<Taken, Faul
         Ok(octets) => Ok(Taken::Given(octets, on_form(alloc, form, Octets::of(kept)))),
         Err(Fault::Hex) => {
             let note = text_note(alloc, form, kept.as_slice());
-            Ok(Taken::Refused(fault_noted(alloc, Fault::Hex, note)?))
+            Ok(Taken::Refused(fault_noted(Fault::Hex, note)))
         }
         Err(fault) => Err(fault),
     }
@@ -245,38 +250,36 @@ fn on_form(alloc: Global, form: Form, text: Octets) -> Result<String, AllocError
 }
 
 /// Returns the answer for a fault of words, with what is wrong with them.
-fn words_faulted(alloc: Global, words: &[String], fault: Fault) -> Result<WithNote, Fault>
+fn words_faulted(alloc: Global, words: &[String], fault: Fault) -> Result<WithExplanation, Fault>
     ensures told { IsFaulted fault (IsWordsNote (texts words.now)) result }
     ensures other { IfOk result (λ _. fault ≢ Fault.Memory) }
 {
     match fault {
-        Fault::Words => fault_noted(alloc, Fault::Words, words_note(alloc, words)),
-        Fault::Hex => fault_noted(alloc, Fault::Hex, words_note(alloc, words)),
+        Fault::Words => Ok(fault_noted(Fault::Words, words_note(alloc, words))),
+        Fault::Hex => Ok(fault_noted(Fault::Hex, words_note(alloc, words))),
         Fault::Memory | Fault::Read | Fault::TooLarge => Err(fault),
     }
 }
 
 /// Returns the answer for a fault of reading. If there are too many octets, the note says how many there may be.
-fn read_faulted(alloc: Global, fault: Fault) -> Result<WithNote, Fault>
+fn read_faulted(alloc: Global, fault: Fault) -> Result<WithExplanation, Fault>
     ensures told { IsFaulted fault (λ note. note ≡ large_note largest_file) result }
     ensures large { IfOk result (λ _. fault ≡ Fault.TooLarge) }
 {
     match fault {
-        Fault::TooLarge => fault_noted(alloc, Fault::TooLarge, large_note(alloc, LARGEST_FILE)),
+        Fault::TooLarge => Ok(fault_noted(Fault::TooLarge, large_note(alloc, LARGEST_FILE))),
         Fault::Words | Fault::Hex | Fault::Memory | Fault::Read => Err(fault),
     }
 }
 
-/// Returns the answer for a fault, and a note on it. Returns the fault if memory for the answer isn't available.
-fn fault_noted(
-    alloc: Global,
-    fault: Fault,
-    note: Result<String, AllocError>,
-) -> Result<WithNote, Fault>
-    ensures { IsNotedFault fault note result }
+/// Returns the answer for a fault, with an explanation.
+fn fault_noted(fault: Fault, explanation: Result<String, AllocError>) -> WithExplanation
+    ensures answer { IsFaultAnswer fault result.answer }
+    ensures explanation { result.explanation ≡ explanation }
 {
-    match Answer::faulted(alloc, fault) {
-        Ok(answer) => Ok(WithNote { answer, note }),
-        Err(_) => Err(fault),
+    let answer = Answer::faulted(fault);
+    WithExplanation {
+        answer,
+        explanation,
     }
 }

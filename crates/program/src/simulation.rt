@@ -9,10 +9,10 @@ ghost use Rattle.program.specs.Judged.{AreOf};
 ghost use Rattle.program.specs.SimulationTexts.{blocks_in, is_block, IsExchangeNote, IsFile, IsLinesNote, IsSimulationNote, Simulates, SimulatesLines};
 
 use crate::asked::{large_note, pairs_note, session_note};
-use crate::exchange::written;
+use crate::exchange::answer_with;
 use crate::file::LARGEST_FILE;
-use crate::judged::WithNote;
-use exchange_core::{Exchange, Line};
+use crate::judged::WithExplanation;
+use exchange_core::{Exchange, Line, write_exchange};
 use explainer::unsent_note;
 use octet_core::Named;
 use program_octets::{Answer, Status};
@@ -32,20 +32,26 @@ pub(crate) fn simulated(
     alloc: Global,
     explains: bool,
     session: &Session,
-) -> Result<WithNote, AllocError>
+) -> Result<WithExplanation, AllocError>
     ensures { IfOk result (AreOf (Simulates session.now) (IsSimulationNote session.now)) }
 {
     match exchange_of(alloc, session) {
         Ok(exchange) => file_with_note(alloc, explains, session, &exchange),
         Err(SimulationFault::Refused(fault)) => {
-            let answer = Answer::refused_as(alloc, fault.name())?;
-            let note = session_note(alloc, explains, session.atr.get());
-            Ok(WithNote { answer, note })
+            let answer = Answer::refused_as(fault.name());
+            let explanation = session_note(alloc, explains, session.atr.get());
+            Ok(WithExplanation {
+                answer,
+                explanation,
+            })
         }
         Err(SimulationFault::TooLarge) => {
-            let answer = Answer::faulted(alloc, Fault::TooLarge)?;
-            let note = large_note(alloc, explains, LARGEST_FILE);
-            Ok(WithNote { answer, note })
+            let answer = Answer::faulted(Fault::TooLarge);
+            let explanation = large_note(alloc, explains, LARGEST_FILE);
+            Ok(WithExplanation {
+                answer,
+                explanation,
+            })
         }
         Err(SimulationFault::Memory) => Err(AllocError),
     }
@@ -57,7 +63,7 @@ pub(crate) fn lines_simulated(
     explains: bool,
     session: Session,
     text: &[u8],
-) -> Result<WithNote, AllocError>
+) -> Result<WithExplanation, AllocError>
     ensures { IfOk result (AreOf (SimulatesLines session text.now)
         (IsLinesNote session text.now)) }
 {
@@ -65,9 +71,12 @@ pub(crate) fn lines_simulated(
         Ok(pairs) => simulated(alloc, explains, &session.with_pairs(pairs)),
         Err(Fault::Memory) => Err(AllocError),
         Err(fault) => {
-            let answer = Answer::faulted(alloc, fault)?;
-            let note = pairs_note(alloc, explains, text);
-            Ok(WithNote { answer, note })
+            let answer = Answer::faulted(fault);
+            let explanation = pairs_note(alloc, explains, text);
+            Ok(WithExplanation {
+                answer,
+                explanation,
+            })
         }
     }
 }
@@ -76,11 +85,11 @@ pub(crate) fn lines_simulated(
 pub(crate) fn file(alloc: Global, exchange: &Exchange) -> Result<Answer, AllocError>
     ensures { IfOk result (λ answer. IsFile exchange.now answer.said answer.status) }
 {
-    let answer = written(alloc, exchange)?;
-    if answer.said.text().len() > LARGEST_FILE {
-        return Answer::faulted(alloc, Fault::TooLarge);
+    let text = write_exchange(alloc, exchange)?;
+    if text.len() > LARGEST_FILE {
+        return Ok(Answer::faulted(Fault::TooLarge));
     }
-    Ok(answer)
+    Ok(answer_with(text))
 }
 
 /// Returns the text of a session's exchange, or a fault if it is larger than a file, with a note.
@@ -89,13 +98,16 @@ fn file_with_note(
     explains: bool,
     session: &Session,
     exchange: &Exchange,
-) -> Result<WithNote, AllocError>
+) -> Result<WithExplanation, AllocError>
     ensures { IfOk result (AreOf (IsFile exchange.now)
         (IsExchangeNote session.now exchange.now)) }
 {
     let answer = file(alloc, exchange)?;
-    let note = exchange_note(alloc, explains, session, exchange, answer.status);
-    Ok(WithNote { answer, note })
+    let explanation = exchange_note(alloc, explains, session, exchange, answer.status);
+    Ok(WithExplanation {
+        answer,
+        explanation,
+    })
 }
 
 /// Returns the note on the exchange of a session, by the status of its text.

@@ -1,5 +1,5 @@
 -- How a verdict's text is made.
-use Rattle.std.proofs.Common.{◌≡◌, ◌∙◌, ◌-◌, ℕ, Bool, List, [], ◌∷◌, length, drop, Result, Ok, Err, IfOk, ap, arith, subst, sym}
+use Rattle.std.proofs.Common.{◌≡◌, ◌∙◌, ◌-◌, ℕ, Bool, List, [], ◌∷◌, length, drop, ap, arith, subst, sym}
 use Rattle.std.proofs.lemmas.List.{length-append}
 use Rattle.std.proofs.Math.Seq.{drop-append_seam}
 use Rattle.octet_core.specs.Octets.{xor_of}
@@ -11,17 +11,9 @@ use Rattle.program_octets.specs.Verdicts.{TellsBy, refused, shown_in}
 use Rattle.program_octets.specs.Codec.{Codec, Stops, StopsUnlessMemory, Takes}
 use Rattle.layouts.specs.declared.layout.Layout.{Layout}
 use Rattle.program_words.specs.declared.request.Kind.{Kind}
-use Rattle.program_octets.specs.declared.answer.Answer.{Answer}
 use Rattle.program_octets.specs.declared.said.Said.{Said}
 use Rattle.program_octets.specs.declared.status.Status.{Status}
 use Rattle.program_octets.specs.declared.status.Status.TheVariants as status
-
--- an answer that says this, with this status
-pub answered : {E : Type 0} (P : Said → Status → Type 0) (r : Result Answer E) (said : Said) (ended : Status)
-    → P said ended → IfOk r (λ a. a.said ≡ said) → IfOk r (λ a. a.status ≡ ended)
-    → IfOk r (λ a. P a.said a.status)
-answered P (Ok a) said ended h e f = rw (e, f) h
-answered P (Err e) said ended h f g = tt
 
 -- what is told where a call refused the octets, and its reasons have these names
 pub is-refused : {V R : Type 0} (c : Codec V R) (told : V → ℕ → Said) (untold : (R → List ℕ) → Stop R → Said)

@@ -11,7 +11,7 @@ ghost use Rattle.program_octets.specs.declared.status.Status.TheVariants as ende
 use crate::json::{accepted_object, refused_object};
 use crate::said::Said;
 use crate::status::Status;
-use answer_json::{Name, Refusal, RefusalLine};
+use answer_json::{Name, Refusal};
 use layouts::Layout;
 use octet_core::{Named, Stop};
 use program_words::{Fault, Kind};
@@ -43,13 +43,13 @@ impl Answer {
     }
 
     /// Returns a refusal or a fault as an answer.
-    pub fn refusal(alloc: Global, refusal: Refusal) -> Result<Answer, AllocError>
-        ensures said { IfOk result (λ answer. answer.said ≡ saying.Refusal refusal) }
-        ensures status { IfOk result (λ answer. answer.status ≡ refusal_status refusal) }
+    pub fn refusal(refusal: Refusal) -> Answer
+        ensures said { result.said ≡ saying.Refusal refusal }
+        ensures status { result.status ≡ refusal_status refusal }
     {
         let status = status_of(&refusal);
-        let said = Said::Refusal(RefusalLine::of(alloc, refusal)?);
-        Ok(Answer { said, status })
+        let said = Said::Refusal(refusal);
+        Answer { said, status }
     }
 
     /// Returns the answer for octets that are a value of a kind and take `taken` octets.
@@ -80,7 +80,7 @@ impl Answer {
         ensures status { IfOk result (λ answer. answer.status ≡ ended.Refused) }
     {
         match layout {
-            Layout::Lines => Answer::refused(alloc, stop),
+            Layout::Lines => Ok(Answer::refused(stop)),
             Layout::Json => {
                 let text = refused_object(alloc, kind, &stopped(stop))?;
                 Ok(Answer::laid(Layout::Json, text, Status::Refused))
@@ -89,38 +89,37 @@ impl Answer {
     }
 
     /// Returns the answer for octets that are refused.
-    pub fn refused<R: Named>(alloc: Global, stop: Stop<R>) -> Result<Answer, AllocError>
-        ensures said { IfOk result (λ answer. answer.said
-            ≡ saying.Refusal (stopped R.text stop)) }
-        ensures status { IfOk result (λ answer. answer.status ≡ ended.Refused) }
+    pub fn refused<R: Named>(stop: Stop<R>) -> Answer
+        ensures said { result.said ≡ saying.Refusal (stopped R.text stop) }
+        ensures status { result.status ≡ ended.Refused }
     {
-        Answer::refusal(alloc, stopped(stop))
+        Answer::refusal(stopped(stop))
     }
 
     /// Returns the answer for a refusal of the whole value, by this name.
-    pub fn refused_as(alloc: Global, name: &'static str) -> Result<Answer, AllocError>
-        ensures said { IfOk result (λ answer. answer.said ≡ refused_as name.now) }
-        ensures status { IfOk result (λ answer. answer.status ≡ ended.Refused) }
+    pub fn refused_as(name: &'static str) -> Answer
+        ensures said { result.said ≡ refused_as name.now }
+        ensures status { result.status ≡ ended.Refused }
     {
         let reason = Name::of(name);
-        Answer::refusal(alloc, Refusal::Whole { reason })
+        Answer::refusal(Refusal::Whole { reason })
     }
 
     /// Returns the answer for two known values with the same tag.
-    pub fn duplicate(alloc: Global) -> Result<Answer, AllocError>
-        ensures said { IfOk result (λ answer. answer.said ≡ refused_twice) }
-        ensures status { IfOk result (λ answer. answer.status ≡ ended.Refused) }
+    pub fn duplicate() -> Answer
+        ensures said { result.said ≡ refused_twice }
+        ensures status { result.status ≡ ended.Refused }
     {
-        Answer::refused_as(alloc, "Duplicate")
+        Answer::refused_as("Duplicate")
     }
 
     /// Returns the answer for a fault.
-    pub fn faulted(alloc: Global, fault: Fault) -> Result<Answer, AllocError>
-        ensures said { IfOk result (λ answer. answer.said ≡ faulted fault) }
-        ensures status { IfOk result (λ answer. answer.status ≡ ended.Fault) }
+    pub fn faulted(fault: Fault) -> Answer
+        ensures said { result.said ≡ faulted fault }
+        ensures status { result.status ≡ ended.Fault }
     {
         let fault = Name::of(fault_name(fault));
-        Answer::refusal(alloc, Refusal::Fault { fault })
+        Answer::refusal(Refusal::Fault { fault })
     }
 }
 

@@ -93,14 +93,11 @@ pub fn tidy_with_verdict(
             verdict: Ok(octets.len()),
             note: String::new(alloc),
         }),
-        Err(Refused::Stop(stop)) => {
-            let answer = Answer::refused(alloc, stop)?;
-            Ok(CheckedAnswer {
-                answer,
-                verdict: Err(stop),
-                note: String::new(alloc),
-            })
-        }
+        Err(Refused::Stop(stop)) => Ok(CheckedAnswer {
+            answer: Answer::refused(stop),
+            verdict: Err(stop),
+            note: String::new(alloc),
+        }),
         Err(Refused::Memory) => Err(AllocError),
     }
 }

@@ -132,14 +132,11 @@ pub fn fill_with_verdict(
             verdict: Ok(octets.len()),
             note: String::new(alloc),
         }),
-        Err(Refused::Stop(stop)) => {
-            let answer = Answer::refused(alloc, stop)?;
-            Ok(CheckedAnswer {
-                answer,
-                verdict: Err(stop),
-                note: String::new(alloc),
-            })
-        }
+        Err(Refused::Stop(stop)) => Ok(CheckedAnswer {
+            answer: Answer::refused(stop),
+            verdict: Err(stop),
+            note: String::new(alloc),
+        }),
         Err(Refused::Memory) => Err(AllocError),
     }
 }
@@ -150,7 +147,7 @@ fn fill_by(alloc: Global, dol: &Dol, known: &Result<Knowns, Fault>) -> Result<An
 {
     match known {
         Ok(known) => filled(alloc, dol, known),
-        Err(fault) => Answer::faulted(alloc, *fault),
+        Err(fault) => Ok(Answer::faulted(*fault)),
     }
 }
 
@@ -159,7 +156,7 @@ fn filled(alloc: Global, dol: &Dol, known: &Knowns) -> Result<Answer, AllocError
 {
     match tlv_core::fill(alloc, dol, known.get()) {
         Ok(octets) => Ok(Answer::told(line(alloc, octets.as_slice())?)),
-        Err(FillFault::Duplicate) => Answer::duplicate(alloc),
+        Err(FillFault::Duplicate) => Ok(Answer::duplicate()),
         Err(FillFault::Memory) => Err(AllocError),
     }
 }

@@ -6,7 +6,7 @@ ghost use Rattle.program_octets.specs.Json.{object_head, object_line};
 ghost use Rattle.program_octets.specs.Sayings.{object_of, object_with_lines, text_of, told_in};
 
 use crate::json::{object_head, object_line};
-use answer_json::{RefusalLine, line_strings};
+use answer_json::{Refusal, line_strings};
 use layouts::Layout;
 use octet_core::Octets;
 use std::alloc::{AllocError, Global};
@@ -18,8 +18,8 @@ pub enum Said {
     Text(Octets),
     /// A JSON object in one line.
     Object(Octets),
-    /// Why there is nothing else to say.
-    Refusal(RefusalLine),
+    /// Why there is nothing else to say. Its line or its object is made only when it is asked for.
+    Refusal(Refusal),
 }
 
 impl Said {
@@ -35,24 +35,16 @@ impl Said {
     }
 
     /// Returns it as lines. An object is one line already.
-    pub fn text(&self) -> &[u8]
-        ensures { result.now ≡ text_of self.now }
+    pub fn into_text(self, alloc: Global) -> Result<Octets, AllocError>
+        ensures { IfOk result (λ text. text ≡ text_of self) }
     {
         match self {
-            Said::Text(text) => text.get(),
-            Said::Object(object) => object.get(),
-            Said::Refusal(refusal) => refusal.line().as_bytes(),
-        }
-    }
-
-    /// Returns it as lines.
-    pub fn into_text(self) -> Octets
-        ensures { result ≡ text_of self }
-    {
-        match self {
-            Said::Text(text) => text,
-            Said::Object(object) => object,
-            Said::Refusal(refusal) => Octets::of(refusal.into_line().into_bytes()),
+            Said::Text(text) => Ok(text),
+            Said::Object(object) => Ok(object),
+            Said::Refusal(refusal) => {
+                let line = refusal.line(alloc)?;
+                Ok(Octets::of(line.into_bytes()))
+            }
         }
     }
 
@@ -64,7 +56,7 @@ impl Said {
             Said::Text(lines) => object_with_lines(alloc, about, lines.get()),
             Said::Object(object) => Ok(object),
             Said::Refusal(refusal) => {
-                let members = refusal.refusal().members(alloc)?.into_text();
+                let members = refusal.members(alloc)?.into_text();
                 let object = object_line(alloc, about, members.as_str())?;
                 Ok(Octets::of(object.into_bytes()))
             }

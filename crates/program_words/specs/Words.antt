@@ -17,6 +17,7 @@ use Rattle.program_words.specs.Known.{knowns_of}
 use Rattle.program_words.specs.PairLines.{are_lines}
 use Rattle.program_words.specs.Session.{blocks_of, pairs_of, AreOctetPairs}
 use Rattle.program_words.specs.Value.{◌>>=◌, octets_of_word}
+use Rattle.command_line.specs.Asked.{asks_for_json}
 use Rattle.command_line.specs.Version.{asks_for_version}
 use Rattle.program_words.specs.declared.fault.Fault.{Fault}
 use Rattle.program_words.specs.declared.fault.Fault.TheVariants.{Words, Memory}
@@ -106,14 +107,14 @@ is_true (Some word) = bytes_eq word (codes "true")
 abbrev pub has_flag : List ℕ → List Row → Bool
 has_flag name rows = is_true (first_of name rows)
 
--- the layout of the answer
-abbrev pub layout_of : List Row → Layout
-layout_of rows = if has_flag (codes "json") rows then layout.Json else layout.Lines
+-- the layout of the answer to words, by the words alone: an object if one of them is --json, and no word before it is --
+abbrev pub layout_of : List (List ℕ) → Layout
+layout_of words = if asks_for_json words then layout.Json else layout.Lines
 
 -- what the octets are read as, and then the octets
-abbrev pub told_of : Aim → List Row → Result Asked Fault
-told_of aim rows = expected_of rows >>= (λ expected.
-    told_by (record { aim = aim; layout = layout_of rows; expected = expected }) (first_of (codes "hex") rows)
+abbrev pub told_of : Layout → Aim → List Row → Result Asked Fault
+told_of how aim rows = expected_of rows >>= (λ expected.
+    told_by (record { aim = aim; layout = how; expected = expected }) (first_of (codes "hex") rows)
     (first_of (codes "stdin") rows))
 
 -- what `show` prints: the value, with notes if they are asked for
@@ -178,11 +179,11 @@ one_end word =
 abbrev pub end_of_word : List ℕ → Result Ends Fault
 end_of_word word = if bytes_eq word (codes "both") then Ok end.Both else one_end word
 
-abbrev pub replay_of : List Row → Result Request Fault
-replay_of rows = do
+abbrev pub replay_of : Layout → List Row → Result Request Fault
+replay_of how rows = do
   word ← needed (first_of (codes "end") rows)
   side ← end_of_word word
-  Ok (File (Replay side (layout_of rows)))
+  Ok (File (Replay side how))
 
 -- how recorded exchanges are drawn: as text, or as a picture if one is asked for
 abbrev pub drawing_of : List Row → Drawing
@@ -211,17 +212,17 @@ clock_of None = Ok None
 clock_of (Some word) = hertz_of (decimal_number word)
 
 -- what is judged, and how
-abbrev pub judging_of : Ends → Option ℕ → List Row → Judging
-judging_of ends clock rows =
-    record { ends = ends; clock = clock; rules = has_flag (codes "rules") rows; layout = layout_of rows }
+abbrev pub judging_of : Layout → Ends → Option ℕ → List Row → Judging
+judging_of how ends clock rows =
+    record { ends = ends; clock = clock; rules = has_flag (codes "rules") rows; layout = how }
 
 -- these come first, and then the answer to reset of the card on the line
-abbrev pub judge_of : List Row → Result Request Fault
-judge_of rows = do
+abbrev pub judge_of : Layout → List Row → Result Request Fault
+judge_of how rows = do
   ends ← judged_ends (first_of (codes "end") rows)
   clock ← clock_of (first_of (codes "clock") rows)
   atr ← atr_of rows
-  Ok (Judge atr (judging_of ends clock rows))
+  Ok (Judge atr (judging_of how ends clock rows))
 
 -- an information size, if there is a word for it
 abbrev pub asked_size : Option (List ℕ) → Result (Option ℕ) Fault
@@ -253,15 +254,15 @@ abbrev pub simulate_of : List Row → Result Request Fault
 simulate_of rows = simulate_by (first_of (codes "stdin") rows) (all_or_none (all_of (codes "pairs") rows)) rows
 
 -- the request of a subcommand other than `check` and `show`
-abbrev pub request_by : List ℕ → List Row → Result Request Fault
-request_by name rows =
+abbrev pub request_by : Layout → List ℕ → List Row → Result Request Fault
+request_by how name rows =
     if bytes_eq name (codes "build") then build_of rows
-    else (if bytes_eq name (codes "replay") then replay_of rows
+    else (if bytes_eq name (codes "replay") then replay_of how rows
     else (if bytes_eq name (codes "migrate") then Ok (File Migrate)
-    else (if bytes_eq name (codes "apdus") then Ok (File (Apdus (layout_of rows)))
+    else (if bytes_eq name (codes "apdus") then Ok (File (Apdus how))
     else (if bytes_eq name (codes "draw") then Ok (File (Draw (drawing_of rows)))
     else (if bytes_eq name (codes "record") then record_of rows
-    else (if bytes_eq name (codes "judge") then judge_of rows
+    else (if bytes_eq name (codes "judge") then judge_of how rows
     else (if bytes_eq name (codes "simulate") then simulate_of rows
     else Err Words)))))))
 
@@ -269,15 +270,20 @@ request_by name rows =
 abbrev pub once_of : Result Request Fault → Result Asked Fault
 once_of read = read >>= (λ request. Ok (Once request))
 
-abbrev pub asked_by : List ℕ → List Row → Result Asked Fault
-asked_by name rows =
-    if bytes_eq name (codes "check") then told_of Check rows
-    else (if bytes_eq name (codes "show") then told_of (show_aim rows) rows
-    else once_of (request_by name rows))
+abbrev pub asked_by : Layout → List ℕ → List Row → Result Asked Fault
+asked_by how name rows =
+    if bytes_eq name (codes "check") then told_of how Check rows
+    else (if bytes_eq name (codes "show") then told_of how (show_aim rows) rows
+    else once_of (request_by how name rows))
 
-abbrev pub asked_of : Option (List ℕ × List Row) → Result Asked Fault
-asked_of None = Err Words
-asked_of (Some entered) = asked_by entered.0 entered.1
+-- what the subcommand and its rows ask for, in this layout
+abbrev pub asked_of : Layout → Option (List ℕ × List Row) → Result Asked Fault
+asked_of how None = Err Words
+asked_of how (Some entered) = asked_by how entered.0 entered.1
+
+-- what words ask for that the parser of command lines accepts
+abbrev pub asked_for : List (List ℕ) → Result Asked Fault
+asked_for words = asked_of (layout_of words) (subcommand_of scard words)
 
 -- the information size is one that information fields may have, and a message to cut fits a chain
 abbrev pub IsSized : Request → Type 0
@@ -307,6 +313,18 @@ abbrev pub HaveOctets : Asked → Type 0
 HaveOctets (Once request) = HasOctets request
 HaveOctets (Lines task) = Unit {0}
 
+-- a request that has a layout has this one
+abbrev pub IsLaid : Layout → Request → Type 0
+IsLaid how (Tell task given) = task.layout ≡ how
+IsLaid how (File (Replay ends other)) = other ≡ how
+IsLaid how (File (Apdus other)) = other ≡ how
+IsLaid how (Judge atr judging) = judging.layout ≡ how
+IsLaid how _ = Unit {0}
+
+abbrev pub AreLaid : Layout → Asked → Type 0
+AreLaid how (Once request) = IsLaid how request
+AreLaid how (Lines task) = task.layout ≡ how
+
 -- a request that needs standard input: octets, a file of recorded exchanges, blocks, or pairs
 abbrev pub NeedsFile : Request → Type 0
 NeedsFile (Tell task given) = IsFromReader given
@@ -335,7 +353,7 @@ pub record AreTaken (words : List (List ℕ)) : Type 0 where
 
 -- the parser accepts the words, and this holds of their request
 abbrev pub AskFor : (Request → Type 0) → List (List ℕ) → Type 0
-AskFor Needs words = AreTaken words × MatchResult (asked_of (subcommand_of scard words)) (IsOnce Needs) (λ _. ⊥)
+AskFor Needs words = AreTaken words × MatchResult (asked_for words) (IsOnce Needs) (λ _. ⊥)
 
 abbrev pub AskForFile : List (List ℕ) → Type 0
 AskForFile = AskFor NeedsFile
@@ -345,7 +363,7 @@ AskForOctets = AskFor NeedsOctets
 
 -- words that ask for this task on each line of standard input
 abbrev pub AskForLines : Task → List (List ℕ) → Type 0
-AskForLines task words = AreTaken words × (asked_of (subcommand_of scard words) ≡ Ok (Lines task))
+AskForLines task words = AreTaken words × (asked_for words ≡ Ok (Lines task))
 
 abbrev pub HasOther : Kinds → Type 0
 HasOther kinds = (kind : ErrorKind) × IsAmong kind kinds × (kind ≢ DisplayHelp)
@@ -354,7 +372,7 @@ HasOther kinds = (kind : ErrorKind) × IsAmong kind kinds × (kind ≢ DisplayHe
 -- them; some text, if the parser answers a call for help; else a fault.
 pub data IsRead (words : List (List ℕ)) (read : Result Asked Fault) : Type 0 where
   called_for_version : asks_for_version words ≡ true → read ≡ Ok (Once Version) → IsRead words read
-  taken : AreTaken words → read ≡ asked_of (subcommand_of scard words) → IsRead words read
+  taken : AreTaken words → read ≡ asked_for words → IsRead words read
   called_for_help : asks_for_version words ≡ false → IsAmong DisplayHelp (fault_of scard words) → (help : List ℕ)
       → read ≡ Ok (Once (Help help)) → IsRead words read
   not_taken : asks_for_version words ≡ false → HasOther (fault_of scard words) → read ≡ Err Words → IsRead words read

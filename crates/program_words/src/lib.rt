@@ -1,7 +1,7 @@
 //! What the words of a command line ask for.
 //!
 //! `read` parses the words once, by the form of command_line. It turns the matches into an `Asked`, in which nothing of
-//! `clap` is left. In `specs/Words.antt` the function `asked_of` defines what the words ask for, and `IsRead` which
+//! `clap` is left. In `specs/Words.antt` the function `asked_for` defines what the words ask for, and `IsRead` which
 //! words are refused before, by their form. Words that ask for the version aren't parsed.
 #![tactic(auto)]
 
@@ -26,4 +26,4 @@ pub use request::{
     Aim, Asked, Drawing, Ends, Expected, FileTask, Judging, Kind, Knowns, Request, Task,
 };
 pub use session::{BlockNumbers, MOST_NAMED, Pair, Pairs, Session, read_blocks};
-pub use words::read;
+pub use words::{layout_of, read};

@@ -4,7 +4,7 @@ ghost use Rattle.std.specs.Prelude.{◌≡◌, ◌⊎◌, [], Err, IfOk, IfErr, 
 ghost use Rattle.clap.specs.Words.{all_of, fault_of, first_of, found_of, rows_of, subcommand_of, subcommand_rows_of};
 ghost use Rattle.clap.specs.Kinds.{HasKind};
 ghost use Rattle.clap.specs.Values.{kind_of as error_kind};
-ghost use Rattle.program_words.specs.Words.{asked_of, atr_of, build_of, build_words, chain_of, clock_of, end_of_word, drawing_of, expected_of, session_of, has_flag, hertz_of, judge_of, judged_ends, kind_of, layout_of, one_end, record_of, replay_of, show_aim, request_by, tidy_of, told_of, fill_of, HaveOctets, IsHelpOrFault, IsRead, AreSized, simulate_of};
+ghost use Rattle.program_words.specs.Words.{asked_of, atr_of, build_of, build_words, chain_of, clock_of, end_of_word, drawing_of, expected_of, session_of, has_flag, hertz_of, judge_of, judged_ends, kind_of, layout_of, one_end, record_of, replay_of, show_aim, request_by, tidy_of, told_of, fill_of, AreLaid, HaveOctets, IsHelpOrFault, IsRead, AreSized, simulate_of};
 ghost use Rattle.command_line.specs.Form.{scard, texts};
 ghost use Rattle.program_words.specs.Value.{UnlessMemory};
 
@@ -19,7 +19,7 @@ use crate::value::octets;
 use chain_core::LONGEST_MESSAGE;
 use clap::error::ErrorKind;
 use clap::{ArgMatches, Error};
-use command_line::{asks_for_version, matches_of};
+use command_line::{asks_for_json, asks_for_version, matches_of};
 use layouts::Layout;
 use octet_core::{Octets, Text, decimal_of};
 use std::alloc::Global;
@@ -27,47 +27,65 @@ use std::alloc::Global;
 /// The highest frequency of a clock in hertz.
 const FASTEST_CLOCK: u64 = 1_000_000_000;
 
-/// Reads what the words ask for. The first word is the program's name.
+/// Returns the layout of the answer to words, by the words alone: an object if one of them is `--json`, whatever else
+/// they say. After `--` it is a word like any other.
+pub fn layout_of(words: &[String]) -> Layout
+    ensures { result ≡ layout_of (texts words.now) }
+{
+    if asks_for_json(words) {
+        Layout::Json
+    } else {
+        Layout::Lines
+    }
+}
+
+/// Reads what the words ask for. The first word is the program's name. The layout in it is that of the words.
 pub fn read(alloc: Global, words: &[String]) -> Result<Asked, Fault>
     ensures read { (result ≡ Err Fault.Memory) ⊎ IsRead (texts words.now) result }
     ensures sized { IfOk result AreSized }
     ensures octets { IfOk result HaveOctets }
+    ensures laid { IfOk result (AreLaid (layout_of (texts words.now))) }
 {
     if asks_for_version(words) {
         return Ok(Asked::Once(Request::Version));
     }
     match matches_of(alloc, words) {
-        Ok(matches) => asked(alloc, &matches),
+        Ok(matches) => asked(alloc, layout_of(words), &matches),
         Err(error) => help_or_fault(alloc, &error),
     }
 }
 
-/// Reads what the matches of the words ask for.
-fn asked(alloc: Global, matches: &ArgMatches) -> Result<Asked, Fault>
-    ensures { UnlessMemory result (asked_of (subcommand_rows_of matches.now)) }
+/// Reads what the matches of the words ask for, in this layout.
+fn asked(alloc: Global, layout: Layout, matches: &ArgMatches) -> Result<Asked, Fault>
+    ensures { UnlessMemory result (asked_of layout (subcommand_rows_of matches.now)) }
 {
     let Some((name, entered)) = entered(matches) else {
         return Err(Fault::Words);
     };
     match name {
-        "check" => told(alloc, Aim::Check, entered),
-        "show" => told(alloc, show_aim(entered), entered),
-        _ => Ok(Asked::Once(request(alloc, name, entered)?)),
+        "check" => told(alloc, layout, Aim::Check, entered),
+        "show" => told(alloc, layout, show_aim(entered), entered),
+        _ => Ok(Asked::Once(request(alloc, layout, name, entered)?)),
     }
 }
 
 /// Reads the request of a subcommand other than `check` and `show`.
-fn request(alloc: Global, name: &str, matches: &ArgMatches) -> Result<Request, Fault>
-    ensures { UnlessMemory result (request_by name.now (rows_of (found_of matches.now))) }
+fn request(
+    alloc: Global,
+    layout: Layout,
+    name: &str,
+    matches: &ArgMatches,
+) -> Result<Request, Fault>
+    ensures { UnlessMemory result (request_by layout name.now (rows_of (found_of matches.now))) }
 {
     match name {
         "build" => build(alloc, matches),
-        "replay" => replay(matches),
+        "replay" => replay(layout, matches),
         "migrate" => Ok(Request::File(FileTask::Migrate)),
-        "apdus" => Ok(Request::File(FileTask::Apdus(layout(matches)))),
+        "apdus" => Ok(Request::File(FileTask::Apdus(layout))),
         "draw" => Ok(Request::File(FileTask::Draw(drawing(matches)))),
         "record" => record(alloc, matches),
-        "judge" => judge(alloc, matches),
+        "judge" => judge(alloc, layout, matches),
         "simulate" => simulate(alloc, matches),
         _ => Err(Fault::Words),
     }
@@ -82,13 +100,13 @@ fn entered<'a, 'b>(matches: &'b ArgMatches<'a>) -> Option<(&'a str, &'b ArgMatch
 }
 
 /// Reads what to check or show: octets, or lines of them.
-fn told(alloc: Global, aim: Aim, matches: &ArgMatches) -> Result<Asked, Fault>
-    ensures { UnlessMemory result (told_of aim (rows_of (found_of matches.now))) }
+fn told(alloc: Global, layout: Layout, aim: Aim, matches: &ArgMatches) -> Result<Asked, Fault>
+    ensures { UnlessMemory result (told_of layout aim (rows_of (found_of matches.now))) }
 {
     let expected = expected(matches)?;
     let task = Task {
         aim,
-        layout: layout(matches),
+        layout,
         expected,
     };
     let hex = word(matches, "hex");
@@ -98,17 +116,6 @@ fn told(alloc: Global, aim: Aim, matches: &ArgMatches) -> Result<Asked, Fault>
     }
     let given = read_given(alloc, hex, form)?;
     Ok(Asked::Once(Request::Tell(task, given)))
-}
-
-/// Returns the layout of the answer.
-fn layout(matches: &ArgMatches) -> Layout
-    ensures { result ≡ layout_of (rows_of (found_of matches.now)) }
-{
-    if has_flag(matches, "json") {
-        Layout::Json
-    } else {
-        Layout::Lines
-    }
 }
 
 /// Returns what `show` prints: the value, with notes if there is `--notes`.
@@ -167,11 +174,11 @@ fn build_of_words(alloc: Global, what: &str, words: &[&str]) -> Result<Request, 
 }
 
 /// Reads the end, or both ends, to replay recorded exchanges at.
-fn replay(matches: &ArgMatches) -> Result<Request, Fault>
-    ensures { result ≡ replay_of (rows_of (found_of matches.now)) }
+fn replay(layout: Layout, matches: &ArgMatches) -> Result<Request, Fault>
+    ensures { result ≡ replay_of layout (rows_of (found_of matches.now)) }
 {
     let side = end(word(matches, "end").ok_or(Fault::Words)?)?;
-    Ok(Request::File(FileTask::Replay(side, layout(matches))))
+    Ok(Request::File(FileTask::Replay(side, layout)))
 }
 
 /// Returns how to draw a recorded exchange: as text, or with `--svg` as a picture.
@@ -193,8 +200,8 @@ fn record(alloc: Global, matches: &ArgMatches) -> Result<Request, Fault>
 }
 
 /// Reads what to judge, and the answer to reset of the card on the line.
-fn judge(alloc: Global, matches: &ArgMatches) -> Result<Request, Fault>
-    ensures { UnlessMemory result (judge_of (rows_of (found_of matches.now))) }
+fn judge(alloc: Global, layout: Layout, matches: &ArgMatches) -> Result<Request, Fault>
+    ensures { UnlessMemory result (judge_of layout (rows_of (found_of matches.now))) }
 {
     let ends = judged_ends(word(matches, "end"))?;
     let clock = clock(word(matches, "clock"))?;
@@ -203,7 +210,7 @@ fn judge(alloc: Global, matches: &ArgMatches) -> Result<Request, Fault>
         ends,
         clock,
         rules: has_flag(matches, "rules"),
-        layout: layout(matches),
+        layout,
     };
     Ok(Request::Judge { atr, judging })
 }

@@ -4,6 +4,6 @@ use Rattle.program.proofs.judged.checked_by.Goals as goal
 pub returns : goal.returns
 returns g c = (
   c.in_ok-answer.ensures.told,
-  says-by c.args.telling.explains (g.C.Codec.codec c.args.telling.task.expected) _ _ c.args.octets.now _
-      c.asked_note-note.result c.in_ok-answer.ensures.verdict c.asked_note-note.ensures,
+  says-by c.args.line_task.explains (g.C.Codec.codec c.args.line_task.task.expected) _ _ c.args.octets.now _
+      c.asked_note-explanation.result c.in_ok-answer.ensures.verdict c.asked_note-explanation.ensures,
 )

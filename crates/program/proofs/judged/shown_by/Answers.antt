@@ -6,10 +6,10 @@ pub returns : goal.returns
 returns g c = (
   (
     c.in_ok-answer.ensures.told,
-    says-by c.args.telling.explains (g.C.Codec.codec c.args.telling.task.expected) _ _ c.args.octets.now _
-        c.asked_note-note.result c.in_ok-answer.ensures.verdict c.asked_note-note.ensures,
+    says-by c.args.line_task.explains (g.C.Codec.codec c.args.line_task.task.expected) _ _ c.args.octets.now _
+        c.asked_note-explanation.result c.in_ok-answer.ensures.verdict c.asked_note-explanation.ensures,
   ),
-  λ noted json refused. refusal-by (g.C.Codec.codec c.args.telling.task.expected) c.args.octets.now _ _ _ _
-      (g.met.C.Codec.named c.args.telling.task.expected) c.in_ok-answer.ensures.verdict c.in_ok-answer.ensures.ended
+  λ noted json refused. refusal-by (g.C.Codec.codec c.args.line_task.task.expected) c.args.octets.now _ _ _ _
+      (g.met.C.Codec.named c.args.line_task.task.expected) c.in_ok-answer.ensures.verdict c.in_ok-answer.ensures.ended
       refused (c.in_ok-line.ensures noted json),
 )

@@ -8,5 +8,5 @@ pub returns : goal.returns
 returns c = (
   c.in_ok-answer.ensures.told,
   says-by c.args.explains forest_codec tlv_sentence None c.args.octets.now _
-      c.asked_note-note.result c.in_ok-answer.ensures.verdict c.asked_note-note.ensures,
+      c.asked_note-explanation.result c.in_ok-answer.ensures.verdict c.asked_note-explanation.ensures,
 )

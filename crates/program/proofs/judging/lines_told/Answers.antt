@@ -19,8 +19,8 @@ returns-in_ok-answer-in-None c = λ offered text h.
     rw c.alone.ensures.answer (
       judged c.in_ok-judgment-in-None.judgment told said
           (c.in_ok-answer-in-None.ensures.status ∙ c.in_ok-account-in-None.ensures.status),
-      IfOk-weaker c.alone.result.note _ _ (λ note none. silent c.in_ok-judgment-in-None.judgment told none)
-          c.alone.ensures.note,
+      IfOk-weaker c.alone.result.explanation _ _ (λ note none. silent c.in_ok-judgment-in-None.judgment told none)
+          c.alone.ensures.explanation,
     )
 
 pub returns-in-Some : goal.returns-in-Some

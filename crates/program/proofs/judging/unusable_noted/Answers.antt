@@ -6,6 +6,6 @@ pub returns : goal.returns
 returns c = λ found judging text.
     let name = c.name.result.now in
     let at = rw (← c.name.ensures) at found in (
-      refused name at c.in_ok-answer.ensures.said c.in_ok-answer.ensures.status,
-      if-ok c.session_note-note.result (λ note h. unusable name at h) c.session_note-note.ensures,
+      refused name at c.refused_as-answer.ensures.said c.refused_as-answer.ensures.status,
+      if-ok c.session_note-explanation.result (λ note h. unusable name at h) c.session_note-explanation.ensures,
     )

@@ -17,7 +17,7 @@ returns-in-Ok-eq0 g c =
     at-end _ _ _ c.loop-turn.told.line.items c.tell_kept.new.text.items c.loop-turn.told.status
     c.loop-turn._turn done c.in-Ok.ensures.empty _ _ (take c.in-Ok-eq0.field-0 c.hear.new.room) c.ended.result
     (ap (λ (n : ℕ). take n c.hear.new.room) c.in-Ok-eq0.field-0-test) c.in-Ok-eq0.ensures.said
-    (rw c.loop-turn.invariant.telling at c.ended.ensures)
+    (rw c.loop-turn.invariant.line_task at c.ended.ensures)
 
 pub returns-in-Err-feed : goal.returns-in-Err-feed
 returns-in-Err-feed g c =
@@ -33,7 +33,7 @@ returns-in-Err-feed g c =
       c.in-Ok-hear.count-test,
       length-take c.in-Ok-hear.count c.hear.new.room,
     ))
-    (rw c.loop-turn.invariant.telling at c.in-Err-feed.ensures.begun) c.faulted.ensures
+    (rw c.loop-turn.invariant.line_task at c.in-Err-feed.ensures.begun) c.faulted.ensures
 
 pub returns-in-Err-hear : goal.returns-in-Err-hear
 returns-in-Err-hear g c =
@@ -50,7 +50,7 @@ loop-turn-preserved g c =
     c.loop-turn._turn c.loop-turn.invariant.so_far _ c.tell_kept.new.text.items c.in-Ok.ensures.empty
     c.in-Ok.ensures.told in
     record {
-      telling = c.in-Ok-feed.ensures.telling ∙ c.loop-turn.invariant.telling;
+      line_task = c.in-Ok-feed.ensures.line_task ∙ c.loop-turn.invariant.line_task;
       so_far = piece-heard _ _ _ c.loop-turn.told.line.items c.tell_kept.new.text.items c.loop-turn.told.status
           c.loop-turn._turn done c.in-Ok.ensures.empty _ (take c.in-Ok-hear.count c.hear.new.room)
           c.feed.new.self.line.items c.feed.new.self.text.items c.feed.new.self.status c.in-Ok-hear.ensures.said
@@ -60,7 +60,7 @@ loop-turn-preserved g c =
             c.in-Ok-hear.count-test,
             length-take c.in-Ok-hear.count c.hear.new.room,
           ))
-          (rw c.loop-turn.invariant.telling at c.in-Ok-feed.ensures.said);
+          (rw c.loop-turn.invariant.line_task at c.in-Ok-feed.ensures.said);
     }
 
 pub returns : goal.returns
@@ -70,4 +70,4 @@ returns g c =
     c.faulted-2.ensures
 
 pub loop-turn-init : goal.loop-turn-init
-loop-turn-init g c = record { telling = refl; so_far = nothing-heard _ _ _ _ (search rules) (search rules) }
+loop-turn-init g c = record { line_task = refl; so_far = nothing-heard _ _ _ _ (search rules) (search rules) }

@@ -5,7 +5,7 @@ use Rattle.program.proofs.lines.answer_lines.Given as goal
 -- what was answered so far
 abbrev pub invariant-loop-turn : goal.invariant-loop-turn
 invariant-loop-turn g l = record {
-  telling : l.told.telling ≡ l.fn.telling;
-  so_far : HasComeTo l.fn.telling (g.C.Conversation.said l.fn.conversation) (g.C.Conversation.said l.conversation)
+  line_task : l.told.line_task ≡ l.fn.line_task;
+  so_far : HasComeTo l.fn.line_task (g.C.Conversation.said l.fn.conversation) (g.C.Conversation.said l.conversation)
       l.told.line.items l.told.text.items l.told.status l._turn;
 }

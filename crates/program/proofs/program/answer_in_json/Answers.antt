@@ -7,23 +7,18 @@ use Rattle.program.proofs.program.answer_in_json.Goals as goal
 
 pub returns-clause-told : goal.returns-clause-told
 returns-clause-told g c =
-    let of = c.in_ok-made.made in
-    rw (c.alone.ensures.answer, c.alone.ensures.said, append-nil c.in_ok-in_json.field-0)
-    (made c.args.read of.answer.said (said_of of.note) c.requires c.in_ok-made.ensures.told
+    let of = c.whole_reply-made.result in
+    rw (c.new.ensures.bytes, append-nil c.in_ok-in_json.field-0)
+    (made c.args.read of.answer.said (said_of of.explanation) c.requires c.whole_reply-made.ensures.told
     (rw (c.of-about.ensures.name, c.of-about.ensures.noted) at c.in_ok-in_json.ensures))
-
-pub returns-in_err-made-clause-told : goal.returns-in_err-made-clause-told
-returns-in_err-made-clause-told g c =
-    let fault = err_from_is_err_and c.from_residual.result c.from_residual.ensures.1 in
-    not-made c.from_residual.result fault.0 fault.1 fault.2 c.in_err-made.ensures.failed
 
 pub returns-in_err-in_json-clause-told : goal.returns-in_err-in_json-clause-told
 returns-in_err-in_json-clause-told g c =
-    let of = c.in_ok-made.made in
-    let fault = err_from_is_err_and c.from_residual-in_err-in_json.result c.from_residual-in_err-in_json.ensures.1 in
-    not-made c.from_residual-in_err-in_json.result fault.0 fault.1 fault.2 (record {
+    let of = c.whole_reply-made.result in
+    let fault = err_from_is_err_and c.from_residual.result c.from_residual.ensures.1 in
+    not-made c.from_residual.result fault.0 fault.1 fault.2 (record {
       said = of.answer.said;
-      note = said_of of.note;
+      note = said_of of.explanation;
       ended = of.answer.status;
-      is_said = c.in_ok-made.ensures.told;
+      is_said = c.whole_reply-made.ensures.told;
     })

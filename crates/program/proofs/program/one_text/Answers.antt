@@ -1,12 +1,11 @@
 use Rattle.std.proofs.Common.{◌++◌}
-use Rattle.program_octets.specs.Sayings.{text_of}
 use Rattle.program.specs.Explained.{said_of}
 use Rattle.program.proofs.program.one_text.Goals as goal
 
 pub returns-in-Ok-clause-written : goal.returns-in-Ok-clause-written
 returns-in-Ok-clause-written g c = record {
-  text = text_of c.in-Ok.made.answer.said ++ said_of c.in-Ok.made.note;
-  right = c.in-Ok.made.answer.status;
+  text = c.in-Ok.made.text ++ said_of c.in-Ok.made.explanation;
+  right = c.in-Ok.made.status;
   is_right = c.in-Ok.ensures.told;
   is_written = c.write_made.ensures;
 }

@@ -1,6 +1,6 @@
 use Rattle.std.proofs.Common.{◌∙◌, ap, sym}
 use Rattle.command_line.specs.Form.{texts}
-use Rattle.program.specs.LineNotes.{telling_of}
+use Rattle.program.specs.LineNotes.{line_task_of}
 use Rattle.program.proofs.Asking.{lines-asked, no-lines, read_as, request-read, same-task}
 use Rattle.program.proofs.InJson.{no-words-asked}
 use Rattle.program.proofs.program.run.Goals as goal
@@ -41,7 +41,7 @@ returns-in-Err-Memory-clause-written g c =
 pub returns-in-Err-Memory-clause-lines : goal.returns-in-Err-Memory-clause-lines
 returns-in-Err-Memory-clause-lines g c = λ task _.
     no-lines (g.R.Source.remaining c.args.reader.now) (g.R.Source.failures c.args.reader.now) _ _ c.report.ensures
-    (telling_of (texts c.args.words.items) task)
+    (line_task_of (texts c.args.words.items) task)
 
 pub one_text-requires : goal.one_text-requires
 one_text-requires g c =

@@ -1,5 +1,4 @@
-use Rattle.std.proofs.Common.{refl}
 use Rattle.program.proofs.replies.fault_noted.Goals as goal
 
-pub returns-in-Ok : goal.returns-in-Ok
-returns-in-Ok c = (record { status = c.in-Ok.ensures.status; said = c.in-Ok.ensures.said }, refl)
+pub returns-clause-answer : goal.returns-clause-answer
+returns-clause-answer c = record { status = c.faulted-answer.ensures.status; said = c.faulted-answer.ensures.said }

@@ -33,7 +33,7 @@ returns-in_ok-made-in-Given-clause-told g c = λ words.
     IsForestNote (calls_of g.R.Source.remaining g.R.Source.failures c.args.reader.now c.octets_taken.new.reader)
     (λ file had. had) (λ file text ended h. h)
     (λ file note h. h) c.in-Given.octets c.in-Given.note had
-    c.in_ok-made-in-Given.made c.and.result made.0 made.1 c.and.ensures.answer c.and.ensures.note
+    c.in_ok-made-in-Given.made c.and.result made.0 made.1 c.and.ensures.answer c.and.ensures.explanation
 
 pub returns-in-Refused-clause-told : goal.returns-in-Refused-clause-told
 returns-in-Refused-clause-told g c = λ words.
@@ -42,3 +42,9 @@ returns-in-Refused-clause-told g c = λ words.
     IsForestNote (calls_of g.R.Source.remaining g.R.Source.failures c.args.reader.now c.octets_taken.new.reader)
     (λ file had. had) (λ file text ended h. h)
     (λ file note h. h) c.in-Refused.made had
+
+pub returns-in_ok-made-in-Given-clause-unfailed : goal.returns-in_ok-made-in-Given-clause-unfailed
+returns-in_ok-made-in-Given-clause-unfailed g c = c.in_ok-octets.ensures.taken.unfailed
+
+pub returns-in-Refused-clause-unfailed : goal.returns-in-Refused-clause-unfailed
+returns-in-Refused-clause-unfailed g c = c.in_ok-octets.ensures.taken.unfailed

@@ -10,7 +10,7 @@ use Rattle.program.proofs.replies.octets_told.Goals as goal
 pub returns-in_err-octets-clause-told : goal.returns-in_err-octets-clause-told
 returns-in_err-octets-clause-told g c = λ words.
     let fault = err_from_is_err_and c.from_residual.result c.from_residual.ensures.1 in
-    let task = c.args.telling.task in
+    let task = c.args.line_task.task in
     rw (fault.1, fault.2) (told-fault (Tell task c.args.given) c.args.given (IsTold task)
     (calls_of g.R.Source.remaining g.R.Source.failures c.args.reader.now c.octets_taken.new.reader) (λ file had. had)
     (λ file text ended h. h)
@@ -21,7 +21,7 @@ returns-in_err-made-in-Given-clause-told g c = λ words.
     let fault = err_from_is_err_and c.from_residual-in_err-made-in-Given.result
     c.from_residual-in_err-made-in-Given.ensures.1 in
     let had = rw c.in-Given.is at c.in_ok-octets.ensures.taken in
-    let task = c.args.telling.task in
+    let task = c.args.line_task.task in
     rw (fault.1, fault.2) (told-wanting (Tell task c.args.given) c.args.given (IsTold task)
     (calls_of g.R.Source.remaining g.R.Source.failures c.args.reader.now c.octets_taken.new.reader) (λ file had. had)
     (λ file text ended h. h)
@@ -31,20 +31,26 @@ pub returns-in_ok-made-in-Given-clause-told : goal.returns-in_ok-made-in-Given-c
 returns-in_ok-made-in-Given-clause-told g c = λ words.
     let made = rw c.get.ensures at c.in_ok-made-in-Given.ensures in
     let had = rw c.in-Given.is at c.in_ok-octets.ensures.taken in
-    let task = c.args.telling.task in
-    noted-given c.args.telling.explains words (Tell task c.args.given) c.args.given (IsTold task)
+    let task = c.args.line_task.task in
+    noted-given c.args.line_task.explains words (Tell task c.args.given) c.args.given (IsTold task)
     (IsKindNote task.expected.kind task.expected)
     (calls_of g.R.Source.remaining g.R.Source.failures c.args.reader.now c.octets_taken.new.reader) (λ file had. had)
     (λ file text ended h. h)
     (λ file note h. h) c.in-Given.octets c.in-Given.note had
-    c.in_ok-made-in-Given.made c.and.result made.0 made.1 c.and.ensures.answer c.and.ensures.note
+    c.in_ok-made-in-Given.made c.and.result made.0 made.1 c.and.ensures.answer c.and.ensures.explanation
 
 pub returns-in-Refused-clause-told : goal.returns-in-Refused-clause-told
 returns-in-Refused-clause-told g c = λ words.
     let had = rw c.in-Refused.is at c.in_ok-octets.ensures.taken in
-    let task = c.args.telling.task in
-    noted-refused c.args.telling.explains words (Tell task c.args.given) c.args.given (IsTold task)
+    let task = c.args.line_task.task in
+    noted-refused c.args.line_task.explains words (Tell task c.args.given) c.args.given (IsTold task)
     (IsKindNote task.expected.kind task.expected)
     (calls_of g.R.Source.remaining g.R.Source.failures c.args.reader.now c.octets_taken.new.reader) (λ file had. had)
     (λ file text ended h. h)
     (λ file note h. h) c.in-Refused.made had
+
+pub returns-in_ok-made-in-Given-clause-unfailed : goal.returns-in_ok-made-in-Given-clause-unfailed
+returns-in_ok-made-in-Given-clause-unfailed g c = c.in_ok-octets.ensures.taken.unfailed
+
+pub returns-in-Refused-clause-unfailed : goal.returns-in-Refused-clause-unfailed
+returns-in-Refused-clause-unfailed g c = c.in_ok-octets.ensures.taken.unfailed

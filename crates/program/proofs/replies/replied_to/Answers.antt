@@ -14,7 +14,7 @@ returns-in_ok-text-in-BuildChain-clause-told g c =
     (λ needs. absurd needs) (rw c.alone.ensures.answer (
       c.told.ensures.said ∙ ap saying.Text (rw c.get.ensures at c.in_ok-text-in-BuildChain.ensures),
       c.told.ensures.status,
-    )) c.alone.ensures.note)
+    )) c.alone.ensures.explanation)
 
 pub returns-in_ok-filled-in-BuildFill-clause-told : goal.returns-in_ok-filled-in-BuildFill-clause-told
 returns-in_ok-filled-in-BuildFill-clause-told g c =
@@ -25,7 +25,7 @@ returns-in_ok-filled-in-BuildFill-clause-told g c =
 
 pub returns-in-Judge-clause-told : goal.returns-in-Judge-clause-told
 returns-in-Judge-clause-told g c =
-    rw c.in-Judge.is (rw c.get-in-Judge.ensures at (c.judged.ensures (texts c.args.words.now)))
+    rw c.in-Judge.is (rw c.get-in-Judge.ensures at (c.judged.ensures.told (texts c.args.words.now)))
 
 pub returns-in_ok-simulated-in-Simulate-clause-told : goal.returns-in_ok-simulated-in-Simulate-clause-told
 returns-in_ok-simulated-in-Simulate-clause-told g c =
@@ -40,7 +40,7 @@ returns-in-Help-clause-told g c = rw c.in-Help.is (alone (texts c.args.words.now
     (Ok [])
     (λ needs. absurd needs) (rw c.alone-in-Help.ensures.answer
     (c.told-in-Help.ensures.said ∙ ap saying.Text c.into_inner.ensures, c.told-in-Help.ensures.status))
-    c.alone-in-Help.ensures.note)
+    c.alone-in-Help.ensures.explanation)
 
 pub returns-in_ok-line-in-Version-clause-told : goal.returns-in_ok-line-in-Version-clause-told
 returns-in_ok-line-in-Version-clause-told g c = rw c.in-Version.is (alone (texts c.args.words.now) Version
@@ -50,10 +50,20 @@ returns-in_ok-line-in-Version-clause-told g c = rw c.in-Version.is (alone (texts
       c.told-in-Version.ensures.said ∙ ap saying.Text c.in_ok-line-in-Version.ensures.ok,
       c.told-in-Version.ensures.status,
     ))
-    c.alone-in-Version.ensures.note)
+    c.alone-in-Version.ensures.explanation)
 
 pub returns-in-Tell-clause-told : goal.returns-in-Tell-clause-told
 returns-in-Tell-clause-told g c = rw c.in-Tell.is (c.octets_told.ensures.told (texts c.args.words.now))
 
 pub returns-in-BuildTidy-clause-told : goal.returns-in-BuildTidy-clause-told
 returns-in-BuildTidy-clause-told g c = rw c.in-BuildTidy.is (c.octets_tidied.ensures.told (texts c.args.words.now))
+
+pub returns-in_ok-told-in-File-clause-unfailed : goal.returns-in_ok-told-in-File-clause-unfailed
+returns-in_ok-told-in-File-clause-unfailed g c = c.in_ok-file-in-File.ensures.count
+
+pub returns-in_ok-recorded-in-Record-clause-unfailed : goal.returns-in_ok-recorded-in-Record-clause-unfailed
+returns-in_ok-recorded-in-Record-clause-unfailed g c = c.in_ok-text-in-Record.ensures.count
+
+pub returns-in_ok-lines_simulated-in-SimulateLines-clause-unfailed :
+    goal.returns-in_ok-lines_simulated-in-SimulateLines-clause-unfailed
+returns-in_ok-lines_simulated-in-SimulateLines-clause-unfailed g c = c.in_ok-text-in-SimulateLines.ensures.count

@@ -1,4 +1,4 @@
-use Rattle.std.proofs.Common.{◌∙◌, inl, inr, sym}
+use Rattle.std.proofs.Common.{◌∙◌, inl, inr, refl, sym}
 use Rattle.std.proofs.lemmas.Result.{IfOk-weaker}
 use Rattle.command_line.specs.Form.{texts}
 use Rattle.program_octets.specs.Sayings.{faulted}
@@ -29,3 +29,7 @@ pub returns-in-Err-2-clause-told : goal.returns-in-Err-2-clause-told
 returns-in-Err-2-clause-told g c = said-nothing (texts c.args.words.now) _ (faulted c.in-Err-2.fault)
     status.Fault
     (refused-words (texts c.args.words.now) _ _ c.in-Err-2.fault (rw c.in-Err-2.is at c.requires))
+
+pub returns-in-Err-clause-unfailed : goal.returns-in-Err-clause-unfailed
+returns-in-Err-clause-unfailed g c =
+    IfOk-weaker c.words_faulted.result _ _ (λ made other. refl) c.words_faulted.ensures.other

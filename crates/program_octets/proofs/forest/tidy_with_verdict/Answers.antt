@@ -13,13 +13,13 @@ returns-in_ok-tidied-in-Ok c = record {
   verdict = (c.in-Ok.forest, c.in-Ok.ensures.found);
 }
 
-pub returns-in_ok-answer-in-Err-Stop : goal.returns-in_ok-answer-in-Err-Stop
-returns-in_ok-answer-in-Err-Stop c = record {
+pub returns-in-Err-Stop : goal.returns-in-Err-Stop
+returns-in-Err-Stop c = record {
   told = is-refused forest_codec (λ v n. saying.Text (tidied_text v))
       (λ name stop. saying.Refusal (stopped name stop)) c.args.octets.now forest_codec.name
       c.in-Err-Stop.field-0
       c.in-Err-Stop.stop _ _ refl c.in-Err-Stop.field-0-is c.in-Err-Stop.ensures.refused
-      c.in_ok-answer-in-Err-Stop.ensures.said c.in_ok-answer-in-Err-Stop.ensures.status;
+      c.refused.ensures.said c.refused.ensures.status;
   verdict = of-stop forest_codec c.args.octets.now c.in-Err-Stop.field-0 c.in-Err-Stop.stop c.in-Err-Stop.field-0-is
       c.in-Err-Stop.ensures.refused;
 }

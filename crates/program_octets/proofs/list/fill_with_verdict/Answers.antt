@@ -12,11 +12,11 @@ returns-in_ok-fill_by-in-Ok c = record {
   verdict = (c.in-Ok.dol, c.in-Ok.ensures.found);
 }
 
-pub returns-in_ok-answer-in-Err-Stop : goal.returns-in_ok-answer-in-Err-Stop
-returns-in_ok-answer-in-Err-Stop c = record {
+pub returns-in-Err-Stop : goal.returns-in-Err-Stop
+returns-in-Err-Stop c = record {
   told = no_list c.in-Err-Stop.stop (subst (RefusesUnlessMemory whole IsDol IsDolReason c.args.octets.now)
-      c.in-Err-Stop.field-0-is c.in-Err-Stop.ensures.refused) c.in_ok-answer-in-Err-Stop.ensures.said
-      c.in_ok-answer-in-Err-Stop.ensures.status;
+      c.in-Err-Stop.field-0-is c.in-Err-Stop.ensures.refused) c.refused.ensures.said
+      c.refused.ensures.status;
   verdict = of-stop list_codec c.args.octets.now c.in-Err-Stop.field-0 c.in-Err-Stop.stop c.in-Err-Stop.field-0-is
       c.in-Err-Stop.ensures.refused;
 }

@@ -1,12 +1,9 @@
 use Rattle.std.proofs.Common.{◌∙◌, Ok, ap, refl, subst, sym, List}
 use Rattle.tlv_core.specs.Fill.{filled, HasDuplicate, IsFillFault}
 use Rattle.tlv_core.specs.declared.known.Known.{Known}
-use Rattle.program_octets.specs.Verdicts.{IsFilledBy, duplicate, full}
+use Rattle.program_octets.specs.Verdicts.{duplicate, full}
 use Rattle.program_octets.specs.ListTexts.{filled_text}
-use Rattle.program_octets.specs.Sayings.{refused_twice}
 use Rattle.program_octets.specs.declared.said.Said.TheVariants as saying
-use Rattle.program_octets.specs.declared.status.Status.TheVariants as status
-use Rattle.program_octets.proofs.Telling.{answered}
 use Rattle.program_octets.proofs.list.filled.Goals as goal
 
 pub returns-in_ok-line-in-Ok : goal.returns-in_ok-line-in-Ok
@@ -17,8 +14,6 @@ returns-in_ok-line-in-Ok c =
     ∙ ap (λ (k : List Known). filled k c.args.dol.now) c.get.ensures))) c.told.ensures.status
 
 pub returns-in-Err-Duplicate : goal.returns-in-Err-Duplicate
-returns-in-Err-Duplicate c =
-    answered (IsFilledBy (Ok c.args.known.now) c.args.dol.now) c.duplicate.result refused_twice status.Refused
-    (duplicate c.args.known.now refl (subst HasDuplicate c.get.ensures
-    (subst (IsFillFault c.get.result.now) c.in-Err-Duplicate.field-0-is c.in-Err-Duplicate.ensures.fault)) refl
-    refl) c.duplicate.ensures.said c.duplicate.ensures.status
+returns-in-Err-Duplicate c = duplicate c.args.known.now refl (subst HasDuplicate c.get.ensures
+    (subst (IsFillFault c.get.result.now) c.in-Err-Duplicate.field-0-is c.in-Err-Duplicate.ensures.fault))
+    c.duplicate.ensures.said c.duplicate.ensures.status

@@ -23,7 +23,7 @@ returns-in-Err g c read written h = record {
   right = ended.Fault;
   happened = c.faulted.ensures.1;
   is_right = first_told c.args.self.text.items
-      (begun-here c.args.self.telling read written c.args.self.line.items c.args.self.text.items c.args.self.status h)
+      (begun-here c.args.self.line_task read written c.args.self.line.items c.args.self.text.items c.args.self.status h)
       refl refl;
   are_telling = subst (λ (t : List ℕ). AreTelling (t ++ fault_text Memory) ended.Fault c.faulted.ensures.0
       c.faulted.result) c.in-Err.ensures.kept c.faulted.ensures.2;

@@ -10,7 +10,7 @@ ghost use Rattle.program_octets.specs.Sayings.{faulted};
 ghost use Rattle.program_octets.specs.declared.status.Status.TheVariants as status;
 
 use crate::file::LARGEST_FILE;
-use crate::judged::{WithNote, answer_about};
+use crate::judged::{WithExplanation, answer_about};
 use explainer::{digits_note, large_note};
 use octet_core::Octets;
 use program_octets::Answer;
@@ -19,7 +19,7 @@ use std::alloc::{AllocError, Global};
 
 /// How each line is answered.
 #[derive(Clone, Copy)]
-pub struct Telling {
+pub struct LineTask {
     /// What the answer says about the octets.
     pub task: Task,
     /// Whether an explanation comes after the answer.
@@ -27,30 +27,30 @@ pub struct Telling {
 }
 
 /// Returns the answer to a line of octets, with a note if one is asked for.
-pub(crate) fn line_told(
+pub(crate) fn line_answer(
     alloc: Global,
-    telling: Telling,
+    line_task: LineTask,
     line: &[u8],
-) -> Result<WithNote, AllocError>
-    ensures { IfOk result (AreOf (IsToldOf (IsTold telling.task) (line_octets line.now))
-        (SaysIf telling.explains (IsNoteOfLine telling.task line.now (line_octets line.now)))) }
+) -> Result<WithExplanation, AllocError>
+    ensures { IfOk result (AreOf (IsToldOf (IsTold line_task.task) (line_octets line.now))
+        (SaysIf line_task.explains (IsNoteOfLine line_task.task line.now (line_octets line.now)))) }
 {
     if line.len() > LARGEST_FILE {
-        return fault_told(alloc, telling.explains, Fault::TooLarge, line);
+        return fault_answer(alloc, line_task.explains, Fault::TooLarge, line);
     }
     match loose_octets(alloc, line) {
-        Ok(octets) => answer_about(alloc, telling, octets.get()),
-        Err(fault) => fault_told(alloc, telling.explains, fault, line),
+        Ok(octets) => answer_about(alloc, line_task, octets.get()),
+        Err(fault) => fault_answer(alloc, line_task.explains, fault, line),
     }
 }
 
 /// Returns the answer for a fault, with what is wrong with the line if it `explains`.
-fn fault_told(
+fn fault_answer(
     alloc: Global,
     explains: bool,
     fault: Fault,
     line: &[u8],
-) -> Result<WithNote, AllocError>
+) -> Result<WithExplanation, AllocError>
     ensures other { IfOk result (λ _. fault ≢ Memory) }
     ensures told { IfOk result (AreOf
         (λ said ended. (said ≡ faulted fault) × (ended ≡ status.Fault))
@@ -59,16 +59,19 @@ fn fault_told(
     if let Fault::Memory = fault {
         return Err(AllocError);
     }
-    let answer = Answer::faulted(alloc, fault)?;
+    let answer = Answer::faulted(fault);
     if !explains {
-        return Ok(WithNote::alone(alloc, answer));
+        return Ok(WithExplanation::alone(alloc, answer));
     }
-    let note = match fault {
+    let explanation = match fault {
         Fault::Hex => digits_note(alloc, line),
         Fault::TooLarge => large_note(alloc, LARGEST_FILE),
         Fault::Words | Fault::Memory | Fault::Read => Ok(String::new(alloc)),
     };
-    Ok(WithNote { answer, note })
+    Ok(WithExplanation {
+        answer,
+        explanation,
+    })
 }
 
 /// Appends a note to a text, with two blanks before each line of the note.

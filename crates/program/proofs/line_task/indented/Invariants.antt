@@ -1,6 +1,6 @@
 use Rattle.std.proofs.Common.{◌≡◌, ◌++◌, length}
 use Rattle.program.specs.LineNotes.{indented, indented_from}
-use Rattle.program.proofs.telling.indented.Given as goal
+use Rattle.program.proofs.line_task.indented.Given as goal
 
 -- what is added so far, with the rest after blanks, is the whole text so
 abbrev pub invariant-loop-rest : goal.invariant-loop-rest
