@@ -8,12 +8,17 @@ use Rattle.session_core.specs.declared.action.Action.{Action}
 use Rattle.session_core.specs.declared.action.Action.TheVariants.{Send, Wait, Answered, NoStatus, IfsSet, GivenUp, Dead, Asked, Failed, UsedUp, Echo, Order}
 use Rattle.c_lent.specs.declared.session_next.CSessionNext.{CSessionNext}
 
+-- what is next, with zeros in the octets that have no name in C
+abbrev pub next_with : ℕ → ℕ → ℕ → CSessionNext
+next_with kind count wait =
+    record { kind = kind; fill_8 = 0; fill_16 = 0; fill_32 = 0; count = count; wait = wait }
+
 -- what is next without a wait
 abbrev pub done : ℕ → ℕ → CSessionNext
-done kind count = record { kind = kind; count = count; wait = 0 }
+done kind count = next_with kind count 0
 
 abbrev pub waiting : ℕ → CSessionNext
-waiting time = record { kind = 68; count = 0; wait = time }
+waiting time = next_with 68 0 time
 
 -- the buffer is too small for the longest block
 abbrev pub no_room : CSessionNext

@@ -1,7 +1,7 @@
 //! What a session does next, as C has it.
 
 ghost use Rattle.std.specs.Prelude.{◌≡◌};
-ghost use Rattle.c_lent.specs.SessionNext.{done, no_room, acted, terminal_told, card_told};
+ghost use Rattle.c_lent.specs.SessionNext.{next_with, done, no_room, acted, terminal_told, card_told};
 
 use crate::turn::NO_END;
 use block_core::LONGEST_BLOCK;
@@ -26,10 +26,15 @@ use t1_core::{CardFault, TerminalFault};
 /// - 66: the card answered with `count` octets, none or one, without a status
 /// - 67: the line returns what is sent on it, and the setup doesn't say so
 /// - 68: wait for octets, for a silence of `wait` microseconds at most
+///
+/// C has no field between `kind` and `count`. The fields there are 0, so that no call copies octets without a value.
 #[repr(C)]
 #[derive(Clone, Copy)]
 pub struct CSessionNext {
     pub kind: u8,
+    pub(crate) fill_8: u8,
+    pub(crate) fill_16: u16,
+    pub(crate) fill_32: u32,
     pub count: usize,
     pub wait: u64,
 }
@@ -46,10 +51,20 @@ impl CSessionNext {
     fn with(kind: u8, count: usize) -> CSessionNext
         ensures { result ≡ done kind count }
     {
+        CSessionNext::whole(kind, count, 0)
+    }
+
+    /// Returns what is next with this number, so many octets and this wait.
+    fn whole(kind: u8, count: usize, wait: u64) -> CSessionNext
+        ensures { result ≡ next_with kind count wait }
+    {
         CSessionNext {
             kind,
+            fill_8: 0,
+            fill_16: 0,
+            fill_32: 0,
             count,
-            wait: 0,
+            wait,
         }
     }
 
@@ -82,11 +97,7 @@ impl CSessionNext {
             Action::UsedUp => CSessionNext::of(65),
             Action::NoStatus(count) => CSessionNext::with(66, count),
             Action::Echo => CSessionNext::of(67),
-            Action::Wait(wait) => CSessionNext {
-                kind: 68,
-                count: 0,
-                wait,
-            },
+            Action::Wait(wait) => CSessionNext::whole(68, 0, wait),
         }
     }
 
