@@ -434,11 +434,13 @@ static void scard_trap(void)
 #define APART __attribute__((noinline, cold, unused)) static
 #define CALLED __attribute__((noinline, unused)) static
 #define INLINE __attribute__((unused)) static inline
+#define MERGED __attribute__((unused, always_inline)) static inline
 #else
 #define SELDOM(so) (so)
 #define APART static
 #define CALLED static
 #define INLINE static inline
+#define MERGED INLINE
 #endif
 
 /* For functions that their source keeps apart from their callers. Under -Os gcc would merge one that is called once, and
@@ -603,18 +605,18 @@ struct call {
 /* ---- structs that lie in another way ---- */
 
 /* Which element an address less FIRST is in, and its window; WINDOWS if it is in no element. */
-INLINE u32 leads(const struct call *m, u64 t, u64 *element)
+INLINE u32 leads(const struct call *m, u64 t, uintptr_t *element)
 {
     u32 window;
 #if IS_WIDE
-    *element = t >> 32 & 0x1FFFFFFFu;
+    *element = (uintptr_t)(t >> 32 & 0x1FFFFFFFu);
     for (window = 0; window < WINDOWS; window++) {
         if (m->shaped[window].element && m->shaped[window].leads_to == (u32)(t >> SHIFT)) {
             return window;
         }
     }
 #else
-    *element = (t >> 32) - WINDOWS;
+    *element = (uintptr_t)(t >> 32) - WINDOWS;
     for (window = 0; window < WINDOWS && t >> 32 >= WINDOWS; window++) {
         if (m->shaped[window].element) {
             return window;
@@ -627,7 +629,8 @@ INLINE u32 leads(const struct call *m, u64 t, u64 *element)
 /* The octets that a pointer in a struct points to; null if the address isn't that of such octets. */
 APART u8 *element_at(const struct call *m, u64 t, u64 n)
 {
-    u64 element, size;
+    uintptr_t element;
+    u64 size;
     u32 window = m->shaped ? leads(m, t, &element) : WINDOWS;
     const u8 *found;
     if (window == WINDOWS || element >= m->shaped[window].count) {
@@ -640,11 +643,13 @@ APART u8 *element_at(const struct call *m, u64 t, u64 n)
     return (u8 *)(uintptr_t)(found + (u32)t);
 }
 
-/* The window of structs that an address less FIRST is in, and the struct and the octet in it. */
-INLINE const struct shaped *struct_at(const struct call *m, u64 t, u64 *element, u32 *octet)
+/* The window of structs that an address less FIRST is in, and the struct and the octet in it. Its callers are the deepest
+ * of all, so it has no room of its own on the stack.
+ */
+MERGED const struct shaped *struct_at(const struct call *m, u64 t, uintptr_t *element, u32 *octet)
 {
     const struct shaped *one;
-    u64 place = t & (((u64)1 << SHIFT) - 1u);
+    uintptr_t place = (uintptr_t)(t & (((u64)1 << SHIFT) - 1u));
     if (!m->shaped || t >> SHIFT >= WINDOWS) {
         UNREACHABLE;
     }
@@ -660,34 +665,41 @@ INLINE const struct shaped *struct_at(const struct call *m, u64 t, u64 *element,
 /* An octet of a struct as the module has it. */
 APART u32 octet_at(const struct call *m, u64 t)
 {
-    u64 element, address;
+    uintptr_t element;
+    u64 address;
     u32 octet;
     const struct shaped *one = struct_at(m, t, &element, &octet);
     if (octet < IN_POINTER) {
         return one->at[element * one->each + octet];
     }
 #if IS_WIDE
-    address = ADDRESS(one->leads_to) + (element << 32);
+    address = ADDRESS(one->leads_to) + ((u64)element << 32);
 #else
     address = ADDRESS(WINDOWS + element);
 #endif
     return (u32)(address >> 8 * (octet - IN_POINTER)) & 0xFFu;
 }
 
-APART u64 apart_load(const struct call *m, u64 t, u32 n)
+/* An octet of an element or of a struct. */
+APART u32 apart_octet(const struct call *m, u64 t)
+{
+    const u8 *at = element_at(m, t, 1);
+    return at ? *at : octet_at(m, t);
+}
+
+APART u64 apart_load(const struct call *m, u32 n, u64 t)
 {
     const u8 *at = element_at(m, t, n);
     u64 number = 0;
-    u32 place;
-    for (place = 0; place < n; place++) {
-        number |= (u64)(at ? at[place] : octet_at(m, t + place)) << 8 * place;
+    while (n-- > 0) {
+        number = number << 8 | (at ? at[n] : octet_at(m, t + n));
     }
     return number;
 }
 
 APART void apart_store(const struct call *m, u64 t, u32 n, u64 number)
 {
-    u64 element;
+    uintptr_t element;
     u32 place, octet;
     for (place = 0; place < n; place++) {
         const struct shaped *one = struct_at(m, t + place, &element, &octet);
@@ -703,25 +715,25 @@ APART void apart_store(const struct call *m, u64 t, u32 n, u64 number)
 ACCESS u32 load8(const struct call *m, u64 a, u64 offset)
 {
     u64 t = a + (offset - FIRST);
-    return SELDOM(LEAVES(m, t, 1u)) ? (u32)apart_load(m, t, 1) : get8(PLACE(m, t));
+    return SELDOM(LEAVES(m, t, 1u)) ? apart_octet(m, t) : get8(PLACE(m, t));
 }
 
 ACCESS u32 load16(const struct call *m, u64 a, u64 offset)
 {
     u64 t = a + (offset - FIRST);
-    return SELDOM(LEAVES(m, t, 2u)) ? (u32)apart_load(m, t, 2) : get16(PLACE(m, t));
+    return SELDOM(LEAVES(m, t, 2u)) ? (u32)apart_load(m, 2, t) : get16(PLACE(m, t));
 }
 
 ACCESS u32 load32(const struct call *m, u64 a, u64 offset)
 {
     u64 t = a + (offset - FIRST);
-    return SELDOM(LEAVES(m, t, 4u)) ? (u32)apart_load(m, t, 4) : get32(PLACE(m, t));
+    return SELDOM(LEAVES(m, t, 4u)) ? (u32)apart_load(m, 4, t) : get32(PLACE(m, t));
 }
 
 ACCESS u64 load64(const struct call *m, u64 a, u64 offset)
 {
     u64 t = a + (offset - FIRST);
-    return SELDOM(LEAVES(m, t, 8u)) ? apart_load(m, t, 8) : get64(PLACE(m, t));
+    return SELDOM(LEAVES(m, t, 8u)) ? apart_load(m, 8, t) : get64(PLACE(m, t));
 }
 
 ACCESS void store8(const struct call *m, u64 a, u64 offset, u32 number)
@@ -803,22 +815,22 @@ ACCESS u8 *held(const struct call *m, u64 a, u32 n)
 
 ACCESS u32 held8(const u8 *p, u32 place, const struct call *m, u64 a)
 {
-    return IS_HELD(p) ? get8(p + place) : (u32)apart_load(m, a + place - FIRST, 1);
+    return IS_HELD(p) ? get8(p + place) : apart_octet(m, a + place - FIRST);
 }
 
 ACCESS u32 held16(const u8 *p, u32 place, const struct call *m, u64 a)
 {
-    return IS_HELD(p) ? get16(p + place) : (u32)apart_load(m, a + place - FIRST, 2);
+    return IS_HELD(p) ? get16(p + place) : (u32)apart_load(m, 2, a + place - FIRST);
 }
 
 ACCESS u32 held32(const u8 *p, u32 place, const struct call *m, u64 a)
 {
-    return IS_HELD(p) ? get32(p + place) : (u32)apart_load(m, a + place - FIRST, 4);
+    return IS_HELD(p) ? get32(p + place) : (u32)apart_load(m, 4, a + place - FIRST);
 }
 
 ACCESS u64 held64(const u8 *p, u32 place, const struct call *m, u64 a)
 {
-    return IS_HELD(p) ? get64(p + place) : apart_load(m, a + place - FIRST, 8);
+    return IS_HELD(p) ? get64(p + place) : apart_load(m, 8, a + place - FIRST);
 }
 
 ACCESS void put_held8(u8 *p, u32 place, const struct call *m, u64 a, u32 number)
