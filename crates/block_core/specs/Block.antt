@@ -1,6 +1,6 @@
 -- Blocks, and their encoding: ISO/IEC 7816-3, clause 11.3. A block is NAD, PCB, LEN, an information field of LEN
 -- octets, and a check octet. The numbers of clauses below are those of that standard.
-use Rattle.std.specs.Prelude.{◌≡◌, ℕ, ◌+◌, ◌<◌, ◌≤◌, List, [], ◌∷◌, ◌++◌, length, drop, Bool, true, false, slice_index, ◌≢◌, ◌⊎◌}
+use Rattle.std.specs.Prelude.{◌≡◌, ℕ, ◌+◌, ◌<◌, ◌≤◌, List, [], ◌∷◌, ◌++◌, length, drop, Bool, true, false, slice_index, ◌≢◌, ◌⊎◌, ◌&&◌, ◌==◌}
 use Rattle.octet_core.specs.Octets.{AreOctets, xor_of}
 use Rattle.octet_core.specs.Grammar.{IsFirst}
 use Rattle.octet_core.specs.Sizes.{IsFieldSize, IsReserved}
@@ -100,10 +100,12 @@ front_of v = v.nad ∷ pcb_octet v.pcb ∷ length v.inf ∷ v.inf
 abbrev pub spelling : Parts → List ℕ
 spelling v = front_of v ++ xor_of (front_of v) ∷ []
 
--- the octets are as many as their third one, LEN, says, and their exclusive-or is 0, as the LRC makes it: 11.4.4
-pub record IsWhole (b : List ℕ) : Type 0 where
-  pub counted : length b ≡ slice_index b 2 + 4
-  pub summed : xor_of b ≡ 0
+-- NAD, PCB, LEN, as many octets as LEN says, one check octet, and nothing more; the exclusive-or of all is 00: 11.3
+abbrev pub is_whole : List ℕ → Bool
+is_whole b = (length b == slice_index b 2 + 4) && (xor_of b == 0)
+
+abbrev pub IsWhole : List ℕ → Type 0
+IsWhole b = is_whole b ≡ true
 
 -- the octets b encode the block v
 pub record IsBlock (ifs : ℕ) (v : Parts) (b : List ℕ) : Type 0 where

@@ -3,12 +3,11 @@ use Rattle.std.proofs.Common.{inl, inr, ◌≡◌, ◌&&◌, not, ℕ, List, ref
 use Rattle.std.specs.Prelude.{Bool, true, false, if◌then◌else◌, Option, Some, None, Ok, Err}
 use Rattle.octet_core.specs.declared.stop.Stop.{Stop}
 use Rattle.octet_core.specs.declared.stop.Stop.TheVariants.{At, Short}
-use Rattle.block_core.specs.Block.{Parts, Suits}
+use Rattle.block_core.specs.Block.{Parts, Suits, is_whole}
 use Rattle.block_core.specs.declared.reason.BlockReason.{BlockReason}
 use Rattle.block_core.specs.declared.reason.BlockReason.TheVariants.{BadPcb, BadLen, OverIfs, BadIfs, BadLrc}
 use Rattle.block_core.specs.declared.pcb.Pcb.{Pcb}
 use Rattle.block_core.specs.declared.pcb.Pcb.TheVariants.{Info, Ready, Request, Response}
-use Rattle.line_core.specs.Bursts.{is_whole}
 use Rattle.t1_core.specs.Came.{carried}
 use Rattle.block_core.specs.declared.side.Side.{Side}
 use Rattle.judge_core.specs.declared.end.Owed.{Owed}

@@ -4,13 +4,13 @@ use Rattle.std.specs.Prelude.{◌≡◌, ◌≢◌, ◌⊎◌, ℕ, ◌+◌, ◌
 use Rattle.octet_core.specs.Grammar.{self_ended, Accepts, Refuses}
 use Rattle.octet_core.specs.declared.stop.Stop.{Stop}
 use Rattle.octet_core.specs.declared.stop.Stop.TheVariants.{At, Short}
-use Rattle.block_core.specs.Block.{Parts, IsBlock, IsReason}
+use Rattle.block_core.specs.Block.{Parts, IsBlock, IsReason, is_whole}
 use Rattle.block_core.specs.declared.pcb.Pcb.{Pcb}
 use Rattle.block_core.specs.declared.pcb.Pcb.TheVariants.{Info, Ready, Request, Response}
 use Rattle.block_core.specs.declared.pcb.S.TheVariants.{Resynch, Ifs, Abort, Wtx}
 use Rattle.block_core.specs.declared.reason.BlockReason.{BlockReason}
 use Rattle.block_core.specs.declared.reason.BlockReason.TheVariants.{BadPcb, BadLen, OverIfs, BadIfs, BadLrc}
-use Rattle.line_core.specs.Bursts.{is_whole, most_counted}
+use Rattle.line_core.specs.Bursts.{most_counted}
 use Rattle.t1_core.specs.Came.{carried}
 use Rattle.t1_core.specs.Terminal.{first_ifsd}
 use Rattle.block_core.specs.declared.side.Side.{Side}

@@ -2,7 +2,7 @@
 
 ghost use Rattle.std.specs.Prelude.{◌≡◌, ◌+◌, ◌==◌, ◌&&◌, bytes_eq, length, slice_index};
 ghost use Rattle.octet_core.specs.Octets.{xor_of};
-ghost use Rattle.line_core.specs.Bursts.{is_whole};
+ghost use Rattle.block_core.specs.Block.{is_whole};
 ghost use Rattle.judge_core.specs.Monitored.{has_length, is_unchanged, refused_as, rule_at, rule_made, rule_of, IsSeen, IsSent};
 ghost use Rattle.judge_core.specs.Classes.{seen_of};
 

@@ -7,7 +7,8 @@ use Rattle.std.proofs.Math.Seq.{take-append-add}
 use borrow.Rule.Slice.PartMut.{put_mid}
 use Rattle.octet_core.specs.Octets.{xor_of}
 use Rattle.line_core.specs.declared.framing.Framer.{Framer}
-use Rattle.line_core.specs.Bursts.{HasHeard, handed, is_whole, most_counted}
+use Rattle.block_core.specs.Block.{is_whole}
+use Rattle.line_core.specs.Bursts.{HasHeard, handed, most_counted}
 
 -- the first octets of joined lists are those of the one, and then of the other
 pub take-joined : (n : ℕ) (a b : List ℕ) → take n (a ++ b) ≡ take n a ++ take (n - length a) b

@@ -2,7 +2,7 @@
 -- of ISO/IEC 7816-3:2006.
 use Rattle.std.specs.Prelude.{◌≡◌, ◌≢◌, ◌<◌, ◌⊎◌, ℕ, ◌+◌, List, [], ◌∷◌, ◌++◌, length, take, slice_index, min, Bool, ◌&&◌, ◌==◌, if◌then◌else◌}
 use Rattle.octet_core.specs.Octets.{AreOctets, xor_of}
-use Rattle.block_core.specs.Block.{Parts, IsProper, spelling}
+use Rattle.block_core.specs.Block.{Parts, IsProper, is_whole, spelling}
 use Rattle.t1_core.specs.Came.{Came, got, damaged, invalid, quiet, class_of}
 use Rattle.line_core.specs.declared.framing.Framer.{Framer}
 
@@ -11,11 +11,6 @@ use Rattle.line_core.specs.declared.framing.Framer.{Framer}
 -- how many octets of a burst are passed to an end at most: one more than the longest block has (11.3)
 abbrev pub handed : ℕ
 handed = 259
-
--- the burst is NAD, PCB, LEN, as many octets as LEN says, one check octet, and nothing more; the exclusive-or of all is
--- 00: 11.3
-abbrev pub is_whole : List ℕ → Bool
-is_whole burst = (length burst == slice_index burst 2 + 4) && (xor_of burst == 0)
 
 -- a block with a wrong check octet
 abbrev pub damaged_block : List ℕ

@@ -2,7 +2,8 @@
 
 ghost use Rattle.std.specs.Prelude.{◌≡◌, ◌≤◌, ◌++◌, [], ℕ, List, length, take, min};
 ghost use Rattle.octet_core.specs.Octets.{xor_of};
-ghost use Rattle.line_core.specs.Bursts.{HasHeard, handed, is_whole, wait_of};
+ghost use Rattle.block_core.specs.Block.{is_whole};
+ghost use Rattle.line_core.specs.Bursts.{HasHeard, handed, wait_of};
 
 use crate::exchanging::LONGEST_ARRIVAL;
 use octet_core::lrc;

@@ -1,7 +1,8 @@
 //! Collects octets and silences into bursts (ISO/IEC 7816-3, clause 11.4.3). The caller keeps the framer.
 
 ghost use Rattle.std.specs.Prelude.{◌≡◌, ◌++◌, [], ℕ, List, min, take};
-ghost use Rattle.line_core.specs.Bursts.{HasHeard, handed, is_whole, wait_of};
+ghost use Rattle.block_core.specs.Block.{is_whole};
+ghost use Rattle.line_core.specs.Bursts.{HasHeard, handed, wait_of};
 
 use line_core::Framer;
 

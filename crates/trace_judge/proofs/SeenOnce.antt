@@ -6,10 +6,9 @@ use denote.Ref.{Bor}
 use Rattle.octet_core.specs.Octets.{AreOctets}
 use Rattle.octet_core.specs.Grammar.{self_ended, Accepts, OneVerdict, Refuses}
 use Rattle.octet_core.specs.declared.stop.Stop.{Stop}
-use Rattle.block_core.specs.Block.{IsBlock, IsReason, Parts}
+use Rattle.block_core.specs.Block.{IsBlock, IsReason, Parts, is_whole}
 use Rattle.block_core.specs.declared.reason.BlockReason.{BlockReason}
 use Rattle.block_core.proofs.Goes.{one-verdict}
-use Rattle.line_core.specs.Bursts.{is_whole}
 use Rattle.block_core.specs.declared.side.Side.{Side}
 use Rattle.judge_core.specs.declared.monitor.Arrival.{Arrival}
 use Rattle.judge_core.specs.declared.monitor.Arrival.TheVariants as arrived
