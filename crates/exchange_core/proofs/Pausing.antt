@@ -1,6 +1,7 @@
 -- Between a command that was given up and the next one the card's host is asked about nothing.
 use Rattle.std.proofs.Common.{◌≡◌, ◌+◌, ℕ, List, [], ◌∷◌, Bool, true, false, refl, Ok, Err}
 use Rattle.std.specs.Prelude.{if◌then◌else◌, nat_lt, ◌==◌}
+use Rattle.octet_core.proofs.Choice.{either}
 use Rattle.block_core.specs.Block.{Parts}
 use Rattle.block_core.specs.declared.pcb.S.TheVariants.{Resynch, Ifs, Abort, Wtx}
 use Rattle.block_core.specs.declared.pcb.Pcb.{Pcb}
@@ -19,10 +20,6 @@ use Rattle.exchange_core.proofs.Resting.{listens}
 abbrev pub PausingStep : TerminalStep → Type 0
 PausingStep (Ok step) = Pauses step.1.waits
 PausingStep (Err fault) = Unit {0}
-
-either : {A : Type 0} (P : A → Type 0) (test : Bool) (a b : A) → P a → P b → P (if test then a else b)
-either P true a b p q = p
-either P false a b p q = q
 
 failing : (t : TerminalState) (b : Parts) → Pauses t.waits → PausingStep (fails t b)
 failing t b h = either PausingStep (nat_lt t.failures most_repeats) _ _ h tt

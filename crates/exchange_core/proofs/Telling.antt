@@ -1,6 +1,7 @@
 -- The lines of a record tell what happened at the link, event by event.
 use Rattle.std.proofs.Common.{◌≡◌, ◌+◌, ◌++◌, ℕ, List, [], ◌∷◌, Bool, true, false, refl, sym, ap, subst, ◌∙◌, Option, Some, None, Ok, Err}
 use Rattle.std.specs.Prelude.{if◌then◌else◌, ◌==◌, ◌&&◌, nat_le, length, take, drop}
+use Rattle.octet_core.proofs.Choice.{either}
 use Rattle.block_core.specs.Block.{Parts, other}
 use Rattle.block_core.specs.declared.pcb.S.TheVariants.{Resynch, Ifs, Abort, Wtx}
 use Rattle.block_core.specs.declared.pcb.Pcb.TheVariants.{Info, Ready, Request, Response}
@@ -187,10 +188,6 @@ cut : (h : Told) (before l : Link) (c : CardState) (octets : List ℕ) → h.exc
 cut h before l c octets exchanges services p =
     sent h before l _ _ exchanges services (asks-cut (take c.ifsd octets) (drop c.ifsd octets) _)
     (may-cut (take c.ifsd octets) (drop c.ifsd octets) h.again l.terminal.waits p)
-
-either : {A : Type 0} (P : A → Type 0) (test : Bool) (a b : A) → P a → P b → P (if test then a else b)
-either P true a b p q = p
-either P false a b p q = q
 
 -- what a block that comes to the card says of the terminal
 abbrev HeardAs : Came → Waits → Type 0

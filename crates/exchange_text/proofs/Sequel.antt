@@ -1,5 +1,6 @@
 -- The lines of a text, one after another.
 use Rattle.std.proofs.Common.{◌≡◌, ℕ, ◌+◌, ◌≤◌, ◌&&◌, List, [], ◌∷◌, ◌++◌, length, Bool, true, false, Result, Ok, Err, refl, sym, ap, ◌∙◌, arith, rules, append_assoc, inl, inr, nat_le, nat_lt, if◌then◌else◌}
+use Rattle.std.proofs.lemmas.Bool.{and_from}
 use Rattle.std.specs.List.{slice_split}
 use Rattle.exchange_text.specs.Exchange.{ExchangeParts, are_proper, latest_moment, may_follow, moment_after}
 use Rattle.exchange_text.specs.Reading.{◌>>=◌, is_line_feed, falls, line_said, rising, at, atr_said, falls, line_said, rising, exchange_by, exchange_said, line_at, lines_said, parts_said, version_said, UnlessMemory}
@@ -29,10 +30,6 @@ pub record IsSequel (version : Version) (text : List ℕ) (lines : List Line) (n
   pub count : number + length rest ≤ length text + 3
 
 -- where each of two tests holds, both hold together
-pub both-true : (a b : Bool) → a ≡ true → b ≡ true → a && b ≡ true
-both-true true b h k = k
-both-true false b h k = h
-
 -- what is right with the number of its line was right without it
 pub at-ok : {A : Type 0} (number : ℕ) (r : Result A LineFault) (x : A) → at number r ≡ Ok x → r ≡ Ok x
 at-ok number (Ok y) x e = ap Ok (same-ok y x (at number (Ok y)) refl e)
@@ -50,7 +47,7 @@ not-less m least h = let le : least ≤ m = search (rules, h) in search (rules, 
 follows : (version : Version) (least : ℕ) (x : Line) → may_follow version 0 x ≡ true → falls least x ≡ false
     → may_follow version least x ≡ true
 follows One least (Moment m) h f = h
-follows Two least (Moment m) h f = both-true (nat_le least m) (nat_le m latest_moment) (not-less m least f)
+follows Two least (Moment m) h f = and_from (nat_le least m) (nat_le m latest_moment) (not-less m least f)
     (both (nat_le 0 m) (nat_le m latest_moment) h).1
 follows One least (Note t) h f = h
 follows Two least (Note t) h f = h
@@ -106,7 +103,7 @@ next-sequel version text lines number least rest line next first h parts shorter
   said = h.said ∙ ap (λ (p : List (List ℕ)). after lines (lines_said version number least p)) parts
       ∙ goes-on version number least line (slice_split is_line_feed next) first lines (some-words is_line_feed next) e;
   proper = λ more k. rw (append_assoc lines (first ∷ []) more)
-      (h.proper (first ∷ more) (both-true (may_follow version least first)
+      (h.proper (first ∷ more) (and_from (may_follow version least first)
       (are_proper version (moment_after least first) more) (line-follows version number least line first e) k));
   count = omega (arith, h.count, shorter);
 }

@@ -1,5 +1,6 @@
 -- What a line says has that line as its text.
 use Rattle.std.proofs.Common.{◌≡◌, ℕ, ◌<◌, ◌≤◌, ◌&&◌, nat_le, List, [], ◌∷◌, ◌++◌, length, Bool, true, false, Option, Some, None, Result, Ok, Err, refl, sym, ap, ◌∙◌, arith, rules, codes, decimal, if◌then◌else◌, inl, inr, ◌⊎◌}
+use Rattle.std.proofs.lemmas.Bool.{and_from}
 use Rattle.std.proofs.lemmas.List.{append-nil}
 use Rattle.std.proofs.lemmas.List.Splits.{join_with_byte-slice_split}
 use Rattle.std.specs.List.{join_with_byte, list_all, slice_split, after_first}
@@ -269,10 +270,6 @@ late m h = let le : m ≤ 999999999999999 = omega arith in search (rules, le)
 zero-least : (m : ℕ) → nat_le 0 m ≡ true
 zero-least m = let le : 0 ≤ m = omega arith in search (rules, le)
 
-both-true : (a b : Bool) → a ≡ true → b ≡ true → a && b ≡ true
-both-true true b h k = k
-both-true false b h k = h
-
 of-moment : (version : Version) (line : List ℕ) (words : List (List ℕ)) (x : Line)
     → join_with_byte 32 (name_text name.Moment ∷ words) ≡ line → moment_said version words ≡ Ok x
     → IsSaid version line x
@@ -284,7 +281,7 @@ of-moment version line words x j e =
     rw t.0 (said Two line (Moment m.0) x m.2
     (sym j ∙ ap (λ (l : List (List ℕ)). join_with_byte 32 (name_text name.Moment ∷ l)) (only words p.0 p.1)
     ∙ ap (λ (l : List ℕ). codes "at " ++ l) n.0)
-    (both-true (nat_le 0 m.0) (nat_le m.0 latest_moment) (zero-least m.0) (late m.0 n.1)) tt)
+    (and_from (nat_le 0 m.0) (nat_le m.0 latest_moment) (zero-least m.0) (late m.0 n.1)) tt)
 
 note-is : (b : Bool) (t : List ℕ) (x : Line) → (if b then Ok (Note t) else Err Word) ≡ Ok x → (b ≡ true) × (Note t ≡ x)
 note-is true t x e = (refl, same-ok (Note t) x (Ok (Note t)) refl e)

@@ -1,5 +1,6 @@
 -- What the words of a text say when they are read back, and that no word has a space or a line feed.
 use Rattle.std.proofs.Common.{◌≡◌, ℕ, zero, suc, ◌<◌, ◌≤◌, ◌/◌, ◌%◌, ◌==◌, not, nat_le, List, [], ◌∷◌, ◌++◌, length, Bool, true, false, Ok, codes, decimal, refl, ap, ◌∙◌, arith, rules, slice_index}
+use Rattle.std.proofs.lemmas.Bool.{not-true}
 use Rattle.std.specs.List.{All, list_all, slice_split}
 use Rattle.std.specs.Str.{bytes_eq}
 use Rattle.std.specs.Char.{is_ascii_digit}
@@ -30,10 +31,6 @@ pub appended : (p : ℕ → Bool) (xs ys : List ℕ) → list_all p xs ≡ true 
 appended p [] ys h k = k
 appended p (x ∷ xs) ys h k = let b = both (p x) (list_all p xs) h in
     joined (p x) (list_all p (xs ++ ys)) b.0 (appended p xs ys b.1 k)
-
-not-true : (b : Bool) → not b ≡ true → b ≡ false
-not-true true h = cc
-not-true false h = refl
 
 -- no element passes
 none-pass : (p : ℕ → Bool) (xs : List ℕ) → list_all (λ c. not (p c)) xs ≡ true → All (λ c. p c ≡ false) xs

@@ -1,5 +1,6 @@
 -- What a text says has that text.
 use Rattle.std.proofs.Common.{◌≡◌, ℕ, ◌+◌, List, [], ◌∷◌, ◌++◌, Bool, true, false, Result, Ok, Err, refl, sym, ap, ◌∙◌, codes, if◌then◌else◌, inl, inr, ◌⊎◌, IfOk}
+use Rattle.std.proofs.lemmas.Bool.{and_from}
 use Rattle.std.proofs.lemmas.List.Splits.{join_with_byte-slice_split}
 use Rattle.std.specs.List.{join_with_byte, slice_split}
 use Rattle.std.specs.Str.{bytes_eq}
@@ -16,7 +17,7 @@ use Rattle.exchange_text.specs.declared.exchange.Version.TheVariants.{One, Two}
 use Rattle.exchange_text.specs.declared.line.Line.{Line}
 use Rattle.exchange_text.proofs.Naming.{same-bytes}
 use Rattle.exchange_text.proofs.Sound.{bind, line-sound, octets-sound, same-ok, IsSaid}
-use Rattle.exchange_text.proofs.Sequel.{at-ok, line-follows, rising-ok, both-true, unless-ok}
+use Rattle.exchange_text.proofs.Sequel.{at-ok, line-follows, rising-ok, unless-ok}
 
 -- the parts of a text are the text of these lines, which may come after a moment
 record AreSaid (version : Version) (least : ℕ) (parts : List (List ℕ)) (lines : List Line) : Type 0 where
@@ -38,7 +39,7 @@ next-said : (version : Version) (number least : ℕ) (line next : List ℕ) (par
 next-said version number least line next parts first more e text octets h = record {
   text = ap (λ (l : List ℕ). l ++ (10 ∷ join_with_byte 10 (next ∷ parts))) text
       ∙ ap (λ (l : List ℕ). line_text first ++ (10 ∷ l)) h.text;
-  proper = both-true (may_follow version least first) (are_proper version (moment_after least first) more)
+  proper = and_from (may_follow version least first) (are_proper version (moment_after least first) more)
       (line-follows version number least line first e) h.proper;
   octets = (octets, h.octets);
 }

@@ -2,6 +2,7 @@
 use Rattle.std.proofs.Common.{IsSome, ◌≡◌, ◌≤◌, ◌<◌, ◌⊎◌, ℕ, ◌+◌, List, [], ◌∷◌, ◌++◌, length, Bool, true, false, Ok, Err, Option, Some, None, refl, inl, inr, arith, if◌then◌else◌, ◌&&◌, nat_lt, nat_le}
 use Rattle.std.specs.Prelude.{◌==◌}
 use Rattle.std.proofs.lemmas.Bool.Decides.{nat_tests}
+use Rattle.octet_core.proofs.Choice.{either}
 use Rattle.block_core.specs.Block.{Parts, other}
 use Rattle.block_core.specs.declared.pcb.S.TheVariants.{Resynch, Ifs, Abort, Wtx}
 use Rattle.block_core.specs.declared.pcb.Pcb.TheVariants.{Info, Ready, Request, Response}
@@ -58,10 +59,6 @@ abbrev pub Keeps : Bool → TerminalState → TerminalStep → Type 0
 Keeps is_size t (Ok step) = IsAbout is_size step.1.waits × ((step.1.ifsd ≡ t.ifsd) ⊎ (step.1.ifsd ≤ 254))
     × IsTurn is_size step.0 step.1
 Keeps is_size t (Err fault) = Unit {0}
-
-either : {A : Type 0} (P : A → Type 0) (b : Bool) (x y : A) → P x → P y → P (if b then x else y)
-either P true x y h k = h
-either P false x y h k = k
 
 repeats : (q : Bool) (t : TerminalState) (sent : Parts) → IsAbout q t.waits → Keeps q t (fails t sent)
 repeats q t sent h = either (Keeps q t) (nat_lt t.failures 3) _ _ (h, inl refl, tt) (tt, inl refl, tt)

@@ -8,3 +8,4 @@ pub mod Failures
 pub mod HexadecimalLemmas
 pub mod Decimals
 pub mod Blanks
+pub mod Choice

@@ -5,6 +5,7 @@ use Rattle.std.proofs.lemmas.Bool.{cases_lt, lt-ltb, le-ltb, eqb-true}
 use Rattle.std.proofs.lemmas.Nat.{mul-le}
 use Rattle.std.proofs.Math.Nat.{suc-mul}
 use Rattle.std.proofs.lemmas.List.{length-drop}
+use Rattle.octet_core.proofs.Choice.{either}
 use Rattle.block_core.specs.declared.pcb.Number.{Number}
 use Rattle.block_core.specs.declared.pcb.S.TheVariants.{Ifs}
 use Rattle.atr_core.specs.T1.{T1Values, ifsc_of, t1_values_of, offers_t1, chooses_crc}
@@ -49,10 +50,6 @@ all_fit k (link.asks_ifsd n ∷ es) = (tt, all_fit k es)
 all_fit k (link.host_replies octets ∷ es) = (λ h. h, all_fit k es)
 all_fit k (link.host_asks_time n ∷ es) = (tt, all_fit k es)
 all_fit k (link.host_asks_ifsc n ∷ es) = (tt, all_fit k es)
-
-either : {A : Type 0} (P : A → Type 0) (test : Bool) (a b : A) → P a → P b → P (if test then a else b)
-either P true a b p q = p
-either P false a b p q = q
 
 good : (r : Recording) → Good (Unit {0}) longest longest (link_of r)
 good r = good_always longest longest r.ifsc (events_of r.lines) (λ fit. all_fit longest (events_of r.lines))

@@ -1,6 +1,7 @@
 -- Where the card's host asks for nothing, each end takes fields of at least an octet.
 use Rattle.std.proofs.Common.{◌≤◌, ◌+◌, ◌++◌, ℕ, zero, suc, List, [], ◌∷◌, length, arith, Option, Some, None, Ok, Err}
 use Rattle.std.specs.Prelude.{Bool, true, false, ◌&&◌, nat_lt, nat_le, if◌then◌else◌, take, drop, ◌==◌}
+use Rattle.octet_core.proofs.Choice.{either}
 use Rattle.block_core.specs.Block.{Parts, other}
 use Rattle.block_core.specs.declared.pcb.Fault.TheVariants.{Free, Redundancy, Other}
 use Rattle.block_core.specs.declared.pcb.S.TheVariants.{Resynch, Ifs, Abort, Wtx}
@@ -57,10 +58,6 @@ pub record Roomy (l : Link) : Type 0 where
   pub terminal : TermRoom l.terminal
   pub card : HasRoom l.card
   pub way : WayRoom l.under_way
-
-either : {A : Type 0} (P : A → Type 0) (test : Bool) (a b : A) → P a → P b → P (if test then a else b)
-either P true a b p q = p
-either P false a b p q = q
 
 -- ---- the terminal
 

@@ -3,6 +3,7 @@ use Rattle.std.proofs.Common.{◌≡◌, ◌<◌, ◌≤◌, ◌+◌, ◌*◌, �
 use Rattle.std.specs.Prelude.{Bool, true, false, ◌&&◌, nat_lt, nat_le, if◌then◌else◌, take, drop, ◌==◌}
 use Rattle.std.proofs.lemmas.Bool.{le-leb}
 use Rattle.std.proofs.lemmas.List.{length-drop}
+use Rattle.octet_core.proofs.Choice.{either}
 use Rattle.block_core.specs.Block.{other}
 use Rattle.block_core.specs.declared.pcb.Number.{Number}
 use Rattle.block_core.specs.declared.pcb.Number.TheVariants.{Zero, One}
@@ -131,10 +132,6 @@ unsaved : (c : CardState) (saved : Option (List ℕ)) (x : Number)
 unsaved c None x = refl
 unsaved c (Some field) Zero = refl
 unsaved c (Some field) One = refl
-
-either : {A : Type 0} (P : A → Type 0) (test : Bool) (a b : A) → P a → P b → P (if test then a else b)
-either P true a b p q = p
-either P false a b p q = q
 
 chosen : {A : Type 0} (P : A → Type 0) (test : Bool) (a b : A) → test ≡ true → P a → P (if test then a else b)
 chosen P test a b e p = subst (λ x. P (if x then a else b)) (sym e) p

@@ -3,6 +3,7 @@ use Rattle.std.proofs.Common.{inl, inr, true≢false, ◌≡◌, ℕ, ◌+◌, �
 use Rattle.std.specs.Prelude.{Bool, true, false, ◌&&◌, Option, Some, None, Ok, Err, nat_lt, if◌then◌else◌, nat_le, take, drop, ◌==◌}
 use Rattle.std.proofs.lemmas.Bool.{le-leb, leb-true, ltb-false}
 use Rattle.std.proofs.lemmas.List.{take-append-drop, length-take, append_assoc, append-nil, length-append}
+use Rattle.octet_core.proofs.Choice.{either}
 use Rattle.block_core.specs.Block.{Parts}
 use Rattle.block_core.specs.declared.pcb.Number.{Number}
 use Rattle.block_core.specs.declared.pcb.Number.TheVariants.{Zero, One}
@@ -558,10 +559,6 @@ kept_transmits m fits l (replies_doubted (further joined) field rest u e p q ok)
     replies_doubted (further joined) field rest u e p q ok
 kept_transmits m fits l (joined_told u e p ok) = joined_told u e p ok
 kept_transmits m fits l (joined_doubted u e p ok) = joined_doubted u e p ok
-
-either : {A : Type 0} (P : A → Type 0) (x : Bool) (a b : A) → P a → P b → P (if x then a else b)
-either P true a b p q = p
-either P false a b p q = q
 
 -- The application asks for a size.
 pub kept_asks : {P : Type 0} {kt kc : Limits} (v : ℕ) (l : Link) → Good P kt kc l

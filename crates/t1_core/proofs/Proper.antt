@@ -4,6 +4,7 @@ use Rattle.std.specs.Prelude.{Bool, true, false, ◌&&◌, ◌==◌, nat_lt, nat
 use Rattle.std.proofs.lemmas.List.{get_or-take, get_or_past, get_or-drop, length-take}
 use Rattle.std.proofs.lemmas.Bool.{cases_lt}
 use Rattle.std.proofs.lemmas.Bool.Decides.{nat_tests}
+use Rattle.octet_core.proofs.Choice.{either}
 use Rattle.octet_core.specs.Octets.{AreOctets}
 use Rattle.block_core.specs.Block.{Parts, IsProper, Suits, IsSize, supervisory_len}
 use Rattle.block_core.specs.declared.pcb.Number.{Number}
@@ -83,10 +84,6 @@ size-sound n h k = record { nad = refl; octets = octets-one n (omega arith); sui
 
 resynch-sound : Sound (request Resynch [])
 resynch-sound = record { nad = refl; octets = octets-none; suits = (refl, tt) }
-
-either : {A : Type 0} (P : A → Type 0) (x : Bool) (a b : A) → P a → P b → P (if x then a else b)
-either P true a b p q = p
-either P false a b p q = q
 
 failing : (t : TerminalState) (b : Parts) → SoundWaits t.waits → Sound b → SoundStep (fails t b)
 failing t b w h = either SoundStep (nat_lt t.failures most_repeats) _ _ (h, w) (resynch-sound, tt)

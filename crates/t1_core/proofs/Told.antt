@@ -1,6 +1,7 @@
 -- The turn Answered leaves an answer, and Asked the host's turn.
 use Rattle.std.proofs.Common.{◌≡◌, ℕ, ◌+◌, List, ◌++◌, length, refl, subst}
 use Rattle.std.specs.Prelude.{Bool, true, false, ◌&&◌, ◌==◌, nat_lt, nat_le, if◌then◌else◌, Option, Some, None, Ok, Err}
+use Rattle.octet_core.proofs.Choice.{either}
 use Rattle.block_core.specs.Block.{Parts}
 use Rattle.block_core.specs.declared.pcb.S.TheVariants.{Resynch, Ifs, Abort, Wtx}
 use Rattle.block_core.specs.declared.pcb.Pcb.TheVariants.{Info, Ready, Request, Response}
@@ -22,10 +23,6 @@ Says turn octets = Unit {0}
 abbrev Tell : TerminalStep → Type 0
 Tell (Ok step) = Says step.0 step.1.answered
 Tell (Err fault) = Unit {0}
-
-either : {A : Type 0} (P : A → Type 0) (x : Bool) (a b : A) → P a → P b → P (if x then a else b)
-either P true a b p q = p
-either P false a b p q = q
 
 failing : (t : TerminalState) (b : Parts) → Tell (fails t b)
 failing t b = either Tell (nat_lt t.failures most_repeats) _ _ tt tt

@@ -7,7 +7,7 @@ use Rattle.exchange_text.specs.declared.exchange.Version.TheVariants.{One, Two}
 use Rattle.exchange_text.specs.declared.line.Line.{Line}
 use Rattle.exchange_text.specs.declared.line.Line.TheVariants as line
 use Rattle.exchange_text.proofs.Naming.{both}
-use Rattle.exchange_text.proofs.Sequel.{both-true}
+use Rattle.std.proofs.lemmas.Bool.{and_from}
 use Rattle.traces.specs.declared.trace.Item.{Item}
 use Rattle.traces.specs.declared.trace.Item.TheVariants.{Block, Quiet, Moment}
 use Rattle.traces.specs.Following.{after_items, begun, ended}
@@ -63,8 +63,8 @@ rising-proper least [] h = refl
 rising-proper least (Moment moment ∷ items) h =
     let a = both (nat_le least moment) (nat_le moment latest_moment && rises moment items) h in
     let b = both (nat_le moment latest_moment) (rises moment items) a.1 in
-    both-true (nat_le least moment && nat_le moment latest_moment) (are_proper Two moment (owns moments items))
-    (both-true (nat_le least moment) (nat_le moment latest_moment) a.0 b.0) (rising-proper moment items b.1)
+    and_from (nat_le least moment && nat_le moment latest_moment) (are_proper Two moment (owns moments items))
+    (and_from (nat_le least moment) (nat_le moment latest_moment) a.0 b.0) (rising-proper moment items b.1)
 rising-proper least (Block from octets lost ∷ items) h = rising-proper least items h
 rising-proper least (Quiet ∷ items) h = rising-proper least items h
 

@@ -7,7 +7,7 @@ use Rattle.exchange_text.specs.declared.exchange.Version.TheVariants.{One, Two}
 use Rattle.exchange_text.specs.declared.line.Line.{Line}
 use Rattle.exchange_text.specs.declared.line.Line.TheVariants as line
 use Rattle.exchange_text.proofs.Naming.{both}
-use Rattle.exchange_text.proofs.Sequel.{both-true}
+use Rattle.std.proofs.lemmas.Bool.{and_from}
 use Rattle.exchange_core.specs.Replay.{End, passes, goes_on, replay_from, replay_line, replay_lines, terminal_end, card_end}
 use Rattle.block_core.specs.declared.side.Side.{Side}
 use Rattle.block_core.specs.declared.side.Side.TheVariants.{Terminal, Card}
@@ -46,7 +46,7 @@ two-marked least place places (line ∷ lines) h =
     let parts = both (may_follow Two least line) (are_proper Two (moment_after least line) lines) h in
     let rest = marked (place + 1) (left_after place places) lines in
     put-proper least place places line rest
-    (both-true (may_follow Two least line) (are_proper Two (moment_after least line) rest) parts.0
+    (and_from (may_follow Two least line) (are_proper Two (moment_after least line) rest) parts.0
     (two-marked (moment_after least line) (place + 1) (left_after place places) lines parts.1))
 
 one-two : (least : ℕ) (lines : List Line) → are_proper One least lines ≡ true → are_proper Two least lines ≡ true
