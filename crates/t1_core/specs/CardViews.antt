@@ -35,10 +35,21 @@ abbrev pub taken_of : Waits → List ℕ
 taken_of (command joined) = joined
 taken_of waits = []
 
+-- how many they are, if the card holds so many octets of a command
+abbrev pub taken_len : CardWait → ℕ → ℕ
+taken_len Joining octets = octets
+taken_len wait octets = 0
+
 -- the card waits for a command, so an I-block of a command can be joined
-abbrev pub IsTaking : Waits → Type 0
-IsTaking (command joined) = Unit {0}
-IsTaking waits = ⊥
+abbrev pub IsTaking : CardWait → Type 0
+IsTaking Command = Unit {0}
+IsTaking Joining = Unit {0}
+IsTaking wait = ⊥
+
+-- the card sends a reply, and more of it follows the last I-block
+abbrev pub IsReplying : CardWait → Type 0
+IsReplying (Reply cut) = Unit {0}
+IsReplying wait = ⊥
 
 -- the command that the host owes the reply to, if any
 abbrev pub owed : CardState → Waits → Option (List ℕ)

@@ -9,6 +9,7 @@ pub mod Promises
 pub mod Views
 pub mod CardViews
 pub mod Sending
+pub mod Steps
 pub mod Put
 pub mod Awaited
 pub mod Shown

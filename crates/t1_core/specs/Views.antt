@@ -45,10 +45,10 @@ joined_of (more joined) = joined
 joined_of waits = []
 
 -- the terminal waits for the answer, so an I-block of it can be joined
-abbrev pub IsJoining : Waits → Type 0
-IsJoining (answer field) = Unit {0}
-IsJoining (more joined) = Unit {0}
-IsJoining waits = ⊥
+abbrev pub IsJoining : TerminalWait → Type 0
+IsJoining (Answer cut) = Unit {0}
+IsJoining More = Unit {0}
+IsJoining wait = ⊥
 
 -- this cut is a block of a message of so many octets, and more of the message follows it, or nothing does
 abbrev pub IsInner : Cut → ℕ → Type 0

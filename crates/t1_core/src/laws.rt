@@ -42,7 +42,7 @@ pub fn patient()
 {}
 
 /// The turn `Answered` leaves an answer, and `Asked` leaves the host its turn.
-pub fn told()
+pub fn turns_leave_messages()
     ensures { Tells tables }
 {}
 

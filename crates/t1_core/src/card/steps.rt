@@ -4,8 +4,9 @@ ghost use Rattle.std.specs.Prelude.{◌≡◌, ◌≤◌, length, true, IfErr};
 ghost use Rattle.block_core.specs.Block.{IsWhole};
 ghost use Rattle.t1_core.specs.Came.{class_of, info};
 ghost use Rattle.t1_core.specs.CardViews.{card_held, IsLentCard, IsBlank, field_of};
-ghost use Rattle.t1_core.specs.Sending.{field_saved, card_sends, card_answers};
-ghost use Rattle.t1_core.specs.Card.{takes, replies, more_time, ask_ifs, card_turn, turn_of, state_after};
+ghost use Rattle.t1_core.specs.Sending.{field_saved, card_sends};
+ghost use Rattle.t1_core.specs.Card.{takes, replies, more_time, ask_ifs, card_turn};
+ghost use Rattle.t1_core.specs.Steps.{CardTook};
 
 use crate::class::classify;
 use crate::cutting::field_in;
@@ -30,13 +31,9 @@ impl LentCard {
         requires whole { is_whole ≡ true → IsWhole octets.now }
         requires fit { IsLentCard self.old (length command_buffer.old) (length reply_buffer.now) }
         ensures fit { IsLentCard self.new (length command_buffer.new) (length reply_buffer.now) }
-        ensures turn { card_answers (card_held self.new command_buffer.new reply_buffer.now) result
-            ≡ turn_of (card_turn (card_held self.old command_buffer.old reply_buffer.now)
-            (takes (class_of (card_held self.old command_buffer.old reply_buffer.now).ifsc octets.now))) }
-        ensures state { card_held self.new command_buffer.new reply_buffer.now
-            ≡ state_after (card_held self.old command_buffer.old reply_buffer.now)
-            (card_turn (card_held self.old command_buffer.old reply_buffer.now)
-            (takes (class_of (card_held self.old command_buffer.old reply_buffer.now).ifsc octets.now))) }
+        ensures took { CardTook (λ c. card_turn c (takes (class_of c.ifsc octets.now)))
+            (card_held self.old command_buffer.old reply_buffer.now)
+            (card_held self.new command_buffer.new reply_buffer.now) result }
         ensures blank { IsBlank self.old command_buffer.old → IsBlank self.new command_buffer.new }
         ensures refused { IfErr result
             (λ _. (self.new ≡ self.old) × (command_buffer.new ≡ command_buffer.old)) }
@@ -68,11 +65,9 @@ impl LentCard {
     ) -> Result<CardAct, CardFault>
         requires fit { IsLentCard self.old (length command_buffer.now) (length reply_buffer.old) }
         ensures fit { IsLentCard self.new (length command_buffer.now) (length reply_buffer.new) }
-        ensures turn { card_answers (card_held self.new command_buffer.now reply_buffer.new) result
-            ≡ turn_of (card_turn (card_held self.old command_buffer.now reply_buffer.old) (replies octets.now)) }
-        ensures state { card_held self.new command_buffer.now reply_buffer.new
-            ≡ state_after (card_held self.old command_buffer.now reply_buffer.old)
-            (card_turn (card_held self.old command_buffer.now reply_buffer.old) (replies octets.now)) }
+        ensures took { CardTook (λ c. card_turn c (replies octets.now))
+            (card_held self.old command_buffer.now reply_buffer.old)
+            (card_held self.new command_buffer.now reply_buffer.new) result }
         ensures blank { IsBlank self.old command_buffer.now → IsBlank self.new command_buffer.now }
         ensures refused { IfErr result
             (λ _. (self.new ≡ self.old) × (reply_buffer.new ≡ reply_buffer.old)) }
@@ -97,11 +92,9 @@ impl LentCard {
     ) -> Result<CardAct, CardFault>
         requires fit { IsLentCard self.old (length command_buffer.now) (length reply_buffer.now) }
         ensures fit { IsLentCard self.new (length command_buffer.now) (length reply_buffer.now) }
-        ensures turn { card_answers (card_held self.new command_buffer.now reply_buffer.now) result
-            ≡ turn_of (card_turn (card_held self.old command_buffer.now reply_buffer.now) (more_time multiple)) }
-        ensures state { card_held self.new command_buffer.now reply_buffer.now
-            ≡ state_after (card_held self.old command_buffer.now reply_buffer.now)
-            (card_turn (card_held self.old command_buffer.now reply_buffer.now) (more_time multiple)) }
+        ensures took { CardTook (λ c. card_turn c (more_time multiple))
+            (card_held self.old command_buffer.now reply_buffer.now)
+            (card_held self.new command_buffer.now reply_buffer.now) result }
         ensures blank { IsBlank self.old command_buffer.now → IsBlank self.new command_buffer.now }
         ensures refused { IfErr result (λ _. self.new ≡ self.old) }
     {
@@ -120,11 +113,9 @@ impl LentCard {
     ) -> Result<CardAct, CardFault>
         requires fit { IsLentCard self.old (length command_buffer.now) (length reply_buffer.now) }
         ensures fit { IsLentCard self.new (length command_buffer.now) (length reply_buffer.now) }
-        ensures turn { card_answers (card_held self.new command_buffer.now reply_buffer.now) result
-            ≡ turn_of (card_turn (card_held self.old command_buffer.now reply_buffer.now) (ask_ifs size)) }
-        ensures state { card_held self.new command_buffer.now reply_buffer.now
-            ≡ state_after (card_held self.old command_buffer.now reply_buffer.now)
-            (card_turn (card_held self.old command_buffer.now reply_buffer.now) (ask_ifs size)) }
+        ensures took { CardTook (λ c. card_turn c (ask_ifs size))
+            (card_held self.old command_buffer.now reply_buffer.now)
+            (card_held self.new command_buffer.now reply_buffer.now) result }
         ensures blank { IsBlank self.old command_buffer.now → IsBlank self.new command_buffer.now }
         ensures refused { IfErr result (λ _. self.new ≡ self.old) }
     {

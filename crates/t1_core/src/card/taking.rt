@@ -1,13 +1,14 @@
 //! What the card does with what came, in each state.
 
-ghost use Rattle.std.specs.Prelude.{◌≡◌, ◌≤◌, ◌+◌, ◌++◌, ℕ, List, length, take, []};
+ghost use Rattle.std.specs.Prelude.{◌≡◌, ◌≤◌, ◌+◌, ◌++◌, ℕ, List, length, take, [], Ok};
 ghost use Rattle.block_core.specs.declared.pcb.Fault.TheVariants.{Free};
 ghost use Rattle.block_core.specs.declared.pcb.Pcb.TheVariants.{Ready};
 ghost use Rattle.t1_core.specs.Came.{got};
+ghost use Rattle.t1_core.specs.declared.turns.CardWait.TheVariants.{Asking};
 ghost use Rattle.t1_core.specs.Views.{came_of};
-ghost use Rattle.t1_core.specs.CardViews.{card_held, IsLentCard, field_of, rest_of, taken_of, request_of, IsTaking, IsRequest, IsBlank, IsBlankAfter};
-ghost use Rattle.t1_core.specs.Sending.{card_does};
-ghost use Rattle.t1_core.specs.Card.{command, reply, asking, card_came, in_either, in_reply, joins, sends_saved, resynched, turn_of, state_after};
+ghost use Rattle.t1_core.specs.CardViews.{card_held, IsLentCard, field_of, rest_of, taken_of, taken_len, IsTaking, IsReplying, IsBlank, IsBlankAfter};
+ghost use Rattle.t1_core.specs.Card.{command, card_came, in_either, in_reply, joins, sends_saved, resynched};
+ghost use Rattle.t1_core.specs.Steps.{CardTook};
 
 use crate::class::Arrived;
 use crate::lent::LentCard;
@@ -27,18 +28,12 @@ impl LentCard {
         arrived: &Arrived,
     ) -> CardAct
         requires fit { IsLentCard self.old (length command_buffer.old) (length reply_buffer.now) }
-        requires waits { (card_held self.old command_buffer.old reply_buffer.now).waits
-            ≡ command (taken_of (card_held self.old command_buffer.old reply_buffer.now).waits) }
+        requires taking { IsTaking self.old.wait }
         ensures fit { IsLentCard self.new (length command_buffer.new) (length reply_buffer.now) }
-        ensures turn { turn_of (card_came (card_held self.old command_buffer.old reply_buffer.now)
-            (command (taken_of (card_held self.old command_buffer.old reply_buffer.now).waits))
-            (came_of arrived.now))
-            ≡ Ok (card_does (card_held self.new command_buffer.new reply_buffer.now) result) }
-        ensures state { card_held self.new command_buffer.new reply_buffer.now
-            ≡ state_after (card_held self.old command_buffer.old reply_buffer.now)
-            (card_came (card_held self.old command_buffer.old reply_buffer.now)
-            (command (taken_of (card_held self.old command_buffer.old reply_buffer.now).waits))
-            (came_of arrived.now)) }
+        ensures took { CardTook (λ c.
+            card_came c (command (taken_of c.waits)) (came_of arrived.now))
+            (card_held self.old command_buffer.old reply_buffer.now)
+            (card_held self.new command_buffer.new reply_buffer.now) (Ok result) }
         ensures blank { IsBlank self.old command_buffer.old → IsBlank self.new command_buffer.new }
     {
         match arrived {
@@ -49,8 +44,7 @@ impl LentCard {
             ),
             Arrived::Whole(block) => match block.pcb() {
                 Pcb::Info { number, more } => {
-                    let fits = self.taken_len(command_buffer, reply_buffer) + block.inf().len()
-                        <= self.most_command;
+                    let fits = self.taken_len() + block.inf().len() <= self.most_command;
                     if number == self.expected && fits {
                         self.joins(command_buffer, reply_buffer, block.inf(), more)
                     } else {
@@ -77,19 +71,11 @@ impl LentCard {
         arrived: &Arrived,
     ) -> CardAct
         requires fit { IsLentCard self.old (length command_buffer.old) (length reply_buffer.now) }
-        requires waits { (card_held self.old command_buffer.old reply_buffer.now).waits
-            ≡ reply (field_of (card_held self.old command_buffer.old reply_buffer.now).waits)
-            (rest_of (card_held self.old command_buffer.old reply_buffer.now).waits) }
+        requires replying { IsReplying self.old.wait }
         ensures fit { IsLentCard self.new (length command_buffer.new) (length reply_buffer.now) }
-        ensures turn { turn_of (card_came (card_held self.old command_buffer.old reply_buffer.now)
-            (reply (field_of (card_held self.old command_buffer.old reply_buffer.now).waits)
-            (rest_of (card_held self.old command_buffer.old reply_buffer.now).waits)) (came_of arrived.now))
-            ≡ Ok (card_does (card_held self.new command_buffer.new reply_buffer.now) result) }
-        ensures state { card_held self.new command_buffer.new reply_buffer.now
-            ≡ state_after (card_held self.old command_buffer.old reply_buffer.now)
-            (card_came (card_held self.old command_buffer.old reply_buffer.now)
-            (reply (field_of (card_held self.old command_buffer.old reply_buffer.now).waits)
-            (rest_of (card_held self.old command_buffer.old reply_buffer.now).waits)) (came_of arrived.now)) }
+        ensures took { CardTook (λ c. card_came c c.waits (came_of arrived.now))
+            (card_held self.old command_buffer.old reply_buffer.now)
+            (card_held self.new command_buffer.new reply_buffer.now) (Ok result) }
         ensures blank { IsBlank self.old command_buffer.old → IsBlank self.new command_buffer.new }
     {
         match arrived {
@@ -111,19 +97,12 @@ impl LentCard {
     /// it has the other number, the next block is.
     fn reply_asked(&mut self, command_buffer: &[u8], reply_buffer: &[u8], number: Number) -> CardAct
         requires fit { IsLentCard self.old (length command_buffer.now) (length reply_buffer.now) }
-        requires waits { (card_held self.old command_buffer.now reply_buffer.now).waits
-            ≡ reply (field_of (card_held self.old command_buffer.now reply_buffer.now).waits)
-            (rest_of (card_held self.old command_buffer.now reply_buffer.now).waits) }
+        requires replying { IsReplying self.old.wait }
         ensures fit { IsLentCard self.new (length command_buffer.now) (length reply_buffer.now) }
-        ensures turn { turn_of (in_reply (card_held self.old command_buffer.now reply_buffer.now)
-            (field_of (card_held self.old command_buffer.now reply_buffer.now).waits)
-            (rest_of (card_held self.old command_buffer.now reply_buffer.now).waits) (got (Ready number Free) []))
-            ≡ Ok (card_does (card_held self.new command_buffer.now reply_buffer.now) result) }
-        ensures state { card_held self.new command_buffer.now reply_buffer.now
-            ≡ state_after (card_held self.old command_buffer.now reply_buffer.now)
-            (in_reply (card_held self.old command_buffer.now reply_buffer.now)
-            (field_of (card_held self.old command_buffer.now reply_buffer.now).waits)
-            (rest_of (card_held self.old command_buffer.now reply_buffer.now).waits) (got (Ready number Free) [])) }
+        ensures took { CardTook (λ c.
+            in_reply c (field_of c.waits) (rest_of c.waits) (got (Ready number Free) []))
+            (card_held self.old command_buffer.now reply_buffer.now)
+            (card_held self.new command_buffer.now reply_buffer.now) (Ok result) }
         ensures blank { (buffer : List ℕ) → IsBlank self.old buffer → IsBlank self.new buffer }
     {
         let CardWait::Reply(cut) = self.wait else {
@@ -152,17 +131,11 @@ impl LentCard {
         arrived: &Arrived,
     ) -> CardAct
         requires fit { IsLentCard self.old (length command_buffer.old) (length reply_buffer.now) }
-        requires waits { (card_held self.old command_buffer.old reply_buffer.now).waits
-            ≡ asking (request_of request) }
-        requires request { IsRequest request }
+        requires waits { self.old.wait ≡ Asking request }
         ensures fit { IsLentCard self.new (length command_buffer.new) (length reply_buffer.now) }
-        ensures turn { turn_of (card_came (card_held self.old command_buffer.old reply_buffer.now)
-            (asking (request_of request)) (came_of arrived.now))
-            ≡ Ok (card_does (card_held self.new command_buffer.new reply_buffer.now) result) }
-        ensures state { card_held self.new command_buffer.new reply_buffer.now
-            ≡ state_after (card_held self.old command_buffer.old reply_buffer.now)
-            (card_came (card_held self.old command_buffer.old reply_buffer.now) (asking (request_of request))
-            (came_of arrived.now)) }
+        ensures took { CardTook (λ c. card_came c c.waits (came_of arrived.now))
+            (card_held self.old command_buffer.old reply_buffer.now)
+            (card_held self.new command_buffer.new reply_buffer.now) (Ok result) }
         ensures blank { IsBlank self.old command_buffer.old → IsBlank self.new command_buffer.new }
     {
         match arrived {
@@ -193,12 +166,9 @@ impl LentCard {
     ) -> CardAct
         requires fit { IsLentCard self.old (length command_buffer.now) (length reply_buffer.now) }
         ensures fit { IsLentCard self.new (length command_buffer.now) (length reply_buffer.now) }
-        ensures turn { turn_of (in_either (card_held self.old command_buffer.now reply_buffer.now)
-            (came_of arrived.now))
-            ≡ Ok (card_does (card_held self.new command_buffer.now reply_buffer.now) result) }
-        ensures state { card_held self.new command_buffer.now reply_buffer.now
-            ≡ state_after (card_held self.old command_buffer.now reply_buffer.now)
-            (in_either (card_held self.old command_buffer.now reply_buffer.now) (came_of arrived.now)) }
+        ensures took { CardTook (λ c. in_either c (came_of arrived.now))
+            (card_held self.old command_buffer.now reply_buffer.now)
+            (card_held self.new command_buffer.now reply_buffer.now) (Ok result) }
         ensures blank { (buffer : List ℕ) → IsBlank self.old buffer → IsBlank self.new buffer }
     {
         let fault = match arrived {
@@ -224,21 +194,16 @@ impl LentCard {
         more: bool,
     ) -> CardAct
         requires fit { IsLentCard self.old (length command_buffer.old) (length reply_buffer.now) }
-        requires taking { IsTaking (card_held self.old command_buffer.old reply_buffer.now).waits }
-        requires fits { length (taken_of
-            (card_held self.old command_buffer.old reply_buffer.now).waits)
-            + length inf.now ≤ self.old.most_command }
+        requires taking { IsTaking self.old.wait }
+        requires fits { taken_len self.old.wait self.old.command_len + length inf.now
+            ≤ self.old.most_command }
         ensures fit { IsLentCard self.new (length command_buffer.new) (length reply_buffer.now) }
-        ensures turn { turn_of (joins (card_held self.old command_buffer.old reply_buffer.now)
-            (taken_of (card_held self.old command_buffer.old reply_buffer.now).waits ++ inf.now) more)
-            ≡ Ok (card_does (card_held self.new command_buffer.new reply_buffer.now) result) }
-        ensures state { card_held self.new command_buffer.new reply_buffer.now
-            ≡ state_after (card_held self.old command_buffer.old reply_buffer.now)
-            (joins (card_held self.old command_buffer.old reply_buffer.now)
-            (taken_of (card_held self.old command_buffer.old reply_buffer.now).waits ++ inf.now) more) }
+        ensures took { CardTook (λ c. joins c (taken_of c.waits ++ inf.now) more)
+            (card_held self.old command_buffer.old reply_buffer.now)
+            (card_held self.new command_buffer.new reply_buffer.now) (Ok result) }
         ensures blank { IsBlank self.old command_buffer.old → IsBlank self.new command_buffer.new }
     {
-        let taken = self.opened(command_buffer, reply_buffer);
+        let taken = self.opened(command_buffer);
         self.command_len = append(command_buffer, taken, inf);
         self.number = acknowledged(self.saved, self.number);
         self.saved = None;
@@ -254,16 +219,15 @@ impl LentCard {
 
     /// Returns how many octets of a command came so far. Before the first block of a command, it overwrites the last
     /// command.
-    fn opened(&self, command_buffer: &mut [u8], reply_buffer: &[u8]) -> usize
-        requires fit { IsLentCard self.now (length command_buffer.old) (length reply_buffer.now) }
-        ensures taken { result ≡ length (taken_of
-            (card_held self.now command_buffer.old reply_buffer.now).waits) }
+    fn opened(&self, command_buffer: &mut [u8]) -> usize
+        requires held { self.now.command_len ≤ length command_buffer.old }
+        ensures taken { result ≡ taken_len self.now.wait self.now.command_len }
         ensures kept { take result command_buffer.new ≡ take result command_buffer.old }
         ensures room { length command_buffer.new ≡ length command_buffer.old }
         ensures blank { IsBlank self.now command_buffer.old
             → IsBlankAfter result command_buffer.new }
     {
-        let taken = self.taken_len(command_buffer, reply_buffer);
+        let taken = self.taken_len();
         if taken == 0 {
             overwrite_front(command_buffer, self.command_len);
         }
@@ -271,10 +235,8 @@ impl LentCard {
     }
 
     /// Returns how many octets of a command came so far.
-    fn taken_len(&self, command_buffer: &[u8], reply_buffer: &[u8]) -> usize
-        requires fit { IsLentCard self.now (length command_buffer.now) (length reply_buffer.now) }
-        ensures { result ≡ length (taken_of
-            (card_held self.now command_buffer.now reply_buffer.now).waits) }
+    fn taken_len(&self) -> usize
+        ensures { result ≡ taken_len self.now.wait self.now.command_len }
     {
         match self.wait {
             CardWait::Joining => self.command_len,
@@ -287,13 +249,9 @@ impl LentCard {
     fn sends_saved(&mut self, command_buffer: &[u8], reply_buffer: &[u8], is_own: bool) -> CardAct
         requires fit { IsLentCard self.old (length command_buffer.now) (length reply_buffer.now) }
         ensures fit { IsLentCard self.new (length command_buffer.now) (length reply_buffer.now) }
-        ensures turn { turn_of (sends_saved (card_held self.old command_buffer.now reply_buffer.now)
-            (card_held self.old command_buffer.now reply_buffer.now).saved is_own)
-            ≡ Ok (card_does (card_held self.new command_buffer.now reply_buffer.now) result) }
-        ensures state { card_held self.new command_buffer.now reply_buffer.now
-            ≡ state_after (card_held self.old command_buffer.now reply_buffer.now)
-            (sends_saved (card_held self.old command_buffer.now reply_buffer.now)
-            (card_held self.old command_buffer.now reply_buffer.now).saved is_own) }
+        ensures took { CardTook (λ c. sends_saved c c.saved is_own)
+            (card_held self.old command_buffer.now reply_buffer.now)
+            (card_held self.new command_buffer.now reply_buffer.now) (Ok result) }
         ensures blank { (buffer : List ℕ) → IsBlank self.old buffer → IsBlank self.new buffer }
     {
         match self.saved {
@@ -306,11 +264,9 @@ impl LentCard {
     fn resynched(&mut self, command_buffer: &mut [u8], reply_buffer: &[u8]) -> CardAct
         requires fit { IsLentCard self.old (length command_buffer.old) (length reply_buffer.now) }
         ensures fit { IsLentCard self.new (length command_buffer.new) (length reply_buffer.now) }
-        ensures turn { turn_of (resynched (card_held self.old command_buffer.old reply_buffer.now))
-            ≡ Ok (card_does (card_held self.new command_buffer.new reply_buffer.now) result) }
-        ensures state { card_held self.new command_buffer.new reply_buffer.now
-            ≡ state_after (card_held self.old command_buffer.old reply_buffer.now)
-            (resynched (card_held self.old command_buffer.old reply_buffer.now)) }
+        ensures took { CardTook resynched
+            (card_held self.old command_buffer.old reply_buffer.now)
+            (card_held self.new command_buffer.new reply_buffer.now) (Ok result) }
         ensures blank { IsBlank self.old command_buffer.old → IsBlank self.new command_buffer.new }
     {
         self.number = Number::Zero;

@@ -1,10 +1,10 @@
 //! What the terminal does with what came after it asked for RESYNCH (ISO/IEC 7816-3, clause 11.6).
 
-ghost use Rattle.std.specs.Prelude.{◌≡◌, ◌≤◌, length};
+ghost use Rattle.std.specs.Prelude.{◌≤◌, length, Ok};
 ghost use Rattle.t1_core.specs.Came.{quiet};
 ghost use Rattle.t1_core.specs.Views.{terminal_held, IsLentTerminal, came_of};
-ghost use Rattle.t1_core.specs.Sending.{terminal_does};
-ghost use Rattle.t1_core.specs.Terminal.{most_resynchs, in_resynch, turn_of, state_after};
+ghost use Rattle.t1_core.specs.Terminal.{most_resynchs, in_resynch};
+ghost use Rattle.t1_core.specs.Steps.{TerminalTook};
 
 use crate::class::Arrived;
 use crate::lent::LentTerminal;
@@ -27,13 +27,9 @@ impl LentTerminal {
         requires asked { asked ≤ most_resynchs }
         ensures fit { IsLentTerminal self.new (length command_buffer.now)
             (length answer_buffer.now) }
-        ensures turn { turn_of (in_resynch
-            (terminal_held self.old command_buffer.now answer_buffer.now) asked
-            (came_of arrived.now))
-            ≡ Ok (terminal_does (terminal_held self.new command_buffer.now answer_buffer.now) result) }
-        ensures state { terminal_held self.new command_buffer.now answer_buffer.now
-            ≡ state_after (terminal_held self.old command_buffer.now answer_buffer.now)
-            (in_resynch (terminal_held self.old command_buffer.now answer_buffer.now) asked (came_of arrived.now)) }
+        ensures took { TerminalTook (λ t. in_resynch t asked (came_of arrived.now))
+            (terminal_held self.old command_buffer.now answer_buffer.now)
+            (terminal_held self.new command_buffer.now answer_buffer.now) (Ok result) }
     {
         match arrived {
             Arrived::Damaged | Arrived::Invalid => self.resynch_again(
@@ -71,12 +67,9 @@ impl LentTerminal {
         requires asked { asked ≤ most_resynchs }
         ensures fit { IsLentTerminal self.new (length command_buffer.now)
             (length answer_buffer.now) }
-        ensures turn { turn_of (in_resynch
-            (terminal_held self.old command_buffer.now answer_buffer.now) asked quiet)
-            ≡ Ok (terminal_does (terminal_held self.new command_buffer.now answer_buffer.now) result) }
-        ensures state { terminal_held self.new command_buffer.now answer_buffer.now
-            ≡ state_after (terminal_held self.old command_buffer.now answer_buffer.now)
-            (in_resynch (terminal_held self.old command_buffer.now answer_buffer.now) asked quiet) }
+        ensures took { TerminalTook (λ t. in_resynch t asked quiet)
+            (terminal_held self.old command_buffer.now answer_buffer.now)
+            (terminal_held self.new command_buffer.now answer_buffer.now) (Ok result) }
     {
         if asked < MOST_RESYNCHS {
             self.wait = TerminalWait::Resynch(asked + 1);

@@ -1,11 +1,12 @@
 //! What the terminal does at each call, and the block that it sends, from what it keeps.
 
-ghost use Rattle.std.specs.Prelude.{◌≡◌, ◌≤◌, length, drop, true, false, IfErr};
+ghost use Rattle.std.specs.Prelude.{◌≡◌, ◌≤◌, length, drop, true, false, IfErr, Ok};
 ghost use Rattle.block_core.specs.Block.{IsWhole};
 ghost use Rattle.t1_core.specs.Came.{class_of, quiet, info};
 ghost use Rattle.t1_core.specs.Views.{terminal_held, IsLentTerminal};
-ghost use Rattle.t1_core.specs.Sending.{field_sent, terminal_sends, terminal_does, terminal_answers};
-ghost use Rattle.t1_core.specs.Terminal.{takes, transmit, ask_ifs, terminal_turn, sends_next, turn_of, state_after};
+ghost use Rattle.t1_core.specs.Sending.{field_sent, terminal_sends};
+ghost use Rattle.t1_core.specs.Terminal.{takes, transmit, ask_ifs, terminal_turn, sends_next};
+ghost use Rattle.t1_core.specs.Steps.{TerminalTook};
 
 use crate::class::classify;
 use crate::cutting::field_in;
@@ -29,13 +30,9 @@ impl LentTerminal {
             (length answer_buffer.now) }
         ensures fit { IsLentTerminal self.new (length command_buffer.new)
             (length answer_buffer.now) }
-        ensures turn { terminal_answers
-            (terminal_held self.new command_buffer.new answer_buffer.now) result
-            ≡ turn_of (terminal_turn (terminal_held self.old command_buffer.old answer_buffer.now)
-            (transmit command.now)) }
-        ensures state { terminal_held self.new command_buffer.new answer_buffer.now
-            ≡ state_after (terminal_held self.old command_buffer.old answer_buffer.now)
-            (terminal_turn (terminal_held self.old command_buffer.old answer_buffer.now) (transmit command.now)) }
+        ensures took { TerminalTook (λ t. terminal_turn t (transmit command.now))
+            (terminal_held self.old command_buffer.old answer_buffer.now)
+            (terminal_held self.new command_buffer.new answer_buffer.now) result }
         ensures refused { IfErr result
             (λ _. (self.new ≡ self.old) × (command_buffer.new ≡ command_buffer.old)) }
     {
@@ -60,12 +57,9 @@ impl LentTerminal {
             (length answer_buffer.now) }
         ensures fit { IsLentTerminal self.new (length command_buffer.now)
             (length answer_buffer.now) }
-        ensures turn { terminal_answers
-            (terminal_held self.new command_buffer.now answer_buffer.now) result
-            ≡ turn_of (terminal_turn (terminal_held self.old command_buffer.now answer_buffer.now) (ask_ifs size)) }
-        ensures state { terminal_held self.new command_buffer.now answer_buffer.now
-            ≡ state_after (terminal_held self.old command_buffer.now answer_buffer.now)
-            (terminal_turn (terminal_held self.old command_buffer.now answer_buffer.now) (ask_ifs size)) }
+        ensures took { TerminalTook (λ t. terminal_turn t (ask_ifs size))
+            (terminal_held self.old command_buffer.now answer_buffer.now)
+            (terminal_held self.new command_buffer.now answer_buffer.now) result }
         ensures refused { IfErr result (λ _. self.new ≡ self.old) }
     {
         if_idle(self.wait)?;
@@ -90,14 +84,9 @@ impl LentTerminal {
             (length answer_buffer.old) }
         ensures fit { IsLentTerminal self.new (length command_buffer.now)
             (length answer_buffer.new) }
-        ensures turn { terminal_answers
-            (terminal_held self.new command_buffer.now answer_buffer.new) result
-            ≡ turn_of (terminal_turn (terminal_held self.old command_buffer.now answer_buffer.old)
-            (takes (class_of (terminal_held self.old command_buffer.now answer_buffer.old).ifsd octets.now))) }
-        ensures state { terminal_held self.new command_buffer.now answer_buffer.new
-            ≡ state_after (terminal_held self.old command_buffer.now answer_buffer.old)
-            (terminal_turn (terminal_held self.old command_buffer.now answer_buffer.old)
-            (takes (class_of (terminal_held self.old command_buffer.now answer_buffer.old).ifsd octets.now))) }
+        ensures took { TerminalTook (λ t. terminal_turn t (takes (class_of t.ifsd octets.now)))
+            (terminal_held self.old command_buffer.now answer_buffer.old)
+            (terminal_held self.new command_buffer.now answer_buffer.new) result }
         ensures refused { IfErr result
             (λ _. (self.new ≡ self.old) × (answer_buffer.new ≡ answer_buffer.old)) }
     {
@@ -143,12 +132,9 @@ impl LentTerminal {
             (length answer_buffer.now) }
         ensures fit { IsLentTerminal self.new (length command_buffer.now)
             (length answer_buffer.now) }
-        ensures turn { terminal_answers
-            (terminal_held self.new command_buffer.now answer_buffer.now) result
-            ≡ turn_of (terminal_turn (terminal_held self.old command_buffer.now answer_buffer.now) (takes quiet)) }
-        ensures state { terminal_held self.new command_buffer.now answer_buffer.now
-            ≡ state_after (terminal_held self.old command_buffer.now answer_buffer.now)
-            (terminal_turn (terminal_held self.old command_buffer.now answer_buffer.now) (takes quiet)) }
+        ensures took { TerminalTook (λ t. terminal_turn t (takes quiet))
+            (terminal_held self.old command_buffer.now answer_buffer.now)
+            (terminal_held self.new command_buffer.now answer_buffer.now) result }
         ensures refused { IfErr result (λ _. self.new ≡ self.old) }
     {
         match self.wait {
@@ -185,14 +171,9 @@ impl LentTerminal {
         requires unanswered { self.old.is_answered ≡ false }
         ensures fit { IsLentTerminal self.new (length command_buffer.now)
             (length answer_buffer.now) }
-        ensures turn { turn_of (sends_next
+        ensures took { TerminalTook (λ t. sends_next t (drop place t.command))
             (terminal_held self.old command_buffer.now answer_buffer.now)
-            (drop place (terminal_held self.old command_buffer.now answer_buffer.now).command))
-            ≡ Ok (terminal_does (terminal_held self.new command_buffer.now answer_buffer.now) result) }
-        ensures state { terminal_held self.new command_buffer.now answer_buffer.now
-            ≡ state_after (terminal_held self.old command_buffer.now answer_buffer.now)
-            (sends_next (terminal_held self.old command_buffer.now answer_buffer.now)
-            (drop place (terminal_held self.old command_buffer.now answer_buffer.now).command)) }
+            (terminal_held self.new command_buffer.now answer_buffer.now) (Ok result) }
     {
         let cut = Cut {
             place,
@@ -233,8 +214,7 @@ impl LentTerminal {
     fn info<'a>(&self, command_buffer: &'a [u8], answer_buffer: &[u8], more: bool) -> BlockRef<'a>
         requires fit { IsLentTerminal self.now (length command_buffer.now)
             (length answer_buffer.now) }
-        ensures { result ≡ info (terminal_held self.now command_buffer.now answer_buffer.now).number
-            more
+        ensures { result ≡ info self.now.number more
             (field_sent (terminal_held self.now command_buffer.now answer_buffer.now).waits) }
     {
         let pcb = Pcb::Info {

@@ -1,10 +1,12 @@
 //! What the terminal does with what came, in each state.
 
-ghost use Rattle.std.specs.Prelude.{◌≡◌, ◌≤◌, ◌+◌, ◌++◌, length, false};
+ghost use Rattle.std.specs.Prelude.{◌≡◌, ◌≤◌, ◌+◌, ◌++◌, length, Ok};
 ghost use Rattle.t1_core.specs.Came.{ready};
-ghost use Rattle.t1_core.specs.Views.{terminal_held, IsLentTerminal, came_of, field_at, rest_at, joined_of, IsJoining, IsInner, IsLast, IsSize};
-ghost use Rattle.t1_core.specs.Sending.{terminal_sends, terminal_does};
-ghost use Rattle.t1_core.specs.Terminal.{ack, answer, more, in_exchange, in_ack, in_answer, in_more, in_ifs, joins, fails, turn_of, state_after};
+ghost use Rattle.t1_core.specs.declared.turns.TerminalWait.TheVariants.{Ack, Answer, More};
+ghost use Rattle.t1_core.specs.Views.{terminal_held, IsLentTerminal, came_of, field_at, rest_at, joined_of, IsJoining, IsSize};
+ghost use Rattle.t1_core.specs.Sending.{terminal_sends};
+ghost use Rattle.t1_core.specs.Terminal.{in_exchange, in_ack, in_answer, in_more, in_ifs, joins, fails};
+ghost use Rattle.t1_core.specs.Steps.{TerminalTook};
 
 use crate::class::Arrived;
 use crate::lent::LentTerminal;
@@ -25,24 +27,13 @@ impl LentTerminal {
     ) -> TerminalAct
         requires fit { IsLentTerminal self.old (length command_buffer.now)
             (length answer_buffer.now) }
-        requires inner { IsInner cut self.old.command_len }
-        requires waits { (terminal_held self.old command_buffer.now answer_buffer.now).waits
-            ≡ ack (field_at cut (terminal_held self.old command_buffer.now answer_buffer.now).command)
-            (rest_at cut (terminal_held self.old command_buffer.now answer_buffer.now).command) }
-        requires unanswered { self.old.is_answered ≡ false }
+        requires waits { self.old.wait ≡ Ack cut }
         ensures fit { IsLentTerminal self.new (length command_buffer.now)
             (length answer_buffer.now) }
-        ensures turn { turn_of (in_ack (terminal_held self.old command_buffer.now answer_buffer.now)
-            (field_at cut (terminal_held self.old command_buffer.now answer_buffer.now).command)
-            (rest_at cut (terminal_held self.old command_buffer.now answer_buffer.now).command)
-            (came_of arrived.now))
-            ≡ Ok (terminal_does (terminal_held self.new command_buffer.now answer_buffer.now) result) }
-        ensures state { terminal_held self.new command_buffer.now answer_buffer.now
-            ≡ state_after (terminal_held self.old command_buffer.now answer_buffer.now)
-            (in_ack (terminal_held self.old command_buffer.now answer_buffer.now)
-            (field_at cut (terminal_held self.old command_buffer.now answer_buffer.now).command)
-            (rest_at cut (terminal_held self.old command_buffer.now answer_buffer.now).command)
-            (came_of arrived.now)) }
+        ensures took { TerminalTook
+            (λ t. in_ack t (field_at cut t.command) (rest_at cut t.command) (came_of arrived.now))
+            (terminal_held self.old command_buffer.now answer_buffer.now)
+            (terminal_held self.new command_buffer.now answer_buffer.now) (Ok result) }
     {
         match arrived {
             Arrived::Damaged | Arrived::Invalid => self.exchange_took(
@@ -76,21 +67,13 @@ impl LentTerminal {
     ) -> TerminalAct
         requires fit { IsLentTerminal self.old (length command_buffer.now)
             (length answer_buffer.old) }
-        requires last { IsLast cut self.old.command_len }
-        requires waits { (terminal_held self.old command_buffer.now answer_buffer.old).waits
-            ≡ answer (field_at cut (terminal_held self.old command_buffer.now answer_buffer.old).command) }
+        requires waits { self.old.wait ≡ Answer cut }
         ensures fit { IsLentTerminal self.new (length command_buffer.now)
             (length answer_buffer.new) }
-        ensures turn { turn_of (in_answer
+        ensures took { TerminalTook
+            (λ t. in_answer t (field_at cut t.command) (came_of arrived.now))
             (terminal_held self.old command_buffer.now answer_buffer.old)
-            (field_at cut (terminal_held self.old command_buffer.now answer_buffer.old).command)
-            (came_of arrived.now))
-            ≡ Ok (terminal_does (terminal_held self.new command_buffer.now answer_buffer.new) result) }
-        ensures state { terminal_held self.new command_buffer.now answer_buffer.new
-            ≡ state_after (terminal_held self.old command_buffer.now answer_buffer.old)
-            (in_answer (terminal_held self.old command_buffer.now answer_buffer.old)
-            (field_at cut (terminal_held self.old command_buffer.now answer_buffer.old).command)
-            (came_of arrived.now)) }
+            (terminal_held self.new command_buffer.now answer_buffer.new) (Ok result) }
     {
         match arrived {
             Arrived::Damaged | Arrived::Invalid => self.exchange_took(
@@ -132,18 +115,12 @@ impl LentTerminal {
     ) -> TerminalAct
         requires fit { IsLentTerminal self.old (length command_buffer.now)
             (length answer_buffer.old) }
-        requires waits { (terminal_held self.old command_buffer.now answer_buffer.old).waits
-            ≡ more (joined_of (terminal_held self.old command_buffer.now answer_buffer.old).waits) }
+        requires waits { self.old.wait ≡ More }
         ensures fit { IsLentTerminal self.new (length command_buffer.now)
             (length answer_buffer.new) }
-        ensures turn { turn_of (in_more
+        ensures took { TerminalTook (λ t. in_more t (joined_of t.waits) (came_of arrived.now))
             (terminal_held self.old command_buffer.now answer_buffer.old)
-            (joined_of (terminal_held self.old command_buffer.now answer_buffer.old).waits) (came_of arrived.now))
-            ≡ Ok (terminal_does (terminal_held self.new command_buffer.now answer_buffer.new) result) }
-        ensures state { terminal_held self.new command_buffer.now answer_buffer.new
-            ≡ state_after (terminal_held self.old command_buffer.now answer_buffer.old)
-            (in_more (terminal_held self.old command_buffer.now answer_buffer.old)
-            (joined_of (terminal_held self.old command_buffer.now answer_buffer.old).waits) (came_of arrived.now)) }
+            (terminal_held self.new command_buffer.now answer_buffer.new) (Ok result) }
     {
         match arrived {
             Arrived::Damaged | Arrived::Invalid => self.exchange_took(
@@ -183,13 +160,9 @@ impl LentTerminal {
         requires size { IsSize size }
         ensures fit { IsLentTerminal self.new (length command_buffer.now)
             (length answer_buffer.now) }
-        ensures turn { turn_of (in_ifs (terminal_held self.old command_buffer.now answer_buffer.now)
-            size
-            (came_of arrived.now))
-            ≡ Ok (terminal_does (terminal_held self.new command_buffer.now answer_buffer.now) result) }
-        ensures state { terminal_held self.new command_buffer.now answer_buffer.now
-            ≡ state_after (terminal_held self.old command_buffer.now answer_buffer.now)
-            (in_ifs (terminal_held self.old command_buffer.now answer_buffer.now) size (came_of arrived.now)) }
+        ensures took { TerminalTook (λ t. in_ifs t size (came_of arrived.now))
+            (terminal_held self.old command_buffer.now answer_buffer.now)
+            (terminal_held self.new command_buffer.now answer_buffer.now) (Ok result) }
     {
         if arrived.responds_with(size) {
             self.failures = 0;
@@ -214,20 +187,13 @@ impl LentTerminal {
     ) -> TerminalAct
         requires fit { IsLentTerminal self.old (length command_buffer.now)
             (length answer_buffer.old) }
-        requires joining { IsJoining
-            (terminal_held self.old command_buffer.now answer_buffer.old).waits }
-        requires fits { length (joined_of
-            (terminal_held self.old command_buffer.now answer_buffer.old).waits)
-            + length inf.now ≤ self.old.most_answer }
+        requires joining { IsJoining self.old.wait }
+        requires fits { self.old.answer_len + length inf.now ≤ self.old.most_answer }
         ensures fit { IsLentTerminal self.new (length command_buffer.now)
             (length answer_buffer.new) }
-        ensures turn { turn_of (joins (terminal_held self.old command_buffer.now answer_buffer.old)
-            (joined_of (terminal_held self.old command_buffer.now answer_buffer.old).waits ++ inf.now) more)
-            ≡ Ok (terminal_does (terminal_held self.new command_buffer.now answer_buffer.new) result) }
-        ensures state { terminal_held self.new command_buffer.now answer_buffer.new
-            ≡ state_after (terminal_held self.old command_buffer.now answer_buffer.old)
-            (joins (terminal_held self.old command_buffer.now answer_buffer.old)
-            (joined_of (terminal_held self.old command_buffer.now answer_buffer.old).waits ++ inf.now) more) }
+        ensures took { TerminalTook (λ t. joins t (joined_of t.waits ++ inf.now) more)
+            (terminal_held self.old command_buffer.now answer_buffer.old)
+            (terminal_held self.new command_buffer.now answer_buffer.new) (Ok result) }
     {
         self.answer_len = append(answer_buffer, self.answer_len, inf);
         self.failures = 0;
@@ -253,13 +219,9 @@ impl LentTerminal {
             (length answer_buffer.now) }
         ensures fit { IsLentTerminal self.new (length command_buffer.now)
             (length answer_buffer.now) }
-        ensures turn { turn_of (fails (terminal_held self.old command_buffer.now answer_buffer.now)
-            (terminal_sends (terminal_held self.old command_buffer.now answer_buffer.now) sent))
-            ≡ Ok (terminal_does (terminal_held self.new command_buffer.now answer_buffer.now) result) }
-        ensures state { terminal_held self.new command_buffer.now answer_buffer.now
-            ≡ state_after (terminal_held self.old command_buffer.now answer_buffer.now)
-            (fails (terminal_held self.old command_buffer.now answer_buffer.now)
-            (terminal_sends (terminal_held self.old command_buffer.now answer_buffer.now) sent)) }
+        ensures took { TerminalTook (λ t. fails t (terminal_sends t sent))
+            (terminal_held self.old command_buffer.now answer_buffer.now)
+            (terminal_held self.new command_buffer.now answer_buffer.now) (Ok result) }
     {
         if self.failures < MOST_REPEATS {
             self.failures += 1;
@@ -280,13 +242,9 @@ impl LentTerminal {
             (length answer_buffer.now) }
         ensures fit { IsLentTerminal self.new (length command_buffer.now)
             (length answer_buffer.now) }
-        ensures turn { turn_of (fails (terminal_held self.old command_buffer.now answer_buffer.now)
-            (ready (terminal_held self.old command_buffer.now answer_buffer.now).expected fault))
-            ≡ Ok (terminal_does (terminal_held self.new command_buffer.now answer_buffer.now) result) }
-        ensures state { terminal_held self.new command_buffer.now answer_buffer.now
-            ≡ state_after (terminal_held self.old command_buffer.now answer_buffer.now)
-            (fails (terminal_held self.old command_buffer.now answer_buffer.now)
-            (ready (terminal_held self.old command_buffer.now answer_buffer.now).expected fault)) }
+        ensures took { TerminalTook (λ t. fails t (ready t.expected fault))
+            (terminal_held self.old command_buffer.now answer_buffer.now)
+            (terminal_held self.new command_buffer.now answer_buffer.now) (Ok result) }
     {
         self.fails(
             command_buffer,
@@ -306,13 +264,9 @@ impl LentTerminal {
             (length answer_buffer.now) }
         ensures fit { IsLentTerminal self.new (length command_buffer.now)
             (length answer_buffer.now) }
-        ensures turn { turn_of (in_exchange
+        ensures took { TerminalTook (λ t. in_exchange t (came_of arrived.now))
             (terminal_held self.old command_buffer.now answer_buffer.now)
-            (came_of arrived.now))
-            ≡ Ok (terminal_does (terminal_held self.new command_buffer.now answer_buffer.now) result) }
-        ensures state { terminal_held self.new command_buffer.now answer_buffer.now
-            ≡ state_after (terminal_held self.old command_buffer.now answer_buffer.now)
-            (in_exchange (terminal_held self.old command_buffer.now answer_buffer.now) (came_of arrived.now)) }
+            (terminal_held self.new command_buffer.now answer_buffer.now) (Ok result) }
     {
         let fault = match arrived {
             Arrived::Damaged => Fault::Redundancy,
