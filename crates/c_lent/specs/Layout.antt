@@ -42,12 +42,12 @@ size_of_struct number =
     else if number == 30 then 5
     else if number == 31 then 32
     else if number == 32 then 56
-    else if number == 33 then 88
-    else if number == 34 then 416
+    else if number == 33 then 80
+    else if number == 34 then 408
     else if number == 35 then 24
     else if number == 36 then 40
-    else if number == 37 then 496
-    else if number == 38 then 504
+    else if number == 37 then 480
+    else if number == 38 then 488
     else if number == 39 then 24
     else if number == 40 then 5
     else if number == 41 then 8

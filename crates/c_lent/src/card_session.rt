@@ -30,10 +30,10 @@ const CARD: u8 = 1;
 pub struct CCardSession {
     pub card: CCard,
     pub line: Line,
-    /// How many octets the session's own block has, at the front of the buffer for a block.
-    pub own: usize,
     /// How many requests of the host about the present command the terminal granted.
     pub granted: usize,
+    /// How many octets the session's own block has, at the front of the buffer for a block.
+    pub own: u32,
     /// Whether the host also gets messages of fewer than four octets.
     pub host_takes_short: u8,
 }
@@ -55,7 +55,7 @@ impl<'a> HostCall<'a> {
         self,
         end: &mut LentCard,
         line: &mut Line,
-        own: &mut usize,
+        own: &mut u32,
         command: &[u8],
         reply: &mut [u8],
         now: u64,
@@ -227,7 +227,7 @@ pub fn card_session_step(
         let is_whole = session.line.has_ended_whole(event, octets, next);
         card_session_proceed(session, command, reply, next, is_whole, now, out)
     } else {
-        CSessionNext::acts(Action::of(next, own))
+        CSessionNext::acts(Action::of(next, own as usize))
     }
 }
 

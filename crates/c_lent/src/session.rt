@@ -34,7 +34,7 @@ pub struct CSession {
     pub most_time: u64,
     pub most_blocks: u32,
     /// How many octets the session's own block has, at the front of the buffer for a block.
-    pub own: usize,
+    pub own: u32,
 }
 
 /// A call of the application.
@@ -52,7 +52,7 @@ impl<'a> SessionCall<'a> {
         self,
         end: &mut LentTerminal,
         line: &mut Line,
-        own: &mut usize,
+        own: &mut u32,
         limits: Limits,
         command: &mut [u8],
         answer: &[u8],
@@ -232,7 +232,7 @@ pub fn session_step(
         let is_whole = session.line.has_ended_whole(event, octets, next);
         session_proceed(session, command, answer, next, is_whole, now, out)
     } else {
-        CSessionNext::acts(Action::of(next, own))
+        CSessionNext::acts(Action::of(next, own as usize))
     }
 }
 

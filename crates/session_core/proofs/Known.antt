@@ -1,10 +1,11 @@
 -- A burst that octets ended is a whole block if the marks of the line say so.
 use Rattle.std.proofs.Common.{◌≡◌, ℕ, ◌<◌, ◌+◌, List, [], ◌∷◌, ◌++◌, length, take, min, Bool, true, false, not, ◌&&◌, nat_lt, nat_le, get_or, slice_index, refl, sym, ap, subst, ◌∙◌, ◌≤◌, ◌-◌, if◌then◌else◌, arith, inl, inr, replicate}
-use Rattle.std.proofs.lemmas.Bool.{cases_lt, eqb-true}
+use Rattle.std.proofs.lemmas.Bool.{and_parts, cases_lt, eqb-true, not-true}
 use Rattle.std.proofs.lemmas.List.{length-append, length-take, length-replicate, take-append-le, take_all, get_or-take}
-use Rattle.block_core.specs.Block.{IsWhole}
+use Rattle.octet_core.proofs.Choice.{either_if as either}
+use Rattle.block_core.specs.Block.{IsWhole, is_whole}
 use Rattle.line_core.specs.declared.framing.Framer.{Framer}
-use Rattle.line_core.specs.Bursts.{HasHeard, handed, is_whole, most_counted}
+use Rattle.line_core.specs.Bursts.{HasHeard, handed, most_counted}
 use Rattle.session_core.specs.declared.event.Next.{Next}
 use Rattle.session_core.specs.declared.event.Next.TheVariants.{Heard}
 use Rattle.session_core.specs.declared.progress.Phase.{Phase}
@@ -19,15 +20,6 @@ KnowsIf next whole spoiled burst = Unit {0}
 -- the step hands over no burst, or its marks don't call it whole, or it is
 pub record Knows (step : Step) : Type 0 where
   pub known : KnowsIf step.next step.progress.is_whole step.progress.is_spoiled step.burst
-
-either : {A : Type 0} (P : A → Type 0) (b : Bool) (x y : A) → (b ≡ true → P x) → (b ≡ false → P y)
-    → P (if b then x else y)
-either P true x y f g = f refl
-either P false x y f g = g refl
-
-and-second : (a b : Bool) → (a && b) ≡ true → b ≡ true
-and-second true b e = e
-and-second false b e = cc
 
 knows-heard : (whole spoiled : Bool) (burst : List ℕ) → (whole ≡ true → is_whole burst ≡ true)
     → KnowsIf Heard whole spoiled burst
@@ -64,12 +56,12 @@ goes-on-knows r p burst now block marked = either Knows (is_over r p burst) _ _
 hears-knows : (r : Ruled) (p : Doing) (burst octets : List ℕ) (is_garbled : Bool) (now : ℕ) (block : List ℕ)
     → Knows (hears r p burst octets is_garbled now block)
 unfolding hears
-hears-knows r p burst octets is_garbled now block = goes-on-knows r _ _ now block (λ e. and-second _ _ e)
+hears-knows r p burst octets is_garbled now block = goes-on-knows r _ _ now block (λ e. (and_parts _ _ e).1)
 
 follows-knows : (r : Ruled) (p : Doing) (burst octets : List ℕ) (now : ℕ) (block : List ℕ)
     → Knows (follows r p burst octets now block)
 unfolding follows
-follows-knows r p burst octets now block = goes-on-knows r _ _ now block (λ e. and-second _ _ e)
+follows-knows r p burst octets now block = goes-on-knows r _ _ now block (λ e. (and_parts _ _ e).1)
 
 -- ---- octets that came
 
@@ -143,14 +135,6 @@ on-came-knows r p burst octet octets is_garbled now block = either Knows (is_wai
 
 -- ---- what the framer holds
 
-and-first : (a b : Bool) → (a && b) ≡ true → a ≡ true
-and-first true b e = refl
-and-first false b e = cc
-
-not-true : (b : Bool) → not b ≡ true → b ≡ false
-not-true true e = cc
-not-true false e = refl
-
 knows-that : (next : Next) (whole spoiled : Bool) (burst : List ℕ) → KnowsIf next whole spoiled burst → next ≡ Heard
     → whole ≡ true → spoiled ≡ false → is_whole burst ≡ true
 knows-that next whole spoiled burst k en ew es =
@@ -160,12 +144,12 @@ knows-that next whole spoiled burst k en ew es =
 whole-of : (f : Framer) (burst : List ℕ) → ((i : ℕ) → get_or f.octets i 0 < 256) → HasHeard f burst
     → is_whole burst ≡ true → IsWhole (take handed burst)
 whole-of f burst small h e =
-    let long : length burst ≡ slice_index burst 2 + 4 = eqb-true _ _ (and-first _ _ e) in
+    let long : length burst ≡ slice_index burst 2 + 4 = eqb-true _ _ (and_parts _ _ e).0 in
     let third : get_or burst 2 0 ≡ get_or f.octets 2 0 =
     sym (get_or-take handed burst 2 0 (omega arith)) ∙ ap (λ (l : List ℕ). get_or l 2 0) h.kept
     ∙ get_or-take (min (length burst) handed) f.octets 2 0 (omega (arith, long)) in
     let all : take handed burst ≡ burst = take_all handed burst (omega (arith, long, third, small 2)) in
-    subst IsWhole (sym all) (record { counted = long; summed = eqb-true _ _ (and-second _ _ e) })
+    subst IsWhole (sym all) e
 
 -- a framer holds some burst, whatever its fields are
 pub some-burst : (f : Framer) → length f.octets ≡ handed → f.count ≤ most_counted → (burst : List ℕ) × HasHeard f burst
@@ -204,16 +188,16 @@ pub known-whole : (event : ℕ) (r : Ruled) (p : Doing) (burst octets : List ℕ
 known-whole event r p burst [] now block between after next middle framer is same h small e = cc
 known-whole event r p burst (octet ∷ octets) now block between after Heard middle framer is same h small e =
     let step : Step = stepped event r p burst (octet ∷ octets) now block in
-    let one : event ≡ 1 = eqb-true event 1 (and-first _ _ e) in
+    let one : event ≡ 1 = eqb-true event 1 (and_parts _ _ e).0 in
     let knows : Knows step =
     subst (λ (n : ℕ). Knows (stepped n r p burst (octet ∷ octets) now block)) (sym one)
     (on-came-knows r p burst octet octets false now block) in
-    let marks : (after.is_whole && not after.is_spoiled) ≡ true = and-second _ _ e in
+    let marks : (after.is_whole && not after.is_spoiled) ≡ true = (and_parts _ _ e).1 in
     let clear : between.is_spoiled ≡ false =
-    ap (λ (d : Doing). d.is_spoiled) (sym same) ∙ not-true _ (and-second _ _ marks) in
+    ap (λ (d : Doing). d.is_spoiled) (sym same) ∙ not-true _ (and_parts _ _ marks).1 in
     let whole : is_whole step.burst ≡ true =
     knows-that step.next step.progress.is_whole step.progress.is_spoiled step.burst knows.known (sym is.next_is)
-    (ap (λ (d : Doing). d.is_whole) (sym (same ∙ is.progress)) ∙ and-first _ _ marks)
+    (ap (λ (d : Doing). d.is_whole) (sym (same ∙ is.progress)) ∙ (and_parts _ _ marks).0)
     (ap (λ (d : Doing). d.is_spoiled) (sym is.progress) ∙ clear) in
     let held : HasHeard framer step.burst =
     subst (λ (b : Bool). HasHeard framer (held_over Heard b step.burst)) clear h in

@@ -1,6 +1,7 @@
 -- Steps, from what the parts of a call leave.
 use Rattle.std.specs.List.{starts_with}
 use Rattle.std.proofs.Common.{◌&&◌, not, length, ◌<◌, ◌≤◌, nat_eq, slice_index, ◌≡◌, ℕ, List, [], ◌∷◌, take, Bool, true, false, ◌∙◌, if◌then◌else◌, refl, sym, ap, arith}
+pub use Rattle.std.proofs.lemmas.Bool.{cond-true as yes, cond-false as no}
 use Rattle.session_core.specs.declared.event.Next.TheVariants.{Heard}
 use Rattle.line_core.specs.declared.framing.Framer.{Framer}
 use Rattle.line_core.specs.Bursts.{HasHeard, handed}
@@ -11,12 +12,6 @@ use Rattle.session_core.specs.Wire.{Ruled, Doing, spends, time_of, takes_in, cam
 pub is_step : (step : Step) (p : Doing) (burst : List ℕ) (next : Next) (framer : Framer)
     → step ≡ step_of p burst next → HasHeard framer burst → IsStep step p framer next
 is_step step p burst next framer e h = rw e record { progress = refl; burst = h; next_is = refl }
-
-pub yes : {A : Type 0} (b : Bool) (x y : A) → b ≡ true → (if b then x else y) ≡ x
-yes b x y e = rw e refl
-
-pub no : {A : Type 0} (b : Bool) (x y : A) → b ≡ false → (if b then x else y) ≡ y
-no b x y e = rw e refl
 
 -- nothing came
 pub none-heard : (framer : Framer) (burst : List ℕ) → HasHeard framer burst → framer.count ≡ 0 → burst ≡ []

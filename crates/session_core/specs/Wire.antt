@@ -2,7 +2,8 @@
 -- of ISO/IEC 7816-3:2006. Times are in microseconds.
 use Rattle.std.specs.Prelude.{◌^◌, ◌%◌, ◌≡◌, ℕ, ◌+◌, ◌-◌, ◌*◌, ◌/◌, List, [], ◌∷◌, ◌++◌, length, take, drop, slice_index, min, max, Bool, true, false, ◌&&◌, ◌||◌, ◌==◌, not, nat_eq, nat_lt, nat_le, if◌then◌else◌}
 use Rattle.std.specs.List.{starts_with}
-use Rattle.line_core.specs.Bursts.{HasHeard, damaged_block, handed, is_whole}
+use Rattle.block_core.specs.Block.{is_whole}
+use Rattle.line_core.specs.Bursts.{HasHeard, damaged_block, handed}
 use Rattle.line_core.specs.declared.framing.Framer.{Framer}
 use Rattle.session_core.specs.declared.event.Event.{Event}
 use Rattle.session_core.specs.declared.event.Event.TheVariants.{Sent, Came, Garbled, Silent, Failed as fails}
@@ -252,7 +253,7 @@ unfoldable pub settles : Ruled → Doing → List ℕ → ℕ → Step
 settles r p burst now = if p.owed == 0 then says p now else drops r p Settling burst now
 
 -- within the limits of the exchange
--- the greatest number of blocks that is counted
+-- the greatest number of blocks, and of octets of an echo, that is counted
 abbrev pub most_counted : ℕ
 most_counted = 4294967295
 
@@ -420,13 +421,13 @@ misses r p burst now = drops r p Missing burst now
 -- octets after the echo begin the next burst
 unfoldable pub follows : Ruled → Doing → List ℕ → List ℕ → ℕ → List ℕ → Step
 follows r p burst octets now block =
-    goes_on r (weighed (record p { phase = Listening; own = length block }) (burst ++ octets)) (burst ++ octets) now
+    goes_on r (weighed (record p { phase = Listening }) (burst ++ octets)) (burst ++ octets) now
     block
 
 unfoldable pub hears_echo : Ruled → Doing → List ℕ → List ℕ → List ℕ → ℕ → List ℕ → Step
 hears_echo r p burst octets rest now block =
     if nat_lt (length octets) (length rest)
-    then waits r (record p { own = min (p.own + length octets) forever }) burst (echo_wait r block) now
+    then waits r (record p { own = min (p.own + length octets) most_counted }) burst (echo_wait r block) now
     else follows r p burst (drop (length rest) octets) now block
 
 unfoldable pub echoed : Ruled → Doing → List ℕ → List ℕ → ℕ → List ℕ → Step

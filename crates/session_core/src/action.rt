@@ -66,8 +66,8 @@ impl Action {
 }
 
 /// Returns the session's own block: so many octets at the front of `out`, or all of it if it has fewer.
-pub fn own_block(out: &[u8], own: usize) -> &[u8]
+pub fn own_block(out: &[u8], own: u32) -> &[u8]
     ensures { result.now ≡ take own out.now }
 {
-    &out[..own.min(out.len())]
+    &out[..(own as usize).min(out.len())]
 }

@@ -7,6 +7,7 @@
 
 ghost use Rattle.std.specs.Prelude.{◌≡◌, ◌≤◌, List, ℕ, length, take, true, IfErr};
 ghost use Rattle.t1_core.specs.Card.{replies, more_time, ask_ifs};
+ghost use Rattle.t1_core.specs.Put.{FitsCardPut};
 ghost use Rattle.t1_core.specs.CardViews.{card_held, IsLentCard, IsBlank};
 ghost use Rattle.line_core.specs.Bursts.{HasHeard};
 ghost use Rattle.session_core.specs.declared.lines.Start.TheVariants.{Exchange};
@@ -42,19 +43,20 @@ impl Line {
     /// Does what a card's turn says. The command that its host owes the reply to has so many octets.
     fn card_turn(
         &mut self,
-        own: &mut usize,
+        own: &mut u32,
         start: Start,
         turn: EncodedCardTurn,
         command: usize,
         now: u64,
     ) -> Action
+        requires { FitsCardPut turn }
         ensures { (burst : List ℕ) → HasHeard self.old.framer burst
             → IsTurned turn command start self.old.rules (seen self.old.progress) burst now self.new own.old own.new
             result }
     {
         match turn {
             EncodedCardTurn::Send(count) => {
-                *own = count;
+                *own = count as u32;
                 self.answer(start, count, now)
             }
             EncodedCardTurn::Asked => Action::Asked(command),
@@ -103,7 +105,7 @@ fn is_for_host(takes_short: bool, count: usize) -> bool
 }
 
 /// Begins to serve the terminal, or goes on after the line failed.
-pub fn serve(line: &mut Line, own: &mut usize, now: u64) -> Action
+pub fn serve(line: &mut Line, own: &mut u32, now: u64) -> Action
     ensures own { own.new ≡ 0 }
     ensures line { (burst : List ℕ) → HasHeard line.old.framer burst
         → IsSent (serves (ruled line.old.rules) (first_of line.old forever) burst now) line.old.rules 0 line.new
@@ -118,7 +120,7 @@ pub fn serve(line: &mut Line, own: &mut usize, now: u64) -> Action
 pub fn reply(
     end: &mut LentCard,
     line: &mut Line,
-    own: &mut usize,
+    own: &mut u32,
     command: &[u8],
     reply: &mut [u8],
     octets: &[u8],
@@ -145,7 +147,7 @@ pub fn reply(
 pub fn more_time(
     end: &mut LentCard,
     line: &mut Line,
-    own: &mut usize,
+    own: &mut u32,
     command: &[u8],
     reply: &[u8],
     multiple: u8,
@@ -171,7 +173,7 @@ pub fn more_time(
 pub fn ask_ifs(
     end: &mut LentCard,
     line: &mut Line,
-    own: &mut usize,
+    own: &mut u32,
     command: &[u8],
     reply: &[u8],
     size: u8,
@@ -197,7 +199,7 @@ pub fn ask_ifs(
 pub fn step(
     end: &mut LentCard,
     line: &mut Line,
-    own: &mut usize,
+    own: &mut u32,
     granted: &mut usize,
     takes_short: bool,
     command: &mut [u8],
@@ -240,7 +242,7 @@ pub fn step(
 pub fn proceed(
     end: &mut LentCard,
     line: &mut Line,
-    own: &mut usize,
+    own: &mut u32,
     granted: &mut usize,
     takes_short: bool,
     command: &mut [u8],
@@ -274,8 +276,8 @@ pub fn proceed(
                 out,
             )
         }
-        Next::Quiet => Ok(Action::of(line.listen(now), *own)),
-        _ => Ok(Action::of(next, *own)),
+        Next::Quiet => Ok(Action::of(line.listen(now), *own as usize)),
+        _ => Ok(Action::of(next, *own as usize)),
     }
 }
 
@@ -283,7 +285,7 @@ pub fn proceed(
 fn heard(
     end: &mut LentCard,
     line: &mut Line,
-    own: &mut usize,
+    own: &mut u32,
     granted: &mut usize,
     takes_short: bool,
     command: &mut [u8],
@@ -305,7 +307,7 @@ fn heard(
     let was_asking = is_asking(end);
     match end.received_burst_into(command, reply, line.framer.burst(), is_whole, out)? {
         EncodedCardTurn::Send(count) => {
-            *own = count;
+            *own = count as u32;
             Ok(line.answer(Start::Talk, count, now))
         }
         EncodedCardTurn::Asked => {
@@ -319,7 +321,7 @@ fn heard(
 fn asked(
     end: &mut LentCard,
     line: &mut Line,
-    own: &mut usize,
+    own: &mut u32,
     takes_short: bool,
     command: &[u8],
     answer: &mut [u8],

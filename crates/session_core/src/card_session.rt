@@ -27,7 +27,7 @@ pub struct CardSession {
     pub card: LentCard,
     pub line: Line,
     /// How many octets the session's own block has.
-    pub own: usize,
+    pub own: u32,
     /// How many requests of the host about the present command the terminal granted.
     pub granted: usize,
     /// Whether the host also gets messages of fewer than four octets.

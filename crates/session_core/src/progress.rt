@@ -91,7 +91,7 @@ pub struct Progress {
     /// How much longer the block that was sent last took than its octets.
     pub late: u64,
     /// How many octets of its echo came.
-    pub own: usize,
+    pub own: u32,
     /// How often the current wait was interrupted.
     pub interrupts: u32,
     /// How many blocks the current exchange has.

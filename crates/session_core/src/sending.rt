@@ -1,9 +1,9 @@
 //! Octets that are dropped before a block is sent, and the sending of the block.
 
 ghost use Rattle.std.specs.List.{starts_with};
-ghost use Rattle.std.specs.Prelude.{nat_eq, ◌≡◌, List, ℕ, length};
+ghost use Rattle.std.specs.Prelude.{nat_eq, ◌≡◌, ◌+◌, List, ℕ, length, min};
 ghost use Rattle.line_core.specs.Bursts.{HasHeard};
-ghost use Rattle.session_core.specs.Wire.{ruled, seen, phase_of, moment_with, is_set, Step, step_of, IsStep, silence_in, dropping, drops, dropped, cleared, stops, says, settles, talks, begins, clears, misses, takes, echo_wait, took, timed, is_used_up, sent, sent_in, follows, unechoed, met, hears_echo, echoed, agrees, unheard};
+ghost use Rattle.session_core.specs.Wire.{ruled, seen, phase_of, moment_with, is_set, Step, step_of, IsStep, silence_in, dropping, drops, dropped, cleared, stops, says, settles, talks, begins, clears, misses, takes, echo_wait, took, timed, is_used_up, sent, sent_in, follows, most_counted, unechoed, met, hears_echo, echoed, agrees, unheard};
 
 use crate::event::Next;
 use crate::limits::{passed, product};
@@ -266,7 +266,7 @@ impl Progress {
     {
         if octets.len() < rest.len() {
             let wanted = rules.echo_wait(block);
-            self.own = self.own.saturating_add(octets.len());
+            self.own = added(self.own, octets.len());
             self.wait(rules, wanted, now)
         } else {
             self.follow(rules, framer, &octets[rest.len()..], now, block)
@@ -277,7 +277,7 @@ impl Progress {
     fn unheard<'a>(&self, block: &'a [u8]) -> &'a [u8]
         ensures { result.now ≡ unheard (seen self.now) block.now }
     {
-        &block[self.own.min(block.len())..]
+        &block[(self.own as usize).min(block.len())..]
     }
 
     /// Takes octets after the echo, the first ones of the next burst.
@@ -298,7 +298,6 @@ impl Progress {
     {
         framer.feed(octets);
         self.phase = LISTENING;
-        self.own = block.len();
         self.weigh(framer);
         self.go_on(rules, framer, now, block)
     }
@@ -338,6 +337,14 @@ impl Progress {
             self.echoed(rules, framer, octets, now, block)
         }
     }
+}
+
+/// Returns a number of octets with more added to it. It stops at its greatest value.
+fn added(count: u32, more: usize) -> u32
+    ensures { result ≡ min (count + more) most_counted }
+{
+    let sum = u64::from(count).saturating_add(more as u64);
+    sum.min(u64::from(u32::MAX)) as u32
 }
 
 /// Whether octets are the next ones of an echo, as far as both go.

@@ -6,6 +6,7 @@
 
 ghost use Rattle.std.specs.Prelude.{◌≡◌, ◌≤◌, List, ℕ, length, take, true, IfErr};
 ghost use Rattle.t1_core.specs.Came.{class_of, quiet};
+ghost use Rattle.t1_core.specs.Put.{FitsTerminalPut};
 ghost use Rattle.t1_core.specs.Terminal.{transmit, ask_ifs, takes};
 ghost use Rattle.t1_core.specs.Views.{terminal_held, IsLentTerminal};
 ghost use Rattle.line_core.specs.Bursts.{HasHeard, handed};
@@ -52,20 +53,21 @@ impl Line {
     #[inline(always)]
     fn turn(
         &mut self,
-        own: &mut usize,
+        own: &mut u32,
         start: Start,
         limits: Limits,
         turn: EncodedTerminalTurn,
         answer: usize,
         now: u64,
     ) -> Action
+        requires { FitsTerminalPut turn }
         ensures { (burst : List ℕ) → HasHeard self.old.framer burst
             → IsTurned turn answer start limits self.old.rules (seen self.old.progress) burst now self.new own.old
             own.new result }
     {
         match turn {
             EncodedTerminalTurn::Send { count, waiting } => {
-                *own = count;
+                *own = count as u32;
                 self.send(start, limits, count, waiting, now)
             }
             EncodedTerminalTurn::Answered => Action::answered(answer),
@@ -79,13 +81,14 @@ impl Line {
     #[inline(never)]
     fn turn_apart(
         &mut self,
-        own: &mut usize,
+        own: &mut u32,
         start: Start,
         limits: Limits,
         turn: EncodedTerminalTurn,
         answer: usize,
         now: u64,
     ) -> Action
+        requires { FitsTerminalPut turn }
         ensures { (burst : List ℕ) → HasHeard self.old.framer burst
             → IsTurned turn answer start limits self.old.rules (seen self.old.progress) burst now self.new own.old
             own.new result }
@@ -110,7 +113,7 @@ fn answer_len(end: &LentTerminal, answer: &[u8]) -> usize
 pub fn exchange(
     end: &mut LentTerminal,
     line: &mut Line,
-    own: &mut usize,
+    own: &mut u32,
     limits: Limits,
     command: &mut [u8],
     answer: &[u8],
@@ -144,7 +147,7 @@ pub fn exchange(
 pub fn ask_ifs(
     end: &mut LentTerminal,
     line: &mut Line,
-    own: &mut usize,
+    own: &mut u32,
     limits: Limits,
     command: &[u8],
     answer: &[u8],
@@ -178,7 +181,7 @@ pub fn ask_ifs(
 pub fn resynch(
     end: &mut LentTerminal,
     line: &mut Line,
-    own: &mut usize,
+    own: &mut u32,
     command: &[u8],
     answer: &[u8],
     now: u64,
@@ -208,7 +211,7 @@ pub fn resynch(
 pub fn step(
     end: &mut LentTerminal,
     line: &mut Line,
-    own: &mut usize,
+    own: &mut u32,
     command: &[u8],
     answer: &mut [u8],
     event: u8,
@@ -236,7 +239,7 @@ pub fn step(
 pub fn proceed(
     end: &mut LentTerminal,
     line: &mut Line,
-    own: &mut usize,
+    own: &mut u32,
     command: &[u8],
     answer: &mut [u8],
     next: Next,
@@ -255,7 +258,7 @@ pub fn proceed(
     match next {
         Next::Heard => heard(end, line, own, command, answer, is_whole, now, out),
         Next::Quiet => unheard(end, line, own, command, answer, now, out),
-        _ => Ok(Action::of(next, *own)),
+        _ => Ok(Action::of(next, *own as usize)),
     }
 }
 
@@ -263,7 +266,7 @@ pub fn proceed(
 fn heard(
     end: &mut LentTerminal,
     line: &mut Line,
-    own: &mut usize,
+    own: &mut u32,
     command: &[u8],
     answer: &mut [u8],
     is_whole: bool,
@@ -289,7 +292,7 @@ fn heard(
 fn unheard(
     end: &mut LentTerminal,
     line: &mut Line,
-    own: &mut usize,
+    own: &mut u32,
     command: &[u8],
     answer: &[u8],
     now: u64,

@@ -28,7 +28,7 @@ pub struct TerminalSession {
     pub terminal: LentTerminal,
     pub line: Line,
     /// How many octets the session's own block has.
-    pub own: usize,
+    pub own: u32,
 }
 
 impl TerminalSession {

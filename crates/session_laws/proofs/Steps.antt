@@ -5,20 +5,14 @@ use Rattle.session_core.specs.declared.event.Next.TheVariants.{Heard, Quiet, Fai
 use Rattle.session_core.specs.declared.progress.Phase.{Phase}
 use Rattle.session_core.specs.declared.progress.Phase.TheVariants.{Idle, Late, Clearing, Settling, Sending, Echoing, Listening, Missing}
 use Rattle.std.proofs.lemmas.Bool.{leb-false, ltb-true}
+pub use Rattle.std.proofs.lemmas.Bool.{cond-true as yes}
 use Rattle.std.proofs.lemmas.List.{length-append, length-drop}
+pub use Rattle.octet_core.proofs.Choice.{either_if as either}
 use Rattle.session_core.specs.Lines.{stepped}
 use Rattle.session_core.specs.Wire.{Ruled, Doing, Step, step_of, waits, stops, dropping, drops, dropped, says, settles, talks, is_used_up, most_noise, most_counted, hands, is_refused, judges, is_certain, judged, ends, goes_on, is_over, begun, spoiled, weighed, hears, misses, follows, hears_echo, echoed, agrees, unheard, met, sent_in, sent, timed, took, takes, spends, unechoed, missed, cleared, silent_in, came_in, left_in, used_up, silent, failed, has_none_left, takes_in, came, time_of, is_sending, is_waiting, is_idle, on_sent, on_came, on_silent, on_failed, counted, silence_in, broken, wait_in, echo_wait, begins, clears}
 use Rattle.session_laws.specs.Ending.{IsLess, rest, rest_in, to_begin, to_send, held_in, sent_by, for_block}
 
 -- what holds of both branches holds of the test
-pub either : {A : Type 0} (P : A → Type 0) (b : Bool) (x y : A) → (b ≡ true → P x) → (b ≡ false → P y)
-    → P (if b then x else y)
-either P true x y f g = f refl
-either P false x y f g = g refl
-
-pub yes : {A : Type 0} (b : Bool) (x y : A) → b ≡ true → (if b then x else y) ≡ x
-yes b x y e = rw e refl
-
 pub not-either : (b c : Bool) → (b || c) ≡ false → b ≡ false
 not-either true c e = cc
 not-either false c e = refl
@@ -165,7 +159,7 @@ pub follows-less : (r : Ruled) (p : Doing) (burst octets : List ℕ) (now : ℕ)
     → IsLess r most blocks (follows r p burst octets now block)
 unfolding follows
 follows-less r p burst octets now block most blocks h k =
-    goes-on-less r (weighed (record p { phase = Listening; own = length block }) (burst ++ octets)) (burst ++ octets)
+    goes-on-less r (weighed (record p { phase = Listening }) (burst ++ octets)) (burst ++ octets)
     now
     block most blocks refl (omega (arith, h)) k (λ few. omega (arith, h))
 
@@ -177,7 +171,7 @@ unfolding hears_echo
 hears-echo-less r p burst octets rest now block most blocks e some left short h k =
     either (IsLess r most blocks) (nat_lt (length octets) (length rest)) _ _
     (λ on. let fewer : length octets < length rest = ltb-true (length octets) (length rest) on in
-    waits-less r (record p { own = min (p.own + length octets) 18446744073709551615 }) burst (echo_wait r block) now
+    waits-less r (record p { own = min (p.own + length octets) 4294967295 }) burst (echo_wait r block) now
     most blocks (rw e (omega (arith, h, some, left, short, fewer))) (rw e (omega (arith, k))))
     (λ _. follows-less r p burst (drop (length rest) octets) now block most blocks (omega (arith, h)) k)
 

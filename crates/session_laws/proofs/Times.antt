@@ -140,7 +140,7 @@ pub follows-timely : (r : Ruled) (p : Doing) (burst octets : List ℕ) (now : �
     → IsTimely r floor (follows r p burst octets now block)
 unfolding follows
 follows-timely r p burst octets now block floor h =
-    goes-on-timely r (weighed (record p { phase = Listening; own = length block }) (burst ++ octets)) (burst ++ octets)
+    goes-on-timely r (weighed (record p { phase = Listening }) (burst ++ octets)) (burst ++ octets)
     now
     block floor h
 
@@ -150,7 +150,8 @@ pub hears-echo-timely : (r : Ruled) (p : Doing) (burst octets rest : List ℕ) (
 unfolding hears_echo
 hears-echo-timely r p burst octets rest now block floor h =
     either (IsTimely r floor) (nat_lt (length octets) (length rest)) _ _
-    (λ _. waits-timely r (record p { own = min (p.own + length octets) forever }) burst (echo_wait r block) now floor h)
+    (λ _. waits-timely r (record p { own = min (p.own + length octets) most_counted }) burst (echo_wait r block) now
+    floor h)
     (λ _. follows-timely r p burst (drop (length rest) octets) now block floor h)
 
 pub echoed-timely : (r : Ruled) (p : Doing) (burst octets : List ℕ) (now : ℕ) (block : List ℕ) (floor : ℕ)

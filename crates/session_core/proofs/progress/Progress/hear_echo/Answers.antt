@@ -15,7 +15,7 @@ returns-then-octets-rest c = λ burst h.
     c.args.block.now)
     (seen c.wait.new.self) burst c.wait.result c.args.framer.now
     (rw (lt-ltb _ _ c.if-octets-rest.true)
-    (rw c.saturating_add-self.ensures at (rw c.echo_wait-wanted.ensures at (c.wait.ensures burst)))) h
+    (rw c.added-self.ensures at (rw c.echo_wait-wanted.ensures at (c.wait.ensures burst)))) h
 
 pub returns-else-octets-rest : goal.returns-else-octets-rest
 unfolding hears_echo
