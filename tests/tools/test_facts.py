@@ -24,7 +24,7 @@ REPEATED = [
     (tool.FORM, '"dump" => Ok', '"lump" => Ok',
      [tool.BASH, tool.PROGRAM, tool.WRONG, tool.BUILT, f"{tool.PAGE}, form", f"{tool.PAGE}, tidied"]),
     (tool.WORD, '"given-up"', '"ended"', [tool.RECORDED]),
-    (tool.FAULT, '"line {line}: Falls"', '"line {line}: Sinks"', [tool.RECORDED]),
+    (tool.FAULT, '{ .. } => "Falls"', '{ .. } => "Sinks"', [tool.RECORDED]),
     (tool.UNFIT, '=> "Midway"', '=> "Within"', [tool.RECORDED]),
     (tool.UNFIT, '=> "Silence"', '=> "Quiet"', [tool.RECORDED]),
     (tool.ATR_FAULT, '=> "BadAtr"', '=> "NoAtr"', [f"{tool.RECORDED}, replay", f"{tool.RECORDED}, simulate"]),

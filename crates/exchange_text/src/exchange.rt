@@ -57,7 +57,7 @@ impl Exchange {
     ///
     /// Returns both parts as `Err` if a line doesn't fit the version, or if a moment is below an earlier one or too
     /// late. It does so too if a note is empty, has more than 200 characters, or has one outside 20 to 7E.
-    pub fn of(version: Version, atr: Octets, lines: Lines) -> Result<Exchange, (Octets, Lines)>
+    pub fn try_new(version: Version, atr: Octets, lines: Lines) -> Result<Exchange, (Octets, Lines)>
         ensures made { MatchResult result
             (λ exchange. exchange ≡ record { version = version; atr = atr; lines = lines })
             (λ back. (back ≡ (atr, lines)) × (are_proper version 0 lines ≢ true)) }

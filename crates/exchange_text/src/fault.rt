@@ -1,6 +1,7 @@
 //! Why a text isn't an exchange.
 
 ghost use Rattle.std.specs.Prelude.{◌≡◌};
+ghost use Rattle.exchange_text.specs.Faults.{exchange_fault_line, exchange_fault_name};
 ghost use Rattle.exchange_text.specs.Reading.{fault_at};
 
 use std::alloc::AllocError;
@@ -25,6 +26,35 @@ pub enum ExchangeFault {
     Memory,
 }
 
+impl ExchangeFault {
+    /// Returns the fault's name.
+    pub fn name(&self) -> &'static str
+        ensures { result.now ≡ exchange_fault_name self.now }
+    {
+        match self {
+            ExchangeFault::Header => "Header",
+            ExchangeFault::End { .. } => "End",
+            ExchangeFault::Word { .. } => "Word",
+            ExchangeFault::Hex { .. } => "Hex",
+            ExchangeFault::Falls { .. } => "Falls",
+            ExchangeFault::Memory => "memory",
+        }
+    }
+
+    /// Returns the line that the fault is in, if it is in one.
+    pub fn line(&self) -> Option<usize>
+        ensures { result ≡ exchange_fault_line self.now }
+    {
+        match self {
+            ExchangeFault::Header | ExchangeFault::Memory => None,
+            ExchangeFault::End { line }
+            | ExchangeFault::Word { line }
+            | ExchangeFault::Hex { line }
+            | ExchangeFault::Falls { line } => Some(*line),
+        }
+    }
+}
+
 /// The fault's name, after its line, as in `line 3: Word`.
 impl Display for ExchangeFault {
     ghost use Rattle.std.specs.Prelude.{Some};
@@ -33,13 +63,10 @@ impl Display for ExchangeFault {
     ghost output = { λ fault. Some (exchange_fault_text fault) };
 
     fn fmt<W: Write>(&self, f: &mut Formatter<W>) -> fmt::Result {
-        match self {
-            ExchangeFault::Header => f.write_str("Header"),
-            ExchangeFault::End { line } => write!(f, "line {line}: End"),
-            ExchangeFault::Word { line } => write!(f, "line {line}: Word"),
-            ExchangeFault::Hex { line } => write!(f, "line {line}: Hex"),
-            ExchangeFault::Falls { line } => write!(f, "line {line}: Falls"),
-            ExchangeFault::Memory => f.write_str("memory"),
+        let name = self.name();
+        match self.line() {
+            None => f.write_str(name),
+            Some(line) => write!(f, "line {line}: {name}"),
         }
     }
 }

@@ -67,7 +67,7 @@ impl Name {
     }
 
     /// Returns the name of a word.
-    pub(crate) fn of(word: &[u8]) -> Option<Name>
+    pub(crate) fn from_word(word: &[u8]) -> Option<Name>
         ensures { result ≡ name_of word.now }
     {
         named_in(&NAMES, word)

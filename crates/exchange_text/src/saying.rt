@@ -21,7 +21,7 @@ pub(crate) fn line_said(alloc: Global, version: Version, line: &[u8]) -> Result<
     ensures { LineUnlessMemory result (reading.line_said version line.now) }
 {
     let (word, rest) = first_word(line);
-    match Name::of(word).ok_or(LineFault::Word)? {
+    match Name::from_word(word).ok_or(LineFault::Word)? {
         Name::Command => Ok(Line::Command(one_octets(alloc, rest)?)),
         Name::Ifsd => Ok(Line::Ifsd(one_octet(rest)?)),
         Name::Quiet => {

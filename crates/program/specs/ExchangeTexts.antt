@@ -1,5 +1,5 @@
 -- What the program prints about a file of a recorded exchange.
-use Rattle.std.specs.Prelude.{◌≡◌, ℕ, ◌+◌, List, [], ◌++◌, codes, decimal, length, Some, None, Result, Ok, Err, MatchResult}
+use Rattle.std.specs.Prelude.{◌≡◌, ℕ, ◌+◌, List, [], ◌++◌, codes, decimal, length, Option, Some, None, Result, Ok, Err, MatchResult}
 use Rattle.program_words.specs.declared.request.Ends.{Ends}
 use Rattle.program_words.specs.declared.request.Ends.TheVariants as end
 use Rattle.program_words.specs.declared.request.Drawing.{Drawing}
@@ -20,7 +20,7 @@ use Rattle.exchange_text.specs.Reading.{exchange_said}
 use Rattle.exchange_core.specs.Replay as replay
 use Rattle.exchange_text.specs.Text.{exchange_text}
 use Rattle.exchange_text.specs.declared.fault.ExchangeFault.{ExchangeFault}
-use Rattle.exchange_text.specs.declared.fault.ExchangeFault.TheVariants as fault
+use Rattle.exchange_text.specs.Faults.{exchange_fault_line, exchange_fault_name}
 use Rattle.exchange_core.specs.declared.replaying.ReplayFault.{ReplayFault}
 use Rattle.block_core.specs.declared.side.Side.{Side}
 use Rattle.block_core.specs.declared.side.Side.TheVariants as side
@@ -69,14 +69,14 @@ abbrev pub both_in : Layout → List ℕ → List ℕ → Status → List ℕ
 both_in layout.Lines terminal card ended = both_lines terminal card
 both_in layout.Json terminal card ended = both_members terminal card ended
 
+-- a fault by its name, with its line if it is in one
+abbrev pub fault_in : Option ℕ → List ℕ → Refusal
+fault_in None name = Fault name
+fault_in (Some line) name = FaultAt line name
+
 -- the text isn't a file of an exchange, by its first fault
 abbrev pub file_refusal : ExchangeFault → Refusal
-file_refusal fault.Header = Fault (codes "Header")
-file_refusal (fault.End line) = FaultAt line (codes "End")
-file_refusal (fault.Word line) = FaultAt line (codes "Word")
-file_refusal (fault.Hex line) = FaultAt line (codes "Hex")
-file_refusal (fault.Falls line) = FaultAt line (codes "Falls")
-file_refusal fault.Memory = Fault (codes "memory")
+file_refusal fault = fault_in (exchange_fault_line fault) (exchange_fault_name fault)
 
 abbrev pub file_faulted : ExchangeFault → Said
 file_faulted fault = saying.Refusal (file_refusal fault)

@@ -6,7 +6,7 @@ use Rattle.answer_json.specs.declared.refusal.Refusal.TheVariants.{Whole, Fault}
 use Rattle.layouts.specs.declared.layout.Layout.{Layout}
 use Rattle.layouts.specs.declared.layout.Layout.TheVariants.{Lines, Json}
 use Rattle.program_words.specs.declared.fault.Fault.{Fault as AnyFault}
-use Rattle.program_words.specs.declared.fault.Fault.TheVariants.{Words, Hex, Memory, Read, TooLarge}
+use Rattle.program_words.specs.Texts.{fault_name}
 use Rattle.program_octets.specs.Json.{object_head, object_line}
 use Rattle.program_octets.specs.declared.said.Said.{Said}
 use Rattle.program_octets.specs.declared.said.Said.TheVariants as saying
@@ -44,13 +44,6 @@ refused_as name = saying.Refusal (Whole name)
 -- two known values have the same tag
 abbrev pub refused_twice : Said
 refused_twice = refused_as (codes "Duplicate")
-
-abbrev pub fault_name : AnyFault → List ℕ
-fault_name Words = codes "words"
-fault_name Hex = codes "hex"
-fault_name Memory = codes "memory"
-fault_name Read = codes "read"
-fault_name TooLarge = codes "TooLarge"
 
 -- the program can't answer, by this fault
 abbrev pub faulted : AnyFault → Said

@@ -1,7 +1,7 @@
 //! Why the program couldn't answer.
 
 ghost use Rattle.std.specs.Prelude.{◌≡◌};
-ghost use Rattle.program_words.specs.Texts.{fault_text};
+ghost use Rattle.program_words.specs.Texts.{fault_name, fault_text};
 ghost use Rattle.program_words.specs.Faults.{fault_of_hex};
 
 use octet_core::HexFault;
@@ -25,6 +25,14 @@ pub enum Fault {
 }
 
 impl Fault {
+    /// Returns the fault's name, which is a part of its line.
+    pub fn name(self) -> &'static str
+        ensures { result.now ≡ fault_name self }
+    {
+        let line = self.text();
+        &line["fault: ".len()..line.len() - 1]
+    }
+
     /// Returns the line that the program prints.
     pub fn text(self) -> &'static str
         ensures { result.now ≡ fault_text self }
