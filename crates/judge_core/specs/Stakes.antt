@@ -234,6 +234,11 @@ fitting first second (Some (Ok e)) other = first
 fitting first (Some second) course (Some (Ok e)) = second
 fitting first second course other = first
 
+-- the same for a deviation of an end whose last block nobody knows
+abbrev pub open_course : Watched → After → Sent → After
+open_course w due (Ok e) = after (unknown_end w.«end») AnyBlock
+open_course w due (Err broken) = due
+
 abbrev pub course_of : Watched → Seen → After
 course_of w (whole block) =
     if is_open w.doubt && only_openly (judges w.«end» w.heard w.last.items block.pcb block.inf).verdict

@@ -2,8 +2,10 @@
 
 ghost use Rattle.std.specs.Prelude.{◌≡◌};
 ghost use Rattle.judge_core.specs.Courses.{attempted, by_damage, chosen, first_course, got_none, got_whole, is_sure, judgment, judges, perhaps_answers, uncounted, untaken};
+ghost use Rattle.judge_core.specs.Stakes.{fitting};
 
 use crate::end::{After, End, Owed};
+use crate::exercise::fitting;
 use crate::hearing::answers;
 use crate::rule::Rule;
 use crate::sending::carried;
@@ -54,20 +56,40 @@ pub struct Judged {
     pub end: End,
 }
 
+/// The judgment on a block, and the course on which it is judged.
+#[derive(Clone, Copy)]
+pub(crate) struct Trial {
+    pub(crate) judged: Judged,
+    /// The end and what was due from it on that course.
+    pub(crate) due: After,
+}
+
 /// The result of a block on a course, if there is that course.
 pub(crate) type Attempt = Option<Result<End, Rule>>;
 
 impl End {
-    /// Judges a block with this field. The end's last I-block had the field `last`.
-    pub(crate) fn judges(self, heard: Heard, last: &[u8], pcb: Pcb, inf: &[u8]) -> Judged
-        ensures { result ≡ judges self heard last.now pcb inf.now }
+    /// Tries a block with this field on one course after the other, until one permits it. The end's last I-block had
+    /// the field `last`.
+    pub(crate) fn trial(self, heard: Heard, last: &[u8], pcb: Pcb, inf: &[u8]) -> Trial
+        ensures judged { result.judged ≡ judges self heard last.now pcb inf.now }
+        ensures due { result.due ≡ fitting
+            (first_course self (got_whole self heard) (got_none self heard)) (got_none self heard)
+            (attempted (got_whole self heard) last.now pcb inf.now)
+            (attempted (got_none self heard) last.now pcb inf.now) }
     {
         let whole = self.got_whole(heard);
+        let by_whole = attempted(whole, last, pcb, inf);
+        if let (Some(due), Some(Ok(end))) = (whole, by_whole) {
+            let judged = judgment(Verdict::Permitted, end);
+            return Trial { judged, due };
+        }
         let none = self.got_none(heard);
         let first = first_course(self, whole, none);
-        let by_whole = attempted(whole, last, pcb, inf);
         let by_none = attempted(none, last, pcb, inf);
-        chosen(heard, first, pcb, carried(inf), by_whole, by_none)
+        Trial {
+            judged: chosen(heard, first, pcb, carried(inf), by_whole, by_none),
+            due: fitting(first, none, by_whole, by_none),
+        }
     }
 
     /// Returns what the end owes on the course on which it received the last block whole.
@@ -131,7 +153,7 @@ impl End {
     }
 }
 
-pub(crate) fn attempted(due: Option<After>, last: &[u8], pcb: Pcb, inf: &[u8]) -> Attempt
+fn attempted(due: Option<After>, last: &[u8], pcb: Pcb, inf: &[u8]) -> Attempt
     ensures { result ≡ attempted due last.now pcb inf.now }
 {
     due.map(|due| due.end.sends(due.owed, last, pcb, inf))
@@ -157,14 +179,7 @@ pub(crate) fn first_course(end: End, whole: Option<After>, none: Option<After>) 
 }
 
 /// Returns the verdict from both courses.
-pub(crate) fn chosen(
-    heard: Heard,
-    due: After,
-    pcb: Pcb,
-    octet: u8,
-    whole: Attempt,
-    none: Attempt,
-) -> Judged
+fn chosen(heard: Heard, due: After, pcb: Pcb, octet: u8, whole: Attempt, none: Attempt) -> Judged
     ensures { result ≡ chosen heard due pcb octet whole none }
 {
     let broken = match (whole, none) {

@@ -1,9 +1,11 @@
 //! What is doubtful about an end: whether its last block was the one that was seen.
 
 ghost use Rattle.std.specs.Prelude.{◌≡◌};
+ghost use Rattle.judge_core.specs.Monitored as seen;
+ghost use Rattle.judge_core.specs.Stakes.{course_of, open_course};
 ghost use Rattle.judge_core.specs.Doubts.{corrected, doubt_after, doubted_by, given_turn, in_doubt, is_noise, is_open, is_turn, judged_of, openly, overlooked, passed_over, presumed, refused_doubt, sent_openly, sized, sized_by, still_open, tried_after, turned, unknown_end, waited, waited_doubt};
 
-use crate::courses::{Heard, Judged, Verdict, judgment};
+use crate::courses::{Heard, Trial, Verdict, judgment};
 use crate::end::{End, Owed};
 use crate::monitor::Watched;
 use crate::step::Sent;
@@ -23,20 +25,38 @@ pub enum Doubt {
 }
 
 impl Watched {
-    /// Judges a block of the end.
-    pub(crate) fn judged(&self, block: &BlockRef<'_>) -> Judged
-        ensures { result ≡ judged_of self.now block.now }
+    /// Judges a block of the end. If no course permits it, any block may come from an end whose last one nobody knows.
+    pub(crate) fn trial(&self, block: &BlockRef<'_>) -> Trial
+        ensures judged { result.judged ≡ judged_of self.now block.now }
+        ensures due { result.due ≡ course_of self.now (seen.whole block.now) }
     {
         let last = self.last.as_slice();
-        let judged = self.end.judges(self.heard, last, block.pcb(), block.inf());
-        match judged.verdict {
-            Verdict::Deviates(..) if is_open(self.doubt) => openly(judged, self.sent_openly(block)),
-            Verdict::Permitted | Verdict::Unseen | Verdict::Deviates(..) => judged,
+        let trial = self.end.trial(self.heard, last, block.pcb(), block.inf());
+        match trial.judged.verdict {
+            Verdict::Deviates(..) if is_open(self.doubt) => self.openly(
+                trial,
+                self.sent_openly(block),
+            ),
+            Verdict::Permitted | Verdict::Unseen | Verdict::Deviates(..) => trial,
+        }
+    }
+
+    /// Returns the trial of a deviation of an end whose last block nobody knows.
+    fn openly(&self, trial: Trial, sent: Sent) -> Trial
+        ensures judged { result.judged ≡ openly trial.judged sent }
+        ensures due { result.due ≡ open_course self.now trial.due sent }
+    {
+        match sent {
+            Ok(end) => Trial {
+                judged: judgment(Verdict::Permitted, end),
+                due: unknown_end(self.end).owes(Owed::AnyBlock),
+            },
+            Err(_) => trial,
         }
     }
 
     /// Returns the end after a block, as one of an end whose last block nobody knows.
-    pub(crate) fn sent_openly(&self, block: &BlockRef<'_>) -> Sent
+    fn sent_openly(&self, block: &BlockRef<'_>) -> Sent
         ensures { result ≡ sent_openly self.now block.now }
     {
         let last = self.last.as_slice();
@@ -250,15 +270,5 @@ pub(crate) fn unknown_end(end: End) -> End
         known: false,
         before: Owed::AnyBlock,
         ..end
-    }
-}
-
-/// Returns the judgment on a deviation of an end whose last block nobody knows.
-fn openly(judged: Judged, sent: Sent) -> Judged
-    ensures { result ≡ openly judged sent }
-{
-    match sent {
-        Ok(end) => judgment(Verdict::Permitted, end),
-        Err(_) => judged,
     }
 }

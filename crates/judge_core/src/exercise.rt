@@ -11,16 +11,14 @@ ghost use Rattle.judge_core.specs.Stakes.{course_of, exercise_by, fitting, stake
 
 use crate::address::addressed_by;
 use crate::class::{Class, class_sent};
-use crate::courses::{Attempt, Verdict, attempted, chosen, first_course};
-use crate::doubt::{is_open, unknown_end};
-use crate::end::{After, Owed};
+use crate::courses::{Attempt, Verdict};
+use crate::end::After;
 use crate::monitor::{Arrival, Monitor, Report, Said, Watched};
 use crate::reach::reached_by;
 use crate::rule::Rule;
-use crate::sending::carried;
 use crate::stakes::Stakes;
 use crate::state::State;
-use block_core::{BlockRef, Side};
+use block_core::Side;
 
 /// What a block of a trace exercises.
 #[derive(Clone, Copy, Debug)]
@@ -62,7 +60,7 @@ impl Monitor {
         ensures exercises { Exercises self.old from octets.now arrival.entry result.exercise }
     {
         let class = class_sent(octets, arrival);
-        let reached = reached_by(arrival);
+        let reached = reached_by(octets, &class, arrival);
         let stakes = self.stakes(from, &class);
         let report = self.saw(from, &class, &reached);
         Exercised {
@@ -130,46 +128,8 @@ impl Watched {
         ensures { result ≡ course_of self.now (seen_of class.now) }
     {
         match class {
-            Class::Whole(block) => self.course_of(block),
+            Class::Whole(block) => self.trial(block).due,
             Class::Malformed(_) | Class::Damage => self.due(),
-        }
-    }
-
-    fn course_of(&self, block: &BlockRef<'_>) -> After
-        ensures { result ≡ course_of self.now (seen.whole block.now) }
-    {
-        let last = self.last.as_slice();
-        let whole = self.end.got_whole(self.heard);
-        let none = self.end.got_none(self.heard);
-        let first = first_course(self.end, whole, none);
-        let by_whole = attempted(whole, last, block.pcb(), block.inf());
-        let by_none = attempted(none, last, block.pcb(), block.inf());
-        if self.is_only_open(block, first, by_whole, by_none) {
-            unknown_end(self.end).owes(Owed::AnyBlock)
-        } else {
-            fitting(first, none, by_whole, by_none)
-        }
-    }
-
-    /// Whether only an unknown last block permits the block, which has these results on both courses.
-    fn is_only_open(
-        &self,
-        block: &BlockRef<'_>,
-        first: After,
-        by_whole: Attempt,
-        by_none: Attempt,
-    ) -> bool
-        ensures { result ≡ (is_open self.now.doubt && only_openly
-            (chosen self.now.heard first block.now.pcb (carried block.now.inf) by_whole
-            by_none).verdict (sent_openly self.now block.now)) }
-    {
-        if !is_open(self.doubt) {
-            return false;
-        }
-        let octet = carried(block.inf());
-        match chosen(self.heard, first, block.pcb(), octet, by_whole, by_none).verdict {
-            Verdict::Permitted | Verdict::Unseen => false,
-            Verdict::Deviates(..) => self.sent_openly(block).is_ok(),
         }
     }
 
@@ -178,7 +138,7 @@ impl Watched {
         ensures { result ≡ said_of self.now addressed (seen_of class.now) }
     {
         match class {
-            Class::Whole(block) if addressed => { Said::Block(self.judged(block).verdict) }
+            Class::Whole(block) if addressed => { Said::Block(self.trial(block).judged.verdict) }
             Class::Whole(_) => Said::Block(Verdict::Deviates(Rule::NodeAddress, self.due())),
             Class::Malformed(broken) => Said::Block(Verdict::Deviates(*broken, self.due())),
             Class::Damage => Said::Damage,
@@ -187,7 +147,12 @@ impl Watched {
 }
 
 /// Returns the first course, unless only the second permits the block.
-fn fitting(first: After, second: Option<After>, by_first: Attempt, by_second: Attempt) -> After
+pub(crate) fn fitting(
+    first: After,
+    second: Option<After>,
+    by_first: Attempt,
+    by_second: Attempt,
+) -> After
     ensures { result ≡ fitting first second by_first by_second }
 {
     match (by_first, second, by_second) {

@@ -165,7 +165,7 @@ impl Watched {
         ensures said { result ≡ said_of self.old true (seen.whole block.now) }
         ensures after { self.new ≡ known_after self.old block.now number }
     {
-        let judged = self.judged(block);
+        let judged = self.trial(block).judged;
         self.heard = after_silence(self.end.side);
         self.end = tried_after(self.doubt, block.pcb(), judged.end);
         self.number = number;
@@ -226,7 +226,7 @@ impl Monitor {
         ensures { Takes self.old from octets.now arrival.entry self.new result }
     {
         let class = class_sent(octets, arrival);
-        let reached = reached_by(arrival);
+        let reached = reached_by(octets, &class, arrival);
         self.saw(from, &class, &reached)
     }
 

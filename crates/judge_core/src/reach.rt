@@ -2,7 +2,7 @@
 
 ghost use Rattle.std.specs.Prelude.{◌≡◌};
 ghost use Rattle.judge_core.specs.Classes.{reaching_of, seen_of};
-ghost use Rattle.judge_core.specs.Monitored.{after_silence, came_by, heard_in_time, heard_of, is_lost, is_refusing, no_block_came, opened_on_arrival, perhaps_heard, silence_of, surely_heard, IsReaching};
+ghost use Rattle.judge_core.specs.Monitored.{after_silence, came_by, heard_in_time, heard_of, is_lost, is_refusing, no_block_came, opened_on_arrival, perhaps_heard, silence_of, surely_heard, IsReaching, IsSent};
 
 use crate::address::{addressed_by, is_no_block, opened_by};
 use crate::class::{Class, class_of};
@@ -10,7 +10,7 @@ use crate::connection::Pairs;
 use crate::courses::Heard;
 use crate::monitor::{Arrival, Silence};
 use crate::sending::carried;
-use block_core::{Pcb, Side};
+use block_core::{BlockRef, Pcb, Side};
 
 /// How a block reached the other end.
 #[derive(Debug, Drop)]
@@ -20,14 +20,26 @@ pub(crate) enum Reached<'a> {
     Came(Class<'a>),
 }
 
-pub(crate) fn reached_by(arrival: Arrival<'_>) -> Reached<'_>
+/// Returns how octets of this class reached the other end. A block that came as it was sent isn't classified again.
+pub(crate) fn reached_by<'a>(octets: &[u8], class: &Class<'a>, arrival: Arrival<'a>) -> Reached<'a>
+    requires { IsSent octets.now arrival (seen_of class.now) }
     ensures { IsReaching arrival.entry (reaching_of result) }
 {
-    match arrival {
-        Arrival::Unsaid => Reached::Unsaid,
-        Arrival::Lost => Reached::Lost,
-        Arrival::Came(octets) => Reached::Came(class_of(octets)),
+    match (arrival, class) {
+        (Arrival::Unsaid, _) => Reached::Unsaid,
+        (Arrival::Lost, _) => Reached::Lost,
+        (Arrival::Came(arrived), Class::Whole(block)) if arrived == octets => {
+            Reached::Came(Class::Whole(again(block)))
+        }
+        (Arrival::Came(arrived), _) => Reached::Came(class_of(arrived)),
     }
+}
+
+/// Returns the same block.
+fn again<'a>(block: &BlockRef<'a>) -> BlockRef<'a>
+    ensures { result ≡ block.now }
+{
+    BlockRef::new(block.nad(), block.pcb(), block.inf()).unwrap()
 }
 
 /// Returns what an end has heard after a block of the other end.

@@ -100,6 +100,10 @@ abbrev pub is_judged : Option Side → Side → Bool
 is_judged None side = true
 is_judged (Some only) side = same_side only side
 
+-- whether what this end exercises is counted
+abbrev pub counts : JudgeState → Side → Bool
+counts s side = s.scope.rules && is_judged s.scope.only side
+
 -- the tally with one more deviation of an end
 abbrev pub deviation_of : Side → Tally → Tally
 deviation_of Terminal tally = record tally { terminal = number_after tally.terminal }

@@ -3,7 +3,7 @@
 ghost use Rattle.std.specs.Prelude.{◌≡◌, ◌⊎◌, ◌++◌, ◌+◌, ◌<◌, ◌≤◌, ◌^◌, IfErr, IfOk, OnOk};
 ghost use Rattle.exchange_text.specs.declared.fault.ExchangeFault.TheVariants.{Falls, Memory};
 ghost use Rattle.judge_core.specs.Monitored.{Takes};
-ghost use Rattle.trace_judge.specs.Judging.{is_before, is_judged, pps_timed, quietened, renewed, start, told_before, told_exercise, told_report, told_said, told_verdict, midway, ExercisesIf, Fails, IsBlockTold, IsConcluded, IsEntered, IsFalling, IsTold, JudgesLine};
+ghost use Rattle.trace_judge.specs.Judging.{counts, is_before, is_judged, pps_timed, quietened, renewed, start, told_before, told_report, told_said, told_verdict, midway, ExercisesIf, Fails, IsBlockTold, IsConcluded, IsEntered, IsFalling, IsTold, JudgesLine};
 ghost use Rattle.trace_judge.specs.Places.{placed};
 
 use crate::arriving::arrival_of;
@@ -218,26 +218,23 @@ impl JudgeState {
         let place = self.place(octets);
         let times = self.times(from);
         let before = self.monitor.terminal.number;
-        let rules = self.scope.rules;
-        let told = monitored(&mut self.monitor, rules, from, octets, arrival);
+        let is_counted = self.counts(from);
+        let exercised = monitored(&mut self.monitor, is_counted, from, octets, arrival);
         self.begun = true;
-        let said = told.report.said;
+        let said = exercised.report.said;
         self.timing = timed_as(said, self.timing, from, octets.len());
-        self.cover(from, &told.exercise);
-        self.report(alloc, place, from, times.over, told.report)?;
+        self.coverage.cover(from, &exercised.exercise);
+        self.report(alloc, place, from, times.over, exercised.report)?;
         self.late(alloc, place, before, late_as(said, times.late))?;
         self.early(alloc, place, early_as(said, times.early))?;
         Ok(())
     }
 
-    /// Counts what a block of this end exercised.
-    fn cover(&mut self, side: Side, exercise: &Exercise)
-        ensures said { self.new ≡ told_exercise self.old side exercise.now }
-        ensures number { self.new.number ≡ self.old.number }
+    /// Whether what this end exercises is counted.
+    fn counts(&self, side: Side) -> bool
+        ensures { result ≡ counts self.now side }
     {
-        if self.is_judged(side) {
-            self.coverage.cover(side, exercise);
-        }
+        self.scope.rules && self.is_judged(side)
     }
 
     /// Takes octets before the first block, with FF instead of a node address.
