@@ -29,17 +29,17 @@ pub(crate) fn decode_each(rt: &HostRuntime, timed: bool) -> io::Result<()> {
 fn decode(rt: &HostRuntime, octets: &[u8], timed: bool) -> io::Result<()> {
     let started = Instant::now(rt)?;
     let times = is_decoded(octets).then_some(TIMES);
-    told("answer to reset decoded", octets).tell(rt, started, times, timed)
+    work_of("answer to reset decoded", octets).tell(rt, started, times, timed)
 }
 
 fn read(rt: &HostRuntime, octets: &[u8], timed: bool) -> io::Result<()> {
     let started = Instant::now(rt)?;
     let times = is_read(octets).then_some(TIMES);
-    told("answer to reset read octet by octet", octets).tell(rt, started, times, timed)
+    work_of("answer to reset read octet by octet", octets).tell(rt, started, times, timed)
 }
 
 /// Returns the work on an answer.
-fn told(name: &'static str, octets: &[u8]) -> Work {
+fn work_of(name: &'static str, octets: &[u8]) -> Work {
     Work {
         name,
         octets: octets.len(),

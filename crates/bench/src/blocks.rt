@@ -32,17 +32,17 @@ fn decode_both(rt: &HostRuntime, octets: &mut [u8], len: usize, timed: bool) -> 
 fn decode_copied(rt: &HostRuntime, octets: &mut [u8], len: usize, timed: bool) -> io::Result<()> {
     let started = Instant::now(rt)?;
     let times = is_decoded(octets, len).then_some(256 * ROUNDS);
-    told("block decoded", octets).tell(rt, started, times, timed)
+    work_of("block decoded", octets).tell(rt, started, times, timed)
 }
 
 fn decode_lent(rt: &HostRuntime, octets: &mut [u8], len: usize, timed: bool) -> io::Result<()> {
     let started = Instant::now(rt)?;
     let times = is_lent(octets, len).then_some(256 * ROUNDS);
-    told("block decoded in place", octets).tell(rt, started, times, timed)
+    work_of("block decoded in place", octets).tell(rt, started, times, timed)
 }
 
 /// Returns the work of decoding a block.
-fn told(name: &'static str, octets: &[u8]) -> Work {
+fn work_of(name: &'static str, octets: &[u8]) -> Work {
     Work {
         name,
         octets: octets.len(),

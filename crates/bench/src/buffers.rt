@@ -2,7 +2,7 @@
 
 ghost use Rattle.std.specs.Prelude.{◌≤◌, length, IfSome};
 
-use crate::ends::{MOST_BLOCKS, Messages, told};
+use crate::ends::{MOST_BLOCKS, Messages, work_of};
 use block_core::LONGEST_BLOCK;
 use std::io;
 use std::time::Instant;
@@ -18,7 +18,7 @@ pub(crate) fn exchange_in_time(
 ) -> io::Result<()> {
     let started = Instant::now(rt)?;
     let blocks = exchange(terminal, card, messages);
-    told("longest exchange by hand").tell(rt, started, blocks, timed)
+    work_of("longest exchange by hand").tell(rt, started, blocks, timed)
 }
 
 /// Returns how many blocks an exchange over a line without faults takes, or `None` if it isn't

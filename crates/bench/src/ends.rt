@@ -92,7 +92,7 @@ fn exchange_between(
 }
 
 /// Returns the work of an exchange.
-pub(crate) fn told(name: &'static str) -> Work {
+pub(crate) fn work_of(name: &'static str) -> Work {
     Work {
         name,
         octets: COMMAND + RESPONSE,

@@ -55,7 +55,7 @@ fn judge(rt: &HostRuntime, name: &'static str, octets: &[u8], timed: bool) -> io
 fn check(rt: &HostRuntime, name: &'static str, octets: &[u8], timed: bool) -> io::Result<()> {
     let started = Instant::now(rt)?;
     let checks = checked(octets);
-    told(name, octets, "check").tell(rt, started, checks, timed)
+    work_of(name, octets, "check").tell(rt, started, checks, timed)
 }
 
 fn check_in_pieces(
@@ -66,23 +66,23 @@ fn check_in_pieces(
 ) -> io::Result<()> {
     let started = Instant::now(rt)?;
     let pieces = checked_in_pieces(octets);
-    told(name, octets, "pieces").tell(rt, started, pieces, timed)
+    work_of(name, octets, "pieces").tell(rt, started, pieces, timed)
 }
 
 fn lend(rt: &HostRuntime, name: &'static str, octets: &[u8], timed: bool) -> io::Result<()> {
     let started = Instant::now(rt)?;
     let parts = parts(rt.alloc(), octets);
-    told(name, octets, "parts lent").tell(rt, started, parts, timed)
+    work_of(name, octets, "parts lent").tell(rt, started, parts, timed)
 }
 
 fn read(rt: &HostRuntime, name: &'static str, octets: &[u8], timed: bool) -> io::Result<()> {
     let started = Instant::now(rt)?;
     let tops = tops(rt.alloc(), octets);
-    told(name, octets, "tops read").tell(rt, started, tops, timed)
+    work_of(name, octets, "tops read").tell(rt, started, tops, timed)
 }
 
 /// Returns the work on a forest.
-fn told(name: &'static str, octets: &[u8], unit: &'static str) -> Work {
+fn work_of(name: &'static str, octets: &[u8], unit: &'static str) -> Work {
     Work {
         name,
         octets: octets.len(),

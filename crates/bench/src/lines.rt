@@ -4,7 +4,7 @@
 ghost use Rattle.std.specs.Prelude.{◌≤◌, length};
 
 use crate::buffers::served;
-use crate::ends::{MOST_BLOCKS, Messages, told};
+use crate::ends::{MOST_BLOCKS, Messages, work_of};
 use block_core::LONGEST_BLOCK;
 use line_core::{CardLine, Host, Received, TerminalLine, exchange, serve};
 use std::io::{self, ErrorKind};
@@ -21,7 +21,7 @@ pub(crate) fn exchange_in_time(
 ) -> io::Result<()> {
     let started = Instant::now(rt)?;
     let blocks = exchanged(terminal, card, messages);
-    told("longest exchange over a line").tell(rt, started, blocks, timed)
+    work_of("longest exchange over a line").tell(rt, started, blocks, timed)
 }
 
 /// Returns how many blocks an exchange takes, or `None` if it isn't answered.
@@ -47,7 +47,7 @@ pub(crate) fn serve_in_time(
 ) -> io::Result<()> {
     let started = Instant::now(rt)?;
     let blocks = serves(terminal, card, messages);
-    told("longest exchange served").tell(rt, started, blocks, timed)
+    work_of("longest exchange served").tell(rt, started, blocks, timed)
 }
 
 /// Returns how many blocks an exchange takes that a card serves, or `None` if it isn't answered.

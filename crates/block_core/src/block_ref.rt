@@ -156,7 +156,7 @@ fn pcb_in(octets: &[u8], ifs: u8) -> Result<Pcb, Stop<BlockReason>>
     if octets.len() < 2 {
         return Err(short(octets));
     }
-    match Pcb::of(octets[1]) {
+    match Pcb::from_octet(octets[1]) {
         Some(pcb) => Ok(pcb),
         None => Err(refused(1, BlockReason::BadPcb)),
     }

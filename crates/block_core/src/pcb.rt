@@ -100,7 +100,7 @@ impl Pcb {
     }
 
     /// Returns the kind that a control octet says, or `None` if it isn't one of the 18.
-    pub fn of(octet: u8) -> Option<Pcb>
+    pub fn from_octet(octet: u8) -> Option<Pcb>
         ensures found { IfSome result (λ p. pcb_octet p ≡ octet) }
         ensures none { IfNone result ((p : AnyPcb) → pcb_octet p ≡ octet → ⊥) }
     {

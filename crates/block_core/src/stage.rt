@@ -96,7 +96,7 @@ fn behind_pcb(held: &[u8], ifs: u8) -> Result<Stage, BlockReason>
     ensures on { IfOk result (λ stage. IsAt ifs stage held.now) }
     ensures refused { IfErr result (IsRefused ifs held.now) }
 {
-    match Pcb::of(held[1]) {
+    match Pcb::from_octet(held[1]) {
         Some(pcb) => Ok(Stage::Len(pcb)),
         None => Err(BlockReason::BadPcb),
     }

@@ -19,7 +19,7 @@ use Rattle.judge_times.specs.Waiting.{after_card, sent_by, timed, timed_as}
 use Rattle.judge_times.specs.Clocked.{clocked_after, least_after, timed_by, with_moments}
 use Rattle.c_lent.specs.KeptJudge.{monitor_of}
 use Rattle.c_lent.specs.KeptTimes.{clocked_of, IsBegun}
-use Rattle.c_lent.specs.LentTimes.{timed_told, TimesBlock}
+use Rattle.c_lent.specs.LentTimes.{timed_shown, TimesBlock}
 use Rattle.c_lent.specs.declared.kept_judge.CJudge.{CJudge}
 use Rattle.c_lent.specs.declared.kept_times.CTimes.{CTimes}
 use Rattle.c_lent.specs.declared.lent_times.CTimed.{CTimed}
@@ -72,7 +72,7 @@ pub times-block : (o : Option ℕ) (old new : CTimes) (judge : CJudge) (from : S
     (monitor_of judge).card.heard report.said from))
     × (after ≡ clocked_after (clocked_of old) (with_moments (clocked_of old).timing moments) report.said from
     (length octets) least))
-    → answer ≡ Some said → clocked_of new ≡ kept_in (clocked_of old) after → out ≡ timed_told said
+    → answer ≡ Some said → clocked_of new ≡ kept_in (clocked_of old) after → out ≡ timed_shown said
     → IfSome o (λ least. P × Q × TimesBlock old judge from octets how moments least new out)
 times-block None old new judge from octets how moments out monitor report after answer said P Q p q takes h is keeps
     tells = h
@@ -85,7 +85,7 @@ times-block (Some least) old new judge from octets how moments out monitor repor
         monitor = monitor;
         report = report;
         takes = takes;
-        told = tells ∙ ap timed_told (some-is _ _ (sym is ∙ h.0));
+        told = tells ∙ ap timed_shown (some-is _ _ (sym is ∙ h.0));
         after = keeps ∙ after-kept (clocked_of old) after moments report.said from (length octets) least h.1;
       },
     )

@@ -54,16 +54,16 @@ card-told (Err card_fault.TooLong) old new answer (is, same) = (ap told_card is,
 card-told (Err card_fault.Reserved) old new answer (is, same) = (ap told_card is, same)
 
 -- what C is told of a terminal's turn whose octets were put into the buffer is what it is told of the turn
-pub terminal_told : (given : Result TerminalTurn TerminalFault) (old new : List ℕ)
+pub terminal_shown : (given : Result TerminalTurn TerminalFault) (old new : List ℕ)
     (answer : Result EncodedTerminalTurn TerminalFault) (turn : CTurn) → IsTerminalPut given old new answer
     → turn ≡ told_terminal answer → IsTerminalTurn given old new turn
-terminal_told given old new answer turn put is =
+terminal_shown given old new answer turn put is =
     subst (λ (t : CTurn). IsTerminalTurn given old new t) (sym is) (terminal-told given old new answer put)
 
 -- the same of a card's turn
-pub card_told : (given : Result CardTurn CardFault) (old new : List ℕ) (answer : Result EncodedCardTurn CardFault)
+pub card_shown : (given : Result CardTurn CardFault) (old new : List ℕ) (answer : Result EncodedCardTurn CardFault)
     (turn : CTurn) → IsCardPut given old new answer → turn ≡ told_card answer → IsCardTurn given old new turn
-card_told given old new answer turn put is =
+card_shown given old new answer turn put is =
     subst (λ (t : CTurn). IsCardTurn given old new t) (sym is) (card-told given old new answer put)
 
 -- C is told no refusal of a turn that is taken

@@ -48,45 +48,45 @@ atr_of c = record {
 -- ---- the struct that the library writes
 
 -- the mark is 1 if there is a byte, else 0; the byte is 0 if there is none
-abbrev pub mark_told : Option ℕ → ℕ
-mark_told None = 0
-mark_told (Some byte) = 1
+abbrev pub mark_shown : Option ℕ → ℕ
+mark_shown None = 0
+mark_shown (Some byte) = 1
 
-abbrev pub byte_told : Option ℕ → ℕ
-byte_told None = 0
-byte_told (Some byte) = byte
+abbrev pub byte_shown : Option ℕ → ℕ
+byte_shown None = 0
+byte_shown (Some byte) = byte
 
-abbrev pub interface_told : Interface → CInterface
-interface_told i = record {
-  has_ta = mark_told i.ta;
-  ta = byte_told i.ta;
-  has_tb = mark_told i.tb;
-  tb = byte_told i.tb;
-  has_tc = mark_told i.tc;
-  tc = byte_told i.tc;
+abbrev pub interface_shown : Interface → CInterface
+interface_shown i = record {
+  has_ta = mark_shown i.ta;
+  ta = byte_shown i.ta;
+  has_tb = mark_shown i.tb;
+  tb = byte_shown i.tb;
+  has_tc = mark_shown i.tc;
+  tc = byte_shown i.tc;
 }
 
-abbrev pub indicated_told : Indicated → CIndicated
-indicated_told x = record { protocol = x.protocol; bytes = interface_told x.bytes }
+abbrev pub indicated_shown : Indicated → CIndicated
+indicated_shown x = record { protocol = x.protocol; bytes = interface_shown x.bytes }
 
-abbrev pub convention_told : Convention → ℕ
-convention_told Direct = 0
-convention_told Inverse = 1
+abbrev pub convention_shown : Convention → ℕ
+convention_shown Direct = 0
+convention_shown Inverse = 1
 
 -- an unused entry after the last TD
 abbrev pub no_indicated : CIndicated
-no_indicated = indicated_told (record { protocol = 0; bytes = record { ta = None; tb = None; tc = None } })
+no_indicated = indicated_shown (record { protocol = 0; bytes = record { ta = None; tb = None; tc = None } })
 
 -- The struct describes this answer: each mark is 0 or 1, the counts are those of the answer, and what is absent is 0.
 pub record IsTold (a : AtrParts) (c : CAtr) : Type 0 where
-  pub convention : c.convention ≡ convention_told a.convention
-  pub first : c.first ≡ interface_told a.first
+  pub convention : c.convention ≡ convention_shown a.convention
+  pub first : c.first ≡ interface_shown a.first
   pub indicated_count : c.indicated_count ≡ length a.indicated
-  pub indicated : c.indicated ≡ map indicated_told a.indicated ++ replicate (31 - length a.indicated) no_indicated
+  pub indicated : c.indicated ≡ map indicated_shown a.indicated ++ replicate (31 - length a.indicated) no_indicated
   pub historical_count : c.historical_count ≡ length a.historical
   pub historical : c.historical ≡ a.historical ++ replicate (15 - length a.historical) 0
-  pub has_tck : c.has_tck ≡ mark_told (tck_of a)
-  pub tck : c.tck ≡ byte_told (tck_of a)
+  pub has_tck : c.has_tck ≡ mark_shown (tck_of a)
+  pub tck : c.tck ≡ byte_shown (tck_of a)
 
 -- ---- verdicts
 

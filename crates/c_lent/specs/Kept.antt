@@ -36,14 +36,14 @@ terminal_wait_of kind size place =
     else (if kind == 6 then Some terminal_wait.Dead else None))))))
 
 -- the number of what a terminal waits for, with a size or a count, and a place: 0 if unused
-abbrev pub terminal_wait_told : TerminalWait → ℕ × ℕ × ℕ
-terminal_wait_told terminal_wait.Idle = (0, 0, 0)
-terminal_wait_told (terminal_wait.Ack cut) = (1, cut.size, cut.place)
-terminal_wait_told (terminal_wait.Answer cut) = (2, cut.size, cut.place)
-terminal_wait_told terminal_wait.More = (3, 0, 0)
-terminal_wait_told (terminal_wait.Ifs size) = (4, size, 0)
-terminal_wait_told (terminal_wait.Resynch asked) = (5, asked, 0)
-terminal_wait_told terminal_wait.Dead = (6, 0, 0)
+abbrev pub terminal_wait_shown : TerminalWait → ℕ × ℕ × ℕ
+terminal_wait_shown terminal_wait.Idle = (0, 0, 0)
+terminal_wait_shown (terminal_wait.Ack cut) = (1, cut.size, cut.place)
+terminal_wait_shown (terminal_wait.Answer cut) = (2, cut.size, cut.place)
+terminal_wait_shown terminal_wait.More = (3, 0, 0)
+terminal_wait_shown (terminal_wait.Ifs size) = (4, size, 0)
+terminal_wait_shown (terminal_wait.Resynch asked) = (5, asked, 0)
+terminal_wait_shown terminal_wait.Dead = (6, 0, 0)
 
 abbrev pub terminal_from : CTerminal → Option Number → Option Number → Option TerminalWait → Option Bool
     → Option LentTerminal
@@ -78,13 +78,13 @@ card_wait_of kind size place =
     else (if kind == 4 then Some (card_wait.Asking (Size size))
     else (if kind == 5 then Some (card_wait.Asking (Time size)) else None)))))
 
-abbrev pub card_wait_told : CardWait → ℕ × ℕ × ℕ
-card_wait_told card_wait.Command = (0, 0, 0)
-card_wait_told card_wait.Joining = (1, 0, 0)
-card_wait_told card_wait.Host = (2, 0, 0)
-card_wait_told (card_wait.Reply cut) = (3, cut.size, cut.place)
-card_wait_told (card_wait.Asking (Size size)) = (4, size, 0)
-card_wait_told (card_wait.Asking (Time multiple)) = (5, multiple, 0)
+abbrev pub card_wait_shown : CardWait → ℕ × ℕ × ℕ
+card_wait_shown card_wait.Command = (0, 0, 0)
+card_wait_shown card_wait.Joining = (1, 0, 0)
+card_wait_shown card_wait.Host = (2, 0, 0)
+card_wait_shown (card_wait.Reply cut) = (3, cut.size, cut.place)
+card_wait_shown (card_wait.Asking (Size size)) = (4, size, 0)
+card_wait_shown (card_wait.Asking (Time multiple)) = (5, multiple, 0)
 
 -- the saved block, if there is one
 abbrev pub saved_from : Bool → Cut → Option Cut
@@ -92,9 +92,9 @@ saved_from false cut = None
 saved_from true cut = Some cut
 
 -- whether a block is saved, and its place and size, both 0 if none is
-abbrev pub saved_told : Option Cut → Bool × ℕ × ℕ
-saved_told None = (false, 0, 0)
-saved_told (Some cut) = (true, cut.place, cut.size)
+abbrev pub saved_shown : Option Cut → Bool × ℕ × ℕ
+saved_shown None = (false, 0, 0)
+saved_shown (Some cut) = (true, cut.place, cut.size)
 
 abbrev pub card_from : CCard → Option Number → Option Number → Option CardWait → Option Bool → Option LentCard
 card_from c (Some number) (Some expected) (Some wait) (Some has_saved) = Some (record {

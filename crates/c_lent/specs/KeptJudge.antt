@@ -71,12 +71,12 @@ asked_in kind octet =
     else (if kind == 3 then Some Stop else Some Anew)))
 
 -- the number of a request, 0 for none, and the octet that it carries
-abbrev pub asked_told : Option Asked → ℕ × ℕ
-asked_told None = (0, 0)
-asked_told (Some (Size octet)) = (1, octet)
-asked_told (Some (Time octet)) = (2, octet)
-asked_told (Some Stop) = (3, 0)
-asked_told (Some Anew) = (4, 0)
+abbrev pub asked_shown : Option Asked → ℕ × ℕ
+asked_shown None = (0, 0)
+asked_shown (Some (Size octet)) = (1, octet)
+asked_shown (Some (Time octet)) = (2, octet)
+asked_shown (Some Stop) = (3, 0)
+asked_shown (Some Anew) = (4, 0)
 
 -- what is due by its number, with the octet that a response carries; no value has the number 0
 abbrev pub owed_in : ℕ → ℕ → Owed
@@ -98,23 +98,23 @@ owed_in kind octet =
     else (if kind == 16 then AcknowledgmentOrRefusal else AnyBlock))))))))))))))
 
 -- the number of what is due, and the octet that a response carries
-abbrev pub owed_told : Owed → ℕ × ℕ
-owed_told NewMessage = (1, 0)
-owed_told NextBlock = (2, 0)
-owed_told Acknowledgment = (3, 0)
-owed_told SameBlock = (4, 0)
-owed_told Correction = (5, 0)
-owed_told Refusal = (6, 0)
-owed_told SameRequest = (7, 0)
-owed_told (Answer Resynch octet) = (8, octet)
-owed_told (Answer Ifs octet) = (9, octet)
-owed_told (Answer Abort octet) = (10, octet)
-owed_told (Answer Wtx octet) = (11, octet)
-owed_told EitherBlock = (12, 0)
-owed_told AnyBlock = (13, 0)
-owed_told MessageOrCorrection = (14, 0)
-owed_told MessageOrRefusal = (15, 0)
-owed_told AcknowledgmentOrRefusal = (16, 0)
+abbrev pub owed_shown : Owed → ℕ × ℕ
+owed_shown NewMessage = (1, 0)
+owed_shown NextBlock = (2, 0)
+owed_shown Acknowledgment = (3, 0)
+owed_shown SameBlock = (4, 0)
+owed_shown Correction = (5, 0)
+owed_shown Refusal = (6, 0)
+owed_shown SameRequest = (7, 0)
+owed_shown (Answer Resynch octet) = (8, octet)
+owed_shown (Answer Ifs octet) = (9, octet)
+owed_shown (Answer Abort octet) = (10, octet)
+owed_shown (Answer Wtx octet) = (11, octet)
+owed_shown EitherBlock = (12, 0)
+owed_shown AnyBlock = (13, 0)
+owed_shown MessageOrCorrection = (14, 0)
+owed_shown MessageOrRefusal = (15, 0)
+owed_shown AcknowledgmentOrRefusal = (16, 0)
 
 -- a control octet by its kind, its number or subject, and whether more blocks follow or its fault
 abbrev pub pcb_in : ℕ → ℕ → ℕ → Pcb

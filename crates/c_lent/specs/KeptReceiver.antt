@@ -22,11 +22,11 @@ stage_of kind more len =
     else (if kind == 3 then Some (Rest more len) else None)))
 
 -- the number of the next part, whether more blocks follow, and the length: no and 0 if unused
-abbrev pub stage_told : BlockStage → ℕ × Bool × ℕ
-stage_told Nad = (0, false, 0)
-stage_told Pcb = (1, false, 0)
-stage_told (Len more) = (2, more, 0)
-stage_told (Rest more len) = (3, more, len)
+abbrev pub stage_shown : BlockStage → ℕ × Bool × ℕ
+stage_shown Nad = (0, false, 0)
+stage_shown Pcb = (1, false, 0)
+stage_shown (Len more) = (2, more, 0)
+stage_shown (Rest more len) = (3, more, len)
 
 -- a refusal at this place
 abbrev pub refused_at : ChainReason → ℕ → Option (Option (Refusal ChainReason))

@@ -53,15 +53,15 @@ marks_with stakes [] marks = marks
 marks_with stakes (r ∷ more) marks = marks_with stakes more (bit_or marks (mark_if stakes r))
 
 -- A permitted block keeps each rule that is at stake, and another one breaks one rule.
-abbrev pub exercise_told : Exercise → CExercise
-exercise_told Unknown = record { kept = 0; broken = 0; due = 0 }
-exercise_told (Keeps stakes) =
+abbrev pub exercise_shown : Exercise → CExercise
+exercise_shown Unknown = record { kept = 0; broken = 0; due = 0 }
+exercise_shown (Keeps stakes) =
     record { kept = marks_with stakes rules 0; broken = 0; due = due_number (came_in stakes) }
-exercise_told (Breaks broken state) = record { kept = 0; broken = rule_number broken; due = due_number state }
+exercise_shown (Breaks broken state) = record { kept = 0; broken = rule_number broken; due = due_number state }
 
 -- what octets of an end exercise, before the judge with this state takes them
 pub record IsExercised (judge : CJudge) (from : Side) (octets : List ℕ) (arrival : Arrival) (out : CExercise)
     : Type 0 where
   pub exercise : Exercise
   pub exercises : Exercises (monitor_of judge) from octets arrival exercise
-  pub told : out ≡ exercise_told exercise
+  pub told : out ≡ exercise_shown exercise

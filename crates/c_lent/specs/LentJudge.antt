@@ -18,7 +18,7 @@ use Rattle.judge_core.specs.declared.monitor.Report.{Report}
 use Rattle.judge_core.specs.Monitored.{silence_of, Takes}
 use Rattle.judge_core.specs.Rules.{rule_name, rule_clause}
 use Rattle.c_lent.specs.Names.{named}
-use Rattle.c_lent.specs.KeptJudge.{asked_told, owed_told, monitor_of}
+use Rattle.c_lent.specs.KeptJudge.{asked_shown, owed_shown, monitor_of}
 use Rattle.c_lent.specs.declared.kept_judge.CJudge.{CJudge}
 use Rattle.c_lent.specs.declared.lent_judge.CDue.{CDue}
 use Rattle.c_lent.specs.declared.lent_judge.CJudgment.{CJudgment}
@@ -73,11 +73,11 @@ clause_words = named rule_number rule_clause all_rules
 -- the struct of what was due from an end
 abbrev pub due_of : After → CDue
 due_of a = record {
-  owed = (owed_told a.owed).0;
-  octet = (owed_told a.owed).1;
+  owed = (owed_shown a.owed).0;
+  octet = (owed_shown a.owed).1;
   next = number_bit a.«end».next 1;
   expects = number_bit a.«end».expects 1;
-  asked = (asked_told a.«end».asked).0;
+  asked = (asked_shown a.«end».asked).0;
 }
 
 abbrev pub no_due : CDue
@@ -91,19 +91,19 @@ verdict_number (Block (Deviates broken due)) = 3
 verdict_number Elsewhere = 4
 
 -- the number of the broken rule, or 0
-abbrev pub rule_told : Said → ℕ
-rule_told (Block Permitted) = 0
-rule_told Damage = 0
-rule_told Elsewhere = 0
-rule_told (Block Unseen) = 0
-rule_told (Block (Deviates broken due)) = rule_number broken
+abbrev pub rule_shown : Said → ℕ
+rule_shown (Block Permitted) = 0
+rule_shown Damage = 0
+rule_shown Elsewhere = 0
+rule_shown (Block Unseen) = 0
+rule_shown (Block (Deviates broken due)) = rule_number broken
 
-abbrev pub due_told : Said → CDue
-due_told (Block Permitted) = no_due
-due_told Damage = no_due
-due_told Elsewhere = no_due
-due_told (Block Unseen) = no_due
-due_told (Block (Deviates broken due)) = due_of due
+abbrev pub due_shown : Said → CDue
+due_shown (Block Permitted) = no_due
+due_shown Damage = no_due
+due_shown Elsewhere = no_due
+due_shown (Block Unseen) = no_due
+due_shown (Block (Deviates broken due)) = due_of due
 
 abbrev pub silence_number : Silence → ℕ
 silence_number No = 0
@@ -123,14 +123,14 @@ judgment_of number report = record {
   before = report.before;
   unanswered = unanswered_by report.silence;
   verdict = verdict_number report.said;
-  rule = rule_told report.said;
+  rule = rule_shown report.said;
   silence = silence_number report.silence;
-  due = due_told report.said;
+  due = due_shown report.said;
 }
 
 -- the judgment on a card's silence alone
-abbrev pub silence_told : Silence → CJudgment
-silence_told silence = record {
+abbrev pub silence_shown : Silence → CJudgment
+silence_shown silence = record {
   number = 0;
   before = 0;
   unanswered = unanswered_by silence;

@@ -36,8 +36,8 @@ told_off over (Late late) =
 told_off over (Early early) =
     record { elapsed = early.elapsed; limit = early.least; off = 2; over = over_mark over }
 
-abbrev pub timed_told : Timed → CTimed
-timed_told timed = told_off timed.over timed.off
+abbrev pub timed_shown : Timed → CTimed
+timed_shown timed = told_off timed.over timed.off
 
 -- The times took octets of an end as one block, before the judge with this state takes them. The report is what the
 -- judge says of the block then.
@@ -46,7 +46,7 @@ pub record TimesBlock (old : CTimes) (judge : CJudge) (from : Side) (octets : Li
   pub monitor : Monitor
   pub report : Report
   pub takes : Takes (monitor_of judge) from octets arrival monitor report
-  pub told : out ≡ timed_told (timed_by (clocked_of old) (with_moments (clocked_of old).timing moments)
+  pub told : out ≡ timed_shown (timed_by (clocked_of old) (with_moments (clocked_of old).timing moments)
       (monitor_of judge).card.heard report.said from)
   pub after : clocked_of new ≡ clocked_after (clocked_of old) (with_moments (clocked_of old).timing moments)
       report.said from (length octets) least

@@ -34,6 +34,6 @@ abbrev pub note_text : ℕ → ℕ → ℕ → NoteText
 note_text number first second = about_says (about_of number) first second
 
 -- whether there is a number, and which
-abbrev pub number_told : Option ℕ → ℕ × ℕ
-number_told (Some number) = (1, number)
-number_told None = (0, 0)
+abbrev pub number_shown : Option ℕ → ℕ × ℕ
+number_shown (Some number) = (1, number)
+number_shown None = (0, 0)

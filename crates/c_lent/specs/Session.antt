@@ -29,7 +29,7 @@ use Rattle.c_lent.specs.declared.session_next.CSessionNext.{CSessionNext}
 use Rattle.c_lent.specs.Verdict.{ok_at, wrong_argument}
 use Rattle.c_lent.specs.Kept.{IsTerminal, IsCard}
 use Rattle.c_lent.specs.Lent.{Lent, lent, IsLeft, IsBlank}
-use Rattle.c_lent.specs.SessionNext.{done, no_room, acted, terminal_told, card_told}
+use Rattle.c_lent.specs.SessionNext.{done, no_room, acted, terminal_shown, card_shown}
 
 -- the line of an end that hasn't used it yet, by these rules
 pub record IsFresh (line : Line) (rules : Rules) : Type 0 where
@@ -73,7 +73,7 @@ pub record Turns (t : TerminalState) (input : TerminalInput) (now : ℕ) (burst 
   pub end : IsEnd new t_after
   pub turn : TurnsTo t input Exchange (limits_of old.state.most_time old.state.most_blocks) old.state.line.rules
       (seen old.state.line.progress) burst now t_after new.state.line old.state.own new.state.own out out_after result
-  pub next_is : next ≡ terminal_told result
+  pub next_is : next ≡ terminal_shown result
   pub most_time : new.state.most_time ≡ old.state.most_time
   pub most_blocks : new.state.most_blocks ≡ old.state.most_blocks
   pub refused : IfErr result (λ _. new ≡ old)
@@ -95,7 +95,7 @@ pub record Proceeds (t : TerminalState) (step : Step) (rules : Rules) (now : ℕ
   pub end : IsEnd new t_after
   pub stepped_so : IsStepped step.next step rules t now t_after new.state.line old.state.own new.state.own out out_after
       result
-  pub next_is : next ≡ terminal_told result
+  pub next_is : next ≡ terminal_shown result
   pub most_time : new.state.most_time ≡ old.state.most_time
   pub most_blocks : new.state.most_blocks ≡ old.state.most_blocks
 
@@ -124,7 +124,7 @@ pub record IsResynched (s : Setup) (rules : Rules) (now : ℕ) (old new : Lent C
   pub turn : TurnsTo (asking_resynch (terminal_with (at_most (length old.command) (length old.answer)) s.ifsc))
       (takes quiet) Clear no_limits rules (fresh (ruled rules)) [] now t_after new.state.line 0 new.state.own out
       out_after result
-  pub next_is : next ≡ terminal_told result
+  pub next_is : next ≡ terminal_shown result
   pub most_time : new.state.most_time ≡ s.most_time
   pub most_blocks : new.state.most_blocks ≡ s.most_blocks
 
@@ -175,7 +175,7 @@ pub record CardTurns (c : CardState) (input : CardInput) (now : ℕ) (burst : Li
   pub end : IsCardEnd new c_after
   pub turn : cards.TurnsTo c input Exchange old.state.line.rules (seen old.state.line.progress) burst now c_after
       new.state.line old.state.own new.state.own out out_after result
-  pub next_is : next ≡ card_told result
+  pub next_is : next ≡ card_shown result
   pub granted : new.state.granted ≡ old.state.granted
   pub takes_short : new.state.host_takes_short ≡ old.state.host_takes_short
   pub refused : IfErr result (λ _. new ≡ old)
@@ -195,7 +195,7 @@ pub record CardProceeds (c : CardState) (step : Step) (rules : Rules) (now : ℕ
   pub end : IsCardEnd new c_after
   pub stepped_so : cards.IsStepped step.next step rules c (not (old.state.host_takes_short == 0)) old.state.granted
       new.state.granted now c_after new.state.line old.state.own new.state.own out out_after result
-  pub next_is : next ≡ card_told result
+  pub next_is : next ≡ card_shown result
   pub takes_short : new.state.host_takes_short ≡ old.state.host_takes_short
 
 abbrev pub CardHappens : CardState → ℕ → List ℕ → ℕ → List ℕ → Lent CCardSession → Lent CCardSession → List ℕ

@@ -38,16 +38,16 @@ acted (NoStatus count) = done 66 count
 acted Echo = done 67 0
 acted (Wait time) = waiting time
 
-abbrev pub terminal_told : Result Action TerminalFault → CSessionNext
-terminal_told (Ok action) = acted action
-terminal_told (Err fault.Dead) = done 16 0
-terminal_told (Err fault.Busy) = done 17 0
-terminal_told (Err fault.TooLong) = done 18 0
-terminal_told (Err fault.Reserved) = done 19 0
-terminal_told (Err fault.Idle) = done 20 0
+abbrev pub terminal_shown : Result Action TerminalFault → CSessionNext
+terminal_shown (Ok action) = acted action
+terminal_shown (Err fault.Dead) = done 16 0
+terminal_shown (Err fault.Busy) = done 17 0
+terminal_shown (Err fault.TooLong) = done 18 0
+terminal_shown (Err fault.Reserved) = done 19 0
+terminal_shown (Err fault.Idle) = done 20 0
 
-abbrev pub card_told : Result Action CardFault → CSessionNext
-card_told (Ok action) = acted action
-card_told (Err card_fault.Order) = done 21 0
-card_told (Err card_fault.TooLong) = done 18 0
-card_told (Err card_fault.Reserved) = done 19 0
+abbrev pub card_shown : Result Action CardFault → CSessionNext
+card_shown (Ok action) = acted action
+card_shown (Err card_fault.Order) = done 21 0
+card_shown (Err card_fault.TooLong) = done 18 0
+card_shown (Err card_fault.Reserved) = done 19 0

@@ -6,7 +6,7 @@ ghost use Rattle.atr_core.specs.Atr.{AtrParts, IsAtr, IsReason, tck_of};
 ghost use Rattle.atr_core.specs.T1.{t1_params_of};
 ghost use Rattle.atr_core.specs.Rates.{rates_of};
 ghost use Rattle.c_lent.specs.Verdict.{Tells, Puts, ok_at, wrong_argument};
-ghost use Rattle.c_lent.specs.Atr.{atr_reason, byte_of, interface_of, indicated_of, convention_of, atr_of, convention_told, indicated_told, interface_told, no_indicated, SaysAtr, IsDecoded, IsT1, IsTold, rates_seen};
+ghost use Rattle.c_lent.specs.Atr.{atr_reason, byte_of, interface_of, indicated_of, convention_of, atr_of, convention_shown, indicated_shown, interface_shown, no_indicated, SaysAtr, IsDecoded, IsT1, IsTold, rates_seen};
 
 use crate::output::put;
 use crate::verdict::{ARGUMENT, Numbered, Verdict};
@@ -89,7 +89,7 @@ pub fn atr_check(octets: &[u8]) -> Verdict
 /// Decodes the answer to reset at the front of the octets.
 pub fn atr_decode(octets: &[u8], out: &mut CAtr) -> Verdict
     ensures ok { result.status ≡ 0 → IsDecoded octets.now result out.new }
-    ensures told { result.status ≡ 0 → IsTold (atr_of out.new) out.new }
+    ensures shown { result.status ≡ 0 → IsTold (atr_of out.new) out.new }
     ensures place { result.status ≡ 0 → result ≡ ok_at result.place }
     ensures refused { result.status ≢ 0 →
         Tells atr_reason (Refuses self_ended IsAtr IsReason octets.now) result }
@@ -225,7 +225,7 @@ fn listed(given: &[CIndicated]) -> ArrayVec<Indicated, 31>
 #[inline(never)]
 pub fn tell(atr: &Atr, out: &mut CAtr)
     ensures atr { atr_of out.new ≡ atr.now }
-    ensures told { IsTold atr.now out.new }
+    ensures shown { IsTold atr.now out.new }
     ensures tck { byte_of out.new.has_tck out.new.tck ≡ tck_of atr.now }
     ensures indicated { out.new.indicated_count ≤ 31 }
     ensures historical { out.new.historical_count ≤ 15 }
@@ -247,7 +247,7 @@ pub fn tell(atr: &Atr, out: &mut CAtr)
 fn tell_indicated(indicated: &[Indicated], out: &mut [CIndicated; 31])
     requires { length indicated.now ≤ 31 }
     ensures said { map indicated_of (take (length indicated.now) out.new) ≡ indicated.now }
-    ensures told { out.new ≡ map indicated_told indicated.now
+    ensures shown { out.new ≡ map indicated_shown indicated.now
         ++ replicate (31 - length indicated.now) no_indicated }
 {
     *out = [indicated_seen(Indicated::default()); 31];
@@ -258,7 +258,7 @@ fn tell_indicated(indicated: &[Indicated], out: &mut [CIndicated; 31])
 
 fn indicated_seen(x: Indicated) -> CIndicated
     ensures said { indicated_of result ≡ x }
-    ensures told { result ≡ indicated_told x }
+    ensures shown { result ≡ indicated_shown x }
 {
     CIndicated {
         protocol: x.protocol,
@@ -278,7 +278,7 @@ fn tell_historical(octets: &[u8], out: &mut [u8; 15])
 
 fn convention_seen(convention: Convention) -> u8
     ensures said { convention_of result ≡ convention }
-    ensures told { result ≡ convention_told convention }
+    ensures shown { result ≡ convention_shown convention }
 {
     match convention {
         Convention::Direct => 0,
@@ -288,7 +288,7 @@ fn convention_seen(convention: Convention) -> u8
 
 fn interface_seen(bytes: Interface) -> CInterface
     ensures said { interface_of result ≡ bytes }
-    ensures told { result ≡ interface_told bytes }
+    ensures shown { result ≡ interface_shown bytes }
 {
     CInterface {
         has_ta: u8::from(bytes.ta.is_some()),

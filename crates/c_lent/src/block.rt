@@ -75,7 +75,7 @@ pub fn block_decode(octets: &[u8], ifs: u8, out: &mut CBlock) -> Verdict
 pub fn block_parts(pcb: u8, out: &mut CPcb)
     ensures { ShowsPcb pcb out.new }
 {
-    *out = match Pcb::of(pcb) {
+    *out = match Pcb::from_octet(pcb) {
         Some(pcb) => pcb_shown(pcb),
         None => NO_PCB,
     };
@@ -185,7 +185,7 @@ fn block_of(nad: u8, pcb: u8, inf: &[u8]) -> Option<BlockRef<'_>>
     ensures found { IfSome result (λ block. IsOf nad pcb inf.now block) }
     ensures none { IfNone result (IsUnfit pcb inf.now) }
 {
-    BlockRef::new(nad, Pcb::of(pcb)?, inf)
+    BlockRef::new(nad, Pcb::from_octet(pcb)?, inf)
 }
 
 /// Writes a block, if there is one, to the front of a buffer. If the buffer has room for every block, it is encoded

@@ -4,7 +4,7 @@ ghost use Rattle.std.specs.Prelude.{◌≡◌};
 ghost use Rattle.block_core.specs.Block.{number_bit};
 ghost use Rattle.c_lent.specs.Kept.{mark_of};
 ghost use Rattle.c_lent.specs.Number.{number_of, fault_of, subject_of};
-ghost use Rattle.c_lent.specs.KeptJudge.{mark_in, number_in, asked_told, owed_told, fault_in, subject_in, side_of, side_in, doubt_in, pending_in, asked_in, owed_in, pcb_in, heard_as, last_in, nad_in, pairs_in};
+ghost use Rattle.c_lent.specs.KeptJudge.{mark_in, number_in, asked_shown, owed_shown, fault_in, subject_in, side_of, side_in, doubt_in, pending_in, asked_in, owed_in, pcb_in, heard_as, last_in, nad_in, pairs_in};
 
 use crate::kept::{mark, mark_of};
 use crate::number::{fault, fault_of, number, number_of, subject, subject_of};
@@ -120,7 +120,7 @@ pub(crate) fn asked_in(kind: u8, octet: u8) -> Option<Asked>
 
 /// Returns the number of a request, 0 for none, and the octet that it carries.
 pub(crate) fn asked(asked: Option<Asked>) -> (u8, u8)
-    ensures told { result ≡ asked_told asked }
+    ensures shown { result ≡ asked_shown asked }
     ensures kept { asked_in result.0 result.1 ≡ asked }
 {
     match asked {
@@ -157,7 +157,7 @@ pub(crate) fn owed_in(kind: u8, octet: u8) -> Owed
 
 /// Returns the number of what is due, and the octet that a response carries.
 pub(crate) fn owed(owed: Owed) -> (u8, u8)
-    ensures told { result ≡ owed_told owed }
+    ensures shown { result ≡ owed_shown owed }
     ensures kept { owed_in result.0 result.1 ≡ owed }
 {
     match owed {

@@ -6,7 +6,7 @@ ghost use Rattle.t1_core.specs.declared.lent.LentCard.{LentCard};
 ghost use Rattle.t1_core.specs.Views.{IsLentTerminal};
 ghost use Rattle.t1_core.specs.CardViews.{IsLentCard};
 ghost use Rattle.c_lent.specs.Number.{number_of};
-ghost use Rattle.c_lent.specs.Kept.{mark_of, saved_from, saved_told, cut_at, terminal_wait_of, terminal_wait_told, terminal_of, card_wait_of, card_wait_told, card_of};
+ghost use Rattle.c_lent.specs.Kept.{mark_of, saved_from, saved_shown, cut_at, terminal_wait_of, terminal_wait_shown, terminal_of, card_wait_of, card_wait_shown, card_of};
 
 use crate::number::number_of;
 use block_core::Number;
@@ -100,7 +100,7 @@ fn terminal_wait_of(kind: u8, size: u8, place: usize) -> Option<TerminalWait>
 
 /// Returns the number of what a terminal waits for, with a size or a count, and a place.
 fn terminal_waiting(wait: TerminalWait) -> (u8, u8, usize)
-    ensures told { result ≡ terminal_wait_told wait }
+    ensures shown { result ≡ terminal_wait_shown wait }
     ensures kept { terminal_wait_of result.0 result.1 result.2 ≡ Some wait }
 {
     match wait {
@@ -131,7 +131,7 @@ fn card_wait_of(kind: u8, size: u8, place: usize) -> Option<CardWait>
 
 /// Returns the number of what a card waits for, with a size or a multiple, and a place.
 fn card_waiting(wait: CardWait) -> (u8, u8, usize)
-    ensures told { result ≡ card_wait_told wait }
+    ensures shown { result ≡ card_wait_shown wait }
     ensures kept { card_wait_of result.0 result.1 result.2 ≡ Some wait }
 {
     match wait {
@@ -157,7 +157,7 @@ fn saved_from(has_saved: bool, place: usize, size: u8) -> Option<Cut>
 
 /// Returns whether a block is saved, and its place and size.
 fn saving(saved: Option<Cut>) -> (bool, usize, u8)
-    ensures told { result ≡ saved_told saved }
+    ensures shown { result ≡ saved_shown saved }
     ensures kept { saved_from result.0 (cut_at result.1 result.2) ≡ saved }
 {
     match saved {
@@ -171,7 +171,7 @@ impl CTerminal {
     pub fn of(end: &LentTerminal) -> CTerminal
         ensures kept { terminal_of result ≡ Some end.now }
         ensures unused { (result.wait, result.size, result.place)
-            ≡ terminal_wait_told end.now.wait }
+            ≡ terminal_wait_shown end.now.wait }
     {
         let (wait, size, place) = terminal_waiting(end.wait);
         CTerminal {
@@ -237,7 +237,7 @@ impl CCard {
     /// Returns the state of a card as a struct of C.
     pub fn of(end: &LentCard) -> CCard
         ensures kept { card_of result ≡ Some end.now }
-        ensures unused { (result.wait, result.size, result.place) ≡ card_wait_told end.now.wait }
+        ensures unused { (result.wait, result.size, result.place) ≡ card_wait_shown end.now.wait }
         ensures unsaved { end.now.saved ≡ None → (result.saved_place ≡ 0)
             × (result.saved_size ≡ 0) }
         ensures command { result.command_len ≡ end.now.command_len }

@@ -6,7 +6,7 @@ ghost use Rattle.chain_core.specs.declared.stage.BlockStage.{BlockStage};
 ghost use Rattle.chain_core.specs.declared.reason.ChainReason.{ChainReason};
 ghost use Rattle.chain_core.specs.declared.lent.LentReceiver.{LentReceiver};
 ghost use Rattle.chain_core.specs.Lent.{IsLentReceiver};
-ghost use Rattle.c_lent.specs.KeptReceiver.{stage_of, stage_told, refusal_from, receiver_of};
+ghost use Rattle.c_lent.specs.KeptReceiver.{stage_of, stage_shown, refusal_from, receiver_of};
 
 use crate::kept::{mark, mark_of, octet};
 use crate::number::number_of;
@@ -48,7 +48,7 @@ fn stage_of(kind: u8, more: bool, len: u8) -> Option<BlockStage>
 
 /// Returns the number of the part that comes next, whether more blocks follow, and the length of the field.
 fn stage_number(stage: BlockStage) -> (u8, bool, u8)
-    ensures told { result ≡ stage_told stage }
+    ensures shown { result ≡ stage_shown stage }
     ensures kept { stage_of result.0 result.1 result.2 ≡ Some stage }
 {
     match stage {
@@ -94,8 +94,8 @@ impl CReceiver {
     /// Returns the state of a receiver as a struct of C.
     pub fn of(receiver: &LentReceiver) -> CReceiver
         ensures kept { receiver_of result ≡ Some receiver.now }
-        ensures unused { (result.part ≡ (stage_told receiver.now.stage).0)
-            × (result.len ≡ (stage_told receiver.now.stage).2) }
+        ensures unused { (result.part ≡ (stage_shown receiver.now.stage).0)
+            × (result.len ≡ (stage_shown receiver.now.stage).2) }
         ensures unrefused { receiver.now.refusal ≡ None
             → (result.refused ≡ 0) × (result.refused_at ≡ 0) }
     {

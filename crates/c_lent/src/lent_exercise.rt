@@ -4,7 +4,7 @@ ghost use Rattle.std.specs.Prelude.{◌≡◌, ◌≢◌, IfSome, IfNone};
 ghost use Rattle.c_lent.specs.Verdict.{ok_at, wrong_argument};
 ghost use Rattle.c_lent.specs.KeptJudge.{side_of};
 ghost use Rattle.c_lent.specs.LentJudge.{arrival_of};
-ghost use Rattle.c_lent.specs.LentExercise.{due_number, exercise_told, mark_if, marks_with, rule_mark, state_number, IsExercised};
+ghost use Rattle.c_lent.specs.LentExercise.{due_number, exercise_shown, mark_if, marks_with, rule_mark, state_number, IsExercised};
 
 use crate::judge_numbers::side_of;
 use crate::kept_judge::CJudge;
@@ -53,7 +53,7 @@ pub fn lent_judge_exercise(
 
 impl CExercise {
     fn of(exercise: &Exercise) -> CExercise
-        ensures { result ≡ exercise_told exercise.now }
+        ensures { result ≡ exercise_shown exercise.now }
     {
         match exercise {
             Exercise::Unknown => CExercise {

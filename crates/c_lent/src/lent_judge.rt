@@ -6,7 +6,7 @@ ghost use Rattle.judge_core.specs.Monitored.{new_monitor, quiet_after};
 ghost use Rattle.c_lent.specs.Verdict.{ok_at, wrong_argument};
 ghost use Rattle.c_lent.specs.Names.{ended};
 ghost use Rattle.c_lent.specs.KeptJudge.{side_of, monitor_of};
-ghost use Rattle.c_lent.specs.LentJudge.{arrival_of, rule_number, rule_words, clause_words, due_of, no_due, verdict_number, rule_told, due_told, silence_number, unanswered_by, judgment_of, silence_told, owes_block, JudgesBlock};
+ghost use Rattle.c_lent.specs.LentJudge.{arrival_of, rule_number, rule_words, clause_words, due_of, no_due, verdict_number, rule_shown, due_shown, silence_number, unanswered_by, judgment_of, silence_shown, owes_block, JudgesBlock};
 
 use crate::judge_numbers::{asked, owed, side_of};
 use crate::kept_judge::CJudge;
@@ -90,7 +90,7 @@ pub fn lent_judge_block(
 /// Ends the terminal's waiting time, and says whether the card owed a block that it didn't send.
 pub fn lent_judge_quiet(state: &mut CJudge, out: &mut CJudgment)
     ensures after { monitor_of state.new ≡ quiet_after (monitor_of state.old) }
-    ensures told { out.new ≡ silence_told (owes_block (monitor_of state.old)) }
+    ensures shown { out.new ≡ silence_shown (owes_block (monitor_of state.old)) }
 {
     let mut monitor = state.monitor();
     *out = CJudgment::silent(monitor.quiet());
@@ -99,7 +99,7 @@ pub fn lent_judge_quiet(state: &mut CJudge, out: &mut CJudgment)
 
 /// Says whether the card owes a block, as at the end of a trace.
 pub fn lent_judge_finish(state: &CJudge, out: &mut CJudgment)
-    ensures { out.new ≡ silence_told (owes_block (monitor_of state.now)) }
+    ensures { out.new ≡ silence_shown (owes_block (monitor_of state.now)) }
 {
     *out = CJudgment::silent(state.monitor().silence());
 }
@@ -249,14 +249,14 @@ impl CJudgment {
             number,
             before: report.before,
             verdict: verdict_number(report.said),
-            rule: rule_told(report.said),
-            due: due_told(report.said),
+            rule: rule_shown(report.said),
+            due: due_shown(report.said),
             ..CJudgment::silent(report.silence)
         }
     }
 
     fn silent(silence: Silence) -> CJudgment
-        ensures { result ≡ silence_told silence }
+        ensures { result ≡ silence_shown silence }
     {
         CJudgment {
             number: 0,
@@ -282,8 +282,8 @@ fn verdict_number(said: Said) -> u8
     }
 }
 
-fn rule_told(said: Said) -> u8
-    ensures { result ≡ rule_told said }
+fn rule_shown(said: Said) -> u8
+    ensures { result ≡ rule_shown said }
 {
     match said {
         Said::Block(Verdict::Deviates(broken, _)) => broken.number(),
@@ -291,8 +291,8 @@ fn rule_told(said: Said) -> u8
     }
 }
 
-fn due_told(said: Said) -> CDue
-    ensures { result ≡ due_told said }
+fn due_shown(said: Said) -> CDue
+    ensures { result ≡ due_shown said }
 {
     match said {
         Said::Block(Verdict::Deviates(_, due)) => CDue::of(due),

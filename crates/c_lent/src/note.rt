@@ -2,7 +2,7 @@
 
 ghost use Rattle.std.specs.Prelude.{◌≡◌};
 ghost use Rattle.notes.specs.Says.{said};
-ghost use Rattle.c_lent.specs.Notes.{about_of, about_says, note_text, number_told};
+ghost use Rattle.c_lent.specs.Notes.{about_of, about_says, note_text, number_shown};
 
 use notes::{
     Note, class_name, class_note, instruction_name, mode_note, nad_note, pcb_note, status_note,
@@ -46,7 +46,7 @@ pub struct CNote {
 pub fn note_of(about: u8, first: u8, second: u8, out: &mut CNote)
     ensures before { out.new.before.now ≡ (note_text about first second).before }
     ensures number { (out.new.has_number, out.new.number)
-        ≡ number_told (note_text about first second).number }
+        ≡ number_shown (note_text about first second).number }
     ensures after { out.new.after.now ≡ (note_text about first second).after }
 {
     let note = said_of(about_of(about), first, second);

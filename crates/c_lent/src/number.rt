@@ -45,7 +45,7 @@ pub fn subject_of(about: u8) -> Option<S>
 
 /// Returns the number of a block in C.
 pub(crate) fn number(number: Number) -> u8
-    ensures told { result ≡ number_bit number 1 }
+    ensures shown { result ≡ number_bit number 1 }
     ensures kept { number_in result ≡ number }
 {
     match number {
@@ -56,7 +56,7 @@ pub(crate) fn number(number: Number) -> u8
 
 /// Returns the number of a fault in C.
 pub(crate) fn fault(fault: Fault) -> u8
-    ensures told { result ≡ fault_code fault }
+    ensures shown { result ≡ fault_code fault }
     ensures kept { fault_in result ≡ fault }
 {
     match fault {
@@ -68,7 +68,7 @@ pub(crate) fn fault(fault: Fault) -> u8
 
 /// Returns the number of an S-block's subject in C.
 pub(crate) fn subject(about: S) -> u8
-    ensures told { result ≡ supervisory_code about }
+    ensures shown { result ≡ supervisory_code about }
     ensures kept { subject_in result ≡ about }
 {
     match about {

@@ -1,7 +1,7 @@
 //! What a session does next, as C has it.
 
 ghost use Rattle.std.specs.Prelude.{◌≡◌};
-ghost use Rattle.c_lent.specs.SessionNext.{next_with, done, no_room, acted, terminal_told, card_told};
+ghost use Rattle.c_lent.specs.SessionNext.{next_with, done, no_room, acted, terminal_shown, card_shown};
 
 use crate::turn::NO_END;
 use block_core::LONGEST_BLOCK;
@@ -103,7 +103,7 @@ impl CSessionNext {
 
     /// Returns what is next after a call of a terminal's session.
     pub fn of_terminal(answer: Result<Action, TerminalFault>) -> CSessionNext
-        ensures { result ≡ terminal_told answer }
+        ensures { result ≡ terminal_shown answer }
     {
         match answer {
             Ok(action) => CSessionNext::acts(action),
@@ -117,7 +117,7 @@ impl CSessionNext {
 
     /// Returns what is next after a call of a card's session.
     pub fn of_card(answer: Result<Action, CardFault>) -> CSessionNext
-        ensures { result ≡ card_told answer }
+        ensures { result ≡ card_shown answer }
     {
         match answer {
             Ok(action) => CSessionNext::acts(action),

@@ -52,7 +52,7 @@ fn more_of(octet: u8, number: Number, last: bool) -> Result<bool, ChainReason>
     ensures room { IfOk result (λ more. more ≡ true → last ≡ false) }
     ensures refused { IfErr result (IsPcbFault number last octet) }
 {
-    let Some(pcb) = Pcb::of(octet) else {
+    let Some(pcb) = Pcb::from_octet(octet) else {
         return Err(ChainReason::BadPcb);
     };
     let Pcb::Info { number: own, more } = pcb else {

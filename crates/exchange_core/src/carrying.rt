@@ -119,12 +119,12 @@ impl Output<'_> {
 pub(crate) fn terminal_takes(
     terminal: &mut Terminal,
     lines: &mut Vec<Line>,
-    told: Option<Line>,
+    last: Option<Line>,
     line: Line,
 ) -> Result<TerminalTurn, EventFault>
     ensures turn { IfOk result (λ turn.
         Turns terminal.old (terminal_input terminal.old line) turn terminal.new) }
-    ensures lines { OnOk result (lines.new.items ≡ lines.old.items ++ (as_list told ++ line ∷ [])) }
+    ensures lines { OnOk result (lines.new.items ≡ lines.old.items ++ (as_list last ++ line ∷ [])) }
     ensures refused { IfErr result (λ fault. IfNotMemory fault
         (terminal_outcome (terminal_turn terminal.old (terminal_input terminal.old line)) ≡ Err fault)) }
     ensures kept { OnErr result ((terminal.new ≡ terminal.old)
@@ -132,7 +132,7 @@ pub(crate) fn terminal_takes(
 {
     lines.reserve(2)?;
     let turn = terminal_turned(terminal, &line)?;
-    write(lines, told, line);
+    write(lines, last, line);
     Ok(turn)
 }
 
@@ -157,19 +157,19 @@ fn terminal_turned(terminal: &mut Terminal, line: &Line) -> Result<TerminalTurn,
 pub(crate) fn card_takes(
     card: &mut Card,
     lines: &mut Vec<Line>,
-    told: Option<Line>,
+    last: Option<Line>,
     line: Line,
 ) -> Result<CardTurn, EventFault>
     ensures turn { IfOk result (λ turn.
         card_turn card.old (card_input card.old line) ≡ Ok (turn, card.new)) }
-    ensures lines { OnOk result (lines.new.items ≡ lines.old.items ++ (as_list told ++ line ∷ [])) }
+    ensures lines { OnOk result (lines.new.items ≡ lines.old.items ++ (as_list last ++ line ∷ [])) }
     ensures refused { IfErr result (λ fault. IfNotMemory fault
         (card_outcome (card_turn card.old (card_input card.old line)) ≡ Err fault)) }
     ensures kept { OnErr result ((card.new ≡ card.old) × (lines.new.items ≡ lines.old.items)) }
 {
     lines.reserve(2)?;
     let turn = card_turned(card, &line)?;
-    write(lines, told, line);
+    write(lines, last, line);
     Ok(turn)
 }
 
@@ -219,12 +219,12 @@ pub fn card_called(card: &mut Card, line: &Line) -> Result<CardTurn, CardFault>
 }
 
 /// Writes the line of the last turn, if there is one, and a further line. There is room for both.
-fn write(lines: &mut Vec<Line>, told: Option<Line>, line: Line)
+fn write(lines: &mut Vec<Line>, last: Option<Line>, line: Line)
     requires { vec_len lines.old + 2 ≤ vec_capacity lines.old }
-    ensures { lines.new.items ≡ lines.old.items ++ (as_list told ++ line ∷ []) }
+    ensures { lines.new.items ≡ lines.old.items ++ (as_list last ++ line ∷ []) }
 {
-    if let Some(told) = told {
-        lines.push(told).unwrap();
+    if let Some(last) = last {
+        lines.push(last).unwrap();
     }
     lines.push(line).unwrap();
 }

@@ -22,6 +22,6 @@ pub use exchange_text::{
     Arrival, Exchange, ExchangeFault, Line, Lines, Version, migrate, read_exchange, write_exchange,
 };
 pub use params::{AtrFault, params_of};
-pub use recording::{Recorder, answers_are_replies, refused_event_changes_nothing, told};
+pub use recording::{Recorder, answers_are_replies, last_line, refused_event_changes_nothing};
 pub use replaying::{ReplayFault, replay};
 pub use waiting::{Awaits, Call, Waiting, waiting_at};

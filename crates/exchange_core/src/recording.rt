@@ -162,8 +162,8 @@ impl Recorder {
         ensures told { IfOk result (λ e. Tells e.lines (link_of self)) }
         ensures replies { IfOk result (λ e. AnswersAreReplies e.lines) }
     {
-        let told = told(self.alloc, &self.terminal, &self.card, &self.last)?;
-        let lines = Lines::of(with_line(self.lines, told)?);
+        let last = last_line(self.alloc, &self.terminal, &self.card, &self.last)?;
+        let lines = Lines::of(with_line(self.lines, last)?);
         Ok(Exchange::proper(Version::One, self.atr, lines))
     }
 
@@ -192,8 +192,8 @@ impl Recorder {
             (recorded self.old (call_event line) ≡ Err fault)) }
         ensures kept { OnErr result (self.new ≡ self.old) }
     {
-        let told = told(self.alloc, &self.terminal, &self.card, &self.last)?;
-        let turn = terminal_takes(&mut self.terminal, &mut self.lines, told, line)?;
+        let last = last_line(self.alloc, &self.terminal, &self.card, &self.last)?;
+        let turn = terminal_takes(&mut self.terminal, &mut self.lines, last, line)?;
         self.last = LastTurn::Terminal(turn);
         Ok(())
     }
@@ -208,8 +208,8 @@ impl Recorder {
             (recorded self.old (call_event line) ≡ Err fault)) }
         ensures kept { OnErr result (self.new ≡ self.old) }
     {
-        let told = told(self.alloc, &self.terminal, &self.card, &self.last)?;
-        let turn = card_takes(&mut self.card, &mut self.lines, told, line)?;
+        let last = last_line(self.alloc, &self.terminal, &self.card, &self.last)?;
+        let turn = card_takes(&mut self.card, &mut self.lines, last, line)?;
         self.last = LastTurn::Card(turn);
         Ok(())
     }
@@ -246,13 +246,13 @@ impl Recorder {
 }
 
 /// Returns the line of the last turn, if there was one. If it sends a block, the block is lost.
-pub fn told(
+pub fn last_line(
     alloc: Global,
     terminal: &Terminal,
     card: &Card,
     last: &LastTurn,
 ) -> Result<Option<Line>, AllocError>
-    ensures { IfOk result (λ told. as_list told ≡ telling terminal.now card.now last.now) }
+    ensures { IfOk result (λ line. as_list line ≡ telling terminal.now card.now last.now) }
 {
     match last {
         LastTurn::Nothing => Ok(None),
@@ -262,11 +262,11 @@ pub fn told(
 }
 
 /// Returns the lines, and one more line after them if there is one.
-fn with_line(mut lines: Vec<Line>, told: Option<Line>) -> Result<Vec<Line>, AllocError>
-    ensures { IfOk result (λ longer. longer.items ≡ lines.items ++ as_list told) }
+fn with_line(mut lines: Vec<Line>, last: Option<Line>) -> Result<Vec<Line>, AllocError>
+    ensures { IfOk result (λ longer. longer.items ≡ lines.items ++ as_list last) }
 {
-    if let Some(told) = told {
-        lines.push(told)?;
+    if let Some(last) = last {
+        lines.push(last)?;
     }
     Ok(lines)
 }

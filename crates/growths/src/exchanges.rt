@@ -89,7 +89,7 @@ fn record(alloc: Global) -> Result<Exchange, Outcome> {
 /// Whether all events happen.
 fn are_told(recorder: &mut Recorder) -> bool {
     for event in &EVENTS {
-        if told(recorder, *event).is_err() {
+        if record_event(recorder, *event).is_err() {
             return false;
         }
     }
@@ -97,10 +97,10 @@ fn are_told(recorder: &mut Recorder) -> bool {
 }
 
 /// Makes an event happen. If memory for its lines was refused, it happens at a second try.
-fn told(recorder: &mut Recorder, event: Event<'static>) -> Result<(), EventFault> {
+fn record_event(recorder: &mut Recorder, event: Event<'static>) -> Result<(), EventFault> {
     match recorder.happens(event) {
         Err(EventFault::Memory) => recorder.happens(event),
-        told => told,
+        recorded => recorded,
     }
 }
 

@@ -56,11 +56,11 @@ pub(crate) fn fail_each(alloc: Global) -> Result<String, Fault> {
         writers = writers.saturating_add(each_writer_fails(alloc, &carried)?);
         readers = readers.saturating_add(each_reader_fails(alloc, &carried)?);
     }
-    told(alloc, writers, readers, endless(alloc)?)
+    report(alloc, writers, readers, endless(alloc)?)
 }
 
 /// Returns the line with these numbers.
-fn told(alloc: Global, writers: u64, readers: u64, read: u64) -> Result<String, Fault> {
+fn report(alloc: Global, writers: u64, readers: u64, read: u64) -> Result<String, Fault> {
     Ok(format!(in alloc;
         "chains: {writers} writers and {readers} readers failed at the octet that they said, \
         {read} octets of an endless chain were read"

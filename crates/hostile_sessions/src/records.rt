@@ -188,8 +188,8 @@ fn goes_on(
 
 /// Whether the record of these events has this text.
 fn is_record(alloc: Global, events: &[Event<'_>], text: &[u8]) -> Result<bool, Fault> {
-    Ok(match told(alloc, events)? {
-        Some(told) => told.as_slice() == text,
+    Ok(match recorded(alloc, events)? {
+        Some(recorded) => recorded.as_slice() == text,
         None => false,
     })
 }
@@ -250,7 +250,7 @@ fn text(alloc: Global, recorder: Recorder) -> Result<Vec<u8>, Fault> {
 }
 
 /// Returns the text of a session; `None` if not all its events are accepted.
-fn told(alloc: Global, events: &[Event<'_>]) -> Result<Option<Vec<u8>>, Fault> {
+fn recorded(alloc: Global, events: &[Event<'_>]) -> Result<Option<Vec<u8>>, Fault> {
     let mut recorder = recorder(alloc, &ATR)?;
     let are_taken = are_taken(&mut recorder, events);
     text_where(alloc, recorder, are_taken)

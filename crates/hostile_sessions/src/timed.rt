@@ -309,11 +309,11 @@ pub(crate) fn harm_each(alloc: Global, share: Share) -> Result<String, Fault> {
             session(seed, &mut tally);
         }
     }
-    told(alloc, &tally)
+    report(alloc, &tally)
 }
 
 /// Returns the line about all sessions, or the case that they went wrong.
-fn told(alloc: Global, tally: &Tally) -> Result<String, Fault> {
+fn report(alloc: Global, tally: &Tally) -> Result<String, Fault> {
     let Tally {
         right,
         given_up,

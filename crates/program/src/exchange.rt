@@ -33,7 +33,7 @@ use std::alloc::{AllocError, Global};
 
 /// Returns the answer about a file. If it `explains`, it also returns a note on the first line where an end differs, or
 /// on the file's first fault.
-pub(crate) fn told(
+pub(crate) fn file_answer(
     alloc: Global,
     explains: bool,
     file: &[u8],
@@ -42,13 +42,13 @@ pub(crate) fn told(
     ensures { IfOk result (AreOf (TellsFile task file.now) (IsFileNote task file.now)) }
 {
     match read_exchange(alloc, file) {
-        Ok(exchange) => told_of(alloc, explains, file, exchange, task),
+        Ok(exchange) => exchange_answer(alloc, explains, file, exchange, task),
         Err(fault) => refused_with_note(alloc, explains, file, fault),
     }
 }
 
 /// Returns the answer about an exchange, with a note if it is replayed.
-fn told_of(
+fn exchange_answer(
     alloc: Global,
     explains: bool,
     file: &[u8],
@@ -358,31 +358,9 @@ pub(crate) fn refused(fault: ExchangeFault) -> Result<Answer, AllocError>
 fn file_refusal(fault: ExchangeFault) -> Refusal
     ensures { result ≡ file_refusal fault }
 {
-    match fault {
-        ExchangeFault::Header => named("Header"),
-        ExchangeFault::End { line } => named_at(line, "End"),
-        ExchangeFault::Word { line } => named_at(line, "Word"),
-        ExchangeFault::Hex { line } => named_at(line, "Hex"),
-        ExchangeFault::Falls { line } => named_at(line, "Falls"),
-        ExchangeFault::Memory => named("memory"),
-    }
-}
-
-/// Returns a fault with this name.
-fn named(name: &'static str) -> Refusal
-    ensures { result ≡ refusal.Fault name.now }
-{
-    Refusal::Fault {
-        fault: Name::of(name),
-    }
-}
-
-/// Returns a fault in a line, with this name.
-fn named_at(line: usize, name: &'static str) -> Refusal
-    ensures { result ≡ refusal.FaultAt line name.now }
-{
-    Refusal::FaultAt {
-        line,
-        fault: Name::of(name),
+    let name = Name::of(fault.name());
+    match fault.line() {
+        None => Refusal::Fault { fault: name },
+        Some(line) => Refusal::FaultAt { line, fault: name },
     }
 }

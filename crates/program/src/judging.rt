@@ -120,7 +120,7 @@ pub(crate) fn judged<R: Source>(
     judging: Judging,
     reader: &mut R,
 ) -> Result<WithExplanation, Fault>
-    ensures told { (words : List (List ℕ)) → RepliesTo words (AnyRequest.Judge atr.now judging)
+    ensures answer { (words : List (List ℕ)) → RepliesTo words (AnyRequest.Judge atr.now judging)
         (calls_of R.remaining R.failures reader.old reader.new) result }
     ensures unfailed { IfOk result (λ _. R.failures reader.new ≡ R.failures reader.old) }
 {
@@ -139,7 +139,7 @@ pub(crate) fn judged<R: Source>(
 /// Returns the fault for which a trace wasn't read to its end. The line of too many octets has no note: that on the
 /// largest file isn't about a trace.
 fn unread(alloc: Global, fault: Fault) -> Result<WithExplanation, Fault>
-    ensures told { (words : List (List ℕ)) (atr : List ℕ) (judging : AnyJudging) (reads : Calls)
+    ensures answer { (words : List (List ℕ)) (atr : List ℕ) (judging : AnyJudging) (reads : Calls)
         → ReadsAll reads (Err fault) → RepliesTo words (AnyRequest.Judge atr judging) reads result }
     ensures unfailed { (reads : Calls) → ReadsAll reads (Err fault)
         → IfOk result (λ _. reads.after ≡ reads.before) }

@@ -52,7 +52,7 @@ fn fault_answer(
     line: &[u8],
 ) -> Result<WithExplanation, AllocError>
     ensures other { IfOk result (λ _. fault ≢ Memory) }
-    ensures told { IfOk result (AreOf
+    ensures answer { IfOk result (AreOf
         (λ said ended. (said ≡ faulted fault) × (ended ≡ status.Fault))
         (SaysIf explains (λ note. note ≡ fault_note line.now fault))) }
 {
@@ -75,10 +75,10 @@ fn fault_answer(
 }
 
 /// Appends a note to a text, with two blanks before each line of the note.
-pub(crate) fn with_indented(alloc: Global, told: Octets, note: &str) -> Result<Octets, AllocError>
-    ensures { IfOk result (λ text. text ≡ told ++ indented note.now) }
+pub(crate) fn with_indented(alloc: Global, answer: Octets, note: &str) -> Result<Octets, AllocError>
+    ensures { IfOk result (λ text. text ≡ answer ++ indented note.now) }
 {
-    let mut text = told.into_inner();
+    let mut text = answer.into_inner();
     text.extend_from_slice(indented(alloc, note.as_bytes())?.as_slice())?;
     Ok(Octets::of(text))
 }

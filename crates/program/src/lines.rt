@@ -53,7 +53,7 @@ pub fn answer_lines<C: Conversation>(
 ) -> Status
     ensures { HasAnswered line_task (C.said conversation.old) (C.said conversation.new) result }
 {
-    let mut told = AnsweredLines {
+    let mut answered = AnsweredLines {
         line_task,
         line: Vec::new(alloc),
         text: Vec::new(alloc),
@@ -61,20 +61,20 @@ pub fn answer_lines<C: Conversation>(
     };
     let mut room = [0; PIECE];
     for _turn in 0..u64::MAX {
-        match tell_kept(&mut told.text, conversation) {
+        match tell_kept(&mut answered.text, conversation) {
             Ok(()) => {}
             Err(_) => return Status::Fault,
         }
         match conversation.hear(&mut room) {
-            Ok(0) => return told.ended(alloc, conversation),
-            Ok(count) => match told.feed(alloc, &room[..count]) {
+            Ok(0) => return answered.ended(alloc, conversation),
+            Ok(count) => match answered.feed(alloc, &room[..count]) {
                 Ok(()) => {}
-                Err(_) => return told.faulted(Fault::Memory, conversation),
+                Err(_) => return answered.faulted(Fault::Memory, conversation),
             },
-            Err(_) => return told.faulted(Fault::Read, conversation),
+            Err(_) => return answered.faulted(Fault::Read, conversation),
         }
     }
-    told.faulted(Fault::TooLarge, conversation)
+    answered.faulted(Fault::TooLarge, conversation)
 }
 
 /// Answers each line of the reader before the next call of the reader.
@@ -93,7 +93,7 @@ pub(crate) fn tell_lines<R: Source, W: Sink>(
 
 /// Writes the text that was kept, and empties it.
 fn tell_kept<C: Conversation>(text: &mut Vec<u8>, conversation: &mut C) -> Result<(), WriteFault>
-    ensures told { OnOk result (Happens (C.said conversation.old) (C.said conversation.new)
+    ensures answer { OnOk result (Happens (C.said conversation.old) (C.said conversation.new)
         (told text.old.items ∷ [])) }
     ensures empty { OnOk result (text.new.items ≡ []) }
     ensures untold { IfErr result (λ fault.
@@ -165,7 +165,7 @@ impl AnsweredLines {
     /// Answers the unfinished line, and begins another.
     fn answer(&mut self, alloc: Global) -> Result<(), AllocError>
         ensures line_task { self.new.line_task ≡ self.old.line_task }
-        ensures told { OnOk result
+        ensures answer { OnOk result
             ((text : List ℕ) × (ended : AnyStatus)
             × IsLineSaid self.old.line_task self.old.line.items text ended
             × (self.new.text.items ≡ self.old.text.items ++ text)
@@ -173,16 +173,16 @@ impl AnsweredLines {
         ensures line { OnOk result (self.new.line.items ≡ []) }
         ensures kept { OnErr result (self.new.text.items ≡ self.old.text.items) }
     {
-        let told = line_text(alloc, self.line_task, self.line.as_slice())?;
-        self.text.extend_from_slice(told.text.get())?;
-        self.status = worse(self.status, told.status);
+        let answer = line_text(alloc, self.line_task, self.line.as_slice())?;
+        self.text.extend_from_slice(answer.text.get())?;
+        self.status = worse(self.status, answer.status);
         self.line.clear();
         Ok(())
     }
 
     /// Answers the last line, if it has octets. It needs no line end.
     fn last(&mut self, alloc: Global) -> Result<(), AllocError>
-        ensures told { OnOk result
+        ensures answer { OnOk result
             ((read written : List ℕ)
             → HasSaid self.old.line_task read written self.old.line.items self.old.text.items
             self.old.status → AreLinesSaid self.old.line_task (all_lines read)
@@ -230,7 +230,7 @@ struct LineText {
 
 /// Returns the text that answers a line of octets.
 fn line_text(alloc: Global, line_task: LineTask, line: &[u8]) -> Result<LineText, AllocError>
-    ensures { IfOk result (λ told. IsLineSaid line_task line.now told.text told.status) }
+    ensures { IfOk result (λ answer. IsLineSaid line_task line.now answer.text answer.status) }
 {
     let WithExplanation {
         answer,
@@ -256,8 +256,8 @@ fn said_text(
 {
     match task.layout {
         Layout::Lines => {
-            let told = said.into_text(alloc)?;
-            lines_text(task, with_indented(alloc, told, explanation.as_str())?)
+            let answer = said.into_text(alloc)?;
+            lines_text(task, with_indented(alloc, answer, explanation.as_str())?)
         }
         Layout::Json => {
             let object = Topic::of_task(task).object(alloc, said)?;
@@ -267,13 +267,13 @@ fn said_text(
 }
 
 /// Returns the lines that answer a line.
-fn lines_text(task: Task, told: Octets) -> Result<Octets, AllocError>
-    ensures { IfOk result (λ text. text ≡ lines_text task.aim told) }
+fn lines_text(task: Task, answer: Octets) -> Result<Octets, AllocError>
+    ensures { IfOk result (λ text. text ≡ lines_text task.aim answer) }
 {
     match task.aim {
-        Aim::Check => Ok(told),
+        Aim::Check => Ok(answer),
         Aim::Show | Aim::Note => {
-            let mut text = told.into_inner();
+            let mut text = answer.into_inner();
             text.push(b'\n')?;
             Ok(Octets::of(text))
         }

@@ -144,7 +144,7 @@ fn answer_as_asked<R: Source>(
     reader: &mut R,
 ) -> Result<AnswerText, Fault>
     requires { IsReadFrom (texts words.now) read }
-    ensures told { Gives (IsRightAsked (texts words.now)
+    ensures answer { Gives (IsRightAsked (texts words.now)
         (calls_of R.remaining R.failures reader.old reader.new)) result }
     ensures unread { (AskForFile (texts words.now) → ⊥) → reader.new ≡ reader.old }
     ensures few { (AskToJudge (texts words.now) → ⊥)
@@ -164,7 +164,7 @@ fn answer_in_lines<R: Source>(
     reader: &mut R,
 ) -> Result<AnswerText, Fault>
     requires { IsReadFrom (texts words.now) read }
-    ensures told { Gives (IsRightWith (texts words.now)
+    ensures answer { Gives (IsRightWith (texts words.now)
         (calls_of R.remaining R.failures reader.old reader.new)) result }
     ensures unread { (AskForFile (texts words.now) → ⊥) → reader.new ≡ reader.old }
     ensures few { (AskToJudge (texts words.now) → ⊥)
@@ -201,7 +201,7 @@ fn answer_in_json<R: Source>(
     reader: &mut R,
 ) -> Result<AnswerText, Fault>
     requires { IsReadFrom (texts words.now) read }
-    ensures told { Gives (IsRightJson (texts words.now)
+    ensures answer { Gives (IsRightJson (texts words.now)
         (calls_of R.remaining R.failures reader.old reader.new)) result }
     ensures unread { (AskForFile (texts words.now) → ⊥) → reader.new ≡ reader.old }
     ensures few { (AskToJudge (texts words.now) → ⊥)
@@ -225,7 +225,8 @@ fn whole_reply<R: Source>(
     reader: &mut R,
 ) -> WithExplanation
     requires { IsReadFrom (texts words.now) read }
-    ensures told { IsSaid (texts words.now) (calls_of R.remaining R.failures reader.old reader.new)
+    ensures answer { IsSaid (texts words.now)
+        (calls_of R.remaining R.failures reader.old reader.new)
         result.answer.said
         (said_of result.explanation) result.answer.status }
     ensures unread { (AskForFile (texts words.now) → ⊥) → reader.new ≡ reader.old }

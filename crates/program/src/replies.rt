@@ -38,7 +38,8 @@ pub(crate) fn reply<R: Source>(
     reader: &mut R,
 ) -> Result<WithExplanation, Fault>
     requires { IsReadFrom (texts words.now) read }
-    ensures told { Replies (texts words.now) (calls_of R.remaining R.failures reader.old reader.new)
+    ensures answer { Replies (texts words.now)
+        (calls_of R.remaining R.failures reader.old reader.new)
         result }
     ensures unfailed { IfOk result (λ _. R.failures reader.new ≡ R.failures reader.old) }
     ensures unread { (AskForFile (texts words.now) → ⊥) → reader.new ≡ reader.old }
@@ -60,7 +61,8 @@ fn request_reply<R: Source>(
     reader: &mut R,
 ) -> Result<WithExplanation, Fault>
     requires { IsRead (texts words.now) (Ok (Once request)) }
-    ensures told { Replies (texts words.now) (calls_of R.remaining R.failures reader.old reader.new)
+    ensures answer { Replies (texts words.now)
+        (calls_of R.remaining R.failures reader.old reader.new)
         result }
     ensures unfailed { IfOk result (λ _. R.failures reader.new ≡ R.failures reader.old) }
     ensures unread { (AskForFile (texts words.now) → ⊥) → reader.new ≡ reader.old }
@@ -84,7 +86,7 @@ fn replied_to<R: Source>(
     explains: bool,
     reader: &mut R,
 ) -> Result<WithExplanation, Fault>
-    ensures told { RepliesTo (texts words.now) request
+    ensures answer { RepliesTo (texts words.now) request
         (calls_of R.remaining R.failures reader.old reader.new) result }
     ensures unfailed { IfOk result (λ _. R.failures reader.new ≡ R.failures reader.old) }
     ensures unread { (NeedsFile request → ⊥) → reader.new ≡ reader.old }
@@ -101,7 +103,7 @@ fn replied_to<R: Source>(
             message,
         } => {
             let text = blocks(alloc, message.get(), ifs, number)?;
-            Ok(WithExplanation::alone(alloc, Answer::told(text)))
+            Ok(WithExplanation::alone(alloc, Answer::ok(text)))
         }
         Request::BuildTidy(given) => octets_tidied(alloc, explains, given, reader),
         Request::BuildFill { list, known } => Ok(filled(
@@ -113,7 +115,7 @@ fn replied_to<R: Source>(
         )?),
         Request::File(task) => {
             let file = read_whole(alloc, reader)?;
-            Ok(exchange::told(alloc, explains, file.get(), task)?)
+            Ok(exchange::file_answer(alloc, explains, file.get(), task)?)
         }
         Request::Record(atr) => {
             let text = read_whole(alloc, reader)?;
@@ -127,10 +129,10 @@ fn replied_to<R: Source>(
             let text = read_whole(alloc, reader)?;
             Ok(simulation::lines_simulated(alloc, explains, session, text.get())?)
         }
-        Request::Help(text) => Ok(WithExplanation::alone(alloc, Answer::told(text.into_inner()))),
+        Request::Help(text) => Ok(WithExplanation::alone(alloc, Answer::ok(text.into_inner()))),
         Request::Version => {
             let line = format!(in alloc; "{PROGRAM}\n")?;
-            Ok(WithExplanation::alone(alloc, Answer::told(line)))
+            Ok(WithExplanation::alone(alloc, Answer::ok(line)))
         }
     }
 }
@@ -142,7 +144,7 @@ fn octets_told<R: Source>(
     given: OctetSource,
     reader: &mut R,
 ) -> Result<WithExplanation, Fault>
-    ensures told { (words : List (List ℕ))
+    ensures answer { (words : List (List ℕ))
         → RepliesTo words (AnyRequest.Tell line_task.task given) (calls_of R.remaining R.failures reader.old reader.new) result }
     ensures unfailed { IfOk result (λ _. R.failures reader.new ≡ R.failures reader.old) }
     ensures unread { (IsFromReader given → ⊥) → reader.new ≡ reader.old }
@@ -164,7 +166,7 @@ fn octets_tidied<R: Source>(
     given: OctetSource,
     reader: &mut R,
 ) -> Result<WithExplanation, Fault>
-    ensures told { (words : List (List ℕ))
+    ensures answer { (words : List (List ℕ))
         → RepliesTo words (AnyRequest.BuildTidy given) (calls_of R.remaining R.failures reader.old reader.new) result }
     ensures unfailed { IfOk result (λ _. R.failures reader.new ≡ R.failures reader.old) }
     ensures unread { (IsFromReader given → ⊥) → reader.new ≡ reader.old }
@@ -251,7 +253,7 @@ fn on_form(alloc: Global, form: Form, text: Octets) -> Result<String, AllocError
 
 /// Returns the answer for a fault of words, with what is wrong with them.
 fn words_faulted(alloc: Global, words: &[String], fault: Fault) -> Result<WithExplanation, Fault>
-    ensures told { IsFaulted fault (IsWordsNote (texts words.now)) result }
+    ensures answer { IsFaulted fault (IsWordsNote (texts words.now)) result }
     ensures other { IfOk result (λ _. fault ≢ Fault.Memory) }
 {
     match fault {
@@ -263,7 +265,7 @@ fn words_faulted(alloc: Global, words: &[String], fault: Fault) -> Result<WithEx
 
 /// Returns the answer for a fault of reading. If there are too many octets, the note says how many there may be.
 fn read_faulted(alloc: Global, fault: Fault) -> Result<WithExplanation, Fault>
-    ensures told { IsFaulted fault (λ note. note ≡ large_note largest_file) result }
+    ensures answer { IsFaulted fault (λ note. note ≡ large_note largest_file) result }
     ensures large { IfOk result (λ _. fault ≡ Fault.TooLarge) }
 {
     match fault {

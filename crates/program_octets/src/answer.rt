@@ -1,7 +1,7 @@
 //! What the program says, with its status.
 
 ghost use Rattle.std.specs.Prelude.{◌≡◌, IfOk, string_bytes};
-ghost use Rattle.program_octets.specs.Sayings.{fault_name, faulted, refused_as, refused_twice, told_in};
+ghost use Rattle.program_octets.specs.Sayings.{faulted, refused_as, refused_twice, told_in};
 ghost use Rattle.program_octets.specs.Statuses.{refusal_status};
 ghost use Rattle.program_octets.specs.Texts.{stopped};
 ghost use Rattle.program_octets.specs.Verdicts.{accepted_in, refused_in};
@@ -35,7 +35,7 @@ impl Answer {
     }
 
     /// Returns a value's lines as an answer.
-    pub fn told(text: String) -> Answer
+    pub fn ok(text: String) -> Answer
         ensures said { result.said ≡ saying.Text (string_bytes text) }
         ensures status { result.status ≡ ended.Accepted }
     {
@@ -118,7 +118,7 @@ impl Answer {
         ensures said { result.said ≡ faulted fault }
         ensures status { result.status ≡ ended.Fault }
     {
-        let fault = Name::of(fault_name(fault));
+        let fault = Name::of(fault.name());
         Answer::refusal(Refusal::Fault { fault })
     }
 }
@@ -146,18 +146,5 @@ fn status_of(refusal: &Refusal) -> Status
         | Refusal::AtLine { .. }
         | Refusal::Whole { .. } => Status::Refused,
         Refusal::FaultAt { .. } | Refusal::Fault { .. } => Status::Fault,
-    }
-}
-
-/// Returns the name of a fault.
-fn fault_name(fault: Fault) -> &'static str
-    ensures { result.now ≡ fault_name fault }
-{
-    match fault {
-        Fault::Words => "words",
-        Fault::Hex => "hex",
-        Fault::Memory => "memory",
-        Fault::Read => "read",
-        Fault::TooLarge => "TooLarge",
     }
 }

@@ -77,7 +77,7 @@ pub fn check_with_verdict<C: Codec>(
     octets: &[u8],
     expected: Expected,
 ) -> Result<CheckedAnswer<C::Reason>, AllocError>
-    ensures told { IfOk result (λ judged. ChecksBy layout expected.kind (C.codec expected)
+    ensures answer { IfOk result (λ judged. ChecksBy layout expected.kind (C.codec expected)
         octets.now judged.answer.said judged.answer.status) }
     ensures verdict { IfOk result (λ judged.
         IsVerdict (C.codec expected) octets.now judged.verdict) }
@@ -113,7 +113,7 @@ pub fn show_with_verdict<C: Codec>(
     octets: &[u8],
     expected: Expected,
 ) -> Result<CheckedAnswer<C::Reason>, AllocError>
-    ensures told { IfOk result (λ judged. ShowsBy noted layout expected.kind (C.codec expected)
+    ensures answer { IfOk result (λ judged. ShowsBy noted layout expected.kind (C.codec expected)
         octets.now judged.answer.said judged.answer.status) }
     ensures verdict { IfOk result (λ judged.
         IsVerdict (C.codec expected) octets.now judged.verdict) }

@@ -83,13 +83,13 @@ pub fn tidy_with_verdict(
     alloc: Global,
     octets: &[u8],
 ) -> Result<CheckedAnswer<TlvReason>, AllocError>
-    ensures told { IfOk result (λ judged.
+    ensures answer { IfOk result (λ judged.
         Tells forest_codec (λ v n. tidied_text v) octets.now judged.answer.said judged.answer.status) }
     ensures verdict { IfOk result (λ judged. IsVerdict forest_codec octets.now judged.verdict) }
 {
     match decode(alloc, octets, LARGEST_FOREST) {
         Ok(forest) => Ok(CheckedAnswer {
-            answer: Answer::told(tidied(alloc, &forest)?),
+            answer: Answer::ok(tidied(alloc, &forest)?),
             verdict: Ok(octets.len()),
             note: String::new(alloc),
         }),

@@ -122,7 +122,7 @@ pub fn fill_with_verdict(
     octets: &[u8],
     known: &Result<Knowns, Fault>,
 ) -> Result<CheckedAnswer<DolReason>, AllocError>
-    ensures told { IfOk result (λ judged.
+    ensures answer { IfOk result (λ judged.
         IsFilled octets.now known.now judged.answer.said judged.answer.status) }
     ensures verdict { IfOk result (λ judged. IsVerdict list_codec octets.now judged.verdict) }
 {
@@ -155,7 +155,7 @@ fn filled(alloc: Global, dol: &Dol, known: &Knowns) -> Result<Answer, AllocError
     ensures { IfOk result (λ answer. IsFilledBy (Ok known.now) dol.now answer.said answer.status) }
 {
     match tlv_core::fill(alloc, dol, known.get()) {
-        Ok(octets) => Ok(Answer::told(line(alloc, octets.as_slice())?)),
+        Ok(octets) => Ok(Answer::ok(line(alloc, octets.as_slice())?)),
         Err(FillFault::Duplicate) => Ok(Answer::duplicate()),
         Err(FillFault::Memory) => Err(AllocError),
     }

@@ -30,7 +30,7 @@ impl FieldSize {
     pub const GREATEST: FieldSize = FieldSize { octet: 254 };
 
     /// Returns the size in an octet, or `None` for 0 and 255, which are reserved.
-    pub fn of(octet: u8) -> Option<FieldSize>
+    pub fn from_octet(octet: u8) -> Option<FieldSize>
         ensures { SomeIff result (IsFieldSize octet) octet }
     {
         if is_reserved(octet) {

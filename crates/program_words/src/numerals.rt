@@ -12,7 +12,7 @@ pub fn size(word: Option<&str>) -> Result<FieldSize, Fault>
     ensures { result ≡ size_of (option_map (λ word. word.now) word.entry) }
 {
     match word {
-        Some(word) => FieldSize::of(word.parse().unwrap_or(0)).ok_or(Fault::Words),
+        Some(word) => FieldSize::from_octet(word.parse().unwrap_or(0)).ok_or(Fault::Words),
         None => Ok(FieldSize::GREATEST),
     }
 }

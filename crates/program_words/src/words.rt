@@ -63,8 +63,8 @@ fn asked(alloc: Global, layout: Layout, matches: &ArgMatches) -> Result<Asked, F
         return Err(Fault::Words);
     };
     match name {
-        "check" => told(alloc, layout, Aim::Check, entered),
-        "show" => told(alloc, layout, show_aim(entered), entered),
+        "check" => octets_asked(alloc, layout, Aim::Check, entered),
+        "show" => octets_asked(alloc, layout, show_aim(entered), entered),
         _ => Ok(Asked::Once(request(alloc, layout, name, entered)?)),
     }
 }
@@ -100,7 +100,12 @@ fn entered<'a, 'b>(matches: &'b ArgMatches<'a>) -> Option<(&'a str, &'b ArgMatch
 }
 
 /// Reads what to check or show: octets, or lines of them.
-fn told(alloc: Global, layout: Layout, aim: Aim, matches: &ArgMatches) -> Result<Asked, Fault>
+fn octets_asked(
+    alloc: Global,
+    layout: Layout,
+    aim: Aim,
+    matches: &ArgMatches,
+) -> Result<Asked, Fault>
     ensures { UnlessMemory result (told_of layout aim (rows_of (found_of matches.now))) }
 {
     let expected = expected(matches)?;

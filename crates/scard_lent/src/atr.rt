@@ -27,7 +27,7 @@ pub extern "C" fn scard_atr_check(octets: &[u8]) -> Verdict
 #[unsafe(no_mangle)]
 pub extern "C" fn scard_atr_decode(octets: &[u8], out: &mut CAtr) -> Verdict
     ensures ok { result.status ≡ 0 → IsDecoded octets.now result out.new }
-    ensures told { result.status ≡ 0 → IsTold (atr_of out.new) out.new }
+    ensures shown { result.status ≡ 0 → IsTold (atr_of out.new) out.new }
     ensures place { result.status ≡ 0 → result ≡ ok_at result.place }
     ensures refused { result.status ≢ 0 →
         Tells atr_reason (Refuses self_ended IsAtr IsReason octets.now) result }

@@ -6,7 +6,7 @@ ghost use Rattle.judge_core.specs.Monitored.{new_monitor, quiet_after};
 ghost use Rattle.c_lent.specs.Verdict.{ok_at, wrong_argument};
 ghost use Rattle.c_lent.specs.Names.{ended};
 ghost use Rattle.c_lent.specs.KeptJudge.{side_of, monitor_of};
-ghost use Rattle.c_lent.specs.LentJudge.{arrival_of, rule_words, clause_words, silence_told, owes_block, JudgesBlock};
+ghost use Rattle.c_lent.specs.LentJudge.{arrival_of, rule_words, clause_words, silence_shown, owes_block, JudgesBlock};
 
 use c_lent::kept_judge::CJudge;
 use c_lent::lent_judge::CJudgment;
@@ -49,7 +49,7 @@ pub extern "C" fn scard_lent_judge_block(
 #[unsafe(no_mangle)]
 pub extern "C" fn scard_lent_judge_quiet(state: &mut CJudge, out: &mut CJudgment)
     ensures after { monitor_of state.new ≡ quiet_after (monitor_of state.old) }
-    ensures told { out.new ≡ silence_told (owes_block (monitor_of state.old)) }
+    ensures shown { out.new ≡ silence_shown (owes_block (monitor_of state.old)) }
 {
     c_lent::lent_judge::lent_judge_quiet(state, out)
 }
@@ -57,7 +57,7 @@ pub extern "C" fn scard_lent_judge_quiet(state: &mut CJudge, out: &mut CJudgment
 /// Says whether the card owes a block, as at the end of a trace.
 #[unsafe(no_mangle)]
 pub extern "C" fn scard_lent_judge_finish(state: &CJudge, out: &mut CJudgment)
-    ensures { out.new ≡ silence_told (owes_block (monitor_of state.now)) }
+    ensures { out.new ≡ silence_shown (owes_block (monitor_of state.now)) }
 {
     c_lent::lent_judge::lent_judge_finish(state, out)
 }

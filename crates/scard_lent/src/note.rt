@@ -2,7 +2,7 @@
 
 ghost use Rattle.std.specs.Prelude.{◌≡◌};
 ghost use Rattle.notes.specs.Says.{is_text};
-ghost use Rattle.c_lent.specs.Notes.{note_text, number_told};
+ghost use Rattle.c_lent.specs.Notes.{note_text, number_shown};
 
 use c_lent::note::CNote;
 
@@ -12,7 +12,7 @@ use c_lent::note::CNote;
 pub extern "C" fn scard_note_of(about: u8, first: u8, second: u8, out: &mut CNote)
     ensures before { out.new.before.now ≡ (note_text about first second).before }
     ensures number { (out.new.has_number, out.new.number)
-        ≡ number_told (note_text about first second).number }
+        ≡ number_shown (note_text about first second).number }
     ensures after { out.new.after.now ≡ (note_text about first second).after }
 {
     c_lent::note::note_of(about, first, second, out)

@@ -21,7 +21,7 @@ pub fn block_least(octets: &[u8]) -> usize
 fn field_least(octet: u8) -> u8
     ensures { result ≡ field_least octet }
 {
-    match Pcb::of(octet) {
+    match Pcb::from_octet(octet) {
         Some(pcb) => len_least(pcb),
         None => 0,
     }

@@ -9,7 +9,7 @@ ghost use Rattle.traces.specs.Unseen.{ending, noted, settling_card, settling_ter
 use crate::said::Numbers;
 use crate::standing::Standing;
 use atr_core::T1Params;
-use exchange_core::{Arrival, LastTurn, Line, card_called, spelled, terminal_called, told};
+use exchange_core::{Arrival, LastTurn, Line, card_called, last_line, spelled, terminal_called};
 use std::alloc::{AllocError, Global};
 use std::marker::Model;
 use t1_core::{Card, CardFault, CardTurn, Terminal, TerminalFault, TerminalTurn};
@@ -118,7 +118,7 @@ impl Follower {
             Ok(turn) => {
                 self.terminal_is = Standing::Waits;
                 let last = LastTurn::Terminal(turn);
-                let told = told(self.alloc, &self.terminal, &self.card, &last)?;
+                let told = last_line(self.alloc, &self.terminal, &self.card, &last)?;
                 self.tell(told)
             }
             Err(_) => {
@@ -151,7 +151,7 @@ impl Follower {
             Ok(turn) => {
                 self.card_is = Standing::Waits;
                 let last = LastTurn::Card(turn);
-                let told = told(self.alloc, &self.terminal, &self.card, &last)?;
+                let told = last_line(self.alloc, &self.terminal, &self.card, &last)?;
                 self.tell(told)
             }
             Err(_) => {

@@ -47,7 +47,7 @@ impl Trace {
     ghost use Rattle.traces.specs.Rising.{rises};
 
     /// Makes a trace of items. If a moment is below an earlier one or too late, `Err` returns the items.
-    pub fn of(items: Vec<Item>) -> Result<Trace, Vec<Item>>
+    pub fn try_new(items: Vec<Item>) -> Result<Trace, Vec<Item>>
         ensures { MatchResult result (λ trace. trace ≡ items.items)
             (λ back. (back ≡ items) × (rises 0 items.items ≢ true)) }
     {

@@ -4,7 +4,7 @@ use Rattle.t1_core.specs.CardViews.{card_held, IsBlankAfter}
 use Rattle.c_lent.specs.declared.turn.CTurn.{CTurn}
 use Rattle.c_lent.specs.Calls.{card_input}
 use Rattle.c_lent.specs.Lent.{lent, TurnsCard}
-use Rattle.c_lent.proofs.Turns.{card_told, card-taken, card-leaves}
+use Rattle.c_lent.proofs.Turns.{card_shown, card-taken, card-leaves}
 use Rattle.c_lent.proofs.Lending.{card-held-by}
 use Rattle.c_lent.proofs.lent.card_turn.Goals as goal
 
@@ -32,7 +32,7 @@ returns-in-Ok c =
               fit = c.in-Ok.ensures.fit;
               held = sym c.in-Ok.ensures.state;
             };
-            turn_is = card_told (turn_of (card_turn before (card_input c.args.call before))) c.args.out.now
+            turn_is = card_shown (turn_of (card_turn before (card_input c.args.call before))) c.args.out.now
                 c.lend.new.out
                 (Ok c.in-Ok.put) c.of_card.result c.in-Ok.ensures.turn c.of_card.ensures;
           });
@@ -70,7 +70,7 @@ returns-in-Err c =
               fit = c.in-Err.ensures.fit;
               held = sym c.in-Err.ensures.state;
             };
-            turn_is = card_told given c.args.out.now c.lend.new.out (Err c.in-Err.fault) c.of_card-in-Err.result
+            turn_is = card_shown given c.args.out.now c.lend.new.out (Err c.in-Err.fault) c.of_card-in-Err.result
                 c.in-Err.ensures.turn c.of_card-in-Err.ensures;
           });
       refused = λ high. (

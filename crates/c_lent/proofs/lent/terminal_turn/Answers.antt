@@ -4,7 +4,7 @@ use Rattle.t1_core.specs.Views.{terminal_held}
 use Rattle.c_lent.specs.declared.turn.CTurn.{CTurn}
 use Rattle.c_lent.specs.Calls.{terminal_input}
 use Rattle.c_lent.specs.Lent.{lent, TurnsTerminal}
-use Rattle.c_lent.proofs.Turns.{terminal_told, terminal-taken, terminal-leaves}
+use Rattle.c_lent.proofs.Turns.{terminal_shown, terminal-taken, terminal-leaves}
 use Rattle.c_lent.proofs.Lending.{held-by}
 use Rattle.c_lent.proofs.lent.terminal_turn.Goals as goal
 
@@ -32,7 +32,7 @@ returns-in-Ok c =
               fit = c.in-Ok.ensures.fit;
               held = sym c.in-Ok.ensures.state;
             };
-            turn_is = terminal_told (turn_of (terminal_turn before (terminal_input c.args.call before))) c.args.out.now
+            turn_is = terminal_shown (turn_of (terminal_turn before (terminal_input c.args.call before))) c.args.out.now
                 c.lend.new.out
                 (Ok c.in-Ok.put) c.of_terminal.result c.in-Ok.ensures.turn c.of_terminal.ensures;
           });
@@ -66,7 +66,8 @@ returns-in-Err c =
               fit = c.in-Err.ensures.fit;
               held = sym c.in-Err.ensures.state;
             };
-            turn_is = terminal_told given c.args.out.now c.lend.new.out (Err c.in-Err.fault) c.of_terminal-in-Err.result
+            turn_is = terminal_shown given c.args.out.now c.lend.new.out (Err c.in-Err.fault)
+                c.of_terminal-in-Err.result
                 c.in-Err.ensures.turn c.of_terminal-in-Err.ensures;
           });
       refused = λ high. (

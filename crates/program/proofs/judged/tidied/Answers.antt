@@ -6,7 +6,7 @@ use Rattle.program.proofs.judged.tidied.Goals as goal
 
 pub returns : goal.returns
 returns c = (
-  c.in_ok-answer.ensures.told,
+  c.in_ok-answer.ensures.answer,
   says-by c.args.explains forest_codec tlv_sentence None c.args.octets.now _
       c.asked_note-explanation.result c.in_ok-answer.ensures.verdict c.asked_note-explanation.ensures,
 )

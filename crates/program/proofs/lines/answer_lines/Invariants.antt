@@ -5,7 +5,7 @@ use Rattle.program.proofs.lines.answer_lines.Given as goal
 -- what was answered so far
 abbrev pub invariant-loop-turn : goal.invariant-loop-turn
 invariant-loop-turn g l = record {
-  line_task : l.told.line_task ≡ l.fn.line_task;
+  line_task : l.answered.line_task ≡ l.fn.line_task;
   so_far : HasComeTo l.fn.line_task (g.C.Conversation.said l.fn.conversation) (g.C.Conversation.said l.conversation)
-      l.told.line.items l.told.text.items l.told.status l._turn;
+      l.answered.line.items l.answered.text.items l.answered.status l._turn;
 }

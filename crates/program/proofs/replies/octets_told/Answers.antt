@@ -7,8 +7,8 @@ use Rattle.program.proofs.Answering.{told-fault, told-wanting}
 use Rattle.program.proofs.Explaining.{noted-given, noted-refused}
 use Rattle.program.proofs.replies.octets_told.Goals as goal
 
-pub returns-in_err-octets-clause-told : goal.returns-in_err-octets-clause-told
-returns-in_err-octets-clause-told g c = λ words.
+pub returns-in_err-octets-clause-answer : goal.returns-in_err-octets-clause-answer
+returns-in_err-octets-clause-answer g c = λ words.
     let fault = err_from_is_err_and c.from_residual.result c.from_residual.ensures.1 in
     let task = c.args.line_task.task in
     rw (fault.1, fault.2) (told-fault (Tell task c.args.given) c.args.given (IsTold task)
@@ -16,8 +16,8 @@ returns-in_err-octets-clause-told g c = λ words.
     (λ file text ended h. h)
     c.in_err-octets.field-0.0 c.in_err-octets.ensures.taken.taken)
 
-pub returns-in_err-made-in-Given-clause-told : goal.returns-in_err-made-in-Given-clause-told
-returns-in_err-made-in-Given-clause-told g c = λ words.
+pub returns-in_err-made-in-Given-clause-answer : goal.returns-in_err-made-in-Given-clause-answer
+returns-in_err-made-in-Given-clause-answer g c = λ words.
     let fault = err_from_is_err_and c.from_residual-in_err-made-in-Given.result
     c.from_residual-in_err-made-in-Given.ensures.1 in
     let had = rw c.in-Given.is at c.in_ok-octets.ensures.taken in
@@ -27,8 +27,8 @@ returns-in_err-made-in-Given-clause-told g c = λ words.
     (λ file text ended h. h)
     c.in-Given.octets had.taken)
 
-pub returns-in_ok-made-in-Given-clause-told : goal.returns-in_ok-made-in-Given-clause-told
-returns-in_ok-made-in-Given-clause-told g c = λ words.
+pub returns-in_ok-made-in-Given-clause-answer : goal.returns-in_ok-made-in-Given-clause-answer
+returns-in_ok-made-in-Given-clause-answer g c = λ words.
     let made = rw c.get.ensures at c.in_ok-made-in-Given.ensures in
     let had = rw c.in-Given.is at c.in_ok-octets.ensures.taken in
     let task = c.args.line_task.task in
@@ -39,8 +39,8 @@ returns-in_ok-made-in-Given-clause-told g c = λ words.
     (λ file note h. h) c.in-Given.octets c.in-Given.note had
     c.in_ok-made-in-Given.made c.and.result made.0 made.1 c.and.ensures.answer c.and.ensures.explanation
 
-pub returns-in-Refused-clause-told : goal.returns-in-Refused-clause-told
-returns-in-Refused-clause-told g c = λ words.
+pub returns-in-Refused-clause-answer : goal.returns-in-Refused-clause-answer
+returns-in-Refused-clause-answer g c = λ words.
     let had = rw c.in-Refused.is at c.in_ok-octets.ensures.taken in
     let task = c.args.line_task.task in
     noted-refused c.args.line_task.explains words (Tell task c.args.given) c.args.given (IsTold task)

@@ -5,7 +5,7 @@ use Rattle.program.specs.Files.{largest_file}
 use Rattle.program.proofs.Explaining.{is-faulted}
 use Rattle.program.proofs.replies.read_faulted.Goals as goal
 
-pub returns-in-TooLarge-clause-told : goal.returns-in-TooLarge-clause-told
-returns-in-TooLarge-clause-told c = rw c.in-TooLarge.is (is-faulted TooLarge (λ note. note ≡ large_note largest_file)
+pub returns-in-TooLarge-clause-answer : goal.returns-in-TooLarge-clause-answer
+returns-in-TooLarge-clause-answer c = rw c.in-TooLarge.is (is-faulted TooLarge (λ note. note ≡ large_note largest_file)
     c.large_note.result c.fault_noted.result c.fault_noted.ensures.answer c.fault_noted.ensures.explanation
     c.large_note.ensures)

@@ -15,18 +15,18 @@ request_reply-requires g c =
       | inr read ↦ read
     ]
 
-pub returns-in-Err-clause-told : goal.returns-in-Err-clause-told
-returns-in-Err-clause-told g c =
+pub returns-in-Err-clause-answer : goal.returns-in-Err-clause-answer
+returns-in-Err-clause-answer g c =
     let read = rw c.in-Err.is at c.requires in
     said-fault (texts c.args.words.now) _ c.in-Err.fault (IsWordsNote (texts c.args.words.now))
     c.words_faulted.result (sym c.asks_to_explain.ensures ∙ c.if-asks_to_explain.true)
-    (refused-words (texts c.args.words.now) _ _ c.in-Err.fault read) c.words_faulted.ensures.told
+    (refused-words (texts c.args.words.now) _ _ c.in-Err.fault read) c.words_faulted.ensures.answer
     (IfOk-weaker c.words_faulted.result _ _
     (λ made other. fits-words (texts c.args.words.now) c.in-Err.fault other read)
     c.words_faulted.ensures.other)
 
-pub returns-in-Err-2-clause-told : goal.returns-in-Err-2-clause-told
-returns-in-Err-2-clause-told g c = said-nothing (texts c.args.words.now) _ (faulted c.in-Err-2.fault)
+pub returns-in-Err-2-clause-answer : goal.returns-in-Err-2-clause-answer
+returns-in-Err-2-clause-answer g c = said-nothing (texts c.args.words.now) _ (faulted c.in-Err-2.fault)
     status.Fault
     (refused-words (texts c.args.words.now) _ _ c.in-Err-2.fault (rw c.in-Err-2.is at c.requires))
 

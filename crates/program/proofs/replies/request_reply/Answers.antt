@@ -21,8 +21,8 @@ made-as made = Ok made
 abbrev read-as : Fault → Result WithExplanation Fault
 read-as fault = Err fault
 
-pub returns-in-Ok-clause-told : goal.returns-in-Ok-clause-told
-returns-in-Ok-clause-told g c = said-asked (texts c.args.words.now)
+pub returns-in-Ok-clause-answer : goal.returns-in-Ok-clause-answer
+returns-in-Ok-clause-answer g c = said-asked (texts c.args.words.now)
     (calls_of g.R.Source.remaining g.R.Source.failures c.args.reader.now c.replied_to.new.reader)
     c.in-Ok.made.answer.said
     (said_of c.in-Ok.made.explanation) c.in-Ok.made.answer.status
@@ -30,37 +30,37 @@ returns-in-Ok-clause-told g c = said-asked (texts c.args.words.now)
     (replied-words (texts c.args.words.now)
     (calls_of g.R.Source.remaining g.R.Source.failures c.args.reader.now c.replied_to.new.reader) c.args.request
     (made-as c.in-Ok.made) c.requires
-    c.in-Ok.ensures.told)
+    c.in-Ok.ensures.answer)
 
-pub returns-in-Ok-2-clause-told : goal.returns-in-Ok-2-clause-told
-returns-in-Ok-2-clause-told g c = said-alone (texts c.args.words.now)
+pub returns-in-Ok-2-clause-answer : goal.returns-in-Ok-2-clause-answer
+returns-in-Ok-2-clause-answer g c = said-alone (texts c.args.words.now)
     (calls_of g.R.Source.remaining g.R.Source.failures c.args.reader.now c.replied_to.new.reader) c.in-Ok.made
     c.alone.result
     (replied-words (texts c.args.words.now)
     (calls_of g.R.Source.remaining g.R.Source.failures c.args.reader.now c.replied_to.new.reader) c.args.request
     (made-as c.in-Ok.made) c.requires
-    c.in-Ok.ensures.told) c.alone.ensures.answer c.alone.ensures.said
+    c.in-Ok.ensures.answer) c.alone.ensures.answer c.alone.ensures.said
 
-pub returns-in-Err-clause-told : goal.returns-in-Err-clause-told
-returns-in-Err-clause-told g c = said-fault (texts c.args.words.now)
+pub returns-in-Err-clause-answer : goal.returns-in-Err-clause-answer
+returns-in-Err-clause-answer g c = said-fault (texts c.args.words.now)
     (calls_of g.R.Source.remaining g.R.Source.failures c.args.reader.now c.replied_to.new.reader) c.in-Err.fault
     (λ note. note ≡ large_note largest_file) c.read_faulted.result
     (sym c.asks_to_explain-explains.ensures ∙ c.if-explains-2.true)
     (replied-words (texts c.args.words.now)
     (calls_of g.R.Source.remaining g.R.Source.failures c.args.reader.now c.replied_to.new.reader) c.args.request
     (read-as c.in-Err.fault) c.requires
-    c.in-Err.ensures.told) c.read_faulted.ensures.told
+    c.in-Err.ensures.answer) c.read_faulted.ensures.answer
     (IfOk-weaker c.read_faulted.result _ _ (λ made large. fits-large (texts c.args.words.now) c.in-Err.fault large)
     c.read_faulted.ensures.large)
 
-pub returns-in-Err-2-clause-told : goal.returns-in-Err-2-clause-told
-returns-in-Err-2-clause-told g c = said-nothing (texts c.args.words.now)
+pub returns-in-Err-2-clause-answer : goal.returns-in-Err-2-clause-answer
+returns-in-Err-2-clause-answer g c = said-nothing (texts c.args.words.now)
     (calls_of g.R.Source.remaining g.R.Source.failures c.args.reader.now c.replied_to.new.reader)
     (faulted c.in-Err.fault) status.Fault
     (replied-words (texts c.args.words.now)
     (calls_of g.R.Source.remaining g.R.Source.failures c.args.reader.now c.replied_to.new.reader) c.args.request
     (read-as c.in-Err.fault) c.requires
-    c.in-Err.ensures.told)
+    c.in-Err.ensures.answer)
 
 pub returns-in-Ok-clause-unread : goal.returns-in-Ok-clause-unread
 returns-in-Ok-clause-unread g c = λ free.
@@ -92,5 +92,5 @@ returns-in-Err-clause-unfailed g c = IfOk-weaker c.read_faulted.result _ _
     (calls_of g.R.Source.remaining g.R.Source.failures c.args.reader.now c.replied_to.new.reader)
     (faulted c.in-Err.fault) status.Fault
     (λ free. ap g.R.Source.failures (c.replied_to.ensures.unread free))
-    c.in-Err.ensures.told (λ same. cc (subst (λ (f : Fault). faulted f ≡ faulted Read) large same)))
+    c.in-Err.ensures.answer (λ same. cc (subst (λ (f : Fault). faulted f ≡ faulted Read) large same)))
     c.read_faulted.ensures.large

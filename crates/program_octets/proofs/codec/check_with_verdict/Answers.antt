@@ -6,7 +6,7 @@ pub returns-in_ok-answer-in-Ok : goal.returns-in_ok-answer-in-Ok
 returns-in_ok-answer-in-Ok g c =
     let found = c.in-Ok.ensures.found in
     record {
-      told = accepted found.0 c.in-Ok.taken found.1 c.in_ok-answer-in-Ok.ensures.said
+      answer = accepted found.0 c.in-Ok.taken found.1 c.in_ok-answer-in-Ok.ensures.said
           c.in_ok-answer-in-Ok.ensures.status;
       verdict = found;
     }
@@ -15,7 +15,7 @@ pub returns-in_ok-answer-in-Err-Stop : goal.returns-in_ok-answer-in-Err-Stop
 returns-in_ok-answer-in-Err-Stop g c =
     let codec = g.C.Codec.codec c.args.expected in
     record {
-      told = is-refused codec (λ v n. accepted_in c.args.layout c.args.expected.kind n)
+      answer = is-refused codec (λ v n. accepted_in c.args.layout c.args.expected.kind n)
           (refused_in c.args.layout c.args.expected.kind) c.args.octets.now _ c.in-Err-Stop.field-0
           c.in-Err-Stop.stop _ _ (g.met.C.Codec.named c.args.expected) c.in-Err-Stop.field-0-is
           c.in-Err-Stop.ensures.refused c.in_ok-answer-in-Err-Stop.ensures.said

@@ -8,14 +8,14 @@ use Rattle.program_octets.proofs.forest.tidy_with_verdict.Goals as goal
 
 pub returns-in_ok-tidied-in-Ok : goal.returns-in_ok-tidied-in-Ok
 returns-in_ok-tidied-in-Ok c = record {
-  told = accepted c.in-Ok.forest (length c.args.octets.now) c.in-Ok.ensures.found
-      (c.told.ensures.said ∙ ap saying.Text c.in_ok-tidied-in-Ok.ensures) c.told.ensures.status;
+  answer = accepted c.in-Ok.forest (length c.args.octets.now) c.in-Ok.ensures.found
+      (c.ok.ensures.said ∙ ap saying.Text c.in_ok-tidied-in-Ok.ensures) c.ok.ensures.status;
   verdict = (c.in-Ok.forest, c.in-Ok.ensures.found);
 }
 
 pub returns-in-Err-Stop : goal.returns-in-Err-Stop
 returns-in-Err-Stop c = record {
-  told = is-refused forest_codec (λ v n. saying.Text (tidied_text v))
+  answer = is-refused forest_codec (λ v n. saying.Text (tidied_text v))
       (λ name stop. saying.Refusal (stopped name stop)) c.args.octets.now forest_codec.name
       c.in-Err-Stop.field-0
       c.in-Err-Stop.stop _ _ refl c.in-Err-Stop.field-0-is c.in-Err-Stop.ensures.refused

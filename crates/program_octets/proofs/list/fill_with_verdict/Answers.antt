@@ -8,13 +8,13 @@ use Rattle.program_octets.proofs.list.fill_with_verdict.Goals as goal
 
 pub returns-in_ok-fill_by-in-Ok : goal.returns-in_ok-fill_by-in-Ok
 returns-in_ok-fill_by-in-Ok c = record {
-  told = listed c.in-Ok.dol c.in-Ok.ensures.found.1 c.in_ok-fill_by-in-Ok.ensures;
+  answer = listed c.in-Ok.dol c.in-Ok.ensures.found.1 c.in_ok-fill_by-in-Ok.ensures;
   verdict = (c.in-Ok.dol, c.in-Ok.ensures.found);
 }
 
 pub returns-in-Err-Stop : goal.returns-in-Err-Stop
 returns-in-Err-Stop c = record {
-  told = no_list c.in-Err-Stop.stop (subst (RefusesUnlessMemory whole IsDol IsDolReason c.args.octets.now)
+  answer = no_list c.in-Err-Stop.stop (subst (RefusesUnlessMemory whole IsDol IsDolReason c.args.octets.now)
       c.in-Err-Stop.field-0-is c.in-Err-Stop.ensures.refused) c.refused.ensures.said
       c.refused.ensures.status;
   verdict = of-stop list_codec c.args.octets.now c.in-Err-Stop.field-0 c.in-Err-Stop.stop c.in-Err-Stop.field-0-is

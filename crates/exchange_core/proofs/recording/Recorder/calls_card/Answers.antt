@@ -18,7 +18,7 @@ pub invariant_of-self-2 : goal.invariant_of-self-2
 invariant_of-self-2 c =
     let may = c.requires in
     let lines = c.in_ok-turn.ensures.lines
-    ∙ ap (λ (l : List Line). c.self.inside.lines.items ++ (l ++ c.args.line ∷ [])) c.in_ok-told.ensures in
+    ∙ ap (λ (l : List Line). c.self.inside.lines.items ++ (l ++ c.args.line ∷ [])) c.in_ok-last.ensures in
     (leaves _ _ _ _ _ _ _ _ _ lines c.self.invariant
     (replied-acts _ _ _ c.args.line _ _ c.self.invariant may c.in_ok-turn.ensures.turn)).0
 
@@ -26,7 +26,7 @@ pub returns-clause-recorded : goal.returns-clause-recorded
 returns-clause-recorded c =
     let may = c.requires in
     let lines = c.in_ok-turn.ensures.lines
-    ∙ ap (λ (l : List Line). c.self.inside.lines.items ++ (l ++ c.args.line ∷ [])) c.in_ok-told.ensures in
+    ∙ ap (λ (l : List Line). c.self.inside.lines.items ++ (l ++ c.args.line ∷ [])) c.in_ok-last.ensures in
     let new : Recording = record {
       atr = c.self.inside.atr;
       ifsc = c.self.inside.params.ifsc;
@@ -41,7 +41,7 @@ pub returns-clause-link : goal.returns-clause-link
 returns-clause-link c =
     let may = c.requires in
     let lines = c.in_ok-turn.ensures.lines
-    ∙ ap (λ (l : List Line). c.self.inside.lines.items ++ (l ++ c.args.line ∷ [])) c.in_ok-told.ensures in
+    ∙ ap (λ (l : List Line). c.self.inside.lines.items ++ (l ++ c.args.line ∷ [])) c.in_ok-last.ensures in
     let new : Recording = record {
       atr = c.self.inside.atr;
       ifsc = c.self.inside.params.ifsc;

@@ -12,7 +12,7 @@ returns-in-Ok g c read written h = record {
   text = c.last.new.self.text.items;
   right = c.last.new.self.status;
   happened = c.tell.ensures.1;
-  is_right = all_told (c.in-Ok.ensures.told read written h);
+  is_right = all_told (c.in-Ok.ensures.answer read written h);
   are_telling = rw c.as_slice.ensures.value at c.tell.ensures.2;
 }
 
