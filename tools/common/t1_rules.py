@@ -1,8 +1,7 @@
 """The rules of T=1 for the next block of an end, if it is known how each earlier block arrived.
 
-This is a second reading of docs/PROTOCOL.md, docs/JUDGE.md and docs/DECISIONS.md, beside the definitions of
-the crate judge_core: it shares no line with them. `Line` takes a session block by block and names the rule that each
-block breaks.
+This is a second reading of docs/PROTOCOL.md and docs/JUDGE.md, beside the definitions of the crate judge_core: it
+shares no line with them. `Line` takes a session block by block and names the rule that each block breaks.
 """
 
 import functools
