@@ -166,9 +166,11 @@ ACCESS void put64(u8 *at, u64 number)
 #if UINTPTR_MAX > 0xFFFFFFFFu && !defined(SCARD_NARROW)
 #define IS_WIDE 1
 #define SHIFT 61
+typedef u64 extent; /* a number of octets in a window */
 #else
 #define IS_WIDE 0
 #define SHIFT 32
+typedef u32 extent;
 #endif
 
 /* The number of windows. The last has no octets, so that no address wraps around into the first. */
@@ -238,8 +240,10 @@ INLINE u32 leads(const struct call *m, u64 t, uintptr_t *element)
     return WINDOWS;
 }
 
-/* The octets that a pointer in a struct points to; null if the address isn't that of such octets. */
-APART u8 *element_at(const struct call *m, u64 t, u64 n)
+/* The octets that a pointer in a struct points to; null if the address isn't that of such octets. The number comes
+ * before the address, so that a processor of 32 bits has all three in registers.
+ */
+APART u8 *element_at(const struct call *m, extent n, u64 t)
 {
     uintptr_t element;
     u64 size;
@@ -295,13 +299,13 @@ APART u32 octet_at(const struct call *m, u64 t)
 /* An octet of an element or of a struct. */
 APART u32 apart_octet(const struct call *m, u64 t)
 {
-    const u8 *at = element_at(m, t, 1);
+    const u8 *at = element_at(m, 1, t);
     return at ? *at : octet_at(m, t);
 }
 
 APART u64 apart_load(const struct call *m, u32 n, u64 t)
 {
-    const u8 *at = element_at(m, t, n);
+    const u8 *at = element_at(m, n, t);
     u64 number = 0;
     while (n-- > 0) {
         number = number << 8 | (at ? at[n] : octet_at(m, t + n));
@@ -395,13 +399,13 @@ INLINE u8 *piece(const struct call *m, u64 a, u64 n)
     if (n >> (SHIFT - 1)) {
         UNREACHABLE;
     }
-    return SELDOM(LEAVES(m, t, n)) ? element_at(m, t, n) : PLACE(m, t);
+    return SELDOM(LEAVES(m, t, n)) ? element_at(m, (extent)n, t) : PLACE(m, t);
 }
 
 /* The same for fewer than 2^31 octets, which have to be in one piece. */
-APART u8 *element_only(const struct call *m, u64 t, u64 n)
+APART u8 *element_only(const struct call *m, extent n, u64 t)
 {
-    u8 *found = element_at(m, t, n);
+    u8 *found = element_at(m, n, t);
     if (!found) {
         UNREACHABLE;
     }
@@ -411,7 +415,7 @@ APART u8 *element_only(const struct call *m, u64 t, u64 n)
 ACCESS u8 *at(const struct call *m, u64 a, u32 n)
 {
     u64 t = a - FIRST;
-    return SELDOM(LEAVES(m, t, n)) ? element_only(m, t, n) : PLACE(m, t);
+    return SELDOM(LEAVES(m, t, n)) ? element_only(m, n, t) : PLACE(m, t);
 }
 
 /* Where `n` octets from an address on are. Several accesses are in them, which are all made or none, and are held to
