@@ -1194,7 +1194,7 @@ size_t scard_lent_framer_burst(const struct scard_lent_framer *framer);
  * - `block` is the block that is sent or was sent last, of `block_count` octets. It is empty at a card that has sent
  *   none.
  *
- * The caller owns the struct, 416 octets. A call is safe with any octets in it. These calls allocate nothing.
+ * The caller owns the struct, 408 octets. A call is safe with any octets in it. These calls allocate nothing.
  */
 
 /* The rules of a line, which stay the same. Times are in microseconds. A mark that isn't 0 counts as 1. The caller may
@@ -1224,7 +1224,7 @@ struct scard_lent_line_progress {
     scard_size began;     /* the current exchange: when it began, and how much of its time is certainly over */
     scard_size spent;
     scard_size late;      /* how much longer the block took than its octets */
-    scard_size own;       /* how many octets of its echo came */
+    uint32_t own;         /* how many octets of its echo came */
     uint32_t interrupts;  /* of the current wait */
     uint32_t blocks;      /* of the current exchange */
     uint32_t left;        /* how many more octets are dropped before the line has failed */
@@ -1232,7 +1232,7 @@ struct scard_lent_line_progress {
     uint8_t is_cut;       /* whether the limit of the exchange made the wait shorter */
     uint8_t is_quick;     /* whether the block took less than half of the time of its octets */
     uint8_t began_at;     /* whether the burst began before the other end may have sent it */
-    uint8_t is_spoiled;    /* whether the burst had a damaged octet */
+    uint8_t is_spoiled;   /* whether the burst had a damaged octet */
     uint8_t is_whole;     /* whether the burst is a whole block */
     uint8_t echoes;       /* how many bursts in a row began with the block that was just sent */
 };
@@ -1379,7 +1379,7 @@ struct scard_lent_setup {
                                      session replies 6700 for the host */
 };
 
-/* The caller-owned sessions, 496 octets for a terminal and 504 for a card. `begin` writes the limits, and a program may
+/* The caller-owned sessions, 480 octets for a terminal and 488 for a card. `begin` writes the limits, and a program may
  * change them between two exchanges. It may also make `line.rules.bwt` and `line.rules.cwt` longer while the session
  * rests, and never shorter. All other fields belong to the library.
  */
@@ -1388,14 +1388,14 @@ struct scard_lent_session {
     struct scard_lent_line line;
     scard_size most_time; /* the limits of an exchange, as in the setup */
     uint32_t most_blocks;
-    scard_size own;       /* how many octets at the front of `out` are the block that was sent last */
+    uint32_t own;         /* how many octets at the front of `out` are the block that was sent last */
 };
 
 struct scard_lent_card_session {
     struct scard_lent_card card;
     struct scard_lent_line line;
-    scard_size own;               /* how many octets at the front of `out` are the block that was sent last */
     scard_size granted;           /* how many requests of the host about the current command the terminal granted */
+    uint32_t own;                 /* how many octets at the front of `out` are the block that was sent last */
     uint8_t host_takes_short;
 };
 

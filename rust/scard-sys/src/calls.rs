@@ -541,7 +541,7 @@ pub struct scard_lent_line_progress {
     pub began: u64,
     pub spent: u64,
     pub late: u64,
-    pub own: u64,
+    pub own: u32,
     pub interrupts: u32,
     pub blocks: u32,
     pub left: u32,
@@ -553,7 +553,7 @@ pub struct scard_lent_line_progress {
     pub is_whole: u8,
     pub echoes: u8,
 }
-const _: () = assert!(size_of::<scard_lent_line_progress>() == 88);
+const _: () = assert!(size_of::<scard_lent_line_progress>() == 80);
 const _: () = assert!(align_of::<scard_lent_line_progress>() == 8);
 #[repr(C)]
 #[derive(Clone, Copy)]
@@ -562,7 +562,7 @@ pub struct scard_lent_line {
     pub progress: scard_lent_line_progress,
     pub framer: scard_lent_framer,
 }
-const _: () = assert!(size_of::<scard_lent_line>() == 416);
+const _: () = assert!(size_of::<scard_lent_line>() == 408);
 const _: () = assert!(align_of::<scard_lent_line>() == 8);
 #[repr(C)]
 #[derive(Clone, Copy)]
@@ -599,20 +599,20 @@ pub struct scard_lent_session {
     pub line: scard_lent_line,
     pub most_time: u64,
     pub most_blocks: u32,
-    pub own: u64,
+    pub own: u32,
 }
-const _: () = assert!(size_of::<scard_lent_session>() == 496);
+const _: () = assert!(size_of::<scard_lent_session>() == 480);
 const _: () = assert!(align_of::<scard_lent_session>() == 8);
 #[repr(C)]
 #[derive(Clone, Copy)]
 pub struct scard_lent_card_session {
     pub card: scard_lent_card,
     pub line: scard_lent_line,
-    pub own: u64,
     pub granted: u64,
+    pub own: u32,
     pub host_takes_short: u8,
 }
-const _: () = assert!(size_of::<scard_lent_card_session>() == 504);
+const _: () = assert!(size_of::<scard_lent_card_session>() == 488);
 const _: () = assert!(align_of::<scard_lent_card_session>() == 8);
 #[repr(C)]
 #[derive(Clone, Copy)]
