@@ -1,9 +1,9 @@
 //! The calls of both ends of a session, as C makes them.
 
 ghost use Rattle.std.specs.Prelude.{◌≡◌, ◌≤◌, length, IfErr};
-ghost use Rattle.t1_core.specs.Terminal.{terminal_turn, turn_of, state_after};
-ghost use Rattle.t1_core.specs.Card.{card_turn, turn_of as card_turn_of, state_after as card_after};
-ghost use Rattle.t1_core.specs.Put.{IsTerminalPut, IsCardPut};
+ghost use Rattle.t1_core.specs.Terminal.{terminal_turn};
+ghost use Rattle.t1_core.specs.Card.{card_turn};
+ghost use Rattle.t1_core.specs.Steps.{TerminalWrote, CardWrote};
 ghost use Rattle.t1_core.specs.Views.{terminal_held, IsLentTerminal};
 ghost use Rattle.t1_core.specs.CardViews.{card_held, IsLentCard, IsBlank};
 ghost use Rattle.c_lent.specs.Calls.{terminal_input, card_input};
@@ -49,14 +49,10 @@ impl<'a> TerminalCall<'a> {
     ) -> Result<EncodedTerminalTurn, TerminalFault>
         requires room { 258 ≤ length out.old }
         requires fit { IsLentTerminal end.old (length command.old) (length answer.old) }
-        ensures turn { IsTerminalPut
-            (turn_of (terminal_turn (terminal_held end.old command.old answer.old)
-            (terminal_input self.entry (terminal_held end.old command.old answer.old)))) out.old out.new result }
+        ensures wrote { TerminalWrote (λ t. terminal_turn t (terminal_input self.entry t))
+            (terminal_held end.old command.old answer.old) (terminal_held end.new command.new answer.new)
+            out.old out.new result }
         ensures fit { IsLentTerminal end.new (length command.new) (length answer.new) }
-        ensures state { terminal_held end.new command.new answer.new ≡
-            state_after (terminal_held end.old command.old answer.old)
-            (terminal_turn (terminal_held end.old command.old answer.old)
-            (terminal_input self.entry (terminal_held end.old command.old answer.old))) }
         ensures refused { IfErr result
             (λ _. (end.new ≡ end.old) × (command.new ≡ command.old) × (answer.new ≡ answer.old)) }
     {
@@ -80,13 +76,10 @@ impl<'a> CardCall<'a> {
     ) -> Result<EncodedCardTurn, CardFault>
         requires room { 258 ≤ length out.old }
         requires fit { IsLentCard end.old (length command.old) (length reply.old) }
-        ensures turn { IsCardPut (card_turn_of (card_turn (card_held end.old command.old reply.old)
-            (card_input self.entry (card_held end.old command.old reply.old)))) out.old out.new result }
+        ensures wrote { CardWrote (λ c. card_turn c (card_input self.entry c))
+            (card_held end.old command.old reply.old) (card_held end.new command.new reply.new)
+            out.old out.new result }
         ensures fit { IsLentCard end.new (length command.new) (length reply.new) }
-        ensures state { card_held end.new command.new reply.new ≡
-            card_after (card_held end.old command.old reply.old)
-            (card_turn (card_held end.old command.old reply.old)
-            (card_input self.entry (card_held end.old command.old reply.old))) }
         ensures refused { IfErr result
             (λ _. (end.new ≡ end.old) × (command.new ≡ command.old) × (reply.new ≡ reply.old)) }
         ensures blank { IsBlank end.old command.old → IsBlank end.new command.new }

@@ -1,6 +1,6 @@
 //! Hexadecimal text.
 
-ghost use Rattle.std.specs.Prelude.{◌≡◌, ◌≢◌, ◌<◌, ◌↔◌, ◌*◌, IfSome, IfNone, IsTrue, Ok, false, length, slice_index, take};
+ghost use Rattle.std.specs.Prelude.{◌≡◌, ◌≢◌, ◌<◌, ◌*◌, IfSome, IfNone, Ok, false, length, slice_index, take};
 ghost use Rattle.std.specs.List.{AllPass};
 ghost use Rattle.hex.specs.Hex.{decode_of, encode_upper, is_hex_digit};
 ghost use Rattle.octet_core.specs.declared.stop.Stop.TheVariants.{At};

@@ -1,7 +1,6 @@
 //! The state of the judge of a line as the numbers that C has.
 
 ghost use Rattle.std.specs.Prelude.{◌≡◌};
-ghost use Rattle.block_core.specs.Block.{number_bit};
 ghost use Rattle.c_lent.specs.Kept.{mark_of};
 ghost use Rattle.c_lent.specs.Number.{number_of, fault_of, subject_of};
 ghost use Rattle.c_lent.specs.KeptJudge.{mark_in, number_in, asked_shown, owed_shown, fault_in, subject_in, side_of, side_in, doubt_in, pending_in, asked_in, owed_in, pcb_in, heard_as, last_in, nad_in, pairs_in};

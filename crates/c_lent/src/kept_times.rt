@@ -1,6 +1,6 @@
 //! The times of a line, which the caller keeps. Nothing is allocated.
 
-ghost use Rattle.std.specs.Prelude.{◌≡◌, ◌≢◌, MatchOption, None};
+ghost use Rattle.std.specs.Prelude.{◌≡◌, MatchOption, None};
 ghost use Rattle.c_lent.specs.KeptTimes.{clocked_of, known_in, moments_of, rate_in, rates_in, sent_in, IsBegun};
 
 use atr_core::T1Params;

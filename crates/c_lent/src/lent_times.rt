@@ -8,7 +8,7 @@ ghost use Rattle.c_lent.specs.Verdict.{ok_at, wrong_argument};
 ghost use Rattle.c_lent.specs.KeptJudge.{side_of};
 ghost use Rattle.c_lent.specs.LentJudge.{arrival_of};
 ghost use Rattle.c_lent.specs.KeptTimes.{clocked_of, moments_of, rates_in, IsBegun};
-ghost use Rattle.c_lent.specs.LentTimes.{over_mark, timed_shown, told_off, CanBegin, TimesBlock};
+ghost use Rattle.c_lent.specs.LentTimes.{over_mark, timed_shown, CanBegin, TimesBlock};
 
 use crate::atr::{CRates, CT1};
 use crate::judge_numbers::side_of;

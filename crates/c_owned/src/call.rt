@@ -1,9 +1,9 @@
 //! The calls of both ends in handles, as C makes them.
 
-ghost use Rattle.std.specs.Prelude.{◌≡◌, ◌≤◌, length};
-ghost use Rattle.t1_core.specs.Terminal.{terminal_turn, turn_of, state_after};
-ghost use Rattle.t1_core.specs.Card.{card_turn, turn_of as card_turn_of, state_after as card_after};
-ghost use Rattle.t1_core.specs.Put.{IsTerminalPut, IsCardPut};
+ghost use Rattle.std.specs.Prelude.{◌≤◌, length};
+ghost use Rattle.t1_core.specs.Terminal.{terminal_turn};
+ghost use Rattle.t1_core.specs.Card.{card_turn};
+ghost use Rattle.t1_core.specs.Steps.{TerminalWrote, CardWrote};
 ghost use Rattle.c_lent.specs.Calls.{terminal_input, card_input};
 
 use c_lent::call::{CardCall, TerminalCall};
@@ -24,11 +24,8 @@ pub(crate) fn call_terminal(
     out: &mut [u8],
 ) -> Result<EncodedTerminalTurn, TerminalFault>
     requires { 258 ≤ length out.old }
-    ensures turn { IsTerminalPut
-        (turn_of (terminal_turn end.old (terminal_input call.entry end.old))) out.old out.new
-        result }
-    ensures state { end.new ≡ state_after end.old
-        (terminal_turn end.old (terminal_input call.entry end.old)) }
+    ensures { TerminalWrote (λ t. terminal_turn t (terminal_input call.entry t))
+        end.old end.new out.old out.new result }
 {
     match call {
         TerminalCall::Transmit(command) => end.transmit_into(command, out),
@@ -46,10 +43,8 @@ pub(crate) fn call_card(
     out: &mut [u8],
 ) -> Result<EncodedCardTurn, CardFault>
     requires { 258 ≤ length out.old }
-    ensures turn { IsCardPut (card_turn_of (card_turn end.old (card_input call.entry end.old)))
-        out.old out.new result }
-    ensures state { end.new ≡ card_after end.old
-        (card_turn end.old (card_input call.entry end.old)) }
+    ensures { CardWrote (λ c. card_turn c (card_input call.entry c))
+        end.old end.new out.old out.new result }
 {
     match call {
         CardCall::Received(octets) => end.received_into(octets, out),

@@ -1,5 +1,5 @@
 -- What a card does over calls of `serve`, one after another.
-use Rattle.std.proofs.Common.{◌≡◌, ℕ, ◌-◌, List, [], ◌∷◌, ◌++◌, Bool, true, false, subst}
+use Rattle.std.proofs.Common.{◌≡◌, ℕ, ◌-◌, List, [], ◌∷◌, ◌++◌, Bool, subst}
 use Rattle.block_core.specs.Block.{spelling}
 use Rattle.t1_core.specs.Card.{CardState, replies, card_turn, state_after}
 use Rattle.line_core.specs.Line.{block, nothing, failure}

@@ -24,7 +24,7 @@ use Rattle.t1_core.specs.Promises.{HandsOctets, AllHandOctets, AlwaysTaken, IsTa
 use Rattle.line_core.specs.Line.{Arrival, Talk}
 use Rattle.line_core.specs.Line as line
 use Rattle.line_core.specs.Exchange.{Ending, done, given_up, dead as is_dead, line_failed, used_up, refused, sends, ends, next_of, next_after, left_after, Runs}
-use Rattle.line_core.specs.Service.{Doing, hears, says, asks, doing_of, is_new, input_of}
+use Rattle.line_core.specs.Service.{hears, says, doing_of, is_new, input_of}
 use Rattle.line_core.specs.Service as at_card
 use Rattle.line_core.specs.Bursts.{IsNoBlock}
 use Rattle.line_core.specs.Joined.{Passes, Returns, IsSaid, IsOctet, IsAnswered, IsLost, IsTrip, Trip, talks_of, events_of, Call, IsCall, HaveRun, events_in, joined, begun, ended, exchanges_of, is_about_size, answer_unless, given, services_of, IsLink, TwoEnds, AlwaysLinked, AlwaysMatched, AlwaysInOrder, AlwaysPatientCalls, passing_faults, returning_faults, said_faults, answering_faults, losing_faults, trip_faults, faults_of, faults_before, IsPatientEnd, ArePatient}

@@ -9,7 +9,7 @@ use Rattle.t1_core.specs.Card as card
 use Rattle.t1_core.specs.Link.{answered, unanswered}
 use Rattle.line_core.specs.Line.{block, nothing}
 use Rattle.line_core.specs.Exchange.{done, left_after}
-use Rattle.line_core.specs.Service.{Event, came, asked, requested, sent, used_up, IsReplyTo}
+use Rattle.line_core.specs.Service.{came, asked, requested, sent, used_up, IsReplyTo}
 use Rattle.line_core.specs.Service as at_card
 use Rattle.line_core.specs.Joined.{Trip, Call, TwoEnds, exchanges_of, events_of, services_of, faults_of}
 

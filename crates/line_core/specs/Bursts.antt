@@ -1,7 +1,7 @@
 -- Octets on a line with the silences between them: bursts, and what may happen to one on its way. The clauses are those
 -- of ISO/IEC 7816-3:2006.
-use Rattle.std.specs.Prelude.{◌≡◌, ◌≢◌, ◌<◌, ◌⊎◌, ℕ, ◌+◌, List, [], ◌∷◌, ◌++◌, length, take, slice_index, min, Bool, ◌&&◌, ◌==◌, if◌then◌else◌}
-use Rattle.octet_core.specs.Octets.{AreOctets, xor_of}
+use Rattle.std.specs.Prelude.{◌≡◌, ◌≢◌, ◌<◌, ◌⊎◌, ℕ, ◌+◌, List, [], ◌∷◌, ◌++◌, length, take, min, if◌then◌else◌}
+use Rattle.octet_core.specs.Octets.{AreOctets}
 use Rattle.block_core.specs.Block.{Parts, IsProper, is_whole, spelling}
 use Rattle.t1_core.specs.Came.{Came, got, damaged, invalid, quiet, class_of}
 use Rattle.line_core.specs.declared.framing.Framer.{Framer}

@@ -1,5 +1,5 @@
 -- A burst that octets ended is a whole block if the marks of the line say so.
-use Rattle.std.proofs.Common.{◌≡◌, ℕ, ◌<◌, ◌+◌, List, [], ◌∷◌, ◌++◌, length, take, min, Bool, true, false, not, ◌&&◌, nat_lt, nat_le, get_or, slice_index, refl, sym, ap, subst, ◌∙◌, ◌≤◌, ◌-◌, if◌then◌else◌, arith, inl, inr, replicate}
+use Rattle.std.proofs.Common.{◌≡◌, ℕ, ◌<◌, ◌+◌, List, [], ◌∷◌, ◌++◌, length, take, min, Bool, true, false, not, ◌&&◌, nat_lt, nat_le, get_or, slice_index, refl, sym, ap, subst, ◌∙◌, ◌≤◌, ◌-◌, arith, inl, inr, replicate}
 use Rattle.std.proofs.lemmas.Bool.{and_parts, cases_lt, eqb-true, not-true}
 use Rattle.std.proofs.lemmas.List.{length-append, length-take, length-replicate, take-append-le, take_all, get_or-take}
 use Rattle.octet_core.proofs.Choice.{either_if as either}

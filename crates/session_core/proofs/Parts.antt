@@ -1,6 +1,6 @@
 -- Steps, from what the parts of a call leave.
 use Rattle.std.specs.List.{starts_with}
-use Rattle.std.proofs.Common.{◌&&◌, not, length, ◌<◌, ◌≤◌, nat_eq, slice_index, ◌≡◌, ℕ, List, [], ◌∷◌, take, Bool, true, false, ◌∙◌, if◌then◌else◌, refl, sym, ap, arith}
+use Rattle.std.proofs.Common.{◌&&◌, not, length, ◌<◌, ◌≤◌, nat_eq, slice_index, ◌≡◌, ℕ, List, [], ◌∷◌, take, Bool, true, false, ◌∙◌, refl, sym, ap, arith}
 pub use Rattle.std.proofs.lemmas.Bool.{cond-true as yes, cond-false as no}
 use Rattle.session_core.specs.declared.event.Next.TheVariants.{Heard}
 use Rattle.line_core.specs.declared.framing.Framer.{Framer}

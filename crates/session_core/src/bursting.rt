@@ -3,7 +3,7 @@
 ghost use Rattle.std.specs.Prelude.{◌≡◌, ◌&&◌, true, false, nat_eq, List, ℕ};
 ghost use Rattle.std.specs.List.{starts_with};
 ghost use Rattle.line_core.specs.Bursts.{HasHeard};
-ghost use Rattle.session_core.specs.Wire.{ruled, seen, phase_of, moment_with, is_set, since, forever, Step, step_of, IsStep, waits, wait_in, is_over, owed_after, guard, moment_of, pcb_of, is_info, is_supervisory, is_echo, echoes_after, is_certain, is_refused, hands, counted, judges, judged, ends, goes_on, begun, spoiled, weighed, hears, awaits, serves};
+ghost use Rattle.session_core.specs.Wire.{ruled, seen, moment_with, is_set, since, forever, step_of, IsStep, waits, wait_in, is_over, owed_after, guard, moment_of, pcb_of, is_info, is_supervisory, is_echo, echoes_after, is_certain, is_refused, hands, counted, judges, judged, ends, goes_on, begun, weighed, hears, awaits, serves};
 
 use crate::event::Next;
 use crate::limits::passed;

@@ -1,7 +1,7 @@
 //! The limits of an exchange, and the waits within them.
 
 ghost use Rattle.std.specs.Prelude.{◌≡◌, ◌*◌, List, ℕ};
-ghost use Rattle.session_core.specs.Wire.{ruled, seen, phase_of, moment_with, is_set, gone, left_of, passed, time_of, spends, asking, broken, waits, capped, Step};
+ghost use Rattle.session_core.specs.Wire.{ruled, seen, is_set, gone, left_of, passed, time_of, spends, broken, waits, capped};
 
 use crate::event::Next;
 use crate::progress::{FOREVER, NO_SILENCE, Progress, Rules, is_set, mark};

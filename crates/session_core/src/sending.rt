@@ -1,9 +1,9 @@
 //! Octets that are dropped before a block is sent, and the sending of the block.
 
 ghost use Rattle.std.specs.List.{starts_with};
-ghost use Rattle.std.specs.Prelude.{nat_eq, ◌≡◌, ◌+◌, List, ℕ, length, min};
+ghost use Rattle.std.specs.Prelude.{nat_eq, ◌≡◌, ◌+◌, List, ℕ, min};
 ghost use Rattle.line_core.specs.Bursts.{HasHeard};
-ghost use Rattle.session_core.specs.Wire.{ruled, seen, phase_of, moment_with, is_set, Step, step_of, IsStep, silence_in, dropping, drops, dropped, cleared, stops, says, settles, talks, begins, clears, misses, takes, echo_wait, took, timed, is_used_up, sent, sent_in, follows, most_counted, unechoed, met, hears_echo, echoed, agrees, unheard};
+ghost use Rattle.session_core.specs.Wire.{ruled, seen, phase_of, is_set, step_of, IsStep, silence_in, dropping, drops, dropped, cleared, stops, says, settles, talks, begins, clears, misses, takes, echo_wait, took, timed, is_used_up, sent, sent_in, follows, most_counted, unechoed, met, hears_echo, echoed, agrees, unheard};
 
 use crate::event::Next;
 use crate::limits::{passed, product};

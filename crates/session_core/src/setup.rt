@@ -2,7 +2,7 @@
 
 ghost use Rattle.std.specs.Prelude.{◌≡◌, ◌≤◌, ◌+◌, ◌*◌, SomeIff, true};
 ghost use Rattle.atr_core.specs.T1.{IsUsable};
-ghost use Rattle.session_core.specs.Setup.{t1_of, micros, clock_runs, in_second, etus, cwt_of, bwt_of, rules_with, rules_of, limits_of, fits_silence};
+ghost use Rattle.session_core.specs.Setup.{t1_of, micros, clock_runs, in_second, etus, rules_with, rules_of, limits_of, fits_silence};
 
 use crate::progress::{FOREVER, NO_SILENCE, Rules};
 use atr_core::T1Params;

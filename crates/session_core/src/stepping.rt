@@ -1,8 +1,8 @@
 //! The steps of an end on its line.
 
-ghost use Rattle.std.specs.Prelude.{◌≡◌, ◌<◌, ◌&&◌, ◌∷◌, [], Bool, false, not, nat_eq, List, ℕ, length};
+ghost use Rattle.std.specs.Prelude.{◌≡◌, ◌<◌, ◌&&◌, [], Bool, false, not, nat_eq, List, ℕ, length};
 ghost use Rattle.line_core.specs.Bursts.{HasHeard};
-ghost use Rattle.session_core.specs.Wire.{ruled, seen, phase_of, moment_with, is_set, Step, step_of, IsStep, is_waiting, is_idle, is_sending, left_in, used_up, silent_in, came_in, silent, failed, interrupted, came, takes_in, has_none_left, is_past, counts_interrupt, missed, on_sent, on_came, on_silent, on_failed, step, spends, time_of, forever, last_look};
+ghost use Rattle.session_core.specs.Wire.{ruled, seen, phase_of, is_set, step_of, IsStep, is_waiting, is_idle, is_sending, left_in, used_up, silent_in, came_in, silent, failed, interrupted, came, takes_in, has_none_left, is_past, counts_interrupt, missed, on_sent, on_came, on_silent, on_failed, step, time_of, forever, last_look};
 
 use crate::event::{Event, Next};
 use crate::limits::passed;

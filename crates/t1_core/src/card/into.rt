@@ -4,9 +4,10 @@ ghost use Rattle.std.specs.Prelude.{◌≡◌, ◌≤◌, length, true, IfOk, If
 ghost use Rattle.block_core.specs.Block.{IsWhole};
 ghost use Rattle.t1_core.specs.Came.{class_of};
 ghost use Rattle.t1_core.specs.Put.{IsCardPut, FitsCardPut};
+ghost use Rattle.t1_core.specs.Steps.{CardWrote};
 ghost use Rattle.t1_core.specs.Sending.{card_answers};
 ghost use Rattle.t1_core.specs.CardViews.{card_held, IsLentCard, IsBlank};
-ghost use Rattle.t1_core.specs.Card.{takes, replies, more_time, ask_ifs, card_turn, turn_of, state_after};
+ghost use Rattle.t1_core.specs.Card.{takes, replies, more_time, ask_ifs, card_turn};
 
 use crate::card::Card;
 use crate::lent::LentCard;
@@ -25,12 +26,9 @@ impl Card {
         out: &mut [u8],
     ) -> Result<EncodedCardTurn, CardFault>
         requires room { 258 ≤ length out.old }
-        ensures turn { IsCardPut (turn_of
-            (card_turn self.old (takes (class_of self.old.ifsc octets.now)))) out.old out.new
-            result }
+        ensures wrote { CardWrote (λ c. card_turn c (takes (class_of c.ifsc octets.now)))
+            self.old self.new out.old out.new result }
         ensures fits { IfOk result FitsCardPut }
-        ensures state { self.new ≡ state_after self.old
-            (card_turn self.old (takes (class_of self.old.ifsc octets.now))) }
     {
         self.state.received_into(
             self.command.as_mut_slice(),
@@ -47,10 +45,9 @@ impl Card {
         out: &mut [u8],
     ) -> Result<EncodedCardTurn, CardFault>
         requires room { 258 ≤ length out.old }
-        ensures turn { IsCardPut (turn_of (card_turn self.old (replies octets.now))) out.old out.new
-            result }
+        ensures wrote { CardWrote (λ c. card_turn c (replies octets.now))
+            self.old self.new out.old out.new result }
         ensures fits { IfOk result FitsCardPut }
-        ensures state { self.new ≡ state_after self.old (card_turn self.old (replies octets.now)) }
     {
         self.state.reply_into(
             self.command.as_slice(),
@@ -67,10 +64,9 @@ impl Card {
         out: &mut [u8],
     ) -> Result<EncodedCardTurn, CardFault>
         requires room { 258 ≤ length out.old }
-        ensures turn { IsCardPut (turn_of (card_turn self.old (more_time multiple))) out.old out.new
-            result }
+        ensures wrote { CardWrote (λ c. card_turn c (more_time multiple))
+            self.old self.new out.old out.new result }
         ensures fits { IfOk result FitsCardPut }
-        ensures state { self.new ≡ state_after self.old (card_turn self.old (more_time multiple)) }
     {
         self.state.more_time_into(
             self.command.as_slice(),
@@ -83,10 +79,9 @@ impl Card {
     /// Asks about a size, as `ask_ifs` does.
     pub fn ask_ifs_into(&mut self, size: u8, out: &mut [u8]) -> Result<EncodedCardTurn, CardFault>
         requires room { 258 ≤ length out.old }
-        ensures turn { IsCardPut (turn_of (card_turn self.old (ask_ifs size))) out.old out.new
-            result }
+        ensures wrote { CardWrote (λ c. card_turn c (ask_ifs size))
+            self.old self.new out.old out.new result }
         ensures fits { IfOk result FitsCardPut }
-        ensures state { self.new ≡ state_after self.old (card_turn self.old (ask_ifs size)) }
     {
         self.state
             .ask_ifs_into(self.command.as_slice(), self.reply.as_slice(), size, out)
@@ -106,16 +101,11 @@ impl LentCard {
     ) -> Result<EncodedCardTurn, CardFault>
         requires room { 258 ≤ length out.old }
         requires fit { IsLentCard self.old (length command_buffer.old) (length reply_buffer.now) }
-        ensures turn { IsCardPut (turn_of
-            (card_turn (card_held self.old command_buffer.old reply_buffer.now)
-            (takes (class_of (card_held self.old command_buffer.old reply_buffer.now).ifsc octets.now)))) out.old
-            out.new result }
+        ensures wrote { CardWrote (λ c. card_turn c (takes (class_of c.ifsc octets.now)))
+            (card_held self.old command_buffer.old reply_buffer.now)
+            (card_held self.new command_buffer.new reply_buffer.now) out.old out.new result }
         ensures fits { IfOk result FitsCardPut }
         ensures fit { IsLentCard self.new (length command_buffer.new) (length reply_buffer.now) }
-        ensures state { card_held self.new command_buffer.new reply_buffer.now
-            ≡ state_after (card_held self.old command_buffer.old reply_buffer.now)
-            (card_turn (card_held self.old command_buffer.old reply_buffer.now)
-            (takes (class_of (card_held self.old command_buffer.old reply_buffer.now).ifsc octets.now))) }
         ensures blank { IsBlank self.old command_buffer.old → IsBlank self.new command_buffer.new }
         ensures refused { IfErr result
             (λ _. (self.new ≡ self.old) × (command_buffer.new ≡ command_buffer.old)) }
@@ -136,16 +126,11 @@ impl LentCard {
         requires whole { is_whole ≡ true → IsWhole octets.now }
         requires room { 258 ≤ length out.old }
         requires fit { IsLentCard self.old (length command_buffer.old) (length reply_buffer.now) }
-        ensures turn { IsCardPut (turn_of
-            (card_turn (card_held self.old command_buffer.old reply_buffer.now)
-            (takes (class_of (card_held self.old command_buffer.old reply_buffer.now).ifsc octets.now)))) out.old
-            out.new result }
+        ensures wrote { CardWrote (λ c. card_turn c (takes (class_of c.ifsc octets.now)))
+            (card_held self.old command_buffer.old reply_buffer.now)
+            (card_held self.new command_buffer.new reply_buffer.now) out.old out.new result }
         ensures fits { IfOk result FitsCardPut }
         ensures fit { IsLentCard self.new (length command_buffer.new) (length reply_buffer.now) }
-        ensures state { card_held self.new command_buffer.new reply_buffer.now
-            ≡ state_after (card_held self.old command_buffer.old reply_buffer.now)
-            (card_turn (card_held self.old command_buffer.old reply_buffer.now)
-            (takes (class_of (card_held self.old command_buffer.old reply_buffer.now).ifsc octets.now))) }
         ensures blank { IsBlank self.old command_buffer.old → IsBlank self.new command_buffer.new }
         ensures refused { IfErr result
             (λ _. (self.new ≡ self.old) × (command_buffer.new ≡ command_buffer.old)) }
@@ -164,14 +149,11 @@ impl LentCard {
     ) -> Result<EncodedCardTurn, CardFault>
         requires room { 258 ≤ length out.old }
         requires fit { IsLentCard self.old (length command_buffer.now) (length reply_buffer.old) }
-        ensures turn { IsCardPut (turn_of
-            (card_turn (card_held self.old command_buffer.now reply_buffer.old) (replies octets.now))) out.old
-            out.new result }
+        ensures wrote { CardWrote (λ c. card_turn c (replies octets.now))
+            (card_held self.old command_buffer.now reply_buffer.old)
+            (card_held self.new command_buffer.now reply_buffer.new) out.old out.new result }
         ensures fits { IfOk result FitsCardPut }
         ensures fit { IsLentCard self.new (length command_buffer.now) (length reply_buffer.new) }
-        ensures state { card_held self.new command_buffer.now reply_buffer.new
-            ≡ state_after (card_held self.old command_buffer.now reply_buffer.old)
-            (card_turn (card_held self.old command_buffer.now reply_buffer.old) (replies octets.now)) }
         ensures blank { IsBlank self.old command_buffer.now → IsBlank self.new command_buffer.now }
         ensures refused { IfErr result
             (λ _. (self.new ≡ self.old) × (reply_buffer.new ≡ reply_buffer.old)) }
@@ -190,14 +172,11 @@ impl LentCard {
     ) -> Result<EncodedCardTurn, CardFault>
         requires room { 258 ≤ length out.old }
         requires fit { IsLentCard self.old (length command_buffer.now) (length reply_buffer.now) }
-        ensures turn { IsCardPut (turn_of
-            (card_turn (card_held self.old command_buffer.now reply_buffer.now) (more_time multiple))) out.old
-            out.new result }
+        ensures wrote { CardWrote (λ c. card_turn c (more_time multiple))
+            (card_held self.old command_buffer.now reply_buffer.now)
+            (card_held self.new command_buffer.now reply_buffer.now) out.old out.new result }
         ensures fits { IfOk result FitsCardPut }
         ensures fit { IsLentCard self.new (length command_buffer.now) (length reply_buffer.now) }
-        ensures state { card_held self.new command_buffer.now reply_buffer.now
-            ≡ state_after (card_held self.old command_buffer.now reply_buffer.now)
-            (card_turn (card_held self.old command_buffer.now reply_buffer.now) (more_time multiple)) }
         ensures blank { IsBlank self.old command_buffer.now → IsBlank self.new command_buffer.now }
         ensures refused { IfErr result (λ _. self.new ≡ self.old) }
     {
@@ -215,14 +194,11 @@ impl LentCard {
     ) -> Result<EncodedCardTurn, CardFault>
         requires room { 258 ≤ length out.old }
         requires fit { IsLentCard self.old (length command_buffer.now) (length reply_buffer.now) }
-        ensures turn { IsCardPut (turn_of
-            (card_turn (card_held self.old command_buffer.now reply_buffer.now) (ask_ifs size))) out.old out.new
-            result }
+        ensures wrote { CardWrote (λ c. card_turn c (ask_ifs size))
+            (card_held self.old command_buffer.now reply_buffer.now)
+            (card_held self.new command_buffer.now reply_buffer.now) out.old out.new result }
         ensures fits { IfOk result FitsCardPut }
         ensures fit { IsLentCard self.new (length command_buffer.now) (length reply_buffer.now) }
-        ensures state { card_held self.new command_buffer.now reply_buffer.now
-            ≡ state_after (card_held self.old command_buffer.now reply_buffer.now)
-            (card_turn (card_held self.old command_buffer.now reply_buffer.now) (ask_ifs size)) }
         ensures blank { IsBlank self.old command_buffer.now → IsBlank self.new command_buffer.now }
         ensures refused { IfErr result (λ _. self.new ≡ self.old) }
     {

@@ -4,9 +4,10 @@ ghost use Rattle.std.specs.Prelude.{◌≡◌, ◌≤◌, length, true, IfOk, If
 ghost use Rattle.block_core.specs.Block.{IsWhole};
 ghost use Rattle.t1_core.specs.Came.{class_of, quiet};
 ghost use Rattle.t1_core.specs.Put.{IsTerminalPut, FitsTerminalPut};
+ghost use Rattle.t1_core.specs.Steps.{TerminalWrote};
 ghost use Rattle.t1_core.specs.Sending.{terminal_answers};
 ghost use Rattle.t1_core.specs.Views.{terminal_held, IsLentTerminal};
-ghost use Rattle.t1_core.specs.Terminal.{takes, transmit, ask_ifs, terminal_turn, turn_of, state_after};
+ghost use Rattle.t1_core.specs.Terminal.{takes, transmit, ask_ifs, terminal_turn};
 
 use crate::lent::LentTerminal;
 use crate::sending::TerminalAct;
@@ -25,11 +26,9 @@ impl Terminal {
         out: &mut [u8],
     ) -> Result<EncodedTerminalTurn, TerminalFault>
         requires room { 258 ≤ length out.old }
-        ensures turn { IsTerminalPut (turn_of (terminal_turn self.old (transmit command.now)))
-            out.old out.new result }
+        ensures wrote { TerminalWrote (λ t. terminal_turn t (transmit command.now))
+            self.old self.new out.old out.new result }
         ensures fits { IfOk result FitsTerminalPut }
-        ensures state { self.new ≡ state_after self.old
-            (terminal_turn self.old (transmit command.now)) }
     {
         self.state.transmit_into(
             self.command.as_mut_slice(),
@@ -46,10 +45,9 @@ impl Terminal {
         out: &mut [u8],
     ) -> Result<EncodedTerminalTurn, TerminalFault>
         requires room { 258 ≤ length out.old }
-        ensures turn { IsTerminalPut (turn_of (terminal_turn self.old (ask_ifs size))) out.old
-            out.new result }
+        ensures wrote { TerminalWrote (λ t. terminal_turn t (ask_ifs size))
+            self.old self.new out.old out.new result }
         ensures fits { IfOk result FitsTerminalPut }
-        ensures state { self.new ≡ state_after self.old (terminal_turn self.old (ask_ifs size)) }
     {
         self.state
             .ask_ifs_into(self.command.as_slice(), self.answer.as_slice(), size, out)
@@ -62,12 +60,9 @@ impl Terminal {
         out: &mut [u8],
     ) -> Result<EncodedTerminalTurn, TerminalFault>
         requires room { 258 ≤ length out.old }
-        ensures turn { IsTerminalPut
-            (turn_of (terminal_turn self.old (takes (class_of self.old.ifsd octets.now)))) out.old
-            out.new result }
+        ensures wrote { TerminalWrote (λ t. terminal_turn t (takes (class_of t.ifsd octets.now)))
+            self.old self.new out.old out.new result }
         ensures fits { IfOk result FitsTerminalPut }
-        ensures state { self.new ≡ state_after self.old
-            (terminal_turn self.old (takes (class_of self.old.ifsd octets.now))) }
     {
         self.state.received_into(
             self.command.as_slice(),
@@ -80,10 +75,9 @@ impl Terminal {
     /// Says that nothing came, as `quiet` does.
     pub fn quiet_into(&mut self, out: &mut [u8]) -> Result<EncodedTerminalTurn, TerminalFault>
         requires room { 258 ≤ length out.old }
-        ensures turn { IsTerminalPut (turn_of (terminal_turn self.old (takes quiet))) out.old
-            out.new result }
+        ensures wrote { TerminalWrote (λ t. terminal_turn t (takes quiet))
+            self.old self.new out.old out.new result }
         ensures fits { IfOk result FitsTerminalPut }
-        ensures state { self.new ≡ state_after self.old (terminal_turn self.old (takes quiet)) }
     {
         self.state
             .quiet_into(self.command.as_slice(), self.answer.as_slice(), out)
@@ -104,15 +98,12 @@ impl LentTerminal {
         requires room { 258 ≤ length out.old }
         requires fit { IsLentTerminal self.old (length command_buffer.old)
             (length answer_buffer.now) }
-        ensures turn { IsTerminalPut
-            (turn_of (terminal_turn (terminal_held self.old command_buffer.old answer_buffer.now)
-            (transmit command.now))) out.old out.new result }
+        ensures wrote { TerminalWrote (λ t. terminal_turn t (transmit command.now))
+            (terminal_held self.old command_buffer.old answer_buffer.now)
+            (terminal_held self.new command_buffer.new answer_buffer.now) out.old out.new result }
         ensures fits { IfOk result FitsTerminalPut }
         ensures fit { IsLentTerminal self.new (length command_buffer.new)
             (length answer_buffer.now) }
-        ensures state { terminal_held self.new command_buffer.new answer_buffer.now
-            ≡ state_after (terminal_held self.old command_buffer.old answer_buffer.now)
-            (terminal_turn (terminal_held self.old command_buffer.old answer_buffer.now) (transmit command.now)) }
         ensures refused { IfErr result
             (λ _. (self.new ≡ self.old) × (command_buffer.new ≡ command_buffer.old)) }
     {
@@ -131,15 +122,12 @@ impl LentTerminal {
         requires room { 258 ≤ length out.old }
         requires fit { IsLentTerminal self.old (length command_buffer.now)
             (length answer_buffer.now) }
-        ensures turn { IsTerminalPut
-            (turn_of (terminal_turn (terminal_held self.old command_buffer.now answer_buffer.now) (ask_ifs size)))
-            out.old out.new result }
+        ensures wrote { TerminalWrote (λ t. terminal_turn t (ask_ifs size))
+            (terminal_held self.old command_buffer.now answer_buffer.now)
+            (terminal_held self.new command_buffer.now answer_buffer.now) out.old out.new result }
         ensures fits { IfOk result FitsTerminalPut }
         ensures fit { IsLentTerminal self.new (length command_buffer.now)
             (length answer_buffer.now) }
-        ensures state { terminal_held self.new command_buffer.now answer_buffer.now
-            ≡ state_after (terminal_held self.old command_buffer.now answer_buffer.now)
-            (terminal_turn (terminal_held self.old command_buffer.now answer_buffer.now) (ask_ifs size)) }
         ensures refused { IfErr result (λ _. self.new ≡ self.old) }
     {
         let acted = self.asks_ifs(command_buffer, answer_buffer, size);
@@ -157,17 +145,12 @@ impl LentTerminal {
         requires room { 258 ≤ length out.old }
         requires fit { IsLentTerminal self.old (length command_buffer.now)
             (length answer_buffer.old) }
-        ensures turn { IsTerminalPut
-            (turn_of (terminal_turn (terminal_held self.old command_buffer.now answer_buffer.old)
-            (takes (class_of (terminal_held self.old command_buffer.now answer_buffer.old).ifsd octets.now))))
-            out.old out.new result }
+        ensures wrote { TerminalWrote (λ t. terminal_turn t (takes (class_of t.ifsd octets.now)))
+            (terminal_held self.old command_buffer.now answer_buffer.old)
+            (terminal_held self.new command_buffer.now answer_buffer.new) out.old out.new result }
         ensures fits { IfOk result FitsTerminalPut }
         ensures fit { IsLentTerminal self.new (length command_buffer.now)
             (length answer_buffer.new) }
-        ensures state { terminal_held self.new command_buffer.now answer_buffer.new
-            ≡ state_after (terminal_held self.old command_buffer.now answer_buffer.old)
-            (terminal_turn (terminal_held self.old command_buffer.now answer_buffer.old)
-            (takes (class_of (terminal_held self.old command_buffer.now answer_buffer.old).ifsd octets.now))) }
         ensures refused { IfErr result
             (λ _. (self.new ≡ self.old) × (answer_buffer.new ≡ answer_buffer.old)) }
     {
@@ -188,17 +171,12 @@ impl LentTerminal {
         requires room { 258 ≤ length out.old }
         requires fit { IsLentTerminal self.old (length command_buffer.now)
             (length answer_buffer.old) }
-        ensures turn { IsTerminalPut
-            (turn_of (terminal_turn (terminal_held self.old command_buffer.now answer_buffer.old)
-            (takes (class_of (terminal_held self.old command_buffer.now answer_buffer.old).ifsd octets.now))))
-            out.old out.new result }
+        ensures wrote { TerminalWrote (λ t. terminal_turn t (takes (class_of t.ifsd octets.now)))
+            (terminal_held self.old command_buffer.now answer_buffer.old)
+            (terminal_held self.new command_buffer.now answer_buffer.new) out.old out.new result }
         ensures fits { IfOk result FitsTerminalPut }
         ensures fit { IsLentTerminal self.new (length command_buffer.now)
             (length answer_buffer.new) }
-        ensures state { terminal_held self.new command_buffer.now answer_buffer.new
-            ≡ state_after (terminal_held self.old command_buffer.now answer_buffer.old)
-            (terminal_turn (terminal_held self.old command_buffer.now answer_buffer.old)
-            (takes (class_of (terminal_held self.old command_buffer.now answer_buffer.old).ifsd octets.now))) }
         ensures refused { IfErr result
             (λ _. (self.new ≡ self.old) × (answer_buffer.new ≡ answer_buffer.old)) }
     {
@@ -216,15 +194,12 @@ impl LentTerminal {
         requires room { 258 ≤ length out.old }
         requires fit { IsLentTerminal self.old (length command_buffer.now)
             (length answer_buffer.now) }
-        ensures turn { IsTerminalPut
-            (turn_of (terminal_turn (terminal_held self.old command_buffer.now answer_buffer.now) (takes quiet)))
-            out.old out.new result }
+        ensures wrote { TerminalWrote (λ t. terminal_turn t (takes quiet))
+            (terminal_held self.old command_buffer.now answer_buffer.now)
+            (terminal_held self.new command_buffer.now answer_buffer.now) out.old out.new result }
         ensures fits { IfOk result FitsTerminalPut }
         ensures fit { IsLentTerminal self.new (length command_buffer.now)
             (length answer_buffer.now) }
-        ensures state { terminal_held self.new command_buffer.now answer_buffer.now
-            ≡ state_after (terminal_held self.old command_buffer.now answer_buffer.now)
-            (terminal_turn (terminal_held self.old command_buffer.now answer_buffer.now) (takes quiet)) }
         ensures refused { IfErr result (λ _. self.new ≡ self.old) }
     {
         let acted = self.hears_nothing(command_buffer, answer_buffer);

@@ -30,11 +30,11 @@ returns-in-Ok c =
               end = c.lend.new.end;
               spelled = c.of-in-Ok.ensures.kept;
               fit = c.in-Ok.ensures.fit;
-              held = sym c.in-Ok.ensures.state;
+              held = sym c.in-Ok.ensures.wrote.state;
             };
             turn_is = terminal_shown (turn_of (terminal_turn before (terminal_input c.args.call before))) c.args.out.now
                 c.lend.new.out
-                (Ok c.in-Ok.put) c.of_terminal.result c.in-Ok.ensures.turn c.of_terminal.ensures;
+                (Ok c.in-Ok.put) c.of_terminal.result c.in-Ok.ensures.wrote.turn c.of_terminal.ensures;
           });
       refused = λ high.
           absurd (omega (arith, high, terminal-taken c.in-Ok.put, ap (λ (t : CTurn). t.kind) c.of_terminal.ensures));
@@ -64,14 +64,14 @@ returns-in-Err c =
               end = c.lend.new.end;
               spelled = c.in-Some.ensures.some.0 ∙ ap Some (sym same.0);
               fit = c.in-Err.ensures.fit;
-              held = sym c.in-Err.ensures.state;
+              held = sym c.in-Err.ensures.wrote.state;
             };
             turn_is = terminal_shown given c.args.out.now c.lend.new.out (Err c.in-Err.fault)
                 c.of_terminal-in-Err.result
-                c.in-Err.ensures.turn c.of_terminal-in-Err.ensures;
+                c.in-Err.ensures.wrote.turn c.of_terminal-in-Err.ensures;
           });
       refused = λ high. (
         λ i. lent c.args.state.now (same.1 i) (same.2 i),
-        terminal-leaves given c.args.out.now c.lend.new.out c.in-Err.fault c.in-Err.ensures.turn,
+        terminal-leaves given c.args.out.now c.lend.new.out c.in-Err.fault c.in-Err.ensures.wrote.turn,
       );
     }

@@ -10,22 +10,23 @@ returns-in_err-received_into-in-Ok-Octets-clause-talk g c =
     rw (p.1, p.2) (
       block (take c.in-Ok-Octets.count c.transceive.new.room),
       rw c.in-Ok-Octets.field-0-is at c.in-Ok-Octets.ensures.said,
-      ready _ _ _ (Err c.in_err-received_into-in-Ok-Octets.field-0.0) c.in_err-received_into-in-Ok-Octets.ensures.turn,
-      c.received_into.ensures.state,
+      ready _ _ _ (Err c.in_err-received_into-in-Ok-Octets.field-0.0)
+          c.in_err-received_into-in-Ok-Octets.ensures.wrote.turn,
+      c.received_into.ensures.wrote.state,
     )
 
 pub returns-in_ok-received_into-in-Ok-Octets-clause-talk : goal.returns-in_ok-received_into-in-Ok-Octets-clause-talk
 returns-in_ok-received_into-in-Ok-Octets-clause-talk g c = (
   block (take c.in-Ok-Octets.count c.transceive.new.room),
   rw c.in-Ok-Octets.field-0-is at c.in-Ok-Octets.ensures.said,
-  ready _ _ _ (Ok c.in_ok-received_into-in-Ok-Octets.field-0) c.in_ok-received_into-in-Ok-Octets.ensures.turn,
-  c.received_into.ensures.state,
+  ready _ _ _ (Ok c.in_ok-received_into-in-Ok-Octets.field-0) c.in_ok-received_into-in-Ok-Octets.ensures.wrote.turn,
+  c.received_into.ensures.wrote.state,
 )
 
 pub returns-in_ok-quiet_into-in-Ok-Nothing-clause-talk : goal.returns-in_ok-quiet_into-in-Ok-Nothing-clause-talk
 returns-in_ok-quiet_into-in-Ok-Nothing-clause-talk g c = (
   nothing,
   rw c.in-Ok-Nothing.field-0-is at c.in-Ok-Nothing.ensures.said,
-  ready _ _ _ (Ok c.in_ok-quiet_into-in-Ok-Nothing.field-0) c.in_ok-quiet_into-in-Ok-Nothing.ensures.turn,
-  c.quiet_into.ensures.state,
+  ready _ _ _ (Ok c.in_ok-quiet_into-in-Ok-Nothing.field-0) c.in_ok-quiet_into-in-Ok-Nothing.ensures.wrote.turn,
+  c.quiet_into.ensures.wrote.state,
 )

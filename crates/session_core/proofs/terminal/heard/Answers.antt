@@ -18,6 +18,6 @@ returns-clause-turn c = λ burst h.
     c.turn.new.self
     c.args.own.now c.turn.new.own c.args.out.now c.received_burst_into.new.out c.in_ok-turn.turn c.answer_len.result
     c.turn.result
-    (rw (c.burst.ensures.burst burst h) at c.in_ok-turn.ensures.turn)
-    (rw (c.burst.ensures.burst burst h) at c.in_ok-turn.ensures.state)
+    (rw (c.burst.ensures.burst burst h) at c.in_ok-turn.ensures.wrote.turn)
+    (rw (c.burst.ensures.burst burst h) at c.in_ok-turn.ensures.wrote.state)
     (c.answer_len.ensures c.args.command.now) (rw c.limits-limits.ensures at (c.turn.ensures burst h))

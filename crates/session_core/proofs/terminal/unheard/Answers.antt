@@ -15,5 +15,5 @@ returns-clause-turn c = λ burst h.
     (terminal_held c.quiet_into.new.self c.args.command.now c.args.answer.now) c.turn_apart.new.self
     c.args.own.now c.turn_apart.new.own c.args.out.now c.quiet_into.new.out c.in_ok-turn.turn c.answer_len.result
     c.turn_apart.result
-    c.in_ok-turn.ensures.turn c.in_ok-turn.ensures.state
+    c.in_ok-turn.ensures.wrote.turn c.in_ok-turn.ensures.wrote.state
     (c.answer_len.ensures c.args.command.now) (rw c.limits-limits.ensures at (c.turn_apart.ensures burst h))
