@@ -35,7 +35,6 @@ use Rattle.judge_core.proofs.Terminals.{IsCall, Core, sizing, core_overlooked, F
 use Rattle.judge_core.proofs.MissedTerminals.{unknown_stale, AnyCourse, FitsAny, IsBeginning, IsPlainCame, IsSizing, IsTapped, Leaves, Loose, RestsUnknown, Tells, any_begins, hears_it, leaves_known, not_tried, on_course, stays_unknown, talk_busy, tap_heard, tells, unknown_ack, unknown_answer, unknown_more, unknown_sizes, waiting_talk}
 use Rattle.judge_core.specs.Sends.{after_answer}
 use Rattle.judge_core.specs.Doubts.{is_turn, waited_doubt}
-use Rattle.judge_core.specs.Watched.{hearing}
 use Rattle.judge_core.proofs.SeenTerminals.{waited_fits}
 use Rattle.judge_core.proofs.OpenTerminals.{AsksAgain, IsOwnWaits, SizeEnd, is_end, no_due, one_due, open_end, open_resynch, open_tells, opened, size_again_out, size_end, size_end_fits, size_openly, untold_ack, untold_answer, untold_end, untold_stale}
 

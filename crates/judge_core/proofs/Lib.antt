@@ -8,7 +8,6 @@ pub mod Taps
 pub mod Refuted
 pub mod AtStake
 pub mod Staked
-pub mod Exercising
 pub mod Places
 pub mod Breakable
 pub mod Missing

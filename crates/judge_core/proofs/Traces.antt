@@ -38,7 +38,6 @@ use Rattle.block_core.specs.declared.pcb.S.TheVariants.{Resynch, Ifs, Abort, Wtx
 use Rattle.block_core.specs.declared.pcb.Pcb.TheVariants.{Info, Ready, Request, Response}
 use Rattle.block_core.specs.declared.side.Side.{Side}
 use Rattle.judge_core.proofs.Links.{terminal_starts, card_starts}
-use Rattle.judge_core.specs.Watched.{hearing}
 use Rattle.block_core.specs.declared.pcb.Pcb.{Pcb}
 use Rattle.judge_core.proofs.MissedCards.{Due, FitsAny as CardFits, Leaves as CardLeaves, Says as CardSays, StaleAny, Tells as CardTells, left as card_left, left_anew}
 use Rattle.judge_core.proofs.OpenCards.{IsAfterQuiet}

@@ -12,7 +12,8 @@ pub mod Tapped
 pub mod Rules
 pub mod States
 pub mod Stakes
--- how code classes octets
+-- how code classes octets and tries blocks
 pub mod Classes
+pub mod Rulings
 -- what is printed
 pub mod Shown

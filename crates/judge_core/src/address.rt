@@ -1,8 +1,8 @@
 //! The node addresses of a session (ISO/IEC 7816-3:2006, 11.3.2.1).
 
-ghost use Rattle.std.specs.Prelude.{◌≡◌, ◌&&◌, ◌||◌, ◌==◌, bit_and, not};
+ghost use Rattle.std.specs.Prelude.{◌≡◌, ◌&&◌, ◌||◌, ◌==◌};
 ghost use Rattle.judge_core.specs.Classes.{seen_of};
-ghost use Rattle.judge_core.specs.Monitored.{addressed_by, is_address, is_addressed, is_no_block, is_other, nad_after, nad_of, nad_set, opened_by, pair_of};
+ghost use Rattle.judge_core.specs.Monitored.{addressed_by, is_address, is_no_block, is_other, nad_after, nad_of, opened_by, pair_of};
 
 use crate::class::Class;
 use crate::connection::Pairs;

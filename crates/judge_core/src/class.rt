@@ -1,7 +1,6 @@
 //! What octets on the line are.
 
-ghost use Rattle.std.specs.Prelude.{◌≡◌, ◌+◌, ◌==◌, ◌&&◌, bytes_eq, length, slice_index};
-ghost use Rattle.octet_core.specs.Octets.{xor_of};
+ghost use Rattle.std.specs.Prelude.{◌≡◌, ◌+◌, ◌==◌, ◌&&◌};
 ghost use Rattle.block_core.specs.Block.{is_whole};
 ghost use Rattle.judge_core.specs.Monitored.{has_length, is_unchanged, refused_as, rule_at, rule_made, rule_of, IsSeen, IsSent};
 ghost use Rattle.judge_core.specs.Classes.{seen_of};
@@ -22,11 +21,38 @@ pub(crate) enum Class<'a> {
     Damage,
 }
 
+impl<'a> Class<'a> {
+    /// Returns the same class.
+    pub(crate) fn again(&self) -> Class<'a>
+        ensures { seen_of result ≡ seen_of self.now }
+    {
+        match self {
+            Class::Whole(block) => Class::Whole(same_block(block)),
+            Class::Malformed(broken) => Class::Malformed(*broken),
+            Class::Damage => Class::Damage,
+        }
+    }
+}
+
+fn same_block<'a>(block: &BlockRef<'a>) -> BlockRef<'a>
+    ensures { result ≡ block.now }
+{
+    BlockRef::new(block.nad(), block.pcb(), block.inf()).unwrap()
+}
+
 /// Returns what these octets are as their sender made them. Damage that the line didn't make breaks a rule.
 pub(crate) fn class_sent<'a>(octets: &'a [u8], arrival: Arrival<'_>) -> Class<'a>
     ensures { IsSent octets.now arrival.entry (seen_of result) }
 {
-    match class_of(octets) {
+    made_by(class_of(octets), octets, arrival)
+}
+
+/// Returns what octets of this class are as their sender made them.
+pub(crate) fn made_by<'a>(class: Class<'a>, octets: &[u8], arrival: Arrival<'_>) -> Class<'a>
+    requires { IsSeen octets.now (seen_of class) }
+    ensures { IsSent octets.now arrival.entry (seen_of result) }
+{
+    match class {
         Class::Damage if is_unchanged(octets, arrival) => Class::Malformed(rule_made(octets)),
         class => class,
     }
@@ -60,15 +86,16 @@ pub(crate) fn class_of(octets: &[u8]) -> Class<'_>
     match BlockRef::decode(octets, 254) {
         Ok((block, taken)) if taken == octets.len() => Class::Whole(block),
         Ok(_) => Class::Damage,
-        Err(stop) => refused_as(is_whole(octets), rule_at(stop)),
+        Err(stop) => refused_as(octets, rule_at(stop)),
     }
 }
 
-fn refused_as(is_whole: bool, broken: Option<Rule>) -> Class<'static>
-    ensures { seen_of result ≡ refused_as is_whole broken }
+/// Returns what refused octets are. The check octet decides only if they break a rule.
+fn refused_as(octets: &[u8], broken: Option<Rule>) -> Class<'static>
+    ensures { seen_of result ≡ refused_as (is_whole octets.now) broken }
 {
     match broken {
-        Some(broken) if is_whole => Class::Malformed(broken),
+        Some(broken) if is_whole(octets) => Class::Malformed(broken),
         _ => Class::Damage,
     }
 }

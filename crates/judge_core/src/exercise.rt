@@ -1,21 +1,19 @@
 //! Which rules and states a block of a trace exercises.
 
-ghost use Rattle.std.specs.Prelude.{◌≡◌, ◌&&◌};
-ghost use Rattle.t1_core.specs.Came.{carried};
-ghost use Rattle.judge_core.specs.Classes.{seen_of};
-ghost use Rattle.judge_core.specs.Courses.{chosen};
-ghost use Rattle.judge_core.specs.Doubts.{is_open, only_openly, sent_openly};
-ghost use Rattle.judge_core.specs.Monitored as seen;
-ghost use Rattle.judge_core.specs.Monitored.{said_here, said_in, said_of, sender, Takes};
-ghost use Rattle.judge_core.specs.Stakes.{course_of, exercise_by, fitting, stakes_of, Exercises};
+ghost use Rattle.std.specs.Prelude.{◌≡◌};
+ghost use Rattle.judge_core.specs.declared.monitor.Said.TheVariants.{Block};
+ghost use Rattle.judge_core.specs.Classes.{reaching_of, seen_of};
+ghost use Rattle.judge_core.specs.Monitored.{addressed_by, here_after, monitor_after, report_here, report_of, said_here, said_of, sender, Takes};
+ghost use Rattle.judge_core.specs.Rulings.{tried};
+ghost use Rattle.judge_core.specs.Stakes.{exercise_by, exercise_of, fitting, stakes_of, Exercises};
 
-use crate::address::addressed_by;
 use crate::class::{Class, class_sent};
 use crate::courses::{Attempt, Verdict};
 use crate::end::After;
-use crate::monitor::{Arrival, Monitor, Report, Said, Watched};
-use crate::reach::reached_by;
+use crate::monitor::{Arrival, Monitor, Report, Watched};
+use crate::reach::{Reached, passage_of};
 use crate::rule::Rule;
+use crate::ruling::Ruling;
 use crate::stakes::Stakes;
 use crate::state::State;
 use block_core::Side;
@@ -44,8 +42,18 @@ impl Monitor {
         ensures { Exercises self.now from octets.now arrival.entry result }
     {
         let class = class_sent(octets, arrival);
-        let stakes = self.stakes(from, &class);
-        exercise_by(stakes, self.said(from, &class))
+        self.exercise_of(from, &class)
+    }
+
+    fn exercise_of(&self, from: Side, class: &Class<'_>) -> Exercise
+        ensures { result ≡ exercise_of self.now from (seen_of class.now) }
+    {
+        if self.is_elsewhere(from, class) {
+            Exercise::Unknown
+        } else {
+            let ruling = self.ruling(from, class);
+            self.exercise_here(from, class, &ruling)
+        }
     }
 
     /// Takes octets as [`Monitor::block`] does, and returns also what they exercise, as [`Monitor::exercise`] says it
@@ -59,90 +67,107 @@ impl Monitor {
         ensures takes { Takes self.old from octets.now arrival.entry self.new result.report }
         ensures exercises { Exercises self.old from octets.now arrival.entry result.exercise }
     {
-        let class = class_sent(octets, arrival);
-        let reached = reached_by(octets, &class, arrival);
-        let stakes = self.stakes(from, &class);
-        let report = self.saw(from, &class, &reached);
-        Exercised {
-            report,
-            exercise: exercise_by(stakes, report.said),
-        }
+        let passage = passage_of(octets, arrival);
+        self.saw_with_exercise(from, &passage.class, &passage.reached)
     }
 
-    /// Returns what is at stake for the end that sent octets.
-    fn stakes(&self, from: Side, class: &Class<'_>) -> Stakes
-        ensures { result ≡ stakes_of (sender self.now from) (seen_of class.now) }
-    {
-        match from {
-            Side::Terminal => self.terminal.stakes(class),
-            Side::Card => self.card.stakes(class),
-        }
-    }
-
-    /// Returns what the monitor says about octets of an end.
-    fn said(&self, from: Side, class: &Class<'_>) -> Said
-        ensures { result ≡ said_in self.now from (seen_of class.now) }
+    fn saw_with_exercise(
+        &mut self,
+        from: Side,
+        class: &Class<'_>,
+        reached: &Reached<'_>,
+    ) -> Exercised
+        ensures after { self.new ≡ monitor_after self.old from (seen_of class.now)
+            (reaching_of reached.now) }
+        ensures report { result.report ≡ report_of self.old from (seen_of class.now) }
+        ensures exercise { result.exercise ≡ exercise_of self.old from (seen_of class.now) }
     {
         if self.is_elsewhere(from, class) {
-            Said::Elsewhere
+            Exercised {
+                report: self.saw_elsewhere(from, class, reached),
+                exercise: Exercise::Unknown,
+            }
         } else {
-            self.said_here(from, class)
+            self.saw_here_with_exercise(from, class, reached)
         }
     }
 
-    /// Returns what the monitor says about octets that aren't a block of another logical connection.
-    fn said_here(&self, from: Side, class: &Class<'_>) -> Said
-        ensures { result ≡ said_here self.now from (seen_of class.now) }
+    /// Takes octets that aren't a block of another logical connection.
+    fn saw_here_with_exercise(
+        &mut self,
+        from: Side,
+        class: &Class<'_>,
+        reached: &Reached<'_>,
+    ) -> Exercised
+        ensures after { self.new ≡ here_after self.old from (seen_of class.now)
+            (reaching_of reached.now) }
+        ensures report { result.report ≡ report_here self.old from (seen_of class.now) }
+        ensures exercise { result.exercise ≡ exercise_by
+            (stakes_of (sender self.old from) (seen_of class.now))
+            (said_here self.old from (seen_of class.now)) }
     {
-        let addressed = addressed_by(from, self.nad, class);
-        match from {
-            Side::Terminal => self.terminal.said(addressed, class),
-            Side::Card => self.card.said(addressed, class),
-        }
+        let ruling = self.ruling(from, class);
+        let exercise = self.exercise_here(from, class, &ruling);
+        let report = self.saw_here(from, class, reached, &ruling);
+        Exercised { report, exercise }
     }
-}
 
-/// Returns what octets exercise of which the monitor says this.
-fn exercise_by(stakes: Stakes, said: Said) -> Exercise
-    ensures { result ≡ exercise_by stakes said }
-{
-    match said {
-        Said::Damage | Said::Elsewhere => Exercise::Unknown,
-        Said::Block(Verdict::Permitted | Verdict::Unseen) => Exercise::Keeps(stakes),
-        Said::Block(Verdict::Deviates(broken, _)) => Exercise::Breaks(broken, stakes.state()),
+    /// Returns what octets exercise that aren't a block of another logical connection, and that were tried so.
+    fn exercise_here(&self, from: Side, class: &Class<'_>, ruling: &Ruling) -> Exercise
+        requires addressed { ruling.now.addressed
+            ≡ addressed_by from self.now.nad (seen_of class.now) }
+        requires tried { ruling.now.trial
+            ≡ tried (sender self.now from) ruling.now.addressed (seen_of class.now) }
+        ensures { result ≡ exercise_by (stakes_of (sender self.now from) (seen_of class.now))
+            (said_here self.now from (seen_of class.now)) }
+    {
+        match from {
+            Side::Terminal => self.terminal.exercise(class, ruling),
+            Side::Card => self.card.exercise(class, ruling),
+        }
     }
 }
 
 impl Watched {
-    fn stakes(&self, class: &Class<'_>) -> Stakes
-        ensures { result ≡ stakes_of self.now (seen_of class.now) }
+    /// Returns what octets exercise that were tried so. It tries only a block with a wrong node address.
+    fn exercise(&self, class: &Class<'_>, ruling: &Ruling) -> Exercise
+        requires { ruling.now.trial ≡ tried self.now ruling.now.addressed (seen_of class.now) }
+        ensures { result ≡ exercise_by (stakes_of self.now (seen_of class.now))
+            (said_of self.now ruling.now.addressed (seen_of class.now)) }
+    {
+        match (class, &ruling.trial) {
+            (Class::Whole(_), Some(trial)) => {
+                exercise_by(self.stakes(trial.due), trial.judged.verdict)
+            }
+            (Class::Whole(block), None) => {
+                let due = self.trial(block).due;
+                Exercise::Breaks(Rule::NodeAddress, self.stakes(due).state())
+            }
+            (Class::Malformed(broken), _) => {
+                Exercise::Breaks(*broken, self.stakes(self.due()).state())
+            }
+            (Class::Damage, _) => Exercise::Unknown,
+        }
+    }
+
+    /// Returns what is at stake for the end if this was due from it.
+    fn stakes(&self, due: After) -> Stakes
+        ensures { result ≡ record { heard = self.now.heard; due = due } }
     {
         Stakes {
             heard: self.heard,
-            due: self.course(class),
+            due,
         }
     }
+}
 
-    /// Returns the end and what was due from it, on the course on which the octets are judged.
-    fn course(&self, class: &Class<'_>) -> After
-        ensures { result ≡ course_of self.now (seen_of class.now) }
-    {
-        match class {
-            Class::Whole(block) => self.trial(block).due,
-            Class::Malformed(_) | Class::Damage => self.due(),
-        }
-    }
-
-    /// Returns what the monitor says about the octets.
-    fn said(&self, addressed: bool, class: &Class<'_>) -> Said
-        ensures { result ≡ said_of self.now addressed (seen_of class.now) }
-    {
-        match class {
-            Class::Whole(block) if addressed => { Said::Block(self.trial(block).judged.verdict) }
-            Class::Whole(_) => Said::Block(Verdict::Deviates(Rule::NodeAddress, self.due())),
-            Class::Malformed(broken) => Said::Block(Verdict::Deviates(*broken, self.due())),
-            Class::Damage => Said::Damage,
-        }
+/// Returns what a block with this verdict exercises.
+fn exercise_by(stakes: Stakes, verdict: Verdict) -> Exercise
+    ensures { result ≡ exercise_by stakes (Block verdict) }
+{
+    match verdict {
+        Verdict::Permitted | Verdict::Unseen => Exercise::Keeps(stakes),
+        Verdict::Deviates(broken, _) => Exercise::Breaks(broken, stakes.state()),
     }
 }
 

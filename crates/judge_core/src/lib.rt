@@ -22,6 +22,7 @@ pub mod laws;
 pub mod monitor;
 mod reach;
 pub mod rule;
+mod ruling;
 mod sending;
 pub mod stakes;
 pub mod state;

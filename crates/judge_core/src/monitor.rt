@@ -1,25 +1,26 @@
 //! Each block of a trace, judged as it comes.
 
 ghost use Rattle.std.specs.Prelude.{◌≡◌, true};
-ghost use Rattle.block_core.specs.Block.{Parts};
 ghost use Rattle.judge_core.specs.Classes.{reaching_of, seen_of};
 ghost use Rattle.judge_core.specs.Followed.{last_after};
 ghost use Rattle.judge_core.specs.Monitored as seen;
-ghost use Rattle.judge_core.specs.Doubts.{corrected, doubt_after, doubted_by, judged_of, passed_over, presumed, unknown_end, waited};
-ghost use Rattle.judge_core.specs.Monitored.{due, here_after, known_after, met, midway_after, monitor_after, new_monitor, new_watched, quiet_after, report_here, report_of, reset_after, said_of, sender_after, silence_of, unknown_after, Takes};
+ghost use Rattle.judge_core.specs.Doubts.{doubt_after, doubted_by, judged_of, presumed, unknown_end};
+ghost use Rattle.judge_core.specs.Monitored.{addressed_by, due, here_after, known_after, met, midway_after, monitor_after, new_monitor, new_watched, quiet_after, report_here, report_of, reset_after, said_of, sender, sender_after, silence_of, unknown_after, Takes};
+ghost use Rattle.judge_core.specs.Rulings.{tried};
 
-use crate::address::{addressed_by, nad_after};
+use crate::address::nad_after;
 use crate::aside::last_sent;
-use crate::class::{Class, class_sent};
+use crate::class::Class;
 use crate::connection::{Last, Pairs};
-use crate::courses::{Heard, Verdict, first_course};
+use crate::courses::{Heard, Judged, Verdict, first_course};
 use crate::doubt::{Doubt, doubt_after, doubted_by, presumed, tried_after, unknown_end};
 use crate::end::{After, End};
 use crate::reach::{
     Reached, after_silence, came_by, heard_in_time, heard_of, is_lost, is_refusing,
-    opened_on_arrival, reached_by, silence_of,
+    opened_on_arrival, passage_of, silence_of,
 };
 use crate::rule::Rule;
+use crate::ruling::Ruling;
 use arrayvec::ArrayVec;
 use block_core::{BlockRef, LONGEST_INF, Pcb, Side};
 use std::fmt::{self, Debug, Formatter, Write};
@@ -145,27 +146,30 @@ impl Watched {
         first_course(self.end, whole, none)
     }
 
-    /// Takes octets that the end sent, and judges them if they are a block.
-    fn sent(&mut self, addressed: bool, class: &Class<'_>, number: u64) -> Said
-        ensures said { result ≡ said_of self.old addressed (seen_of class.now) }
-        ensures after { self.new ≡ sender_after self.old addressed (seen_of class.now) number }
+    /// Takes octets that the end sent, after they were tried so. Returns what the monitor says of them.
+    fn sent(&mut self, class: &Class<'_>, ruling: &Ruling, number: u64) -> Said
+        requires { ruling.now.trial ≡ tried self.old ruling.now.addressed (seen_of class.now) }
+        ensures said { result ≡ said_of self.old ruling.now.addressed (seen_of class.now) }
+        ensures after { self.new ≡ sender_after self.old ruling.now.addressed (seen_of class.now)
+            number }
     {
-        match class {
-            Class::Whole(block) if addressed => self.sent_block(block, number),
-            Class::Whole(_) => self.sent_other(Rule::NodeAddress, number),
-            Class::Malformed(broken) => self.sent_other(*broken, number),
-            Class::Damage => {
+        match (class, &ruling.trial) {
+            (Class::Whole(block), Some(trial)) => self.sent_block(block, &trial.judged, number),
+            (Class::Whole(_), None) => self.sent_other(Rule::NodeAddress, number),
+            (Class::Malformed(broken), _) => self.sent_other(*broken, number),
+            (Class::Damage, _) => {
                 self.sent_unknown(number);
                 Said::Damage
             }
         }
     }
 
-    fn sent_block(&mut self, block: &BlockRef<'_>, number: u64) -> Said
+    /// Takes a block with this judgment.
+    fn sent_block(&mut self, block: &BlockRef<'_>, judged: &Judged, number: u64) -> Said
+        requires { judged.now ≡ judged_of self.old block.now }
         ensures said { result ≡ said_of self.old true (seen.whole block.now) }
         ensures after { self.new ≡ known_after self.old block.now number }
     {
-        let judged = self.trial(block).judged;
         self.heard = after_silence(self.end.side);
         self.end = tried_after(self.doubt, block.pcb(), judged.end);
         self.number = number;
@@ -225,12 +229,11 @@ impl Monitor {
     pub fn block(&mut self, from: Side, octets: &[u8], arrival: Arrival<'_>) -> Report
         ensures { Takes self.old from octets.now arrival.entry self.new result }
     {
-        let class = class_sent(octets, arrival);
-        let reached = reached_by(octets, &class, arrival);
-        self.saw(from, &class, &reached)
+        let passage = passage_of(octets, arrival);
+        self.saw(from, &passage.class, &passage.reached)
     }
 
-    pub(crate) fn saw(&mut self, from: Side, class: &Class<'_>, reached: &Reached<'_>) -> Report
+    fn saw(&mut self, from: Side, class: &Class<'_>, reached: &Reached<'_>) -> Report
         ensures after { self.new ≡ monitor_after self.old from (seen_of class.now)
             (reaching_of reached.now) }
         ensures report { result ≡ report_of self.old from (seen_of class.now) }
@@ -238,17 +241,28 @@ impl Monitor {
         if self.is_elsewhere(from, class) {
             self.saw_elsewhere(from, class, reached)
         } else {
-            self.saw_here(from, class, reached)
+            let ruling = self.ruling(from, class);
+            self.saw_here(from, class, reached, &ruling)
         }
     }
 
-    /// Takes octets that aren't a block of another logical connection.
-    fn saw_here(&mut self, from: Side, class: &Class<'_>, reached: &Reached<'_>) -> Report
+    /// Takes octets that aren't a block of another logical connection, after they were tried so.
+    pub(crate) fn saw_here(
+        &mut self,
+        from: Side,
+        class: &Class<'_>,
+        reached: &Reached<'_>,
+        ruling: &Ruling,
+    ) -> Report
+        requires addressed { ruling.now.addressed
+            ≡ addressed_by from self.old.nad (seen_of class.now) }
+        requires tried { ruling.now.trial
+            ≡ tried (sender self.old from) ruling.now.addressed (seen_of class.now) }
         ensures after { self.new ≡ here_after self.old from (seen_of class.now)
             (reaching_of reached.now) }
         ensures report { result ≡ report_here self.old from (seen_of class.now) }
     {
-        let addressed = addressed_by(from, self.nad, class);
+        let addressed = ruling.addressed;
         self.blocks = self.blocks.saturating_add(1);
         self.nad = nad_after(from, self.nad, class);
         let came_addressed = came_by(from, self.nad, reached);
@@ -256,7 +270,7 @@ impl Monitor {
             Side::Terminal => {
                 let silence = silence_of(self.card.heard, self.terminal.number);
                 let before = self.card.number;
-                let said = self.terminal.sent(addressed, class, self.blocks);
+                let said = self.terminal.sent(class, ruling, self.blocks);
                 let heard = heard_of(Side::Card, addressed, came_addressed, class, reached);
                 self.card.pass_over();
                 self.card.correct(is_refusing(class));
@@ -271,7 +285,7 @@ impl Monitor {
             }
             Side::Card => {
                 let before = self.terminal.number;
-                let said = self.card.sent(addressed, class, self.blocks);
+                let said = self.card.sent(class, ruling, self.blocks);
                 let heard = heard_of(Side::Terminal, addressed, came_addressed, class, reached);
                 self.terminal.correct(is_refusing(class));
                 let heard = doubted_by(self.card.doubt, heard);

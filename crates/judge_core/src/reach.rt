@@ -2,15 +2,15 @@
 
 ghost use Rattle.std.specs.Prelude.{◌≡◌};
 ghost use Rattle.judge_core.specs.Classes.{reaching_of, seen_of};
-ghost use Rattle.judge_core.specs.Monitored.{after_silence, came_by, heard_in_time, heard_of, is_lost, is_refusing, no_block_came, opened_on_arrival, perhaps_heard, silence_of, surely_heard, IsReaching, IsSent};
+ghost use Rattle.judge_core.specs.Monitored.{after_silence, came_by, heard_in_time, heard_of, is_lost, is_refusing, no_block_came, opened_on_arrival, perhaps_heard, silence_of, surely_heard, IsReaching, IsSeen, IsSent};
 
 use crate::address::{addressed_by, is_no_block, opened_by};
-use crate::class::{Class, class_of};
+use crate::class::{Class, class_of, made_by};
 use crate::connection::Pairs;
 use crate::courses::Heard;
 use crate::monitor::{Arrival, Silence};
 use crate::sending::carried;
-use block_core::{BlockRef, Pcb, Side};
+use block_core::{Pcb, Side};
 
 /// How a block reached the other end.
 #[derive(Debug, Drop)]
@@ -20,26 +20,37 @@ pub(crate) enum Reached<'a> {
     Came(Class<'a>),
 }
 
-/// Returns how octets of this class reached the other end. A block that came as it was sent isn't classified again.
-pub(crate) fn reached_by<'a>(octets: &[u8], class: &Class<'a>, arrival: Arrival<'a>) -> Reached<'a>
-    requires { IsSent octets.now arrival (seen_of class.now) }
-    ensures { IsReaching arrival.entry (reaching_of result) }
+/// What octets are as their sender made them, and how they reached the other end.
+#[derive(Drop)]
+pub(crate) struct Passage<'a> {
+    pub(crate) class: Class<'a>,
+    pub(crate) reached: Reached<'a>,
+}
+
+/// Classifies octets at both ends. Octets that arrived as they were sent are classified once.
+pub(crate) fn passage_of<'a>(octets: &'a [u8], arrival: Arrival<'a>) -> Passage<'a>
+    ensures sent { IsSent octets.now arrival.entry (seen_of result.class) }
+    ensures reached { IsReaching arrival.entry (reaching_of result.reached) }
 {
-    match (arrival, class) {
-        (Arrival::Unsaid, _) => Reached::Unsaid,
-        (Arrival::Lost, _) => Reached::Lost,
-        (Arrival::Came(arrived), Class::Whole(block)) if arrived == octets => {
-            Reached::Came(Class::Whole(again(block)))
-        }
-        (Arrival::Came(arrived), _) => Reached::Came(class_of(arrived)),
+    let class = class_of(octets);
+    let reached = reached_by(octets, &class, arrival);
+    Passage {
+        class: made_by(class, octets, arrival),
+        reached,
     }
 }
 
-/// Returns the same block.
-fn again<'a>(block: &BlockRef<'a>) -> BlockRef<'a>
-    ensures { result ≡ block.now }
+/// Returns how octets of this class reached the other end.
+fn reached_by<'a>(octets: &[u8], class: &Class<'a>, arrival: Arrival<'a>) -> Reached<'a>
+    requires { IsSeen octets.now (seen_of class.now) }
+    ensures { IsReaching arrival.entry (reaching_of result) }
 {
-    BlockRef::new(block.nad(), block.pcb(), block.inf()).unwrap()
+    match arrival {
+        Arrival::Unsaid => Reached::Unsaid,
+        Arrival::Lost => Reached::Lost,
+        Arrival::Came(arrived) if arrived == octets => Reached::Came(class.again()),
+        Arrival::Came(arrived) => Reached::Came(class_of(arrived)),
+    }
 }
 
 /// Returns what an end has heard after a block of the other end.

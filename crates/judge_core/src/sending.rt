@@ -1,6 +1,6 @@
 //! What an end may send if it owes this (ISO/IEC 7816-3:2006, clause 11.6).
 
-ghost use Rattle.std.specs.Prelude.{◌≡◌, Some, true, length, slice_index};
+ghost use Rattle.std.specs.Prelude.{◌≡◌};
 ghost use Rattle.t1_core.specs.Came.{carried};
 ghost use Rattle.judge_core.specs.Sends.{acknowledges, any_block, asks_again, begins_or_corrects, corrects, either, is_next, is_refusal, messages, or_refuses, refuses, repeats, responds, same_subject, sends};
 

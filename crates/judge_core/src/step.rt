@@ -1,6 +1,6 @@
 //! An end after a block that it sent (ISO/IEC 7816-3:2006, clause 11.6).
 
-ghost use Rattle.std.specs.Prelude.{◌≡◌, length, true};
+ghost use Rattle.std.specs.Prelude.{◌≡◌, true};
 ghost use Rattle.judge_core.specs.Sends.{acknowledged, again_as, corrects_again, informed, is_pending, pending_of, repeats_again, repeats_info, responded, sends_info, sends_ready, suggested};
 
 use crate::asking::is_foreign;

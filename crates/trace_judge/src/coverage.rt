@@ -1,6 +1,6 @@
 //! How often a trace exercises each rule and each state.
 
-ghost use Rattle.std.specs.Prelude.{◌≡◌, ◌++◌, ◌==◌, ◌&&◌, [], IfOk, OnOk, codes, slice_index, string_bytes};
+ghost use Rattle.std.specs.Prelude.{◌≡◌, ◌++◌, ◌==◌, ◌&&◌, IfOk, OnOk, codes, slice_index, string_bytes};
 ghost use Rattle.layouts.specs.Items.{with_item};
 ghost use Rattle.trace_judge.specs.Objects.{card_members, counted_rule, counted_state, rule_object, state_object};
 ghost use Rattle.judge_core.specs.Rules.{rule_name, rule_place};

@@ -1,6 +1,6 @@
 //! What the judgment says about a trace, as objects of a JSON array.
 
-ghost use Rattle.std.specs.Prelude.{◌≡◌, ◌++◌, [], IfOk, OnOk, codes, decimal, string_bytes};
+ghost use Rattle.std.specs.Prelude.{◌≡◌, IfOk, OnOk, string_bytes};
 ghost use Rattle.layouts.specs.Items.{with_item};
 ghost use Rattle.trace_judge.specs.Objects as objects;
 ghost use Rattle.trace_judge.specs.Places.{placed};

@@ -1,7 +1,6 @@
 //! The texts about the blocks of a trace, as lines.
 
-ghost use Rattle.std.specs.Prelude.{◌≡◌, ◌++◌, IfOk, OnOk, codes, decimal, string_bytes};
-ghost use Rattle.judge_core.specs.Rules.{rule_name};
+ghost use Rattle.std.specs.Prelude.{◌≡◌, ◌++◌, IfOk, OnOk, decimal, string_bytes};
 ghost use Rattle.trace_judge.specs.Saying.{after_text, asked_text, block_text, certain_text, clause_text, condition_text, deviation_text, digit_text, due_text, early_elapsed, early_text, elapsed_text, elsewhere_text, late_text, least_text, neither_text, permitted_text, possible_text, side_text, subject_text, unseen_text, unwaited_text};
 
 use block_core::{Number, S};

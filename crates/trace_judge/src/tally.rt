@@ -1,7 +1,7 @@
 //! How many deviations a trace has.
 
-ghost use Rattle.std.specs.Prelude.{◌≡◌, ◌++◌, [], IfOk, OnOk, codes, decimal, string_bytes};
-ghost use Rattle.trace_judge.specs.Judging.{card_counts, counted, damaged_card, damaged_of, damaged_part, damaged_terminal, damaged_text, deviation_counts, deviation_of, deviations, deviations_members, deviations_text, early_in, elsewhere_in, elsewhere_part, ends_text, is_ok, is_sure, is_undamaged, late_in, nothing_told, ok_counts, ok_members, ok_text, summary, summary_members, time_part, times_part, unseen_in, unseen_part, unsure_part, verdict_name, with_program, with_summary, with_unless_zero};
+ghost use Rattle.std.specs.Prelude.{◌≡◌, ◌++◌, IfOk, OnOk, string_bytes};
+ghost use Rattle.trace_judge.specs.Judging.{card_counts, damaged_of, damaged_part, damaged_text, deviation_counts, deviation_of, deviations, deviations_members, deviations_text, early_in, elsewhere_in, elsewhere_part, ends_text, is_ok, is_sure, is_undamaged, late_in, nothing_told, ok_counts, ok_members, ok_text, summary, summary_members, times_part, unseen_in, unseen_part, unsure_part, verdict_name, with_program, with_summary};
 
 use crate::counting::{
     push_counted, push_damaged_card, push_damaged_terminal, push_time_part, push_unless_zero,
