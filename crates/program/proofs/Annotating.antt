@@ -6,6 +6,7 @@ use Rattle.program_octets.proofs.NoSign.{no-sign, refusal-ends, value-lines}
 use Rattle.program_octets.specs.Codec.{Codec, IsVerdict, Stops, Takes}
 use Rattle.program_octets.specs.Json.{accepted_members, notes_member, object_head, object_line, with_member, with_notes}
 use Rattle.program_octets.specs.Places.{places_member}
+use Rattle.answer_json.specs.Notes.{with_note}
 use Rattle.answer_json.specs.Refusals.{verdict_first}
 use Rattle.program_octets.specs.Rows.{Row, lines_of, notes_of, places_of}
 use Rattle.program_octets.specs.Texts.{refused_text, stopped}
@@ -16,7 +17,7 @@ use Rattle.program_octets.specs.declared.said.Said.TheVariants as saying
 use Rattle.program_octets.specs.declared.status.Status.{Status}
 use Rattle.program_octets.specs.declared.status.Status.TheVariants as status
 use Rattle.program.specs.Answers.{of_refusal, of_value, ShowsNoted, ShowsNotedObject}
-use Rattle.program.specs.Judged.{refusal_row, IsRefusalBy, IsRefusalLine}
+use Rattle.program.specs.Judged.{refusal_notes, refusal_row, IsRefusalBy, IsRefusalLine}
 use Rattle.program_words.specs.declared.request.Expected.{Expected}
 use Rattle.layouts.specs.declared.layout.Layout.TheVariants.{Json, Lines}
 use Rattle.notes.proofs.Cutting.{cut-noted}
@@ -169,21 +170,21 @@ module _ (expected : Expected) (b : List ℕ) (said : Said) (ended : Status) whe
 
   -- a refusal with words as a note on its line
   object-of-refusal : (object line words : List ℕ) → Shows Json expected.kind expected b (saying.Object object) ended
-      → IsRefusalLine expected.kind expected b line → ended ≡ status.Refused
-      → said ≡ saying.Object (with_notes object (notes_of (refusal_row line words ∷ [])))
+      → IsRefusalLine expected.kind expected b words line → ended ≡ status.Refused
+      → said ≡ saying.Object (with_notes object (refusal_notes line words))
       → ShowsNotedObject expected.kind expected b said ended
   object-of-refusal object line words shown refusal e is =
-      let rows : List Row = refusal_row line words ∷ [] in
+      let text : List ℕ = refused_text (codec_of expected.kind expected).codec.name refusal.0 in
+      let rows : List Row = refusal_row text words ∷ [] in
       let ends = refusal-ends (codec_of expected.kind expected).codec.name refusal.0 in
       record {
         object = object;
         is_shown = shown;
         rows = rows;
-        are_rows = of_refusal refusal.0 words refusal.1
-            (ap (λ (l : List ℕ). refusal_row l words ∷ []) refusal.2) e;
+        are_rows = of_refusal refusal.0 words refusal.1 refl e;
         has_notes = of-refusal expected b (lines_of true rows) ended refusal.0 words refusal.1
-            (row-line ends.0 line words (refusal.2 ∙ ends.1) ∙ ap (λ (l : List ℕ). noted_line l words) refusal.2) e;
-        is_said = is;
+            (row-line ends.0 text words ends.1) e;
+        is_said = is ∙ ap (λ (notes : List ℕ). saying.Object (with_notes object notes)) refusal.2;
       }
 
 -- the object of a refusal, in which it is said
@@ -210,8 +211,8 @@ accepted-object expected b said ended other (refused stop h is e) = absurd (othe
 -- a refusal to whose object the notes are added
 pub refused-object : (expected : Expected) (b : List ℕ) (shown : Said) (object line lent text words : List ℕ)
     (ended : Status) → ended ≡ status.Refused → ShowsWhere true Json expected.kind expected b shown ended
-    → IsRefusalLine expected.kind expected b line → object ≡ text_of shown
-    → lent ≡ notes_of (refusal_row line words ∷ []) → text ≡ with_notes object lent
+    → IsRefusalLine expected.kind expected b words line → object ≡ text_of shown
+    → lent ≡ refusal_notes line words → text ≡ with_notes object lent
     → ShowsNotedObject expected.kind expected b (saying.Object text) status.Refused
 refused-object expected b shown object line lent text words ended over shows refusal same lends is =
     object-of-refusal expected b (saying.Object text) status.Refused object line words
@@ -230,14 +231,24 @@ some-object expected b said ended (accepted v n h is e) =
 some-object expected b said ended (refused stop h is e) =
     let line : List ℕ = refused_text (codec_of expected.kind expected).codec.name stop in
     let plain : List ℕ = refusal-object expected stop in
-    let object : Said = saying.Object (with_notes plain (notes_of (refusal_row line [] ∷ []))) in
+    let object : Said = saying.Object (with_notes plain (refusal_notes line [])) in
     (object, object-of-refusal expected b object ended plain line [] (refused stop h refl e) (stop, h, refl) e refl)
 
 -- the line of a refusal by the verdict of which an answer is one
-pub refusal-by : {V R : Type 0} (c : Codec V R) (b line : List ℕ) (verdict : Result ℕ (Stop R)) (ended : Status)
+pub refusal-by : {V R : Type 0} (c : Codec V R) (b words line : List ℕ) (verdict : Result ℕ (Stop R)) (ended : Status)
     (name : R → List ℕ) → c.name ≡ name → IsVerdict c b verdict → ended ≡ status_of verdict → ended ≡ status.Refused
-    → ((stop : Stop R) → verdict ≡ Err stop → line ≡ refused_text name stop) → IsRefusalBy c b line
-refusal-by {V} {R} c b line (Ok n) ended name named verdict is over says =
+    → ((stop : Stop R) → verdict ≡ Err stop
+    → refusal_notes line words ≡ refusal_notes (refused_text name stop) words) → IsRefusalBy c b words line
+refusal-by {V} {R} c b words line (Ok n) ended name named verdict is over says =
     absurd (let bad : status.Accepted ≡ status.Refused = sym is ∙ over in cc)
-refusal-by {V} {R} c b line (Err stop) ended name named verdict is over says =
-    (stop, verdict, says stop refl ∙ ap (λ (n : R → List ℕ). refused_text n stop) (sym named))
+refusal-by {V} {R} c b words line (Err stop) ended name named verdict is over says = (
+  stop,
+  verdict,
+  says stop refl ∙ ap (λ (n : R → List ℕ). refusal_notes (refused_text n stop) words) (sym named),
+)
+
+-- words that are no note leave the notes of any line empty
+pub unnoted : (line other words : List ℕ) → kept words ≡ [] → refusal_notes line words ≡ refusal_notes other words
+unnoted line other words none =
+    ap (λ (note : List ℕ). with_note [] (take (length line - 1) line) note) none
+    ∙ sym (ap (λ (note : List ℕ). with_note [] (take (length other - 1) other) note) none)

@@ -1,5 +1,5 @@
 -- Answers with a note from the same verdict.
-use Rattle.std.specs.Prelude.{◌≡◌, ◌-◌, ℕ, List, [], length, take, Bool, true, false, Option, None, Result, IfOk, string_bytes}
+use Rattle.std.specs.Prelude.{◌≡◌, ◌-◌, ◌∷◌, ℕ, List, [], length, take, Bool, true, false, Option, None, Result, IfOk, string_bytes}
 use Rattle.octet_core.specs.declared.stop.Stop.{Stop}
 use Rattle.program_words.specs.declared.request.Expected.{Expected}
 use Rattle.program_words.specs.declared.request.Kind.{Kind}
@@ -12,7 +12,7 @@ use Rattle.program_octets.specs.CommandTexts.{command_codec}
 use Rattle.program_octets.specs.ResponseTexts.{response_codec}
 use Rattle.program_octets.specs.ForestTexts.{forest_codec}
 use Rattle.program_octets.specs.ListTexts.{list_codec}
-use Rattle.program_octets.specs.Rows.{Row, row}
+use Rattle.program_octets.specs.Rows.{Row, notes_of, row}
 use Rattle.program_octets.specs.Texts.{refused_text}
 use Rattle.notes.specs.Noted.{kept}
 use Rattle.program_octets.specs.Verdicts.{codec_of}
@@ -60,20 +60,28 @@ abbrev pub AreOf : (Said → Status → Type 0) → (List ℕ → Type 0) → Wi
 AreOf Told Note made = Told made.answer.said made.answer.status
     × IfOk made.explanation (λ note. Note (string_bytes note))
 
--- the line of a refusal of octets
-abbrev pub IsRefusalBy : {V R : Type 0} → Codec V R → List ℕ → List ℕ → Type 0
-IsRefusalBy {V} {R} c b line = (stop : Stop R) × Stops c b stop × (line ≡ refused_text c.name stop)
-
 -- the row of a refusal with this line, and with words as its note; it is about no octets
 abbrev pub refusal_row : List ℕ → List ℕ → Row
 refusal_row line words = row (take (length line - 1) line) (kept words) []
 
--- the line of a refusal of octets, by their kind
-abbrev pub IsRefusalLine : Kind → Expected → List ℕ → List ℕ → Type 0
+-- the notes on the line of a refusal, with these words
+abbrev pub refusal_notes : List ℕ → List ℕ → List ℕ
+refusal_notes line words = notes_of (refusal_row line words ∷ [])
+
+-- Octets are refused, and a line has the notes with these words that the line of the refusal has. If the words are no
+-- note, any line has them.
+abbrev pub IsRefusalBy : {V R : Type 0} → Codec V R → List ℕ → List ℕ → List ℕ → Type 0
+IsRefusalBy {V} {R} c b words line = (stop : Stop R) × Stops c b stop
+    × (refusal_notes line words ≡ refusal_notes (refused_text c.name stop) words)
+
+-- the same by the kind of the octets
+abbrev pub IsRefusalLine : Kind → Expected → List ℕ → List ℕ → List ℕ → Type 0
 IsRefusalLine kind expected b = IsRefusalBy (codec_of kind expected).codec b
 
--- This holds of an answer, and this of its note. A refusal as an object, if notes are asked for, also has its line.
-abbrev pub AreShownWithNotes : Bool → Layout → (Said → Status → Type 0) → (List ℕ → Type 0) → (List ℕ → Type 0)
-    → ShownWithNotes → Type 0
+-- This holds of an answer, and this of its note. If notes are asked for, a refusal as an object also has a line for
+-- them.
+abbrev pub AreShownWithNotes : Bool → Layout → (Said → Status → Type 0) → (List ℕ → Type 0)
+    → (List ℕ → List ℕ → Type 0) → ShownWithNotes → Type 0
 AreShownWithNotes noted layout Told Note Line made = AreOf Told Note made.said
-    × (noted ≡ true → layout ≡ Json → made.said.answer.status ≡ status.Refused → Line made.line)
+    × (noted ≡ true → layout ≡ Json → made.said.answer.status ≡ status.Refused
+    → Line (string_bytes made.words) made.line)

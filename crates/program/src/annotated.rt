@@ -1,12 +1,11 @@
 //! Values and refusals with notes on their lines.
 
-ghost use Rattle.std.specs.Prelude.{◌≡◌, ◌∷◌, [], true, Err, List, ℕ, IfOk, string_bytes};
+ghost use Rattle.std.specs.Prelude.{◌≡◌, true, Err, List, ℕ, IfOk, string_bytes};
 ghost use Rattle.program_octets.specs.Verdicts.{ShowsWhere};
 ghost use Rattle.program_octets.specs.Texts.{refused_text};
-ghost use Rattle.program_octets.specs.Rows.{notes_of};
 ghost use Rattle.program_octets.specs.declared.status.Status.TheVariants as ended;
 ghost use Rattle.program.specs.Answers.{ShowsNoted, ShowsNotedObject};
-ghost use Rattle.program.specs.Judged.{refusal_row, IsRefusalLine};
+ghost use Rattle.program.specs.Judged.{refusal_notes, IsRefusalLine};
 ghost use Rattle.program_words.specs.declared.request.Expected.{Expected as AnyExpected};
 ghost use Rattle.layouts.specs.declared.layout.Layout.TheVariants as layout;
 ghost use Rattle.octet_core.specs.declared.stop.Stop.{Stop as AnyStop};
@@ -51,7 +50,7 @@ pub(crate) fn annotated_object(
 ) -> Result<Answer, AllocError>
     ensures { (expected : AnyExpected) (octets : List ℕ)
         → ShowsWhere true layout.Json expected.kind expected octets object.said object.status
-        → (object.status ≡ ended.Refused → IsRefusalLine expected.kind expected octets line.now)
+        → (object.status ≡ ended.Refused → IsRefusalLine expected.kind expected octets words.now line.now)
         → IfOk result (λ answer.
         ShowsNotedObject expected.kind expected octets answer.said answer.status) }
 {
@@ -73,7 +72,7 @@ pub(crate) fn annotated_object(
 /// are no note.
 fn note_items(alloc: Global, line: &[u8], words: &str) -> Result<String, AllocError>
     ensures { IfOk result (λ items.
-        string_bytes items ≡ notes_of (refusal_row line.now words.now ∷ [])) }
+        string_bytes items ≡ refusal_notes line.now words.now) }
 {
     let end = line.len().saturating_sub(1);
     let mut items = String::new(alloc);
@@ -81,18 +80,22 @@ fn note_items(alloc: Global, line: &[u8], words: &str) -> Result<String, AllocEr
     Ok(items)
 }
 
-/// Returns the line of a refusal that is printed as an object, if it is `noted`.
+/// Returns the line of a refusal that is printed as an object, if it is `noted` and these words are a note on it.
 pub(crate) fn refusal_line<R: Named + Copy>(
     alloc: Global,
     noted: bool,
     how: Layout,
     verdict: Verdict<R>,
+    words: &str,
 ) -> Result<Octets, AllocError>
     ensures { IfOk result (λ line. noted ≡ true → how ≡ layout.Json → (stop : AnyStop R)
-        → verdict ≡ Err stop → line ≡ refused_text R.text stop) }
+        → verdict ≡ Err stop → refusal_notes line words.now ≡ refusal_notes (refused_text R.text stop) words.now) }
 {
+    if !noted || kept(words).is_empty() {
+        return Ok(Octets::of(Vec::new(alloc)));
+    }
     match (how, verdict) {
-        (Layout::Json, Err(stop)) if noted => Answer::refused(stop).said.into_text(alloc),
+        (Layout::Json, Err(stop)) => Answer::refused(stop).said.into_text(alloc),
         _ => Ok(Octets::of(Vec::new(alloc))),
     }
 }

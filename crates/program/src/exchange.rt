@@ -1,6 +1,6 @@
 //! Recorded exchanges: replayed, migrated, listed and drawn.
 
-ghost use Rattle.std.specs.Prelude.{◌≡◌, ◌≢◌, ◌+◌, ◌++◌, IfOk, IsOkAnd, OnOk, codes, length, string_bytes};
+ghost use Rattle.std.specs.Prelude.{◌≡◌, ◌≢◌, ◌+◌, ◌++◌, IfOk, OnOk, codes, length, string_bytes};
 ghost use Rattle.exchange_text.specs.Exchange.{ExchangeParts};
 ghost use Rattle.exchange_text.specs.Text.{exchange_text};
 ghost use Rattle.exchange_text.specs.declared.fault.ExchangeFault.TheVariants.{Memory};

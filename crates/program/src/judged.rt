@@ -266,8 +266,8 @@ where
         note: words,
     } = show_with_verdict::<C>(alloc, layout, noted, octets, expected)?;
     let explanation = asked_note(alloc, line_task.explains, kind, octets, verdict);
-    let line = refusal_line(alloc, noted, layout, verdict)?;
     let words = words_on(alloc, noted, kind, octets, verdict, words)?;
+    let line = refusal_line(alloc, noted, layout, verdict, words.as_str())?;
     Ok(ShownWithNotes {
         said: WithExplanation {
             answer,

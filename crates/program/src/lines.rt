@@ -1,6 +1,6 @@
 //! Answers each line of octets as it comes.
 
-ghost use Rattle.std.specs.Prelude.{◌≡◌, ◌⊎◌, ◌++◌, ◌∷◌, [], ℕ, List, IfOk, IfErr, OnOk, OnErr, string_bytes};
+ghost use Rattle.std.specs.Prelude.{◌≡◌, ◌++◌, ◌∷◌, [], ℕ, List, IfOk, IfErr, OnOk, OnErr, string_bytes};
 ghost use Rattle.program.specs.Calls.{calls_of};
 ghost use Rattle.program.specs.Answers.{lines_text};
 ghost use Rattle.program.specs.Conversations.{Event, Happens, told, untold};
