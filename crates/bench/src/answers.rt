@@ -1,9 +1,7 @@
 //! Decoding of answers to reset, whole and octet by octet.
 
-use crate::work::Work;
+use crate::work::{Watch, Work};
 use atr_core::AtrReader;
-use std::io;
-use std::time::Instant;
 
 /// How often each answer is decoded.
 const TIMES: usize = 10_000;
@@ -18,24 +16,22 @@ const ANSWERS: [&[u8]; 2] = [
 ];
 
 /// Decodes each answer whole, and equally often octet by octet.
-pub(crate) fn decode_each(rt: &HostRuntime, timed: bool) -> io::Result<()> {
+pub(crate) fn decode_each(rt: &HostRuntime, watch: &mut Watch) {
     for &octets in &ANSWERS {
-        decode(rt, octets, timed)?;
-        read(rt, octets, timed)?;
+        decode(rt, watch, octets);
     }
-    Ok(())
 }
 
-fn decode(rt: &HostRuntime, octets: &[u8], timed: bool) -> io::Result<()> {
-    let started = Instant::now(rt)?;
+fn decode(rt: &HostRuntime, watch: &mut Watch, octets: &[u8]) {
+    watch.start(rt);
     let times = is_decoded(octets).then_some(TIMES);
-    work_of("answer to reset decoded", octets).tell(rt, started, times, timed)
-}
-
-fn read(rt: &HostRuntime, octets: &[u8], timed: bool) -> io::Result<()> {
-    let started = Instant::now(rt)?;
+    watch.tell(rt, work_of("answer to reset decoded", octets), times);
     let times = is_read(octets).then_some(TIMES);
-    work_of("answer to reset read octet by octet", octets).tell(rt, started, times, timed)
+    watch.tell(
+        rt,
+        work_of("answer to reset read octet by octet", octets),
+        times,
+    );
 }
 
 /// Returns the work on an answer.

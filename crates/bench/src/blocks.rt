@@ -1,44 +1,34 @@
 //! Decoding of blocks.
 
-use crate::work::Work;
+use crate::work::{Watch, Work};
 use block_core::{Block, BlockRef, Number, decode, encode};
-use std::io::{self, ErrorKind};
-use std::time::Instant;
+use std::io::ErrorKind;
 
 /// How often a block is decoded for each of the 256 node addresses.
 const ROUNDS: usize = 40;
 
 /// Decodes blocks with information fields of 5 and of 254 octets, with a copied and with a borrowed
 /// field.
-pub(crate) fn decode_each(rt: &HostRuntime, timed: bool) -> io::Result<()> {
-    decode_with(rt, &[0xA5; 5], timed)?;
-    decode_with(rt, &[0xA5; 254], timed)
+pub(crate) fn decode_each(rt: &HostRuntime, watch: &mut Watch) {
+    decode_with(rt, watch, &[0xA5; 5]);
+    decode_with(rt, watch, &[0xA5; 254]);
 }
 
 /// Decodes a block with this field both ways.
-fn decode_with(rt: &HostRuntime, field: &[u8], timed: bool) -> io::Result<()> {
+fn decode_with(rt: &HostRuntime, watch: &mut Watch, field: &[u8]) {
     match Block::info(0, Number::Zero, false, field) {
-        Some(block) => decode_both(rt, encode(&block).as_mut_slice(), field.len(), timed),
-        None => Err(ErrorKind::InvalidData.into()),
+        Some(block) => decode_both(rt, watch, encode(&block).as_mut_slice(), field.len()),
+        None => watch.stop(ErrorKind::InvalidData),
     }
 }
 
 /// Decodes a block with a field of `len` octets both ways.
-fn decode_both(rt: &HostRuntime, octets: &mut [u8], len: usize, timed: bool) -> io::Result<()> {
-    decode_copied(rt, octets, len, timed)?;
-    decode_lent(rt, octets, len, timed)
-}
-
-fn decode_copied(rt: &HostRuntime, octets: &mut [u8], len: usize, timed: bool) -> io::Result<()> {
-    let started = Instant::now(rt)?;
+fn decode_both(rt: &HostRuntime, watch: &mut Watch, octets: &mut [u8], len: usize) {
+    watch.start(rt);
     let times = is_decoded(octets, len).then_some(256 * ROUNDS);
-    work_of("block decoded", octets).tell(rt, started, times, timed)
-}
-
-fn decode_lent(rt: &HostRuntime, octets: &mut [u8], len: usize, timed: bool) -> io::Result<()> {
-    let started = Instant::now(rt)?;
+    watch.tell(rt, work_of("block decoded", octets), times);
     let times = is_lent(octets, len).then_some(256 * ROUNDS);
-    work_of("block decoded in place", octets).tell(rt, started, times, timed)
+    watch.tell(rt, work_of("block decoded in place", octets), times);
 }
 
 /// Returns the work of decoding a block.

@@ -2,28 +2,17 @@
 
 ghost use Rattle.std.specs.Prelude.{◌≤◌, length, IfSome};
 
-use crate::ends::{MOST_BLOCKS, Messages, work_of};
+use crate::ends::{MOST_BLOCKS, Messages};
 use block_core::LONGEST_BLOCK;
-use std::io;
-use std::time::Instant;
 use t1_core::{Card, EncodedCardTurn, EncodedTerminalTurn, Terminal, TerminalFault};
-
-/// Exchanges these messages, and prints the work.
-pub(crate) fn exchange_in_time(
-    rt: &HostRuntime,
-    terminal: &mut Terminal,
-    card: &mut Card,
-    messages: Messages<'_>,
-    timed: bool,
-) -> io::Result<()> {
-    let started = Instant::now(rt)?;
-    let blocks = exchange(terminal, card, messages);
-    work_of("longest exchange by hand").tell(rt, started, blocks, timed)
-}
 
 /// Returns how many blocks an exchange over a line without faults takes, or `None` if it isn't
 /// answered.
-fn exchange(terminal: &mut Terminal, card: &mut Card, messages: Messages<'_>) -> Option<usize> {
+pub(crate) fn exchanged(
+    terminal: &mut Terminal,
+    card: &mut Card,
+    messages: Messages<'_>,
+) -> Option<usize> {
     let mut sent = [0; LONGEST_BLOCK];
     let mut back = [0; LONGEST_BLOCK];
     let mut next = count_of(terminal.transmit_into(messages.command, &mut sent));

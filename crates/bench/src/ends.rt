@@ -1,10 +1,11 @@
 //! The longest exchange between both ends of T=1 in memory, in each way.
 
-use crate::work::Work;
+use crate::work::{Watch, Work};
 use crate::{buffers, lines};
 use atr_core::T1Params;
 use block_core::encode;
-use std::io::{self, ErrorKind};
+use std::alloc::Global;
+use std::io::ErrorKind;
 use t1_core::{Card, CardTurn, Terminal, TerminalTurn};
 
 /// The length of the longest command, in octets.
@@ -24,40 +25,36 @@ pub(crate) struct Messages<'a> {
 }
 
 /// Exchanges the longest command and response in each way.
-pub(crate) fn exchange_longest(rt: &HostRuntime, timed: bool) -> io::Result<()> {
-    let command = vec![in rt.alloc(); 0xA5u8; COMMAND]?;
-    let reply = vec![in rt.alloc(); 0x5Au8; RESPONSE]?;
-    let messages = Messages {
-        command: command.as_slice(),
-        reply: reply.as_slice(),
-    };
-    exchange_each(rt, messages, timed)
+pub(crate) fn exchange_longest(rt: &HostRuntime, watch: &mut Watch) {
+    let command = vec![in rt.alloc(); 0xA5u8; COMMAND].ok();
+    let reply = vec![in rt.alloc(); 0x5Au8; RESPONSE].ok();
+    match (command.as_deref(), reply.as_deref()) {
+        (Some(command), Some(reply)) => exchange_each(rt, watch, Messages { command, reply }),
+        _ => watch.stop(ErrorKind::OutOfMemory),
+    }
 }
 
 /// Exchanges these messages with information field sizes of 254 and of 32.
-fn exchange_each(rt: &HostRuntime, messages: Messages<'_>, timed: bool) -> io::Result<()> {
-    exchange_at(rt, 254, messages, timed)?;
-    exchange_at(rt, 32, messages, timed)
+fn exchange_each(rt: &HostRuntime, watch: &mut Watch, messages: Messages<'_>) {
+    exchange_at(rt, watch, 254, messages);
+    exchange_at(rt, watch, 32, messages);
 }
 
 /// Exchanges these messages between two ends that take information fields of this size.
-fn exchange_at(rt: &HostRuntime, size: u8, messages: Messages<'_>, timed: bool) -> io::Result<()> {
-    let Some(params) = T1Params::new(size, 4, 5) else {
-        return Err(ErrorKind::InvalidInput.into());
-    };
-    exchange_under(rt, params, messages, timed)
+fn exchange_at(rt: &HostRuntime, watch: &mut Watch, size: u8, messages: Messages<'_>) {
+    match ends(rt.alloc(), size) {
+        Some((mut terminal, mut card)) => {
+            exchange_between(rt, watch, &mut terminal, &mut card, messages);
+        }
+        None => watch.stop(ErrorKind::OutOfMemory),
+    }
 }
 
-/// Exchanges these messages between two ends with these parameters.
-fn exchange_under(
-    rt: &HostRuntime,
-    params: T1Params,
-    messages: Messages<'_>,
-    timed: bool,
-) -> io::Result<()> {
-    let mut terminal = Terminal::new(rt.alloc(), params)?;
-    let mut card = Card::new(rt.alloc(), params)?;
-    exchange_between(rt, &mut terminal, &mut card, messages, timed)
+/// Returns two ends that take information fields of this size, if there is memory for them.
+fn ends(alloc: Global, size: u8) -> Option<(Terminal, Card)> {
+    let params = T1Params::new(size, 4, 5)?;
+    let terminal = Terminal::new(alloc, params).ok()?;
+    Some((terminal, Card::new(alloc, params).ok()?))
 }
 
 /// Whether the terminal asks for this size, and the card grants it.
@@ -77,22 +74,26 @@ fn is_granted(terminal: &mut Terminal, card: &mut Card, size: u8) -> bool {
 /// fields of the card's size.
 fn exchange_between(
     rt: &HostRuntime,
+    watch: &mut Watch,
     terminal: &mut Terminal,
     card: &mut Card,
     messages: Messages<'_>,
-    timed: bool,
-) -> io::Result<()> {
+) {
     let size = terminal.ifsc();
     if !is_granted(terminal, card, size) {
-        return Err(ErrorKind::InvalidData.into());
+        return watch.stop(ErrorKind::InvalidData);
     }
-    buffers::exchange_in_time(rt, terminal, card, messages, timed)?;
-    lines::exchange_in_time(rt, terminal, card, messages, timed)?;
-    lines::serve_in_time(rt, terminal, card, messages, timed)
+    watch.start(rt);
+    let blocks = buffers::exchanged(terminal, card, messages);
+    watch.tell(rt, work_of("longest exchange by hand"), blocks);
+    let blocks = lines::exchanged(terminal, card, messages);
+    watch.tell(rt, work_of("longest exchange over a line"), blocks);
+    let blocks = lines::served(terminal, card, messages);
+    watch.tell(rt, work_of("longest exchange served"), blocks);
 }
 
 /// Returns the work of an exchange.
-pub(crate) fn work_of(name: &'static str) -> Work {
+fn work_of(name: &'static str) -> Work {
     Work {
         name,
         octets: COMMAND + RESPONSE,

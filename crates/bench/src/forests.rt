@@ -2,10 +2,9 @@
 
 ghost use Rattle.std.specs.Prelude.{◌<◌, length};
 
-use crate::work::Work;
+use crate::work::{Watch, Work};
 use std::alloc::{AllocError, Global};
-use std::io;
-use std::time::Instant;
+use std::io::ErrorKind;
 use tlv_core::{FlatForest, ForestCheck, decode};
 
 /// The most octets of a forest.
@@ -18,19 +17,21 @@ const NESTED: [u8; 18] = [
 ];
 
 /// Judges a forest of nested objects, and one of 372 objects beside each other with values of 173 octets.
-pub(crate) fn judge_each(rt: &HostRuntime, timed: bool) -> io::Result<()> {
-    judge_many(rt, "nested objects", &NESTED, timed)?;
+pub(crate) fn judge_each(rt: &HostRuntime, watch: &mut Watch) {
+    judge_many(rt, watch, "nested objects", &NESTED);
     let mut object = [0u8; 176];
     object[..3].copy_from_slice(&[0x5A, 0x81, 173]);
-    judge_many(rt, "flat objects", &object, timed)
+    judge_many(rt, watch, "flat objects", &object);
 }
 
 /// Judges a forest in which these objects are repeated.
-fn judge_many(rt: &HostRuntime, name: &'static str, objects: &[u8], timed: bool) -> io::Result<()>
+fn judge_many(rt: &HostRuntime, watch: &mut Watch, name: &'static str, objects: &[u8])
     requires { 0 < length objects.now }
 {
-    let forest = many(rt.alloc(), objects)?;
-    judge(rt, name, forest.as_slice(), timed)
+    match many(rt.alloc(), objects) {
+        Ok(forest) => judge(rt, watch, name, forest.as_slice()),
+        Err(_) => watch.stop(ErrorKind::OutOfMemory),
+    }
 }
 
 /// Repeats objects, in at most 64 KiB.
@@ -45,40 +46,24 @@ fn many(alloc: Global, objects: &[u8]) -> Result<Vec<u8>, AllocError>
 }
 
 /// Checks a forest at once and octet by octet, reads its parts, and reads its tree and drops it.
-fn judge(rt: &HostRuntime, name: &'static str, octets: &[u8], timed: bool) -> io::Result<()> {
-    check(rt, name, octets, timed)?;
-    check_in_pieces(rt, name, octets, timed)?;
-    lend(rt, name, octets, timed)?;
-    read(rt, name, octets, timed)
-}
-
-fn check(rt: &HostRuntime, name: &'static str, octets: &[u8], timed: bool) -> io::Result<()> {
-    let started = Instant::now(rt)?;
-    let checks = checked(octets);
-    work_of(name, octets, "check").tell(rt, started, checks, timed)
-}
-
-fn check_in_pieces(
-    rt: &HostRuntime,
-    name: &'static str,
-    octets: &[u8],
-    timed: bool,
-) -> io::Result<()> {
-    let started = Instant::now(rt)?;
-    let pieces = checked_in_pieces(octets);
-    work_of(name, octets, "pieces").tell(rt, started, pieces, timed)
-}
-
-fn lend(rt: &HostRuntime, name: &'static str, octets: &[u8], timed: bool) -> io::Result<()> {
-    let started = Instant::now(rt)?;
-    let parts = parts(rt.alloc(), octets);
-    work_of(name, octets, "parts lent").tell(rt, started, parts, timed)
-}
-
-fn read(rt: &HostRuntime, name: &'static str, octets: &[u8], timed: bool) -> io::Result<()> {
-    let started = Instant::now(rt)?;
-    let tops = tops(rt.alloc(), octets);
-    work_of(name, octets, "tops read").tell(rt, started, tops, timed)
+fn judge(rt: &HostRuntime, watch: &mut Watch, name: &'static str, octets: &[u8]) {
+    watch.start(rt);
+    watch.tell(rt, work_of(name, octets, "check"), checked(octets));
+    watch.tell(
+        rt,
+        work_of(name, octets, "pieces"),
+        checked_in_pieces(octets),
+    );
+    watch.tell(
+        rt,
+        work_of(name, octets, "parts lent"),
+        parts(rt.alloc(), octets),
+    );
+    watch.tell(
+        rt,
+        work_of(name, octets, "tops read"),
+        tops(rt.alloc(), octets),
+    );
 }
 
 /// Returns the work on a forest.

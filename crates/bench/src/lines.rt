@@ -1,31 +1,19 @@
 //! The same exchange by the calls over a line. A card is at the end of the terminal's line, and a terminal at the end
 //! of the card's.
 
-ghost use Rattle.std.specs.Prelude.{◌≤◌, length};
-
-use crate::buffers::served;
-use crate::ends::{MOST_BLOCKS, Messages, work_of};
+use crate::buffers;
+use crate::ends::{MOST_BLOCKS, Messages};
 use block_core::LONGEST_BLOCK;
 use line_core::{CardLine, Host, Received, TerminalLine, exchange, serve};
 use std::io::{self, ErrorKind};
-use std::time::Instant;
 use t1_core::{Card, EncodedTerminalTurn, Terminal};
 
-/// Exchanges these messages by `exchange`, and prints the work.
-pub(crate) fn exchange_in_time(
-    rt: &HostRuntime,
+/// Returns how many blocks an exchange by `exchange` takes, or `None` if it isn't answered.
+pub(crate) fn exchanged(
     terminal: &mut Terminal,
     card: &mut Card,
     messages: Messages<'_>,
-    timed: bool,
-) -> io::Result<()> {
-    let started = Instant::now(rt)?;
-    let blocks = exchanged(terminal, card, messages);
-    work_of("longest exchange over a line").tell(rt, started, blocks, timed)
-}
-
-/// Returns how many blocks an exchange takes, or `None` if it isn't answered.
-fn exchanged(terminal: &mut Terminal, card: &mut Card, messages: Messages<'_>) -> Option<usize> {
+) -> Option<usize> {
     let mut line = CardAtLine {
         card,
         reply: messages.reply,
@@ -37,21 +25,12 @@ fn exchanged(terminal: &mut Terminal, card: &mut Card, messages: Messages<'_>) -
     }
 }
 
-/// Exchanges these messages by `serve`, and prints the work.
-pub(crate) fn serve_in_time(
-    rt: &HostRuntime,
+/// Returns how many blocks an exchange takes that a card serves, or `None` if it isn't answered.
+pub(crate) fn served(
     terminal: &mut Terminal,
     card: &mut Card,
     messages: Messages<'_>,
-    timed: bool,
-) -> io::Result<()> {
-    let started = Instant::now(rt)?;
-    let blocks = serves(terminal, card, messages);
-    work_of("longest exchange served").tell(rt, started, blocks, timed)
-}
-
-/// Returns how many blocks an exchange takes that a card serves, or `None` if it isn't answered.
-fn serves(terminal: &mut Terminal, card: &mut Card, messages: Messages<'_>) -> Option<usize> {
+) -> Option<usize> {
     let mut line = TerminalAtLine {
         terminal,
         command: messages.command,
@@ -78,7 +57,7 @@ impl TerminalLine for CardAtLine<'_, '_> {
 
     fn transceive(&mut self, block: &[u8], _waiting: u8, room: &mut [u8]) -> io::Result<Received> {
         self.blocks = self.blocks.saturating_add(1);
-        match served(self.card, block, self.reply, room) {
+        match buffers::served(self.card, block, self.reply, room) {
             Some(count) => Ok(Received::Octets(count)),
             None => Err(ErrorKind::InvalidData.into()),
         }

@@ -13,11 +13,19 @@ mod lines;
 mod work;
 
 use std::{env, io};
+use work::Watch;
 
 fn main(rt: HostRuntime) -> io::Result<()> {
     let timed = env::args(&rt)?.nth(1).is_some();
-    answers::decode_each(&rt, timed)?;
-    blocks::decode_each(&rt, timed)?;
-    forests::judge_each(&rt, timed)?;
-    ends::exchange_longest(&rt, timed)
+    let mut watch = Watch::new(&rt, timed)?;
+    tell_each(&rt, &mut watch);
+    watch.ended()
+}
+
+/// Does each piece of work, and prints it.
+fn tell_each(rt: &HostRuntime, watch: &mut Watch) {
+    answers::decode_each(rt, watch);
+    blocks::decode_each(rt, watch);
+    forests::judge_each(rt, watch);
+    ends::exchange_longest(rt, watch);
 }

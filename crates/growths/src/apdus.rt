@@ -1,6 +1,6 @@
 //! Commands and responses.
 
-use crate::outcome::Outcome;
+use crate::Outcome;
 use apdu_core::{
     Command, ReceiveFault, Response, SendFault, decode_command, decode_response, encode_command,
     encode_response, receive_command, receive_response, send_command, send_response,
@@ -28,36 +28,51 @@ const ANSWER: [u8; 8] = [0x00, 0x00, 0x04, 0xAA, 0xBB, 0x90, 0x00, 0x85];
 
 /// Decodes and encodes a command.
 pub(crate) fn commands(alloc: Global) -> Outcome {
-    Outcome::of(is_command_kept(alloc))
-}
-
-fn is_command_kept(alloc: Global) -> Result<bool, AllocError> {
     match decode_command(alloc, &COMMAND) {
-        Ok(command) => Ok(encode_command(alloc, &command)?.as_slice() == COMMAND.as_slice()),
+        Ok(command) => is_command(alloc, &command),
         Err(Refused::Memory) => Err(AllocError),
         Err(Refused::Stop(_)) => Ok(false),
     }
+}
+
+fn is_command(alloc: Global, command: &Command) -> Outcome {
+    Ok(encode_command(alloc, command)?.as_slice() == COMMAND.as_slice())
 }
 
 /// Decodes and encodes a response.
 pub(crate) fn responses(alloc: Global) -> Outcome {
-    Outcome::of(is_response_kept(alloc))
-}
-
-fn is_response_kept(alloc: Global) -> Result<bool, AllocError> {
     match decode_response(alloc, &RESPONSE) {
-        Ok(response) => Ok(encode_response(alloc, &response)?.as_slice() == RESPONSE.as_slice()),
+        Ok(response) => is_response(alloc, &response),
         Err(Refused::Memory) => Err(AllocError),
         Err(Refused::Stop(_)) => Ok(false),
     }
+}
+
+fn is_response(alloc: Global, response: &Response) -> Outcome {
+    Ok(encode_response(alloc, response)?.as_slice() == RESPONSE.as_slice())
 }
 
 /// Sends a command: all of it, or nothing.
 pub(crate) fn sent(alloc: Global) -> Outcome {
     match decode_command(alloc, &COMMAND) {
         Ok(command) => sent_by(alloc, &command),
-        Err(Refused::Memory) => Outcome::Memory,
-        Err(Refused::Stop(_)) => Outcome::Wrong,
+        Err(Refused::Memory) => Err(AllocError),
+        Err(Refused::Stop(_)) => Ok(false),
+    }
+}
+
+fn sent_by(alloc: Global, command: &Command) -> Outcome {
+    let mut writer = Counted::new(Taker::new(64, 64, After::End));
+    let answer = send_command(alloc, &mut writer, command, 254, Number::Zero);
+    is_sent(answer, &writer.into_inner(), &CHAIN)
+}
+
+/// Returns the outcome of sending, by which all octets or none were to be taken.
+fn is_sent(answer: Result<(), SendFault>, taker: &Taker, chain: &[u8]) -> Outcome {
+    match answer {
+        Ok(()) => Ok(taker.kept() == chain),
+        Err(SendFault::Memory) if taker.kept().is_empty() => Err(AllocError),
+        _ => Ok(false),
     }
 }
 
@@ -65,18 +80,11 @@ pub(crate) fn sent(alloc: Global) -> Outcome {
 pub(crate) fn received(alloc: Global) -> Outcome {
     let mut reader = Counted::new(Feeder::new(&CHAIN, 3, After::Fails));
     let outcome = match receive_command(alloc, &mut reader, 254, Number::Zero) {
-        Ok(command) => Outcome::of(is_encoded(alloc, &command)),
-        Err(ReceiveFault::Memory) => Outcome::Memory,
-        Err(_) => Outcome::Wrong,
+        Ok(command) => is_command(alloc, &command),
+        Err(ReceiveFault::Memory) => Err(AllocError),
+        Err(_) => Ok(false),
     };
-    match (outcome, reader.into_inner().given()) {
-        (Outcome::Memory, 0 | 17) | (Outcome::Right, 17) => outcome,
-        _ => Outcome::Wrong,
-    }
-}
-
-fn is_encoded(alloc: Global, command: &Command) -> Result<bool, AllocError> {
-    Ok(encode_command(alloc, command)?.as_slice() == COMMAND.as_slice())
+    with_given(outcome, reader.into_inner().given(), 17)
 }
 
 /// Receives a response and sends it. If it can't, it has read nothing or exactly the response's chain.
@@ -84,33 +92,23 @@ pub(crate) fn answered(alloc: Global) -> Outcome {
     let mut reader = Counted::new(Feeder::new(&ANSWER, 8, After::Fails));
     let outcome = match receive_response(alloc, &mut reader, 254, Number::Zero) {
         Ok(response) => answered_by(alloc, &response),
-        Err(ReceiveFault::Memory) => Outcome::Memory,
-        Err(_) => Outcome::Wrong,
+        Err(ReceiveFault::Memory) => Err(AllocError),
+        Err(_) => Ok(false),
     };
-    match (outcome, reader.into_inner().given()) {
-        (Outcome::Memory, 0 | 8) | (Outcome::Right, 8) => outcome,
-        _ => Outcome::Wrong,
+    with_given(outcome, reader.into_inner().given(), 8)
+}
+
+/// Returns the outcome of receiving. All octets were to be read, or none if memory was out.
+fn with_given(outcome: Outcome, given: u64, all: u64) -> Outcome {
+    match outcome {
+        Err(AllocError) if given == 0 => outcome,
+        _ if given == all => outcome,
+        _ => Ok(false),
     }
 }
 
 fn answered_by(alloc: Global, response: &Response) -> Outcome {
     let mut writer = Counted::new(Taker::new(64, 64, After::End));
     let answer = send_response(alloc, &mut writer, response, 254, Number::Zero);
-    let taker = writer.into_inner();
-    match answer {
-        Ok(()) if taker.kept() == ANSWER.as_slice() => Outcome::Right,
-        Err(SendFault::Memory) if taker.kept().is_empty() => Outcome::Memory,
-        _ => Outcome::Wrong,
-    }
-}
-
-fn sent_by(alloc: Global, command: &Command) -> Outcome {
-    let mut writer = Counted::new(Taker::new(64, 64, After::End));
-    let answer = send_command(alloc, &mut writer, command, 254, Number::Zero);
-    let taker = writer.into_inner();
-    match answer {
-        Ok(()) if taker.kept() == CHAIN.as_slice() => Outcome::Right,
-        Err(SendFault::Memory) if taker.kept().is_empty() => Outcome::Memory,
-        _ => Outcome::Wrong,
-    }
+    is_sent(answer, &writer.into_inner(), &ANSWER)
 }

@@ -1,6 +1,6 @@
 //! An exchange between both ends, recorded, written, read and replayed.
 
-use crate::outcome::Outcome;
+use crate::Outcome;
 use exchange_core::{
     Event, EventFault, Exchange, ExchangeFault, Recorder, RecorderFault, ReplayFault, Side,
     migrate, read_exchange, replay, write_exchange,
@@ -68,22 +68,19 @@ t 00800080 lost
 
 /// Writes the record of the events.
 pub(crate) fn recorded(alloc: Global) -> Outcome {
-    match record(alloc) {
-        Ok(exchange) => written(alloc, &exchange),
-        Err(outcome) => outcome,
+    match Recorder::new(alloc, &ATR) {
+        Ok(recorder) => recorded_by(alloc, recorder),
+        Err(RecorderFault::Memory) => Err(AllocError),
+        Err(RecorderFault::Refused(_)) => Ok(false),
     }
 }
 
-fn record(alloc: Global) -> Result<Exchange, Outcome> {
-    let mut recorder = match Recorder::new(alloc, &ATR) {
-        Ok(recorder) => recorder,
-        Err(RecorderFault::Memory) => return Err(Outcome::Memory),
-        Err(RecorderFault::Refused(_)) => return Err(Outcome::Wrong),
-    };
-    if !are_told(&mut recorder) {
-        return Err(Outcome::Wrong);
-    }
-    recorder.exchange().map_err(|_| Outcome::Memory)
+/// Writes what a recorder records of the events.
+fn recorded_by(alloc: Global, recorder: Recorder) -> Outcome {
+    let mut recorder = recorder;
+    let are_told = are_told(&mut recorder);
+    let is_written = is_written(alloc, &recorder.exchange()?)?;
+    Ok(are_told && is_written)
 }
 
 /// Whether all events happen.
@@ -104,45 +101,51 @@ fn record_event(recorder: &mut Recorder, event: Event<'static>) -> Result<(), Ev
     }
 }
 
-fn written(alloc: Global, exchange: &Exchange) -> Outcome {
-    match write_exchange(alloc, exchange) {
-        Ok(text) => Outcome::of(Ok(text.as_slice() == TEXT.as_bytes())),
-        Err(AllocError) => Outcome::Memory,
-    }
+/// Whether an exchange is written as the text.
+fn is_written(alloc: Global, exchange: &Exchange) -> Outcome {
+    Ok(write_exchange(alloc, exchange)?.as_slice() == TEXT.as_bytes())
 }
 
 /// Reads the text, replays it at both ends, and migrates it.
 pub(crate) fn replayed(alloc: Global) -> Outcome {
     match read_exchange(alloc, TEXT.as_bytes()) {
-        Ok(exchange) => match replays(alloc, &exchange) {
-            Outcome::Right => Outcome::of(is_migrated(alloc, exchange)),
-            outcome => outcome,
-        },
-        Err(ExchangeFault::Memory) => Outcome::Memory,
-        Err(_) => Outcome::Wrong,
+        Ok(exchange) => {
+            let is_replayed = is_replayed(alloc, &exchange);
+            both(is_replayed, is_migrated(alloc, exchange))
+        }
+        Err(ExchangeFault::Memory) => Err(AllocError),
+        Err(_) => Ok(false),
     }
 }
 
 /// Replays an exchange at both ends.
-fn replays(alloc: Global, exchange: &Exchange) -> Outcome {
-    for side in [Side::Terminal, Side::Card] {
-        match replay(alloc, exchange, side) {
-            Ok(()) => {}
-            Err(ReplayFault::Memory) => return Outcome::Memory,
-            Err(ReplayFault::Differs { .. }) => return Outcome::Wrong,
-        }
+fn is_replayed(alloc: Global, exchange: &Exchange) -> Outcome {
+    let at_terminal = replays(alloc, exchange, Side::Terminal);
+    both(at_terminal, replays(alloc, exchange, Side::Card))
+}
+
+/// Returns the outcome of two calls.
+fn both(first: Outcome, second: Outcome) -> Outcome {
+    Ok(first? & second?)
+}
+
+/// Replays an exchange at an end.
+fn replays(alloc: Global, exchange: &Exchange, side: Side) -> Outcome {
+    match replay(alloc, exchange, side) {
+        Ok(()) => Ok(true),
+        Err(ReplayFault::Memory) => Err(AllocError),
+        Err(ReplayFault::Differs { .. }) => Ok(false),
     }
-    Outcome::Right
 }
 
 /// Whether the exchange is written in version 2 with the same lines after the first.
-fn is_migrated(alloc: Global, exchange: Exchange) -> Result<bool, AllocError> {
+fn is_migrated(alloc: Global, exchange: Exchange) -> Outcome {
     let text = write_exchange(alloc, &migrate(exchange))?;
     is_newer(alloc, text.as_slice())
 }
 
 /// Whether a text is the text in version 2.
-fn is_newer(alloc: Global, text: &[u8]) -> Result<bool, AllocError> {
+fn is_newer(alloc: Global, text: &[u8]) -> Outcome {
     let wanted = format!(in alloc;
         "scard-exchange 2{}",
         TEXT.strip_prefix(FIRST).unwrap_or(TEXT)

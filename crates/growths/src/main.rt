@@ -9,67 +9,70 @@ mod apdus;
 mod chains;
 mod exchanges;
 mod objects;
-mod outcome;
 mod session;
 
-use outcome::Outcome;
-use std::alloc::Global;
-use std::io;
+use std::alloc::{AllocError, Global};
+use std::io::{self, ErrorKind};
 use std::process::ExitCode;
 
+/// The outcome of a call: whether it returned what it should, or that memory was out.
+type Outcome = Result<bool, AllocError>;
+
 fn main(rt: HostRuntime) -> io::Result<ExitCode> {
-    let is_refused = tell_each(&rt, &of_messages(rt.alloc()), false)?;
-    let is_refused = tell_each(&rt, &of_objects(rt.alloc()), is_refused)?;
-    let is_refused = tell_each(&rt, &of_sessions(rt.alloc()), is_refused)?;
+    let mut outcomes = Outcomes {
+        is_refused: false,
+        fault: None,
+    };
+    make_each(&rt, rt.alloc(), &mut outcomes);
+    if let Some(fault) = outcomes.fault {
+        return Err(fault.into());
+    }
     println!(rt; "all calls made")?;
-    Ok(ExitCode::from(if is_refused { 2 } else { 0 }))
+    Ok(ExitCode::from(if outcomes.is_refused { 2 } else { 0 }))
 }
 
-fn of_messages(alloc: Global) -> [(&'static str, Outcome); 7] {
-    [
-        ("hexadecimal text", chains::hexadecimal(alloc)),
-        ("receiver", chains::receiver(alloc)),
-        ("commands", apdus::commands(alloc)),
-        ("responses", apdus::responses(alloc)),
-        ("commands sent", apdus::sent(alloc)),
-        ("commands received", apdus::received(alloc)),
-        ("responses received and sent", apdus::answered(alloc)),
-    ]
+/// Makes each call, and prints its outcome.
+fn make_each(rt: &HostRuntime, alloc: Global, outcomes: &mut Outcomes) {
+    outcomes.add(rt, "hexadecimal text", chains::hexadecimal(alloc));
+    outcomes.add(rt, "receiver", chains::receiver(alloc));
+    outcomes.add(rt, "commands", apdus::commands(alloc));
+    outcomes.add(rt, "responses", apdus::responses(alloc));
+    outcomes.add(rt, "commands sent", apdus::sent(alloc));
+    outcomes.add(rt, "commands received", apdus::received(alloc));
+    outcomes.add(rt, "responses received and sent", apdus::answered(alloc));
+    outcomes.add(rt, "forests", objects::forests(alloc));
+    outcomes.add(rt, "forests in pieces", objects::pieces(alloc));
+    outcomes.add(rt, "parts", objects::parts(alloc));
+    outcomes.add(rt, "placed parts", objects::places(alloc));
+    outcomes.add(rt, "lists", objects::lists(alloc));
+    outcomes.add(rt, "session", session::longest(alloc));
+    outcomes.add(rt, "recorder", exchanges::recorded(alloc));
+    outcomes.add(rt, "exchanges", exchanges::replayed(alloc));
 }
 
-fn of_objects(alloc: Global) -> [(&'static str, Outcome); 5] {
-    [
-        ("forests", objects::forests(alloc)),
-        ("forests in pieces", objects::pieces(alloc)),
-        ("parts", objects::parts(alloc)),
-        ("placed parts", objects::places(alloc)),
-        ("lists", objects::lists(alloc)),
-    ]
+/// The outcomes of the calls so far.
+#[derive(Clone, Copy)]
+struct Outcomes {
+    /// Whether a call was out of memory.
+    is_refused: bool,
+    /// Why a line couldn't be printed.
+    fault: Option<ErrorKind>,
 }
 
-fn of_sessions(alloc: Global) -> [(&'static str, Outcome); 3] {
-    [
-        ("session", session::longest(alloc)),
-        ("recorder", exchanges::recorded(alloc)),
-        ("exchanges", exchanges::replayed(alloc)),
-    ]
-}
-
-/// Prints each outcome that is wrong, and each call after the first that was out of memory. Returns whether there was
-/// such a call, among these or before.
-fn tell_each(
-    rt: &HostRuntime,
-    outcomes: &[(&'static str, Outcome)],
-    was_refused: bool,
-) -> io::Result<bool> {
-    let mut is_refused = was_refused;
-    for &(name, outcome) in outcomes {
+impl Outcomes {
+    /// Prints an outcome that is wrong, and a call after the first that was out of memory.
+    fn add(&mut self, rt: &HostRuntime, name: &'static str, outcome: Outcome) {
         match outcome {
-            Outcome::Right => {}
-            Outcome::Memory if !is_refused => is_refused = true,
-            Outcome::Memory => println!(rt; "{name}: out of memory too")?,
-            Outcome::Wrong => println!(rt; "{name}: wrong")?,
+            Ok(true) => {}
+            Ok(false) => self.print(rt, name, "wrong"),
+            Err(AllocError) if !self.is_refused => self.is_refused = true,
+            Err(AllocError) => self.print(rt, name, "out of memory too"),
         }
     }
-    Ok(is_refused)
+
+    fn print(&mut self, rt: &HostRuntime, name: &'static str, what: &'static str) {
+        if let Err(fault) = println!(rt; "{name}: {what}") {
+            self.fault = Some(fault.kind());
+        }
+    }
 }

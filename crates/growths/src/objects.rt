@@ -1,6 +1,6 @@
 //! Forests of data objects, and lists of them.
 
-use crate::outcome::Outcome;
+use crate::Outcome;
 use octet_core::{Format, Octets, Refused};
 use std::alloc::{AllocError, Global};
 use tlv_core::{
@@ -28,10 +28,6 @@ const FILLED: [u8; 11] = [0, 0, 0, 0, 0, 0, 0, 0, 0x00, 0x12, 0x34];
 
 /// Decodes and encodes a forest, and makes it tidy.
 pub(crate) fn forests(alloc: Global) -> Outcome {
-    Outcome::of(is_forest_kept(alloc))
-}
-
-fn is_forest_kept(alloc: Global) -> Result<bool, AllocError> {
     match decode(alloc, &FOREST, FOREST.len()) {
         Ok(forest) => is_kept_and_tidied(alloc, &forest),
         Err(Refused::Memory) => Err(AllocError),
@@ -39,30 +35,35 @@ fn is_forest_kept(alloc: Global) -> Result<bool, AllocError> {
     }
 }
 
-fn is_kept_and_tidied(alloc: Global, forest: &Forest) -> Result<bool, AllocError> {
+fn is_kept_and_tidied(alloc: Global, forest: &Forest) -> Outcome {
     let is_kept = is_spelled(alloc, forest)?;
-    Ok(is_tidied(alloc, forest)? && is_kept)
+    let is_tidied = is_tidied(alloc, forest)?;
+    Ok(is_kept && is_tidied)
 }
 
-fn is_tidied(alloc: Global, forest: &Forest) -> Result<bool, AllocError> {
+fn is_tidied(alloc: Global, forest: &Forest) -> Outcome {
     let tidied = tidy(alloc, forest)?;
     Ok(encode(alloc, &tidied)?.as_slice() == TIDY.as_slice())
 }
 
 /// Reads a forest in pieces. If memory was out, it feeds the rest of the piece again.
 pub(crate) fn pieces(alloc: Global) -> Outcome {
-    let Ok(mut reader) = ForestReader::new(alloc, FOREST.len()) else {
-        return Outcome::Memory;
-    };
+    let mut reader = ForestReader::new(alloc, FOREST.len())?;
+    let are_fed = are_fed(&mut reader);
+    match reader.finish() {
+        Ok(forest) if are_fed => is_spelled(alloc, &forest),
+        _ => Ok(false),
+    }
+}
+
+/// Whether all pieces are taken.
+fn are_fed(reader: &mut ForestReader) -> bool {
     for piece in FOREST.chunks(5) {
-        if !is_fed(&mut reader, piece) {
-            return Outcome::Wrong;
+        if !is_fed(reader, piece) {
+            return false;
         }
     }
-    match reader.finish() {
-        Ok(forest) => Outcome::of(is_spelled(alloc, &forest)),
-        Err(_) => Outcome::Wrong,
-    }
+    true
 }
 
 /// Whether a piece is taken, by one call or by a second one.
@@ -77,45 +78,48 @@ fn is_fed(reader: &mut ForestReader, piece: &[u8]) -> bool {
     }
 }
 
-fn is_spelled(alloc: Global, forest: &Forest) -> Result<bool, AllocError> {
+fn is_spelled(alloc: Global, forest: &Forest) -> Outcome {
     Ok(encode(alloc, forest)?.as_slice() == FOREST.as_slice())
 }
 
 /// Borrows the parts of a forest.
 pub(crate) fn parts(alloc: Global) -> Outcome {
     match FlatForest::read(alloc, &FOREST, FOREST.len()) {
-        Ok(forest) if forest.parts().len() == 6 => Outcome::Right,
-        Err(Refused::Memory) => Outcome::Memory,
-        _ => Outcome::Wrong,
+        Ok(forest) if forest.parts().len() == 6 => Ok(true),
+        Err(Refused::Memory) => Err(AllocError),
+        _ => Ok(false),
     }
 }
 
 /// Returns the parts of a forest with their places.
 pub(crate) fn places(alloc: Global) -> Outcome {
     match placed_parts(alloc, &FOREST, FOREST.len()) {
-        Ok(parts) if parts.len() == 6 => Outcome::Right,
-        Err(Refused::Memory) => Outcome::Memory,
-        _ => Outcome::Wrong,
+        Ok(parts) if parts.len() == 6 => Ok(true),
+        Err(Refused::Memory) => Err(AllocError),
+        _ => Ok(false),
     }
 }
 
 /// Decodes, encodes and fills a list.
 pub(crate) fn lists(alloc: Global) -> Outcome {
-    Outcome::of(is_list_filled(alloc))
-}
-
-fn is_list_filled(alloc: Global) -> Result<bool, AllocError> {
     match Dol::decode(alloc, &LIST) {
-        Ok(list) => {
-            let is_kept = list.encode(alloc)?.as_slice() == LIST.as_slice();
-            Ok(is_kept && is_filled(alloc, &list)?)
-        }
+        Ok(list) => is_list_kept(alloc, &list),
         Err(Refused::Memory) => Err(AllocError),
         Err(Refused::Stop(_)) => Ok(false),
     }
 }
 
-fn is_filled(alloc: Global, list: &Dol) -> Result<bool, AllocError> {
+fn is_list_kept(alloc: Global, list: &Dol) -> Outcome {
+    let is_kept = is_list_encoded(alloc, list)?;
+    let is_filled = is_filled(alloc, list)?;
+    Ok(is_kept && is_filled)
+}
+
+fn is_list_encoded(alloc: Global, list: &Dol) -> Outcome {
+    Ok(list.encode(alloc)?.as_slice() == LIST.as_slice())
+}
+
+fn is_filled(alloc: Global, list: &Dol) -> Outcome {
     let Some(tag) = Tag::new(&[0x9A]) else {
         return Ok(false);
     };

@@ -1,24 +1,24 @@
 //! A session between the ends of T=1 without a line. They allocate only in their constructors.
 
-use crate::outcome::Outcome;
+use crate::Outcome;
 use atr_core::T1Params;
 use block_core::{Block, encode};
-use std::alloc::{AllocError, Global};
+use std::alloc::Global;
 use t1_core::{Card, CardTurn, Terminal, TerminalTurn};
 
 /// The longest command and response pass, whatever is refused after the constructors.
 pub(crate) fn longest(alloc: Global) -> Outcome {
     let Some(params) = T1Params::new(254, 4, 5) else {
-        return Outcome::Wrong;
+        return Ok(false);
     };
-    match (Terminal::new(alloc, params), Card::new(alloc, params)) {
-        (Ok(mut terminal), Ok(mut card)) => {
-            let command = [0xA5; 65_544];
-            let reply = [0x5A; 65_538];
-            Outcome::of(Ok(is_exchanged(&mut terminal, &mut card, &command, &reply)))
-        }
-        _ => Outcome::Memory,
-    }
+    let mut terminal = Terminal::new(alloc, params)?;
+    let mut card = Card::new(alloc, params)?;
+    Ok(is_longest_exchanged(&mut terminal, &mut card))
+}
+
+/// Whether the longest command and response pass.
+fn is_longest_exchanged(terminal: &mut Terminal, card: &mut Card) -> bool {
+    is_exchanged(terminal, card, &[0xA5; 65_544], &[0x5A; 65_538])
 }
 
 /// Whether an exchange gets its answer over a line without faults.

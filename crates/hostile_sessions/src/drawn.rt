@@ -2,15 +2,16 @@
 
 ghost use Rattle.std.specs.Prelude.{◌<◌};
 
-use crate::ends::is_replayed;
-use crate::records::{happens, recorder};
-use exchange_core::{Event, Exchange, LastTurn, Line, Recorder};
+use crate::is_replayed_at;
+use crate::pairs::is_asked;
+use crate::records::{ended, happens, recorder};
+use exchange_core::{Event, Exchange, LastTurn, Line, Recorder, Side};
 use octet_core::Octets;
 use rand_core::utils::NextWord;
 use rand_pcg::Pcg32;
 use std::alloc::Global;
-use t1_core::{CardTurn, TerminalTurn};
-use test_support::{Case, Fault, Share};
+use t1_core::TerminalTurn;
+use test_support::{Case, Fault, Trial};
 
 /// The answer to reset of a card that takes fields of 32 octets.
 const ATR: [u8; 7] = [0x3B, 0x80, 0x81, 0x31, 0x20, 0x45, 0x55];
@@ -27,44 +28,43 @@ const LONGEST_MESSAGE: u32 = 300;
 const MOST_EVENTS: u32 = 100_000;
 
 /// Records sessions in which one block in four is lost or changed.
-pub(crate) fn draw_each(alloc: Global, share: Share) -> Result<String, Fault> {
+pub(crate) fn draw_each(rt: &HostRuntime, trial: &mut Trial) -> Result<(), Fault> {
     let mut generator = Pcg32::new(1, 2);
-    let mut sessions = 0u64;
-    let mut answers = 0u64;
+    let (mut sessions, mut answers) = (0u64, 0u64);
     for number in 0..SESSIONS {
-        if share.has(number as usize) {
-            answers = answers.saturating_add(draw(alloc, &mut generator, number)?);
+        if trial.share.has(number as usize) {
+            draw(trial, &mut generator, number, &mut answers);
             sessions = sessions.saturating_add(1);
         }
     }
-    line(alloc, sessions, answers)
+    let counts = [
+        ("drawn: ", sessions),
+        (" sessions replay at both ends, with ", answers),
+    ];
+    trial.report(rt, &counts, " answers, each the reply")
 }
 
-/// Returns the line about so many sessions.
-fn line(alloc: Global, sessions: u64, answers: u64) -> Result<String, Fault> {
-    Ok(format!(in alloc;
-        "drawn: {sessions} sessions replay at both ends, with {answers} answers, each the reply"
-    )?)
+/// Records the session with this number, and counts its answers.
+fn draw(trial: &mut Trial, generator: &mut Pcg32, number: u32, answers: &mut u64) {
+    match record(trial.alloc, generator) {
+        Ok(exchange) => expect(trial, &exchange, number, answers),
+        Err(fault) => trial.stop(fault),
+    }
 }
 
-/// Records the session with this number, and returns how many answers it has.
-fn draw(alloc: Global, generator: &mut Pcg32, number: u32) -> Result<u64, Fault> {
-    let exchange = record(alloc, generator)?;
-    answers_of(alloc, &exchange, number)
-}
-
-/// Checks that a session replays and each answer is the reply, and returns how many answers it has.
-fn answers_of(alloc: Global, exchange: &Exchange, number: u32) -> Result<u64, Fault> {
-    let answers = answers(exchange.lines().get());
+/// Checks that a session replays and each answer is the reply, and counts its answers.
+fn expect(trial: &mut Trial, exchange: &Exchange, number: u32, answers: &mut u64) {
     let case = Case {
         what: "a drawn session",
         octets: &ATR,
         place: number as usize,
         piece: 0,
     };
-    let is_replayed = is_replayed(alloc, exchange)?;
-    case.expect(alloc, answers.is_some() && is_replayed)?;
-    Ok(answers.unwrap_or(0))
+    trial.expect(case, is_replayed_at(trial.alloc, exchange, Side::Terminal));
+    trial.expect(case, is_replayed_at(trial.alloc, exchange, Side::Card));
+    let given = answers_of(exchange.lines().get());
+    trial.expect(case, Ok(given.is_some()));
+    *answers = answers.saturating_add(given.unwrap_or(0));
 }
 
 /// Draws a number below a bound.
@@ -127,8 +127,13 @@ fn application_calls(
 /// Returns the record of a session.
 fn record(alloc: Global, generator: &mut Pcg32) -> Result<Exchange, Fault> {
     let mut recorder = recorder(alloc, &ATR)?;
-    go_through(alloc, generator, &mut recorder)?;
-    Ok(recorder.exchange()?)
+    let told = go_through(alloc, generator, &mut recorder);
+    ended(recorder, told)
+}
+
+/// Whether the terminal found the card dead.
+fn is_dead(recorder: &Recorder) -> bool {
+    matches!(recorder.last(), LastTurn::Terminal(TerminalTurn::Dead))
 }
 
 /// Runs a session.
@@ -138,9 +143,9 @@ fn go_through(alloc: Global, generator: &mut Pcg32, recorder: &mut Recorder) -> 
         if recorder.under_way().is_some() {
             let event = fate(generator);
             happens(recorder, event)?;
-        } else if *recorder.last() == LastTurn::Card(CardTurn::Asked) {
+        } else if is_asked(recorder) {
             host_calls(alloc, generator, recorder)?;
-        } else if exchanges == 0 || *recorder.last() == LastTurn::Terminal(TerminalTurn::Dead) {
+        } else if exchanges == 0 || is_dead(recorder) {
             break;
         } else {
             application_calls(alloc, generator, recorder)?;
@@ -151,7 +156,7 @@ fn go_through(alloc: Global, generator: &mut Pcg32, recorder: &mut Recorder) -> 
 }
 
 /// Returns how many answers there are, or `None` if one isn't the last reply to the last command.
-fn answers(lines: &[Line]) -> Option<u64> {
+fn answers_of(lines: &[Line]) -> Option<u64> {
     let mut count = 0u64;
     let mut command: Option<&Octets> = None;
     let mut asked = None;

@@ -1,8 +1,8 @@
 //! Both ends of a session, called line by line.
 
-use atr_core::{T1Params, decode, t1_params};
+use atr_core::T1Params;
 use block_core::{Block, encode};
-use exchange_core::{Arrival, Exchange, Line, ReplayFault, Side, replay};
+use exchange_core::{Arrival, Exchange, Line, params_of};
 use std::alloc::{AllocError, Global};
 use t1_core::{Card, CardFault, CardTurn, Terminal, TerminalFault, TerminalTurn};
 use test_support::{Fault, same};
@@ -10,6 +10,7 @@ use test_support::{Fault, same};
 /// Both ends, and the last turn of each end.
 #[derive(Drop)]
 pub(crate) struct Ends {
+    pub(crate) params: T1Params,
     pub(crate) terminal: Terminal,
     pub(crate) card: Card,
     pub(crate) terminal_turn: Option<TerminalTurn>,
@@ -17,7 +18,7 @@ pub(crate) struct Ends {
 }
 
 /// What a terminal waits for.
-#[derive(Drop)]
+#[derive(Clone, Copy)]
 pub(crate) enum Waits {
     /// A call of its application.
     Idle,
@@ -27,30 +28,19 @@ pub(crate) enum Waits {
     Dead,
 }
 
-/// Whether an exchange replays at both ends.
-pub(crate) fn is_replayed(alloc: Global, exchange: &Exchange) -> Result<bool, Fault> {
-    for side in [Side::Terminal, Side::Card] {
-        match replay(alloc, exchange, side) {
-            Ok(()) => {}
-            Err(ReplayFault::Memory) => return Err(Fault::Memory),
-            Err(_) => return Ok(false),
+impl Ends {
+    /// Returns both ends of an exchange, new.
+    pub(crate) fn of(alloc: Global, exchange: &Exchange) -> Result<Ends, Fault> {
+        match params_of(exchange.atr()) {
+            Ok(params) => Ok(Ends::new(alloc, params)?),
+            Err(_) => Err(Fault::Stream),
         }
     }
-    Ok(true)
-}
 
-/// Returns the parameters of T=1 in the answer to reset of an exchange.
-pub(crate) fn params(exchange: &Exchange) -> Result<T1Params, Fault> {
-    match decode(exchange.atr()) {
-        Ok((atr, _)) => t1_params(&atr).map_err(|_| Fault::Stream),
-        Err(_) => Err(Fault::Stream),
-    }
-}
-
-impl Ends {
     /// Returns both ends, new.
-    pub(crate) fn new(alloc: Global, params: T1Params) -> Result<Ends, AllocError> {
+    fn new(alloc: Global, params: T1Params) -> Result<Ends, AllocError> {
         Ok(Ends {
+            params,
             terminal: Terminal::new(alloc, params)?,
             card: Card::new(alloc, params)?,
             terminal_turn: None,

@@ -29,13 +29,14 @@ use exchange_core::{Exchange, ExchangeFault, ReplayFault, Side, read_exchange, r
 use std::alloc::Global;
 use std::io;
 use std::process::ExitCode;
-use test_support::{Fault, Share, asked};
+use test_support::{Fault, Trial, asked, same};
 
 fn main(rt: HostRuntime) -> io::Result<ExitCode> {
-    match tell_each(&rt) {
+    let mut trial = Trial::new(rt.alloc());
+    match tell_each(&rt, &mut trial) {
         Ok(()) => Ok(ExitCode::SUCCESS),
         Err(fault) => {
-            println!(rt; "{fault}")?;
+            trial.print(&rt, fault)?;
             Ok(ExitCode::from(1))
         }
     }
@@ -50,45 +51,62 @@ pub(crate) fn as_exchange(alloc: Global, text: &[u8]) -> Result<Exchange, Fault>
     }
 }
 
-/// Returns whether an exchange replays at an end; `None` if a second replay has another outcome. The outcomes are that
-/// it agrees, which line differs, and what the end gives there.
-pub(crate) fn as_replayed(
+/// Whether an exchange replays at an end.
+pub(crate) fn is_replayed_at(
     alloc: Global,
     exchange: &Exchange,
     side: Side,
-) -> Result<Option<bool>, Fault> {
-    let outcome = replay(alloc, exchange, side);
-    let again = replay(alloc, exchange, side);
-    match outcome {
+) -> Result<bool, Fault> {
+    match replay(alloc, exchange, side) {
+        Ok(()) => Ok(true),
         Err(ReplayFault::Memory) => Err(Fault::Memory),
-        outcome => Ok((outcome == again).then_some(outcome.is_ok())),
+        Err(_) => Ok(false),
     }
 }
 
+/// Whether two replays of an exchange at an end have the same outcome: it agrees, or which line differs, and what the
+/// end gives there.
+pub(crate) fn replays_alike(alloc: Global, exchange: &Exchange, side: Side) -> bool {
+    same(replay(alloc, exchange, side), replay(alloc, exchange, side))
+}
+
 /// Prints the line of each list.
-fn tell_each(rt: &HostRuntime) -> Result<(), Fault> {
-    let alloc = rt.alloc();
+fn tell_each(rt: &HostRuntime, trial: &mut Trial) -> Result<(), Fault> {
+    trial.share = asked(rt)?;
     let files = sessions::files(rt)?;
-    let sessions = sessions::sessions(alloc, files.as_slice())?;
-    tell_of(rt, files.as_slice(), sessions.as_slice())
+    let sessions = sessions::sessions(trial.alloc, files.as_slice())?;
+    tell_of(rt, trial, files.as_slice(), sessions.as_slice())
 }
 
 /// Prints the line of each list, with these files.
-fn tell_of(rt: &HostRuntime, files: &[Vec<u8>], sessions: &[Exchange]) -> Result<(), Fault> {
-    let alloc = rt.alloc();
-    let share = asked(rt)?;
-    tell(rt, chains::fail_each(alloc))?;
-    tell(rt, refusals::refuse_each(alloc, sessions, share))?;
-    tell(rt, records::refuse_each(alloc, share))?;
-    tell(rt, deliveries::deliver_each(alloc, share))?;
-    tell(rt, pairs::disturb_each(alloc, share))?;
-    tell(rt, drawn::draw_each(alloc, share))?;
-    tell(rt, timed::harm_each(alloc, share))?;
-    tell(rt, files::spoil_each(alloc, files, share))
+fn tell_of(
+    rt: &HostRuntime,
+    trial: &mut Trial,
+    files: &[Vec<u8>],
+    sessions: &[Exchange],
+) -> Result<(), Fault> {
+    let long = vec![in trial.alloc; 0xA5u8; 65_545]?;
+    tell_short(rt, trial, sessions, long.as_slice())?;
+    deliveries::deliver_each(rt, trial)?;
+    tell_long(rt, trial, files)
 }
 
-/// Prints the line of a list.
-fn tell(rt: &HostRuntime, line: Result<String, Fault>) -> Result<(), Fault> {
-    let line = line?;
-    Ok(println!(rt; "{line}")?)
+/// Prints the lines of chains and of what is refused. `long` has more octets than a message may have.
+fn tell_short(
+    rt: &HostRuntime,
+    trial: &mut Trial,
+    sessions: &[Exchange],
+    long: &[u8],
+) -> Result<(), Fault> {
+    chains::fail_each(rt, trial)?;
+    refusals::refuse_each(rt, trial, sessions, long)?;
+    records::refuse_each(rt, trial, long)
+}
+
+/// Prints the lines of whole sessions and of files.
+fn tell_long(rt: &HostRuntime, trial: &mut Trial, files: &[Vec<u8>]) -> Result<(), Fault> {
+    pairs::disturb_each(rt, trial)?;
+    drawn::draw_each(rt, trial)?;
+    timed::harm_each(rt, trial)?;
+    files::spoil_each(rt, trial, files)
 }

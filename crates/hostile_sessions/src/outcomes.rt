@@ -1,12 +1,9 @@
 //! What an end should do with octets, and whether its turn is that.
 
 use crate::states::Turns;
-use crate::turns::{Fits, ROWS, Wanted};
+use crate::turns::{Fits, ROWS, Row, Wanted};
 use block_core::{Block, encode};
-use octet_core::hex_upper;
-use std::alloc::{AllocError, Global};
 use t1_core::{CardFault, CardTurn, TerminalFault, TerminalTurn};
-use test_support::same;
 
 /// What octets are to an end.
 #[derive(Clone, Copy)]
@@ -16,76 +13,81 @@ pub(crate) enum Class {
     Invalid,
 }
 
-/// Returns octets in hexadecimal. It has no contract, so that its callers carry none.
-fn text_of(alloc: Global, octets: &[u8]) -> Result<String, AllocError> {
-    hex_upper(alloc, octets)
+/// The digits of hexadecimal texts.
+static DIGITS: [u8; 16] = *b"0123456789ABCDEF";
+
+/// Whether a text has these octets, in hexadecimal.
+fn is_text_of(text: &str, octets: &[u8]) -> bool {
+    let mut rest = text.as_bytes();
+    for octet in octets {
+        let [high, low, after @ ..] = rest else {
+            return false;
+        };
+        if *high != DIGITS[(*octet >> 4) as usize] || *low != DIGITS[(*octet & 0x0F) as usize] {
+            return false;
+        }
+        rest = after;
+    }
+    rest.is_empty()
 }
 
 /// Returns what an end should do with octets.
-pub(crate) fn wanted(
-    alloc: Global,
-    turns: &Turns,
-    class: Class,
-    octets: &[u8],
-) -> Result<Wanted, AllocError> {
+pub(crate) fn wanted(turns: &Turns, class: Class, octets: &[u8]) -> Wanted {
     match class {
-        Class::Block => Ok(fitting(turns, text_of(alloc, octets)?.as_str())),
-        Class::Damaged => Ok(turns.misfit.damaged()),
-        Class::Invalid => Ok(turns.misfit.other()),
+        Class::Block => fitting(turns, octets),
+        Class::Damaged => turns.misfit.damaged(),
+        Class::Invalid => turns.misfit.other(),
     }
 }
 
-/// Returns what an end should do with a whole block, in hexadecimal.
-fn fitting(turns: &Turns, block: &str) -> Wanted {
-    let (first, second) = turns.fits;
-    match (found(first, block), found(second, block)) {
-        (Some(wanted), _) | (None, Some(wanted)) => wanted,
-        (None, None) => turns.misfit.other(),
+/// Returns what an end should do with a whole block.
+fn fitting(turns: &Turns, block: &[u8]) -> Wanted {
+    match found(rows(), turns.fits, block) {
+        Some(wanted) => wanted,
+        None => turns.misfit.other(),
     }
+}
+
+/// Returns the blocks that fit.
+fn rows() -> &'static [Row] {
+    &ROWS
 }
 
 /// Returns the result for a block among those that fit.
-fn found(fits: Fits, block: &str) -> Option<Wanted> {
-    for &(of, fitting, wanted) in &ROWS {
-        if of == fits && fitting == block {
-            return Some(wanted);
+fn found(rows: &[Row], fits: (Fits, Fits), block: &[u8]) -> Option<Wanted> {
+    let (first, second) = fits;
+    for (of, text, wanted) in rows {
+        if (*of == first || *of == second) && is_text_of(text, block) {
+            return Some(*wanted);
         }
     }
     None
 }
 
 /// Whether a block has these octets, in hexadecimal.
-fn is_block(alloc: Global, block: &Block, text: &str) -> Result<bool, AllocError> {
-    Ok(same(text_of(alloc, encode(block).as_slice())?.as_str(), text))
+fn is_block(block: &Block, text: &str) -> bool {
+    is_text_of(text, encode(block).as_slice())
 }
 
 /// Whether a turn of the terminal is the right one.
-pub(crate) fn is_terminal(
-    alloc: Global,
-    turn: &Result<TerminalTurn, TerminalFault>,
-    wanted: Wanted,
-) -> Result<bool, AllocError> {
+pub(crate) fn is_terminal(turn: &Result<TerminalTurn, TerminalFault>, wanted: Wanted) -> bool {
     match (turn, wanted) {
-        (Ok(TerminalTurn::Send(block)), Wanted::Sends(text)) => is_block(alloc, block, text),
+        (Ok(TerminalTurn::Send(block)), Wanted::Sends(text)) => is_block(block, text),
         (Ok(TerminalTurn::Answered), Wanted::Answered)
         | (Ok(TerminalTurn::IfsSet), Wanted::IfsSet)
         | (Ok(TerminalTurn::GivenUp), Wanted::GivenUp)
-        | (Ok(TerminalTurn::Dead), Wanted::Dies) => Ok(true),
-        (Err(fault), Wanted::Terminal(wanted)) => Ok(*fault == wanted),
-        _ => Ok(false),
+        | (Ok(TerminalTurn::Dead), Wanted::Dies) => true,
+        (Err(fault), Wanted::Terminal(wanted)) => *fault == wanted,
+        _ => false,
     }
 }
 
 /// Whether a turn of the card is the right one.
-pub(crate) fn is_card(
-    alloc: Global,
-    turn: &Result<CardTurn, CardFault>,
-    wanted: Wanted,
-) -> Result<bool, AllocError> {
+pub(crate) fn is_card(turn: &Result<CardTurn, CardFault>, wanted: Wanted) -> bool {
     match (turn, wanted) {
-        (Ok(CardTurn::Send(block)), Wanted::Sends(text)) => is_block(alloc, block, text),
-        (Ok(CardTurn::Asked), Wanted::Asked) => Ok(true),
-        (Err(fault), Wanted::Card(wanted)) => Ok(*fault == wanted),
-        _ => Ok(false),
+        (Ok(CardTurn::Send(block)), Wanted::Sends(text)) => is_block(block, text),
+        (Ok(CardTurn::Asked), Wanted::Asked) => true,
+        (Err(fault), Wanted::Card(wanted)) => *fault == wanted,
+        _ => false,
     }
 }

@@ -1,8 +1,8 @@
 //! Events that a recorder refuses.
 
-use exchange_core::{Event, EventFault, Recorder, RecorderFault, write_exchange};
+use exchange_core::{Event, EventFault, Exchange, Recorder, RecorderFault, write_exchange};
 use std::alloc::Global;
-use test_support::{Case, Fault, Share};
+use test_support::{Case, Fault, Share, Trial};
 
 /// The answer to reset of a card that takes fields of 2 octets.
 const ATR: [u8; 7] = [0x3B, 0x80, 0x81, 0x31, 0x02, 0x45, 0x77];
@@ -51,40 +51,52 @@ const DEAD: [Event<'static>; 8] = [
     Event::Lose,
 ];
 
-/// Puts each event between any two events of each session.
+/// Puts each event between any two events of each session. `long` has more octets than a command or a reply may have.
 ///
 /// If it is refused, the record stays as it was, and so does that of the whole session.
-pub(crate) fn refuse_each(alloc: Global, share: Share) -> Result<String, Fault> {
-    let long = vec![in alloc; 0xA5u8; 65_545]?;
-    let refused = refused_in_each(alloc, share, long.as_slice());
-    line(alloc, refused?)
-}
-
-/// Returns the line about so many events.
-fn line(alloc: Global, refused: u64) -> Result<String, Fault> {
-    Ok(format!(in alloc; "recorded: {refused} events refused, which left the record as it was")?)
-}
-
-/// Returns how many events are refused within the sessions.
-fn refused_in_each(alloc: Global, share: Share, long: &[u8]) -> Result<u64, Fault> {
-    let answered = match share {
-        Share::All => refused_in(alloc, &ANSWERED, long)?,
-        Share::Few => 0,
-    };
-    Ok(answered.saturating_add(refused_in(alloc, &DEAD, long)?))
-}
-
-/// Returns how many events are refused within a session.
-fn refused_in(alloc: Global, session: &[Event<'_>], long: &[u8]) -> Result<u64, Fault> {
+pub(crate) fn refuse_each(rt: &HostRuntime, trial: &mut Trial, long: &[u8]) -> Result<(), Fault> {
     let mut refused = 0u64;
-    for place in 0..=session.len() {
-        for &event in &events(long) {
-            if is_put(alloc, session, place, event)? {
-                refused = refused.saturating_add(1);
-            }
-        }
+    if matches!(trial.share, Share::All) {
+        refuse_in(trial, &ANSWERED, long, &mut refused);
     }
-    Ok(refused)
+    refuse_in(trial, &DEAD, long, &mut refused);
+    let counts = [("recorded: ", refused)];
+    trial.report(
+        rt,
+        &counts,
+        " events refused, which left the record as it was",
+    )
+}
+
+/// Puts each event between any two events of a session.
+fn refuse_in(trial: &mut Trial, session: &[Event<'_>], long: &[u8], refused: &mut u64) {
+    for place in 0..=session.len() {
+        let (before, after) = session.split_at(place);
+        refuse_between(trial, before, after, long, refused);
+    }
+}
+
+/// Puts each event between these events of a session.
+fn refuse_between(
+    trial: &mut Trial,
+    before: &[Event<'_>],
+    after: &[Event<'_>],
+    long: &[u8],
+    refused: &mut u64,
+) {
+    for event in &events(long) {
+        let case = Case {
+            what: "an event that is refused",
+            octets: &ATR,
+            place: before.len(),
+            piece: before.len().saturating_add(after.len()),
+        };
+        trial.count(
+            case,
+            is_as_before(trial.alloc, before, *event, after),
+            refused,
+        );
+    }
 }
 
 /// Returns all events, with those that no end accepts.
@@ -109,89 +121,72 @@ fn events(long: &[u8]) -> [Event<'_>; 16] {
     ]
 }
 
-/// Returns whether an event is refused before the event at `place`. If it is, checks that the records are as without
-/// it.
-fn is_put(
+/// Whether an event that is refused between others leaves the record as it was, and that of the whole session; `None` if
+/// it is accepted.
+fn is_as_before(
     alloc: Global,
-    session: &[Event<'_>],
-    place: usize,
+    before: &[Event<'_>],
     event: Event<'_>,
-) -> Result<bool, Fault> {
-    let Some(before) = session.get(..place) else {
-        return Ok(false);
-    };
-    match refused_after(alloc, before, event)? {
-        Some(text) => {
-            let is_as_before = is_record(alloc, before, text.as_slice());
-            expect(alloc, session, place, event, is_as_before)
-        }
-        None => Ok(false),
+    after: &[Event<'_>],
+) -> Result<Option<bool>, Fault> {
+    match is_same(alloc, before, event, &[]) {
+        Ok(Some(true)) => is_same(alloc, before, event, after),
+        answer => answer,
     }
 }
 
-/// Checks that an event which is refused before the event at `place` leaves the record as it was, and that of the whole
-/// session.
-fn expect(
-    alloc: Global,
-    session: &[Event<'_>],
-    place: usize,
-    event: Event<'_>,
-    is_as_before: Result<bool, Fault>,
-) -> Result<bool, Fault> {
-    let is_as_before = is_as_before?;
-    let goes_on = goes_on(alloc, session, place, event)?;
-    let case = Case {
-        what: "an event that is refused",
-        octets: &ATR,
-        place,
-        piece: session.len(),
-    };
-    case.expect(alloc, is_as_before && goes_on)?;
-    Ok(true)
-}
-/// Returns the text of a session after which an event is refused; `None` if the event is accepted.
-fn refused_after(
+/// Whether a record is the same as without an event that is refused between others; `None` if an event is
+/// accepted or refused otherwise.
+fn is_same(
     alloc: Global,
     before: &[Event<'_>],
     event: Event<'_>,
-) -> Result<Option<Vec<u8>>, Fault> {
-    let mut recorder = recorder(alloc, &ATR)?;
-    let is_refused = is_refused_after(&mut recorder, before, event);
-    text_where(alloc, recorder, is_refused)
-}
-
-/// Whether an event after others is refused, or one of the others is.
-fn is_refused_after(
-    recorder: &mut Recorder,
-    before: &[Event<'_>],
-    event: Event<'_>,
-) -> Result<bool, Fault> {
-    let is_begun = are_taken(recorder, before)?;
-    Ok(!is_taken(recorder, event)? || !is_begun)
-}
-
-/// Whether a session has the same record as without an event that is refused before the event at `place`.
-fn goes_on(
-    alloc: Global,
-    session: &[Event<'_>],
-    place: usize,
-    event: Event<'_>,
-) -> Result<bool, Fault> {
-    let Some((before, after)) = session.split_at_checked(place) else {
-        return Ok(false);
-    };
-    match told_past(alloc, before, event, after)? {
-        Some(text) => is_record(alloc, session, text.as_slice()),
-        None => Ok(false),
+    after: &[Event<'_>],
+) -> Result<Option<bool>, Fault> {
+    match recorded(alloc, before, Some(event), after) {
+        Ok(text) => is_recorded(alloc, before, after, text.as_slice()),
+        Err(Fault::Wrong) => Ok(None),
+        Err(fault) => Err(fault),
     }
 }
 
 /// Whether the record of these events has this text.
-fn is_record(alloc: Global, events: &[Event<'_>], text: &[u8]) -> Result<bool, Fault> {
-    Ok(match recorded(alloc, events)? {
-        Some(recorded) => recorded.as_slice() == text,
-        None => false,
-    })
+fn is_recorded(
+    alloc: Global,
+    before: &[Event<'_>],
+    after: &[Event<'_>],
+    text: &[u8],
+) -> Result<Option<bool>, Fault> {
+    match recorded(alloc, before, None, after) {
+        Ok(recorded) => Ok(Some(recorded.as_slice() == text)),
+        Err(Fault::Wrong) => Ok(Some(false)),
+        Err(fault) => Err(fault),
+    }
+}
+
+/// Returns the text of a session in two parts, with an event between them that has to be refused.
+fn recorded(
+    alloc: Global,
+    before: &[Event<'_>],
+    refused: Option<Event<'_>>,
+    after: &[Event<'_>],
+) -> Result<Vec<u8>, Fault> {
+    let mut recorder = recorder(alloc, &ATR)?;
+    let happened = make_happen(&mut recorder, before, refused, after);
+    text(alloc, ended(recorder, happened))
+}
+
+/// Returns the text of a record.
+fn text(alloc: Global, exchange: Result<Exchange, Fault>) -> Result<Vec<u8>, Fault> {
+    Ok(write_exchange(alloc, &exchange?)?)
+}
+
+/// Returns the record of a session whose calls were recorded, or why they could not be.
+pub(crate) fn ended(recorder: Recorder, recorded: Result<(), Fault>) -> Result<Exchange, Fault> {
+    match recorded {
+        Ok(()) => Ok(recorder.exchange()?),
+        Err(fault) => Err(fault),
+    }
 }
 
 /// Returns a recorder of a session with a card that has this answer to reset.
@@ -221,62 +216,33 @@ fn is_taken(recorder: &mut Recorder, event: Event<'_>) -> Result<bool, Fault> {
     }
 }
 
-/// Whether all events are accepted.
-fn are_taken(recorder: &mut Recorder, events: &[Event<'_>]) -> Result<bool, Fault> {
-    for event in events {
-        if !is_taken(recorder, *event)? {
-            return Ok(false);
-        }
-    }
-    Ok(true)
-}
-
-/// Returns the text of a record if a condition holds, else `None`.
-fn text_where(
-    alloc: Global,
-    recorder: Recorder,
-    is_so: Result<bool, Fault>,
-) -> Result<Option<Vec<u8>>, Fault> {
-    if is_so? {
-        Ok(Some(text(alloc, recorder)?))
-    } else {
-        Ok(None)
-    }
-}
-
-/// Returns the text of a record.
-fn text(alloc: Global, recorder: Recorder) -> Result<Vec<u8>, Fault> {
-    Ok(write_exchange(alloc, &recorder.exchange()?)?)
-}
-
-/// Returns the text of a session; `None` if not all its events are accepted.
-fn recorded(alloc: Global, events: &[Event<'_>]) -> Result<Option<Vec<u8>>, Fault> {
-    let mut recorder = recorder(alloc, &ATR)?;
-    let are_taken = are_taken(&mut recorder, events);
-    text_where(alloc, recorder, are_taken)
-}
-
-/// Returns the text of a session in two parts, with an event between them that is refused; `None` if it is accepted, or
-/// if not all others are.
-fn told_past(
-    alloc: Global,
-    before: &[Event<'_>],
-    event: Event<'_>,
-    after: &[Event<'_>],
-) -> Result<Option<Vec<u8>>, Fault> {
-    let mut recorder = recorder(alloc, &ATR)?;
-    let are_taken = are_taken_around(&mut recorder, before, event, after);
-    text_where(alloc, recorder, are_taken)
-}
-
-/// Whether events are accepted, and one between them is refused.
-fn are_taken_around(
+/// Makes events happen that have to be accepted, and between them one that has to be refused. What isn't so is a wrong
+/// answer.
+fn make_happen(
     recorder: &mut Recorder,
     before: &[Event<'_>],
-    event: Event<'_>,
+    refused: Option<Event<'_>>,
     after: &[Event<'_>],
-) -> Result<bool, Fault> {
-    let is_begun = are_taken(recorder, before)?;
-    let is_taken = is_taken(recorder, event)?;
-    Ok(are_taken(recorder, after)? && is_begun && !is_taken)
+) -> Result<(), Fault> {
+    take_each(recorder, before)?;
+    refuse(recorder, refused)?;
+    take_each(recorder, after)
+}
+
+/// Makes an event happen that has to be refused, if there is one.
+fn refuse(recorder: &mut Recorder, event: Option<Event<'_>>) -> Result<(), Fault> {
+    match event {
+        Some(event) if is_taken(recorder, event)? => Err(Fault::Wrong),
+        _ => Ok(()),
+    }
+}
+
+/// Makes events happen that have to be accepted.
+fn take_each(recorder: &mut Recorder, events: &[Event<'_>]) -> Result<(), Fault> {
+    for event in events {
+        if !is_taken(recorder, *event)? {
+            return Err(Fault::Wrong);
+        }
+    }
+    Ok(())
 }

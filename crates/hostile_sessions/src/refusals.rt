@@ -1,12 +1,11 @@
 //! Calls that an end refuses, within sessions.
 
-use crate::ends::{Ends, Waits, params};
-use atr_core::T1Params;
+use crate::ends::{Ends, Waits};
 use exchange_core::{Exchange, Line};
 use octet_core::is_reserved;
-use std::alloc::{AllocError, Global};
+use std::alloc::Global;
 use t1_core::{CardFault, TerminalFault};
-use test_support::{Case, Fault, Share};
+use test_support::{Case, Fault, Trial};
 
 /// A call of an end that is refused in some state.
 #[derive(Clone, Copy)]
@@ -24,13 +23,13 @@ enum Call {
 }
 
 /// Why a call is refused.
-#[derive(PartialEq, Drop)]
+#[derive(Clone, Copy, PartialEq)]
 enum Refused {
     Terminal(TerminalFault),
     Card(CardFault),
 }
 
-const CALLS: [Call; 14] = [
+static CALLS: [Call; 14] = [
     Call::ToTerminal,
     Call::Quiet,
     Call::Transmit,
@@ -47,119 +46,66 @@ const CALLS: [Call; 14] = [
     Call::AskIfsc(255),
 ];
 
-/// The arguments of the calls: a block, a short command or reply, and more octets than either may have.
-#[derive(Clone, Copy)]
-struct Handed<'a> {
-    block: &'a [u8],
-    short: &'a [u8],
-    long: &'a [u8],
-}
+/// The block, and the short command or reply, that calls have as their arguments.
+const BLOCK: [u8; 4] = [0x00, 0x80, 0x00, 0x80];
+
+const SHORT: [u8; 2] = [0x90, 0x00];
 
 /// Puts each call that is refused between any two lines of each session. The session has to go on as if it weren't
-/// there.
+/// there. `long` has more octets than a command or a reply may have.
 pub(crate) fn refuse_each(
-    alloc: Global,
+    rt: &HostRuntime,
+    trial: &mut Trial,
     sessions: &[Exchange],
-    share: Share,
-) -> Result<String, Fault> {
-    let count = share.most(sessions.len());
-    let long = vec![in alloc; 0xA5u8; 65_545]?;
-    let refused = refused_in_each(alloc, sessions, count, as_handed(long.as_slice()));
-    line(alloc, refused?, count)
-}
-
-/// Returns the arguments of the calls, with these octets as too many.
-fn as_handed(long: &[u8]) -> Handed<'_> {
-    Handed {
-        block: &[0x00, 0x80, 0x00, 0x80],
-        short: &[0x90, 0x00],
-        long,
-    }
-}
-
-/// Returns the line about so many calls.
-fn line(alloc: Global, refused: u64, count: usize) -> Result<String, Fault> {
-    Ok(format!(in alloc;
-        "refused: {refused} calls within {count} sessions, which went on unchanged"
-    )?)
-}
-
-/// Returns how many calls are refused within the first so many sessions.
-fn refused_in_each(
-    alloc: Global,
-    sessions: &[Exchange],
-    count: usize,
-    handed: Handed<'_>,
-) -> Result<u64, Fault> {
+    long: &[u8],
+) -> Result<(), Fault> {
+    let count = trial.share.most(sessions.len());
     let mut refused = 0u64;
     for session in sessions.iter().take(count) {
-        refused = refused.saturating_add(refused_in(alloc, session, handed)?);
+        refuse_in(trial, session, long, &mut refused);
     }
-    Ok(refused)
+    let counts = [("refused: ", refused), (" calls within ", count as u64)];
+    trial.report(rt, &counts, " sessions, which went on unchanged")
 }
 
-/// Returns how many calls are refused within a session.
-fn refused_in(alloc: Global, session: &Exchange, handed: Handed<'_>) -> Result<u64, Fault> {
-    let mut refused = 0u64;
+/// Puts each call between any two lines of a session.
+fn refuse_in(trial: &mut Trial, session: &Exchange, long: &[u8], refused: &mut u64) {
     for place in 0..=session.lines().get().len() {
-        refused = refused.saturating_add(refused_at(alloc, session, place, handed)?);
+        refuse_at(trial, session, place, long, refused);
     }
-    Ok(refused)
 }
 
-/// Returns how many calls are refused before the line at `place` of a session.
-fn refused_at(
-    alloc: Global,
-    session: &Exchange,
-    place: usize,
-    handed: Handed<'_>,
-) -> Result<u64, Fault> {
-    let mut refused = 0u64;
+/// Puts each call before the line at `place` of a session.
+fn refuse_at(trial: &mut Trial, session: &Exchange, place: usize, long: &[u8], refused: &mut u64) {
     for &call in &CALLS {
-        if is_put(alloc, session, place, call, handed)? {
-            refused = refused.saturating_add(1);
-        }
+        let case = Case {
+            what: "a refused call within a session",
+            octets: session.atr(),
+            place,
+            piece: session.lines().get().len().saturating_sub(place),
+        };
+        trial.count(
+            case,
+            goes_on_from(trial.alloc, session, place, call, long),
+            refused,
+        );
     }
-    Ok(refused)
 }
 
-/// Returns whether a call is refused before the line at `place`. If it is, checks that everything else is as it was.
-fn is_put(
-    alloc: Global,
-    session: &Exchange,
-    place: usize,
-    call: Call,
-    handed: Handed<'_>,
-) -> Result<bool, Fault> {
-    let Some((before, after)) = session.lines().get().split_at_checked(place) else {
-        return Ok(false);
-    };
-    let params = params(session)?;
-    let Some(is_right) = goes_on_from(alloc, params, before, call, handed, after)? else {
-        return Ok(false);
-    };
-    let case = Case {
-        what: "a refused call within a session",
-        octets: session.atr(),
-        place,
-        piece: after.len(),
-    };
-    case.expect(alloc, is_right)?;
-    Ok(true)
-}
-
-/// Whether new ends do what the lines say, with a call between them that is refused as it should be; `None` if the call
-/// isn't to be refused there.
+/// Whether new ends do what the lines of a session say, with a call before the line at `place` that is refused as it
+/// should be; `None` if the call isn't to be refused there.
 fn goes_on_from(
     alloc: Global,
-    params: T1Params,
-    before: &[Line],
+    session: &Exchange,
+    place: usize,
     call: Call,
-    handed: Handed<'_>,
-    after: &[Line],
-) -> Result<Option<bool>, AllocError> {
-    let mut ends = Ends::new(alloc, params)?;
-    Ok(goes_on(&mut ends, before, call, handed, after))
+    long: &[u8],
+) -> Result<Option<bool>, Fault> {
+    let mut ends = Ends::of(alloc, session)?;
+    Ok(match session.lines().get().split_at_checked(place) {
+        Some((before, after)) => goes_on(&mut ends, before, call, long, after),
+        None => None,
+    })
 }
 
 /// Whether a call between lines is refused as it should be, and the ends do what the lines say; `None` if the call
@@ -168,35 +114,44 @@ fn goes_on(
     ends: &mut Ends,
     before: &[Line],
     call: Call,
-    handed: Handed<'_>,
+    long: &[u8],
     after: &[Line],
 ) -> Option<bool> {
     let is_followed = ends.follow(before);
     let wanted = wanted(ends, call)?;
-    let is_refused = refusal_of(ends, call, handed) == Some(wanted);
+    let is_refused = refusal_of(ends, call, long) == Some(wanted);
     Some(is_followed && is_refused && ends.follow(after))
 }
 
 /// Returns why a call has to be refused in this state, or `None` if it hasn't.
 fn wanted(ends: &Ends, call: Call) -> Option<Refused> {
+    let waits = ends.waits();
     match call {
-        Call::ToTerminal | Call::Quiet => match ends.waits() {
-            Waits::Idle => Some(Refused::Terminal(TerminalFault::Idle)),
-            Waits::Card => None,
-            Waits::Dead => Some(Refused::Terminal(TerminalFault::Dead)),
-        },
-        Call::Transmit => called(ends.waits(), None),
-        Call::TransmitTooLong => called(ends.waits(), Some(TerminalFault::TooLong)),
-        Call::AskIfsd(size) => called(
-            ends.waits(),
-            is_reserved(size).then_some(TerminalFault::Reserved),
-        ),
-        Call::ToCard if ends.is_hosts_turn() => Some(Refused::Card(CardFault::Order)),
-        Call::ToCard => None,
-        _ if !ends.is_hosts_turn() => Some(Refused::Card(CardFault::Order)),
+        Call::ToTerminal | Call::Quiet => received(waits),
+        Call::Transmit => called(waits, None),
+        Call::TransmitTooLong => called(waits, Some(TerminalFault::TooLong)),
+        Call::AskIfsd(size) => called(waits, is_reserved(size).then_some(TerminalFault::Reserved)),
+        _ => wanted_of_card(ends.is_hosts_turn(), call),
+    }
+}
+
+/// Returns why a card has to refuse a call, or `None` if it hasn't.
+fn wanted_of_card(is_hosts_turn: bool, call: Call) -> Option<Refused> {
+    match call {
+        Call::ToCard => is_hosts_turn.then_some(Refused::Card(CardFault::Order)),
+        _ if !is_hosts_turn => Some(Refused::Card(CardFault::Order)),
         Call::ReplyTooLong => Some(Refused::Card(CardFault::TooLong)),
         Call::AskIfsc(size) if is_reserved(size) => Some(Refused::Card(CardFault::Reserved)),
         _ => None,
+    }
+}
+
+/// Returns why a terminal has to refuse what comes from the line, or `None` if it hasn't.
+fn received(waits: Waits) -> Option<Refused> {
+    match waits {
+        Waits::Idle => Some(Refused::Terminal(TerminalFault::Idle)),
+        Waits::Card => None,
+        Waits::Dead => Some(Refused::Terminal(TerminalFault::Dead)),
     }
 }
 
@@ -210,23 +165,23 @@ fn called(waits: Waits, idle: Option<TerminalFault>) -> Option<Refused> {
 }
 
 /// Makes the call, and returns why it is refused, or `None` if it isn't.
-fn refusal_of(ends: &mut Ends, call: Call, handed: Handed<'_>) -> Option<Refused> {
+fn refusal_of(ends: &mut Ends, call: Call, long: &[u8]) -> Option<Refused> {
     let terminal = match call {
-        Call::ToTerminal => ends.terminal.received(handed.block),
+        Call::ToTerminal => ends.terminal.received(&BLOCK),
         Call::Quiet => ends.terminal.quiet(),
-        Call::Transmit => ends.terminal.transmit(handed.short),
-        Call::TransmitTooLong => ends.terminal.transmit(handed.long),
+        Call::Transmit => ends.terminal.transmit(&SHORT),
+        Call::TransmitTooLong => ends.terminal.transmit(long),
         Call::AskIfsd(size) => ends.terminal.ask_ifs(size),
-        _ => return refused_by_card(ends, call, handed),
+        _ => return refused_by_card(ends, call, long),
     };
     terminal.err().map(Refused::Terminal)
 }
 
-fn refused_by_card(ends: &mut Ends, call: Call, handed: Handed<'_>) -> Option<Refused> {
+fn refused_by_card(ends: &mut Ends, call: Call, long: &[u8]) -> Option<Refused> {
     let card = match call {
-        Call::ToCard => ends.card.received(handed.block),
-        Call::Reply => ends.card.reply(handed.short),
-        Call::ReplyTooLong => ends.card.reply(handed.long),
+        Call::ToCard => ends.card.received(&BLOCK),
+        Call::Reply => ends.card.reply(&SHORT),
+        Call::ReplyTooLong => ends.card.reply(long),
         Call::MoreTime => ends.card.more_time(1),
         Call::AskIfsc(size) => ends.card.ask_ifs(size),
         _ => return None,

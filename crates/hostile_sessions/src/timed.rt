@@ -15,9 +15,8 @@ use line_core::TimedDevice;
 use rand_pcg::Pcg32;
 use session_core::{Action, CardSession, FOREVER, Limits, Rules, TerminalSession};
 use session_laws::{ask_ifs_ends, exchange_ends, resynch_ends, serve_events};
-use std::alloc::Global;
 use std::io;
-use test_support::{Case, Fault, Share};
+use test_support::{Case, Fault, Trial};
 
 /// The answer to reset of a card that takes fields of 32 octets.
 const ATR: [u8; 7] = [0x3B, 0x80, 0x81, 0x31, 0x20, 0x45, 0x55];
@@ -297,7 +296,7 @@ fn go_through(mut post: Post, mut wire: Wire, tally: &mut Tally)
 }
 
 /// Runs sessions in which a quarter of all blocks are harmed.
-pub(crate) fn harm_each(alloc: Global, share: Share) -> Result<String, Fault> {
+pub(crate) fn harm_each(rt: &HostRuntime, trial: &mut Trial) -> Result<(), Fault> {
     let mut tally = Tally {
         right: 0,
         given_up: 0,
@@ -305,29 +304,27 @@ pub(crate) fn harm_each(alloc: Global, share: Share) -> Result<String, Fault> {
         wrong: 0,
     };
     for seed in 0..SESSIONS {
-        if share.has(seed as usize) {
+        if trial.share.has(seed as usize) {
             session(seed, &mut tally);
         }
     }
-    report(alloc, &tally)
+    report(rt, trial, tally)
 }
 
-/// Returns the line about all sessions, or the case that they went wrong.
-fn report(alloc: Global, tally: &Tally) -> Result<String, Fault> {
-    let Tally {
-        right,
-        given_up,
-        dead,
-        wrong,
-    } = *tally;
+/// Prints the line about all sessions, or takes the case that they went wrong.
+fn report(rt: &HostRuntime, trial: &mut Trial, tally: Tally) -> Result<(), Fault> {
     let case = Case {
         what: "an exchange over a line with a clock",
         octets: &ATR,
-        place: wrong as usize,
+        place: tally.wrong as usize,
         piece: 0,
     };
-    case.expect(alloc, wrong == 0)?;
-    Ok(format!(in alloc;
-        "harmed: {right} exchanges right, {given_up} given up, {dead} cards dead, 0 wrong, with a quarter of all blocks harmed"
-    )?)
+    trial.expect(case, Ok(tally.wrong == 0));
+    let counts = [
+        ("harmed: ", u64::from(tally.right)),
+        (" exchanges right, ", u64::from(tally.given_up)),
+        (" given up, ", u64::from(tally.dead)),
+        (" cards dead, ", u64::from(tally.wrong)),
+    ];
+    trial.report(rt, &counts, " wrong, with a quarter of all blocks harmed")
 }

@@ -55,8 +55,11 @@ pub(crate) enum Fits {
     Reply,
 }
 
+/// A state, a block that fits it, in hexadecimal, and the result.
+pub(crate) type Row = (Fits, &'static str, Wanted);
+
 /// The blocks that fit, in hexadecimal, and the result of each.
-pub(crate) static ROWS: [(Fits, &str, Wanted); 64] = [
+pub(crate) static ROWS: [Row; 64] = [
     (Fits::Granted, "00C101FE3E", Wanted::Sends("00E101FE1E")),
     (Fits::Granted, "00C10102C2", Wanted::Sends("00E10102E2")),
     (Fits::Granted, "00C30101C3", Wanted::Sends("00E30101E3")),

@@ -1,8 +1,7 @@
-//! A case of a program that tests lists of cases, and the text for a case that fails.
+//! A case of a program that tests lists of cases, and why such a list stops early.
 
 use octet_core::{HexFault, hex_upper};
 use std::alloc::{AllocError, AllocFailed, Global};
-use std::fmt::{self, Display, Formatter, Write};
 use std::io;
 
 /// A case: what is tested, the octets, a place in them, and the value or piece there.
@@ -14,12 +13,11 @@ pub struct Case<'a> {
     pub piece: usize,
 }
 
-/// Why a list of cases stopped early.
-#[derive(Debug, Drop)]
+/// Why a list of cases stopped early. It is a plain value, since each way out of a function returns a fault.
+#[derive(Clone, Copy, Debug)]
 pub enum Fault {
-    /// A case gave a wrong answer. The fault is one text about the case, since each way out of a function returns a
-    /// fault.
-    Wrong(String),
+    /// A case gave a wrong answer.
+    Wrong,
     /// Out of memory.
     Memory,
     /// A file couldn't be read, or a line couldn't be printed.
@@ -27,24 +25,21 @@ pub enum Fault {
 }
 
 impl Case<'_> {
-    /// Succeeds if the answer to the case is right.
-    pub fn expect(self, alloc: Global, is_right: bool) -> Result<(), Fault> {
-        if is_right {
-            return Ok(());
-        }
-        Err(Fault::Wrong(self.text(alloc)?))
+    /// Returns the text on a case that failed, with its octets in hexadecimal.
+    pub(crate) fn text(self, alloc: Global) -> Result<String, AllocError> {
+        let octets = hex_upper(alloc, self.octets)?;
+        self.text_with(alloc, octets.as_str())
     }
 
-    /// Returns the text on a case that failed, with its octets in hexadecimal.
-    fn text(self, alloc: Global) -> Result<String, Fault> {
+    /// Returns the text on a case that failed, with these octets.
+    fn text_with(self, alloc: Global, octets: &str) -> Result<String, AllocError> {
         let Case {
             what,
-            octets,
             place,
             piece,
+            ..
         } = self;
-        let octets = hex_upper(alloc, octets)?;
-        Ok(format!(in alloc; "wrong: {what}: octets {octets}, place {place}, piece {piece}")?)
+        format!(in alloc; "wrong: {what}: octets {octets}, place {place}, piece {piece}")
     }
 }
 
@@ -71,16 +66,6 @@ impl From<HexFault> for Fault {
         match fault {
             HexFault::Memory => Fault::Memory,
             _ => Fault::Stream,
-        }
-    }
-}
-
-impl Display for Fault {
-    fn fmt<W: Write>(&self, f: &mut Formatter<W>) -> fmt::Result {
-        match self {
-            Fault::Wrong(text) => f.write_str(text.as_str()),
-            Fault::Memory => f.write_str("out of memory"),
-            Fault::Stream => f.write_str("a file or a stream failed"),
         }
     }
 }

@@ -4,6 +4,7 @@
 mod case;
 mod share;
 mod size;
+mod trial;
 
 pub use case::{Case, Fault};
 use octet_core::octets_of;
@@ -11,6 +12,7 @@ pub use share::{Share, asked};
 pub use size::Size;
 use std::alloc::{AllocError, Global};
 use std::fmt::{Debug, Display};
+pub use trial::Trial;
 
 /// Whether a call gave the expected value.
 ///
