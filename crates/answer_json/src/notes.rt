@@ -1,6 +1,6 @@
 //! The notes on lines as an array of objects.
 
-ghost use Rattle.std.specs.Prelude.{◌≡◌, ◌++◌, IfOk, OnOk, string_bytes};
+ghost use Rattle.std.specs.Prelude.{◌≡◌, IfOk, OnOk, string_bytes};
 ghost use Rattle.answer_json.specs.Notes.{note_object, with_note, with_object};
 
 use crate::strings::line_string;

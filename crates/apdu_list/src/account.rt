@@ -1,6 +1,6 @@
 //! The account of the lines of a recorded exchange, in order.
 
-ghost use Rattle.std.specs.Prelude.{◌≡◌, ◌+◌, ◌<◌, ◌^◌, IfOk, [], None};
+ghost use Rattle.std.specs.Prelude.{◌≡◌, ◌+◌, ◌<◌, ◌^◌, IfOk, None};
 ghost use Rattle.apdu_list.specs.Listing as listing;
 
 use crate::numbers::{Numbers, with_number};

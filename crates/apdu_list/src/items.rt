@@ -1,6 +1,6 @@
 //! The items of a JSON array, line by line.
 
-ghost use Rattle.std.specs.Prelude.{◌≡◌, ◌++◌, ◌∷◌, [], IfOk, OnOk, codes, decimal, string_bytes};
+ghost use Rattle.std.specs.Prelude.{◌≡◌, [], IfOk, OnOk, codes, string_bytes};
 ghost use Rattle.apdu_list.specs.Items as listed;
 ghost use Rattle.apdu_list.specs.Listing as listing;
 ghost use Rattle.apdu_list.specs.Items.{apdu_items};

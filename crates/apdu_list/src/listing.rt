@@ -1,6 +1,6 @@
 //! The text, line by line.
 
-ghost use Rattle.std.specs.Prelude.{◌≡◌, ◌+◌, ◌<◌, ◌^◌, ◌++◌, IfOk, OnOk, codes, decimal, string_bytes};
+ghost use Rattle.std.specs.Prelude.{◌≡◌, ◌+◌, ◌<◌, ◌^◌, ◌++◌, IfOk, OnOk, decimal, string_bytes};
 ghost use Rattle.apdu_list.specs.Listing as listing;
 ghost use Rattle.apdu_list.specs.Listing.{apdus_text};
 

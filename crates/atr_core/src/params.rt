@@ -1,7 +1,6 @@
 //! What an answer to reset says about T=1.
 
-ghost use Rattle.std.specs.Prelude.{◌≡◌, ◌≤◌, ◌<◌, SomeIff, drop};
-ghost use Rattle.std.specs.Option.{option_or};
+ghost use Rattle.std.specs.Prelude.{◌≡◌, ◌≤◌, ◌<◌, SomeIff};
 ghost use Rattle.atr_core.specs.T1.{T1Values, IsUsable, t1_params_of, first_after_t1, offers_t1};
 ghost use Rattle.atr_core.specs.Waiting.{block_cycles, block_waiting, character_waiting};
 

@@ -1,6 +1,6 @@
 //! Why octets aren't a block.
 
-ghost use Rattle.std.specs.Prelude.{◌≡◌, ◌↔◌, IfSome, IfNone, IsTrue};
+ghost use Rattle.std.specs.Prelude.{◌↔◌, IfSome, IfNone, IsTrue};
 ghost use Rattle.block_core.specs.Block.{FitsLen, IsLenFault, IsAboutIfs};
 ghost use Rattle.octet_core.specs.Sizes.{IsReserved};
 

@@ -1,7 +1,7 @@
 //! Which octet of a chain's block comes next, and why its first three octets are refused.
 
-ghost use Rattle.std.specs.Prelude.{◌≡◌, ◌≢◌, ◌<◌, ◌≤◌, IfOk, IfErr, OnOk, true, false, IsTrue};
-ghost use Rattle.block_core.specs.Block.{other, pcb_octet, IsInfo};
+ghost use Rattle.std.specs.Prelude.{◌≡◌, ◌<◌, ◌≤◌, IfOk, IfErr, OnOk, true, false};
+ghost use Rattle.block_core.specs.Block.{pcb_octet, IsInfo};
 ghost use Rattle.block_core.specs.declared.pcb.Pcb.TheVariants.{Info};
 ghost use Rattle.chain_core.specs.Stage.{IsPcbFault, IsLenFault, IsHead, IsHeadFault, IsAfter, place_of, end_of};
 

@@ -3,7 +3,6 @@
 ghost use Rattle.std.specs.Prelude.{◌≡◌, ◌+◌, ◌<◌, ◌^◌, ◌++◌, ◌∷◌, [], false, IfOk, OnOk};
 ghost use Rattle.exchange_text.specs.Names.{name_text};
 ghost use Rattle.drawings.specs.Rows as drawing;
-ghost use Rattle.block_core.specs.declared.side.Side.{Side as AnySide};
 
 use crate::labels::{block_label, message_label, moment_label, note_label, word_label};
 use crate::row::{Course, Row};

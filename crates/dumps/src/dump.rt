@@ -1,6 +1,6 @@
 //! Octets as a dump.
 
-ghost use Rattle.std.specs.Prelude.{◌≡◌, option_map, IfOk};
+ghost use Rattle.std.specs.Prelude.{◌≡◌, IfOk};
 ghost use Rattle.dumps.specs.Dump.{agree, dump_octets, first_of_row, given, is_line_end, octets_by, or_from_zero, start_of, UnlessMemory};
 
 use crate::base::Base;

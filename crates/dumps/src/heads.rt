@@ -1,7 +1,7 @@
 //! The text that may come before the octets of a source, and after them: a label or a declaration.
 
 ghost use Rattle.std.specs.Prelude.{◌≡◌, ◌&&◌};
-ghost use Rattle.dumps.specs.Heads.{after_declaration, in_count, in_head, in_name, in_size, is_name, is_octets, long, mark_in_head, may_name, named, or_long};
+ghost use Rattle.dumps.specs.Heads.{after_declaration, in_count, in_head, in_name, in_size, is_name, is_octets, mark_in_head, may_name, named, or_long};
 ghost use Rattle.dumps.specs.Turns.{with_declaration, with_end, with_label};
 ghost use Rattle.dumps.specs.Words.{all_digits, longer};
 ghost use Rattle.dumps.specs.Characters.{is_digit};

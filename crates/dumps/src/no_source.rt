@@ -1,7 +1,7 @@
 //! The first place where a text isn't a source.
 
-ghost use Rattle.std.specs.Prelude.{◌≡◌, ◌&&◌, ◌||◌, not, is_some};
-ghost use Rattle.dumps.specs.SourceStop.{Agrees, is_begun, is_wrong_word, source_stop, stop_at, stop_at_end, stop_from, word_len};
+ghost use Rattle.std.specs.Prelude.{◌≡◌, ◌&&◌, ◌||◌, is_some};
+ghost use Rattle.dumps.specs.SourceStop.{Agrees, is_begun, is_wrong_word, source_stop, stop_at, stop_at_end, word_len};
 ghost use Rattle.dumps.specs.Source.{ended, is_part, source_octets};
 
 use crate::marks::is_part;

@@ -1,6 +1,6 @@
 //! Words of two octets, as `od` writes them without an option.
 
-ghost use Rattle.std.specs.Prelude.{◌≡◌, ◌≤◌, IfSome};
+ghost use Rattle.std.specs.Prelude.{◌≡◌};
 ghost use Rattle.dumps.specs.OctalWords.{is_octal_words, next_digit};
 
 use octet_core::is_blank;

@@ -1,9 +1,8 @@
 //! Strings of octets, as Python and Rust write them with a `b` before them: each character is an octet.
 
-ghost use Rattle.std.specs.Prelude.{◌≡◌, Some, None, if◌then◌else◌};
-ghost use Rattle.dumps.specs.Characters.{is_pair, octet_at};
+ghost use Rattle.std.specs.Prelude.{◌≡◌, Some, None};
 ghost use Rattle.dumps.specs.Source.{string_at};
-ghost use Rattle.dumps.specs.Strings.{after_backslash, character, escaped, first_digit, in_string, is_of_pairs, last_digit, plain_character};
+ghost use Rattle.dumps.specs.Strings.{after_backslash, character, escaped, first_digit, in_string, is_of_pairs, plain_character};
 ghost use Rattle.dumps.specs.Turns.{with_character};
 
 use crate::marks::{is_between, is_digit, is_listing};

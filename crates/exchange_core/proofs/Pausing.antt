@@ -1,5 +1,5 @@
 -- Between a command that was given up and the next one the card's host is asked about nothing.
-use Rattle.std.proofs.Common.{◌≡◌, ◌+◌, ℕ, List, [], ◌∷◌, Bool, true, false, refl, Ok, Err}
+use Rattle.std.proofs.Common.{◌≡◌, ◌+◌, ℕ, List, [], ◌∷◌, refl, Ok, Err}
 use Rattle.std.specs.Prelude.{if◌then◌else◌, nat_lt, ◌==◌}
 use Rattle.octet_core.proofs.Choice.{either}
 use Rattle.block_core.specs.Block.{Parts}

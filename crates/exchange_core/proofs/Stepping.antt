@@ -1,5 +1,5 @@
 -- What an event comes to at a recorder: it is refused, or a line is written and an end comes to a turn.
-use Rattle.std.proofs.Common.{◌≡◌, ◌∙◌, ◌⊎◌, inl, inr, ap, sym, subst, refl, ℕ, List, [], ◌∷◌, ◌++◌, Result, Ok, Err}
+use Rattle.std.proofs.Common.{◌≡◌, ◌∙◌, ◌⊎◌, inl, inr, ap, sym, subst, refl, ℕ, List, [], ◌∷◌, ◌++◌, Ok, Err}
 use Rattle.block_core.specs.Block.{Parts, spelling}
 use Rattle.t1_core.specs.Came.{quiet, damaged, invalid}
 use Rattle.t1_core.specs.Terminal.{TerminalState, TerminalStep, Mark, transmit, ask_ifs, takes, terminal_turn}
@@ -15,7 +15,7 @@ use Rattle.exchange_text.specs.declared.line.Arrival.{Arrival}
 use Rattle.exchange_text.specs.declared.line.Arrival.TheVariants.{Whole, Lost, Changed}
 use Rattle.exchange_text.specs.declared.line.Line.{Line}
 use Rattle.exchange_text.specs.declared.line.Line.TheVariants.{Command, Ifsd, Quiet, Reply, Time, Ifsc, FromTerminal, FromCard}
-use Rattle.exchange_core.specs.Recording.{Recording, link_of, IsRecording, IsSent, MayReply, Turns, recorded, arrival_of, arrival_outcome, loss_outcome, card_input, change_event, card_outcome, damaged_octets, spoilt_octets, outcome_of, telling, terminal_input, terminal_outcome, under_way_of, whole}
+use Rattle.exchange_core.specs.Recording.{Recording, link_of, IsRecording, IsSent, MayReply, recorded, arrival_of, arrival_outcome, loss_outcome, card_input, change_event, card_outcome, damaged_octets, spoilt_octets, outcome_of, telling, terminal_input, terminal_outcome, under_way_of, whole}
 use Rattle.exchange_core.specs.declared.carrying.Change.{Change}
 use Rattle.exchange_core.specs.declared.carrying.Change.TheVariants.{Kept, Damaged, Spoilt}
 use Rattle.exchange_core.specs.declared.event.EventFault.{EventFault}

@@ -1,14 +1,14 @@
 -- Where the words of a command line are, one word more.
-use Rattle.std.proofs.Common.{◌≡◌, ◌∙◌, ◌<◌, ◌≤◌, ◌≢◌, ◌+◌, ◌-◌, ◌∷◌, [], ℕ, zero, suc, Bool, true, false, List, String, string_bytes, length, drop, get_or, map, min, refl, ap, sym, subst, arith, inl, inr}
-use Rattle.std.specs.Prelude.{bytes_eq, codes, nat_lt, not, ◌||◌, ◌&&◌, if◌then◌else◌}
+use Rattle.std.proofs.Common.{◌≡◌, ◌∙◌, ◌<◌, ◌≤◌, ◌+◌, ◌-◌, ◌∷◌, [], ℕ, zero, suc, Bool, true, false, List, length, drop, get_or, min, refl, ap, sym, arith, inl, inr}
+use Rattle.std.specs.Prelude.{bytes_eq, codes, not, if◌then◌else◌}
 use Rattle.std.specs.List.{position_or_len, range_with_len}
 use Rattle.std.proofs.Math.ListN.{get_or-eq_default}
 use Rattle.std.proofs.lemmas.Bool.{cases_lt}
-use Rattle.std.proofs.lemmas.List.{drop_all, drop_more, get_or-map, length-drop, length-map}
+use Rattle.std.proofs.lemmas.List.{drop_more, length-drop}
 use Rattle.std.proofs.lemmas.List.Sums.{prefix_len_passes, prefix_len_stops}
 use Rattle.std.proofs.lemmas.List.FromFn.{get_or-range_with_len, length-range_with_len}
 use Rattle.std.proofs.lemmas.Bool.Decides.{nat_tests}
-use Rattle.explainer.specs.Places.{first_place, has_equals, has_next, is_equals, is_flag, is_option, option_from, option_place, place_of, places, places_from, word_at}
+use Rattle.explainer.specs.Places.{first_place, has_equals, has_next, is_equals, is_flag, is_option, place_of, places, places_from, word_at}
 
 abbrev dashes : List ℕ → Bool
 dashes word = bytes_eq word (codes "--")

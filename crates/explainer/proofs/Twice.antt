@@ -1,7 +1,7 @@
 -- Known values of one tag: the first two.
 use Rattle.std.proofs.Common.{◌≡◌, ◌∙◌, ◌<◌, ◌≤◌, ◌+◌, ◌∷◌, [], ℕ, zero, suc, Bool, true, false, List, length, length-take, take, take-take, get_or, refl, ap, sym, arith, cond, inl, inr}
 use Rattle.std.specs.Prelude.{Option, Some, None, bytes_eq, ltb, not, slice_get}
-use Rattle.std.specs.List.{position_or_len, prefix_len}
+use Rattle.std.specs.List.{position_or_len}
 use Rattle.std.specs.Option.{unwrap_or}
 use Rattle.std.proofs.lemmas.Bool.{cases_lt}
 use Rattle.std.proofs.lemmas.Bool.Decides.{nat_tests}

@@ -1,6 +1,6 @@
 -- The first word that is wrong, and the characters of words.
-use Rattle.std.proofs.Common.{◌≡◌, ◌∙◌, ◌<◌, ◌≤◌, ◌≢◌, ◌+◌, ◌∷◌, ◌++◌, [], ℕ, Bool, true, false, List, String, string_bytes, length, drop, get_or, map, refl, ap, sym, subst, arith, inl, inr, append_assoc, append-nil}
-use Rattle.std.specs.Prelude.{◌||◌, bytes_eq, chars, codes, encode_utf8, if◌then◌else◌, nat_eq, nat_lt, Option, Some, None}
+use Rattle.std.proofs.Common.{◌≡◌, ◌∙◌, ◌<◌, ◌≤◌, ◌+◌, ◌∷◌, ◌++◌, [], ℕ, Bool, true, false, List, String, string_bytes, length, drop, get_or, refl, ap, sym, arith, inl, inr, append_assoc, append-nil}
+use Rattle.std.specs.Prelude.{◌||◌, bytes_eq, codes, encode_utf8, if◌then◌else◌, nat_eq, Some, None}
 use Rattle.std.specs.Char.{is_ascii_hexdigit}
 use Rattle.std.specs.String.{string_len}
 use Rattle.std.specs.declared.alloc.Global.{Global}

@@ -1,5 +1,5 @@
 -- The notes on words of `build fill` that aren't known values, and on two values of one tag.
-use Rattle.std.specs.Prelude.{◌≡◌, ℕ, not, ◌+◌, ◌<◌, List, [], ◌++◌, codes, decimal, drop, is_ok, length, slice_get, take, Some, Result, Ok, Err, if◌then◌else◌}
+use Rattle.std.specs.Prelude.{◌≡◌, ℕ, ◌+◌, ◌<◌, List, [], ◌++◌, codes, decimal, drop, is_ok, length, slice_get, take, Some, Result, Ok, Err, if◌then◌else◌}
 use Rattle.hex.specs.Hex.{encode_upper}
 use Rattle.tlv_core.specs.Fill.{HasDuplicate}
 use Rattle.tlv_core.specs.declared.known.Known.{Known}

@@ -1,5 +1,5 @@
 -- The notes on octets, after the line of their verdict.
-use Rattle.std.specs.Prelude.{◌≡◌, ℕ, nat_le, nat_lt, true, false, ◌+◌, ◌-◌, ◌*◌, List, ◌++◌, [], ◌∷◌, codes, decimal, drop, encode_utf8, length, take, ◌==◌, Option, Some, None, if◌then◌else◌, Result, Ok, Err}
+use Rattle.std.specs.Prelude.{◌≡◌, ℕ, nat_le, nat_lt, true, false, ◌+◌, ◌-◌, List, ◌++◌, [], ◌∷◌, codes, decimal, drop, encode_utf8, length, take, ◌==◌, Option, Some, None, if◌then◌else◌, Result, Ok, Err}
 use Rattle.std.specs.List.{list_any, repeat}
 use Rattle.hex.specs.Hex.{encode_upper}
 use Rattle.octet_core.specs.declared.stop.Stop.{Stop}

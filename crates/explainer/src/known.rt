@@ -1,6 +1,6 @@
 //! The notes on known values.
 
-ghost use Rattle.std.specs.Prelude.{◌≡◌, ◌∷◌, bytes_eq, is_ok, IfOk, MatchOption, string_bytes};
+ghost use Rattle.std.specs.Prelude.{◌≡◌, bytes_eq, is_ok, IfOk, MatchOption, string_bytes};
 ghost use Rattle.std.specs.List.{position_or_len};
 ghost use Rattle.command_line.specs.Form.{texts};
 ghost use Rattle.tlv_core.specs.Fill.{HasDuplicate};

@@ -1,6 +1,6 @@
 //! The notes on octets: a refused octet with a mark under it, how many are missing, how many are left.
 
-ghost use Rattle.std.specs.Prelude.{◌≡◌, ◌++◌, IfOk, drop, length, string_bytes, take};
+ghost use Rattle.std.specs.Prelude.{◌≡◌, IfOk, drop, string_bytes, take};
 ghost use Rattle.explainer.specs.Notes.{left_note, mark_text, refused_note, short_note, stop_text};
 
 use crate::reason::Explained;

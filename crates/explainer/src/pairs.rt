@@ -1,6 +1,6 @@
 //! The note on a text whose lines should be pairs of a session.
 
-ghost use Rattle.std.specs.Prelude.{◌≡◌, ◌+◌, ◌-◌, IfOk, bytes_eq, codes, length, string_bytes};
+ghost use Rattle.std.specs.Prelude.{◌≡◌, ◌+◌, ◌-◌, IfOk, string_bytes};
 ghost use Rattle.std.specs.List.{slice_split};
 ghost use Rattle.program_words.specs.PairLines.{is_line_end};
 ghost use Rattle.explainer.specs.Pairs.{digit_from, is_none, lines_stop, pair_stop, pairs_note, placed, reply_stop, third_stop, word_place, wrong_word};

@@ -1,6 +1,6 @@
 //! Notes on the words of `judge` and `simulate`.
 
-ghost use Rattle.std.specs.Prelude.{◌≡◌, IfOk, codes, option_map, string_bytes};
+ghost use Rattle.std.specs.Prelude.{◌≡◌, IfOk, option_map, string_bytes};
 ghost use Rattle.command_line.specs.Form.{texts};
 ghost use Rattle.explainer.specs.Words.{has_both, is_list, is_wrong_clock, is_wrong_end, is_wrong_form, is_wrong_list, judge_note, listed_note, pair_note, pairs_note, session_note, wrong_list};
 

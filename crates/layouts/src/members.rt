@@ -1,6 +1,6 @@
 //! The members of a JSON object.
 
-ghost use Rattle.std.specs.Prelude.{◌≡◌, ◌++◌, [], OnOk, codes, decimal, string_bytes};
+ghost use Rattle.std.specs.Prelude.{◌≡◌, [], OnOk, string_bytes};
 ghost use Rattle.layouts.specs.Items.{with_item};
 ghost use Rattle.layouts.specs.Members.{object_of, with_array, with_number, with_string, with_value};
 

@@ -1,8 +1,8 @@
 //! A line with a note.
 
-ghost use Rattle.std.specs.Prelude.{◌≡◌, ◌≢◌, ◌==◌, ◌++◌, not, [], IfOk, OnOk};
+ghost use Rattle.std.specs.Prelude.{◌≡◌, ◌==◌, ◌++◌, not, IfOk, OnOk};
 ghost use Rattle.std.specs.List.{list_all};
-ghost use Rattle.notes.specs.Noted.{kept, mark, marked, noted_line};
+ghost use Rattle.notes.specs.Noted.{kept, marked, noted_line};
 
 use octet_core::Octets;
 use std::alloc::{AllocError, Global};

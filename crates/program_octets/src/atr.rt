@@ -1,6 +1,6 @@
 //! What the program prints about an answer to reset.
 
-ghost use Rattle.std.specs.Prelude.{◌≡◌, IfOk, refl};
+ghost use Rattle.std.specs.Prelude.{◌≡◌, refl};
 ghost use Rattle.atr_core.specs.Atr.{AtrParts};
 ghost use Rattle.program_octets.specs.AtrTexts.{atr_codec, atr_members, atr_rows, convention_text};
 

@@ -1,6 +1,6 @@
 //! The codecs of the kinds, and what the program prints about octets by each.
 
-ghost use Rattle.std.specs.Prelude.{◌≡◌, ℕ, false, IfOk, IfErr, string_bytes};
+ghost use Rattle.std.specs.Prelude.{◌≡◌, IfOk, IfErr, string_bytes};
 ghost use Rattle.program_words.specs.declared.request.Expected.{Expected as AnyExpected};
 ghost use Rattle.program_octets.specs.Verdicts.{ChecksBy, ShowsBy, shown_in, status_of};
 ghost use Rattle.program_octets.specs.Codec.{Codec as AnyCodec, IsVerdict, StopsUnlessMemory, Takes};

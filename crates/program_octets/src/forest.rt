@@ -1,6 +1,6 @@
 //! What the program prints about a forest of data objects.
 
-ghost use Rattle.std.specs.Prelude.{◌≡◌, ◌++◌, [], ◌-◌, codes, List, ℕ, IfOk, MatchResult, OnOk, map, refl, string_bytes};
+ghost use Rattle.std.specs.Prelude.{◌≡◌, ◌++◌, [], ◌-◌, codes, IfOk, MatchResult, OnOk, map, refl, string_bytes};
 ghost use Rattle.octet_core.specs.Grammar.{whole, Refuses};
 ghost use Rattle.tlv_core.specs.Tree.{Tree};
 ghost use Rattle.tlv_core.specs.Forest.{largest, IsForest};

@@ -1,7 +1,7 @@
 //! What the program prints about a data object list.
 
 ghost use Rattle.std.specs.Prelude.{◌≡◌, ◌++◌, [], List, ℕ, IfOk, OnOk, refl, string_bytes};
-ghost use Rattle.tlv_core.specs.Fill.{filled, HasDuplicate};
+ghost use Rattle.tlv_core.specs.Fill.{filled};
 ghost use Rattle.program_octets.specs.Codec.{IsVerdict};
 ghost use Rattle.program_octets.specs.Verdicts.{IsFilled, IsFilledBy};
 ghost use Rattle.program_octets.specs.ListTexts.{dol_members, dol_rows, entry_line, entry_object, entry_row, entry_rows, filled_text, list_codec, with_entries};

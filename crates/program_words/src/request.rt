@@ -1,7 +1,5 @@
 //! What a command line asks for.
 
-ghost use Rattle.std.specs.Prelude.{◌≡◌};
-
 use crate::fault::Fault;
 use crate::field_size::FieldSize;
 use crate::given::OctetSource;

@@ -1,6 +1,6 @@
 //! Simulated sessions as words.
 
-ghost use Rattle.std.specs.Prelude.{◌==◌, ◌||◌, ◌≡◌, ◌<◌, ◌≤◌, ◌+◌, ◌-◌, ◌^◌, ◌&&◌, ◌++◌, ◌∷◌, [], length, map, nat_le, option_map, IfOk, OnOk};
+ghost use Rattle.std.specs.Prelude.{◌==◌, ◌||◌, ◌≡◌, ◌<◌, ◌+◌, ◌-◌, ◌^◌, ◌&&◌, ◌++◌, ◌∷◌, [], length, map, nat_le, option_map, IfOk, OnOk};
 ghost use Rattle.program_words.specs.Session.{block_number, block_numbers, block_range, blocks_of, most_named, numbers_from, pair_by, pair_of, pairs_of};
 ghost use Rattle.program_words.specs.Session as session;
 ghost use Rattle.program_words.specs.Value.{UnlessMemory};

@@ -1,11 +1,10 @@
 //! What the words of a command line ask for.
 
-ghost use Rattle.std.specs.Prelude.{◌≡◌, ◌⊎◌, [], Err, IfOk, IfErr, codes, map, option_map};
-ghost use Rattle.clap.specs.Words.{all_of, fault_of, first_of, found_of, rows_of, subcommand_of, subcommand_rows_of};
-ghost use Rattle.clap.specs.Kinds.{HasKind};
+ghost use Rattle.std.specs.Prelude.{◌≡◌, ◌⊎◌, [], Err, IfOk, map, option_map};
+ghost use Rattle.clap.specs.Words.{all_of, first_of, found_of, rows_of, subcommand_rows_of};
 ghost use Rattle.clap.specs.Values.{kind_of as error_kind};
 ghost use Rattle.program_words.specs.Words.{asked_of, atr_of, build_of, build_words, chain_of, clock_of, end_of_word, drawing_of, expected_of, session_of, has_flag, hertz_of, judge_of, judged_ends, kind_of, layout_of, one_end, record_of, replay_of, show_aim, request_by, tidy_of, told_of, fill_of, AreLaid, HaveOctets, IsHelpOrFault, IsRead, AreSized, simulate_of};
-ghost use Rattle.command_line.specs.Form.{scard, texts};
+ghost use Rattle.command_line.specs.Form.{texts};
 ghost use Rattle.program_words.specs.Value.{UnlessMemory};
 
 use crate::fault::Fault;

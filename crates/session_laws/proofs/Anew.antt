@@ -20,7 +20,7 @@ use Rattle.t1_core.specs.declared.turns.CardFault.TheVariants.{Order}
 use Rattle.line_core.specs.Bursts.{IsNoBlock}
 use Rattle.line_core.specs.Line.{Arrival, block, nothing, failure, Talk}
 use Rattle.line_core.specs.Exchange.{Ending, done, given_up, dead as is_dead, line_failed, used_up as is_used_up, refused as is_refused, Next, sends, ends, next_of, next_after, left_after, Runs}
-use Rattle.line_core.specs.Service.{Event, came, asked, requested, sent, unsent, Doing, hears, says, asks, doing_of, ServesFor}
+use Rattle.line_core.specs.Service.{Event, came, asked, requested, sent, unsent, hears, says, doing_of, ServesFor}
 use Rattle.line_core.specs.Service as at_card
 use Rattle.line_core.specs.Joined.{IsSaid, IsAnswered, IsLost, IsTrip, Trip, Returns, talks_of, events_of}
 

@@ -1,5 +1,5 @@
 -- Each step of a terminal's line leaves less to do than there was.
-use Rattle.std.proofs.Common.{◌≡◌, ◌≤◌, ◌<◌, ℕ, ◌+◌, ◌-◌, ◌*◌, List, [], ◌∷◌, ◌++◌, length, drop, min, Bool, true, false, not, ◌&&◌, ◌||◌, nat_le, nat_lt, ◌==◌, if◌then◌else◌, refl, sym, ◌∙◌, ◌⊎◌, inl, inr, arith}
+use Rattle.std.proofs.Common.{◌≡◌, ◌≤◌, ◌<◌, ℕ, ◌+◌, ◌-◌, ◌*◌, List, [], ◌∷◌, ◌++◌, length, drop, min, Bool, true, false, not, ◌&&◌, ◌||◌, nat_le, nat_lt, ◌==◌, refl, sym, ◌∙◌, ◌⊎◌, inl, inr, arith}
 use Rattle.session_core.specs.declared.event.Next.{Next}
 use Rattle.session_core.specs.declared.event.Next.TheVariants.{Heard, Quiet, Failed, UsedUp, Echo, Order}
 use Rattle.session_core.specs.declared.progress.Phase.{Phase}

@@ -7,7 +7,7 @@ use Rattle.line_core.specs.Line.{Talk}
 use Rattle.line_core.specs.Exchange.{Runs, next_of}
 use Rattle.line_core.specs.Service.{Event, Doing, hears, used_up, ServesFor}
 use Rattle.line_core.specs.Joined as joined
-use Rattle.line_core.specs.Joined.{Call, IsCall, HaveRun, HaveServed, talks_of, events_of, events_in, TwoEnds, IsOnce, services_of}
+use Rattle.line_core.specs.Joined.{Call, IsCall, HaveRun, talks_of, events_of, events_in}
 use Rattle.t1_core.specs.Came.{quiet}
 use Rattle.line_core.specs.Exchange.{Ending}
 use Rattle.session_core.specs.Terminals.{asking_resynch}

@@ -1,6 +1,6 @@
 //! The loop of a terminal.
 
-ghost use Rattle.std.specs.Prelude.{◌≡◌, ◌≤◌, ℕ, List, length, true, false, IfOk, IfErr};
+ghost use Rattle.std.specs.Prelude.{◌≡◌, ◌≤◌, ℕ, List, length, false, IfOk, IfErr};
 ghost use Rattle.std.specs.declared.io.Error.{Error};
 ghost use Rattle.t1_core.specs.Views.{terminal_held, IsLentTerminal};
 ghost use Rattle.line_core.specs.Timed.{Sound, Sounds};

@@ -1,6 +1,6 @@
 //! Blocks (ISO/IEC 7816-3, clause 11.3).
 
-ghost use Rattle.std.specs.Prelude.{◌≡◌, ◌+◌};
+ghost use Rattle.std.specs.Prelude.{◌≡◌};
 ghost use Rattle.shortfall.specs.Block.{block_least, field_least, len_least};
 
 use block_core::{Pcb, S, block_len};

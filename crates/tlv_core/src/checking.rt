@@ -1,6 +1,6 @@
 //! The steps of a check of a forest that comes in pieces, for a state that this crate or the caller keeps.
 
-ghost use Rattle.std.specs.Prelude.{◌≡◌, ◌≤◌, ℕ, List, length, take, ◌++◌, OnOk, IfErr, OnSome, MatchResult, None};
+ghost use Rattle.std.specs.Prelude.{◌≡◌, ◌≤◌, ℕ, List, length, take, ◌++◌, OnOk, IfErr, OnSome, MatchResult};
 ghost use Rattle.octet_core.specs.Grammar.{Refuses, RefusesAt, whole};
 ghost use Rattle.tlv_core.specs.Tree.{Tree};
 ghost use Rattle.tlv_core.specs.Forest.{IsForest};

@@ -1,6 +1,6 @@
 //! Decoding of forests.
 
-ghost use Rattle.std.specs.Prelude.{◌≡◌, ◌≤◌, length, IfOk, IfErr};
+ghost use Rattle.std.specs.Prelude.{◌≤◌, length, IfOk, IfErr};
 ghost use Rattle.octet_core.specs.Grammar.{Accepts, RefusesUnlessMemory, whole};
 ghost use Rattle.tlv_core.specs.Forest.{IsForest};
 ghost use Rattle.tlv_core.specs.Reasons.{IsReason};

@@ -1,6 +1,6 @@
 //! Filling a data object list with known values.
 
-ghost use Rattle.std.specs.Prelude.{◌≡◌, ℕ, ◌+◌, ◌++◌, List, length, replicate, IsTrue, ◌↔◌, IfOk, IfErr, OnOk, bytes_eq};
+ghost use Rattle.std.specs.Prelude.{◌≡◌, ◌+◌, ◌++◌, List, length, replicate, IsTrue, ◌↔◌, IfOk, IfErr, OnOk};
 ghost use Rattle.std.specs.Option.{option_copied};
 ghost use Rattle.tlv_core.specs.Fill.{fitted, known_for, entry_part, filled, HasDuplicate, IsFillFault};
 ghost use Rattle.tlv_core.specs.ByTag.{HasAll};

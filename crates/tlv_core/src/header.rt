@@ -1,6 +1,6 @@
 //! The header of an object (its tag and its length field), parsed octet by octet.
 
-ghost use Rattle.std.specs.Prelude.{◌≡◌, ◌+◌, ◌*◌, ◌^◌, ◌<◌, ◌≤◌, [], ◌∷◌, length, ◌↔◌, IsTrue, true, IfOk, IfErr, MatchOption, ◌%◌};
+ghost use Rattle.std.specs.Prelude.{◌≡◌, ◌+◌, ◌*◌, ◌^◌, ◌<◌, ◌≤◌, [], ◌∷◌, length, ◌↔◌, IsTrue, true, IfOk, IfErr};
 ghost use Rattle.octet_core.specs.Grammar.{IsFirst};
 ghost use Rattle.tlv_core.specs.Tag.{IsTag, IsLong};
 ghost use Rattle.tlv_core.specs.Form.{further};

@@ -1,7 +1,7 @@
 //! A check of a forest whose state the caller keeps, some eighty octets. Of the octets that were fed, the state holds
 //! only those of an unfinished header.
 
-ghost use Rattle.std.specs.Prelude.{◌≡◌, ℕ, ◌+◌, length, take, ◌≤◌, ◌<◌, ◌↔◌, List, [], ◌++◌, OnOk, IfErr, OnSome, MatchResult, IsTrue, true};
+ghost use Rattle.std.specs.Prelude.{◌≡◌, ℕ, ◌+◌, length, take, ◌≤◌, ◌<◌, ◌↔◌, List, [], ◌++◌, OnOk, IfErr, OnSome, MatchResult, true};
 ghost use Rattle.octet_core.specs.Grammar.{Refuses, RefusesAt, whole};
 ghost use Rattle.tlv_core.specs.Tree.{Tree};
 ghost use Rattle.tlv_core.specs.Forest.{IsForest};

@@ -1,6 +1,6 @@
 //! Surveys of a list of nodes at every depth: its encoded length, and what is improper in it.
 
-ghost use Rattle.std.specs.Prelude.{◌≡◌, ℕ, ◌+◌, ◌-◌, ◌^◌, ◌≤◌, ◌↔◌, IsTrue, length, min};
+ghost use Rattle.std.specs.Prelude.{◌≡◌, ℕ, ◌+◌, ◌-◌, ◌^◌, ◌↔◌, IsTrue, length, min};
 ghost use Rattle.octet_core.specs.Octets.{AreOctets};
 ghost use Rattle.tlv_core.specs.Forest.{spelling};
 ghost use Rattle.tlv_core.specs.Improper.{AreObjects, SomeObject, HasFault, IsDeep, IsOtherKind, IsUnfit};

@@ -1,6 +1,6 @@
 //! The tidy form of a forest, written to a buffer of the caller.
 
-ghost use Rattle.std.specs.Prelude.{◌≡◌, ℕ, ◌+◌, ◌-◌, ◌^◌, ◌<◌, ◌≤◌, List, [], ◌∷◌, ◌++◌, length, take, drop, IfOk, IfErr};
+ghost use Rattle.std.specs.Prelude.{◌≡◌, ℕ, ◌+◌, ◌-◌, ◌^◌, ◌<◌, ◌≤◌, List, [], ◌++◌, length, take, IfOk, IfErr};
 ghost use Rattle.octet_core.specs.Grammar.{Refuses, whole};
 ghost use Rattle.tlv_core.specs.Forest.{IsForest};
 ghost use Rattle.tlv_core.specs.Reasons.{IsReason};

@@ -3,7 +3,7 @@
 ghost use Rattle.std.specs.Prelude.{◌≡◌, ◌≤◌, IfOk};
 ghost use Rattle.exchange_text.specs.Exchange.{latest_moment};
 ghost use Rattle.trace_text.specs.Reading as reading;
-ghost use Rattle.trace_text.specs.Reading.{block_said, entry_said, event_said, is_none, is_silent, is_unknown, is_wrong, moment_by, moment_said, named_said, octets_said, reach_by, reach_said, words_of, IsEarly, UnlessMemory};
+ghost use Rattle.trace_text.specs.Reading.{block_said, entry_said, event_said, is_none, is_silent, is_unknown, is_wrong, moment_said, named_said, octets_said, reach_by, reach_said, words_of, IsEarly, UnlessMemory};
 
 use crate::line_words::LineWords;
 use block_core::Side;

@@ -1,6 +1,6 @@
 //! Both ends, and the lines of what they did.
 
-ghost use Rattle.std.specs.Prelude.{◌≡◌, ◌++◌, [], ◌∷◌, None, OnOk, IfOk};
+ghost use Rattle.std.specs.Prelude.{◌≡◌, None, OnOk, IfOk};
 ghost use Rattle.exchange_core.specs.Recording.{as_list};
 ghost use Rattle.traces.specs.Following as following;
 ghost use Rattle.traces.specs.Following.{begun, card_did, card_hears, ended, released, settled_card, settled_terminal, terminal_did, terminal_hears, writes};

@@ -1,6 +1,6 @@
 //! What each item adds.
 
-ghost use Rattle.std.specs.Prelude.{◌≡◌, ◌∷◌, IfOk, OnOk};
+ghost use Rattle.std.specs.Prelude.{◌≡◌, IfOk, OnOk};
 ghost use Rattle.traces.specs.Unseen.{asking_host, before_card, before_item, before_quiet, before_terminal, beginning, ending, moving, over_items};
 ghost use Rattle.traces.specs.Following.{after_begins, after_host, after_item, after_items, after_moves, after_quiet, ended, from_card, from_terminal, reaches_card, reaches_terminal};
 ghost use Rattle.traces.specs.Matching.{match_of};

@@ -1,6 +1,6 @@
 //! The notes before lines that say what nobody saw.
 
-ghost use Rattle.std.specs.Prelude.{◌≡◌, ◌++◌, ◌∷◌, IfOk, OnOk};
+ghost use Rattle.std.specs.Prelude.{◌≡◌, ◌++◌, IfOk, OnOk};
 ghost use Rattle.traces.specs.Marked as spec;
 ghost use Rattle.traces.specs.Marked.{left_after, put_as};
 

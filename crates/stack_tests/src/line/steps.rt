@@ -1,6 +1,6 @@
 //! What a line does after a block.
 
-ghost use Rattle.std.specs.Prelude.{◌≤◌, length, IfOk};
+ghost use Rattle.std.specs.Prelude.{IfOk};
 ghost use Rattle.line_core.specs.Line.{FitsRoom};
 
 use line_core::Received;

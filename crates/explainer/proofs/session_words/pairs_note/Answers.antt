@@ -1,4 +1,4 @@
-use Rattle.std.proofs.Common.{◌∙◌, ◌≡◌, ◌<◌, ◌≤◌, ◌+◌, arith, length, string_bytes, sym}
+use Rattle.std.proofs.Common.{◌∙◌, ◌<◌, ◌≤◌, ◌+◌, arith, length, string_bytes, sym}
 use Rattle.std.proofs.lemmas.List.{length-map}
 use Rattle.command_line.specs.Form.{texts}
 use Rattle.explainer.specs.Words.{pair_note}

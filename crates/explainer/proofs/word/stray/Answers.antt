@@ -1,8 +1,7 @@
-use Rattle.std.proofs.Common.{◌∙◌, chars, length, sym, ap, Some, ◌+◌, drop, ℕ}
+use Rattle.std.proofs.Common.{◌∙◌, chars, length, sym, Some}
 use Rattle.std.proofs.lemmas.Iterator.{YieldsList-from_chars}
 use Rattle.std.proofs.lemmas.Iterator.Consumers.{YieldsList-at, YieldsList-end, YieldsList-turn}
 use Rattle.std.proofs.lemmas.List.{length_push}
-use Rattle.explainer.specs.Words.{stray_from}
 use Rattle.explainer.proofs.Wording.{all-digits, no-digit, one-digit}
 use Rattle.explainer.proofs.word.stray.Goals as goal
 
