@@ -110,6 +110,20 @@ static inline struct scard_verdict verdict_of_codec(int codec, struct octets oct
     }
 }
 
+/* The setup of a session at 3.5712 MHz, with these T=1 parameters. */
+static inline struct scard_lent_setup setup_of(uint8_t ifsc, uint8_t bwi, uint8_t cwi)
+{
+    struct scard_lent_setup setup;
+    memset(&setup, 0, sizeof setup);
+    setup.fi = 372;
+    setup.di = 1;
+    setup.hertz = 3571200;
+    setup.ifsc = ifsc;
+    setup.bwi = bwi;
+    setup.cwi = cwi;
+    return setup;
+}
+
 static inline int verdict_of_checks(const char *name)
 {
     printf("%s: %d checks, %d failed\n", name, checks, failures);

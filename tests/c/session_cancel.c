@@ -154,12 +154,7 @@ static bool gives_up_after(unsigned steps)
 int main(void)
 {
     unsigned steps = 0, acted_on = 0;
-    setup.fi = 372;
-    setup.di = 1;
-    setup.hertz = 3571200;
-    setup.ifsc = IFSC;
-    setup.bwi = 4;
-    setup.cwi = 5;
+    setup = setup_of(IFSC, 4, 5);
     setup.refuses_empty = 1;
     while (gives_up_after(steps)) {
         acted_on += acted[1];

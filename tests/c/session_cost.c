@@ -22,15 +22,8 @@ static struct end ends[2]; /* the terminal and the card */
 
 static void begin(void)
 {
-    struct scard_lent_setup setup;
-    memset(&setup, 0, sizeof setup);
+    struct scard_lent_setup setup = setup_of(FIELD, 4, 13);
     setup.silence = UINT64_MAX;
-    setup.hertz = 4000000;
-    setup.fi = 372;
-    setup.di = 1;
-    setup.ifsc = FIELD;
-    setup.bwi = 4;
-    setup.cwi = 13;
     CHECK(scard_lent_session_begin(TERMINAL, &setup).status == SCARD_OK);
     CHECK(scard_lent_card_session_begin(CARD, &setup).status == SCARD_OK);
     ends[1].next = scard_lent_card_session_serve(CARD, 0);

@@ -207,13 +207,7 @@ static void begin(struct end *end)
 {
     static const uint8_t sizes[] = {32, 254, 8, 100}, times[][2] = {{0, 5}, {1, 3}, {4, 5}, {2, 9}};
     const long pair = (end - ends) / 2;
-    memset(&end->setup, 0, sizeof end->setup);
-    end->setup.fi = 372;
-    end->setup.di = 1;
-    end->setup.hertz = 3571200;
-    end->setup.ifsc = sizes[pair % 4];
-    end->setup.bwi = times[pair / 4 % 4][0];
-    end->setup.cwi = times[pair / 4 % 4][1];
+    end->setup = setup_of(sizes[pair % 4], times[pair / 4 % 4][0], times[pair / 4 % 4][1]);
     end->setup.has_clock = pair % 3 > 0;
     end->setup.refuses_empty = 1;
     CHECK((is_card(end) ? scard_lent_card_session_begin(CARD(end), &end->setup)
