@@ -13,7 +13,7 @@ import unittest
 TOP = pathlib.Path(__file__).resolve().parents[2]
 # a module without functions
 MODULE = b"\0asm\1\0\0\0" + b"".join(bytes((kind, 1, 0)) for kind in (1, 3, 6, 7, 10))
-COMMANDS = ("sh", "cat", "cp", "env", "git", "python3", "sleep")
+COMMANDS = ("sh", "cat", "cp", "env", "git", "mkdir", "python3", "sleep")
 
 
 class Dist(unittest.TestCase):
@@ -37,6 +37,7 @@ class Dist(unittest.TestCase):
         (kit / "KIT-ID").write_text("a toolchain\n")
         for name in ("wasm", "program"):
             self.script(self.top / "tools/release" / name, 'cat "${0%/*}/../../module" >"$1"')
+        self.script(self.top / "tools/release/cortex", 'mkdir "$1" && echo an archive >"$1/libscard-cortex-m0.a"')
         self.script(self.top / "web/make", 'cat "$2" >"$1"')
         self.script(kit / "bin/rt", "exit 9")
         self.script(self.bin / "wasm-opt", '[ "$1" = --version ] && echo wasm-opt version 0 || [ "$5" ]')
@@ -79,8 +80,8 @@ class Dist(unittest.TestCase):
     def test_dist_is_made(self):
         done = self.made()
         self.assertEqual((done.returncode, done.stderr), (0, ""))
-        files = """README.md SHA256SUMS api.json libscard.wasm scard.c scard.h scard.html scard.mjs scard.sources scard.wasm
-        scard_session.h"""
+        files = """README.md SHA256SUMS api.json libscard-cortex-m0.a libscard.wasm scard.c scard.h scard.html scard.mjs
+        scard.sources scard.wasm scard_session.h"""
         self.assertEqual(self.left(), (files.split(), []))
         self.assertIn("a toolchain", (self.top / "dist/README.md").read_text())
         for name, times in (("scard.h", 1), ("scard_session.h", 0)):
@@ -105,7 +106,7 @@ class Dist(unittest.TestCase):
 
     def test_a_step_that_fails(self):
         for file, words in (("tools/release/wasm", "wasm failed: no"), ("web/make", "make failed: no"),
-                            ("tools/release/api", "api failed: no"),
+                            ("tools/release/cortex", "cortex failed: no"), ("tools/release/api", "api failed: no"),
                             ("tools/release/program", "program failed: no")):
             text = (self.top / file).read_text()
             self.script(self.top / file, "echo no >&2; exit 1")

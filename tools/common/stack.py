@@ -61,6 +61,20 @@ def words_of(name, listed):
     return words + ["--antt-project", KIT / "rattle/logic/antt-project.json", "--logic-built", KIT / "logic_built"]
 
 
+def keeping(work):
+    """A folder with the toolchain's files, whose compiler keeps the module of LLVM that it gets in module.bc of `work`."""
+    bins = work / "toolchain/bin"
+    bins.mkdir(parents=True)
+    (work / "toolchain/lib").symlink_to(KIT / "toolchain/lib")
+    for it in (KIT / "toolchain/bin").iterdir():
+        if it.name != "clang":
+            (bins / it.name).symlink_to(it)
+    keeps = f'cp module.bc "{work}/module.bc" && exec "{KIT}/toolchain/bin/clang" "$@"'
+    (bins / "clang").write_text(f"#!/bin/sh\n{keeps}\n")
+    (bins / "clang").chmod(0o755)
+    return work / "toolchain"
+
+
 def uses_of(library):
     """What a library of the toolchain depends on."""
     return re.findall(r"^dep (\w+)$", (KIT / "rlibs" / f"{library}.rlib/format").read_text(), re.M)
